@@ -1,0 +1,57 @@
+-- The bench of document 01, held plainly: what a node, an interface and a bench are, and the bench that set-up makes.
+-- A weight is the ℤ that a contract has for an `i64`; serials, slots and vertices are ℕ. Assumes nothing.
+use Prim.Native.Nat.{ℕ, zero, suc}
+use mathlib.Core.Option.{Option, none, some}
+use mathlib.Core.List.{List, [], _∷_}
+use lib.IntN.{ℤ, pos, negsuc}
+use lib.ListN.{replicate}
+
+pub record Handle : Type 0 where
+  pub unit : ℕ
+  pub slot : ℕ
+  pub serial : ℕ
+
+pub data State : Type 0 where
+  grows stays shrinks : State
+
+-- a node's share of the speed
+abbrev pub rate : State → ℤ
+rate grows = pos 1
+rate stays = pos 0
+rate shrinks = negsuc 0
+
+-- a member of a circle, with its two touching handles
+pub record Member : Type 0 where
+  pub node : Handle
+  pub touch : Handle × Handle
+
+pub data Class : Type 0 where
+  defect : ℕ → Class
+  blossom : List Member → Class
+
+pub record Node : Type 0 where
+  pub serial : ℕ
+  pub class : Class
+  pub state : State
+  pub parent : Option Handle
+  pub value : ℤ
+  pub size : ℕ
+
+-- An interface. Its slots are those used since its last clear; one emptied by expansion is `none`.
+pub record Interface : Type 0 where
+  pub slots : List (Option Node)
+  pub progress : ℤ
+  pub sum : ℤ
+  pub speed : ℤ
+  pub parent : Option ℕ
+  pub halves : Option (ℕ × ℕ)
+
+pub record Bench : Type 0 where
+  pub next : ℕ
+  pub interfaces : List Interface
+
+abbrev pub fresh : Interface
+fresh = record { slots = []; progress = pos 0; sum = pos 0; speed = pos 0; parent = none; halves = none }
+
+abbrev pub setUp : ℕ → Bench
+setUp first = record { next = first; interfaces = replicate 8 fresh }

@@ -1,0 +1,68 @@
+-- What each call of the plain ledger does where it is accepted. Assumes nothing.
+use Prim.Native.Nat.{ℕ, zero, suc, _+_}
+use mathlib.Core.Bool.{Bool, true, false}
+use mathlib.Core.Option.{Option, none, some}
+use mathlib.Core.List.{List, [], _∷_, map}
+use lib.ListN.{length}
+use lib.Dec.{eqb}
+use lib.IntN.{ℤ, pos, _+ℤ_, _*ℤ_}
+use Rattle.ledger_spec.specs.Bench.{Handle, grows, stays, rate, Member, Class, defect, blossom, Node, Interface, Bench, fresh}
+use Rattle.ledger_spec.specs.Look.{interface, nodeAt, top}
+use Rattle.ledger_spec.specs.Change.{withInterface, withSlots, withParent, place, push, markAll}
+
+abbrev pub newHandle : Bench → ℕ → Handle
+newHandle b u = record { unit = u; slot = length (interface b u .slots); serial = b .next }
+
+unfoldable pub addDefect : Bench → ℕ → ℕ → Bench
+addDefect b u v = push b u (record { serial = b .next; class = defect v; state = grows; parent = none; value = pos 0; size = 1 })
+
+-- a blossom's circle: an empty touching list means each member twice
+unfoldable pub circle : List Handle → List (Handle × Handle) → List Member
+circle [] ts = []
+circle (h ∷ hs) [] = record { node = h; touch = (h, h) } ∷ circle hs []
+circle (h ∷ hs) (t ∷ ts) = record { node = h; touch = t } ∷ circle hs ts
+
+abbrev pub sizeOf : Option Node → ℕ
+sizeOf none = 0
+sizeOf (some n) = n .size
+
+unfoldable pub sizes : Bench → List Handle → ℕ
+sizes b [] = 0
+sizes b (h ∷ hs) = sizeOf (nodeAt b h) + sizes b hs
+
+unfoldable pub addBlossom : Bench → ℕ → List Handle → List (Handle × Handle) → Bench
+addBlossom b u hs ts = push (markAll b hs stays (some (newHandle b u))) u
+    (record { serial = b .next; class = blossom (circle hs ts); state = grows; parent = none; value = pos 0; size = sizes b hs })
+
+abbrev pub members : Option Node → List Handle
+members none = []
+members (some n) = elim (n .class) [ defect v ↦ [] | blossom ms ↦ map (λ (m : Member). m .node) ms ]
+
+unfoldable pub removeBlossom : Bench → Handle → Bench
+removeBlossom b h = markAll (place b (h .unit) (h .slot) none) (members (nodeAt b h)) grows none
+
+-- every node of a slot grows, stays or shrinks by l
+unfoldable pub growSlot : ℤ → Option Node → Option Node
+growSlot l none = none
+growSlot l (some n) = some (record { serial = n .serial; class = n .class; state = n .state; parent = n .parent; value = n .value +ℤ l *ℤ rate (n .state); size = n .size })
+
+-- f at every interface of u's tree, with its number
+unfoldable pub across : (Interface → Interface) → Bench → ℕ → ℕ → List Interface → List Interface
+across f b u k [] = []
+across f b u k (x ∷ xs) = elim (eqb (top b k) u) [ true ↦ f x | false ↦ x ] ∷ across f b u (suc k) xs
+
+abbrev pub booked : Interface → ℤ → Interface
+booked f l = record { slots = f .slots; progress = f .progress +ℤ l; sum = f .sum +ℤ l *ℤ f .speed; speed = f .speed; parent = f .parent; halves = f .halves }
+
+unfoldable pub growBy : Bench → ℕ → ℤ → Bench
+growBy b u l =
+    let b₁ : Bench = record { next = b .next; interfaces = across (λ f. withSlots f (map (growSlot l) (f .slots))) b u 0 (b .interfaces) } in
+    withInterface b₁ u (booked (interface b₁ u) l)
+
+unfoldable pub join : Bench → ℕ → ℕ → ℕ → Bench
+join b p l r =
+    withInterface (withInterface (withInterface b l (withParent (interface b l) p)) r (withParent (interface b r) p)) p
+    (record { slots = interface b p .slots; progress = pos 0; sum = interface b l .sum +ℤ interface b r .sum; speed = interface b l .speed +ℤ interface b r .speed; parent = none; halves = some (l, r) })
+
+unfoldable pub wipe : Bench → ℕ → Bench
+wipe b u = record { next = b .next; interfaces = across (λ f. fresh) b u 0 (b .interfaces) }

@@ -1,0 +1,40 @@
+-- Looking into a bench: an interface by its number, a node by its handle, the tree that an interface stands in. Assumes nothing.
+use Prim.Native.Nat.{ℕ, zero, suc, _+_}
+use mathlib.Core.Bool.{Bool, true, false, _&&_, _||_}
+use mathlib.Core.Option.{Option, none, some}
+use mathlib.Core.List.{List, [], _∷_, _++_}
+use lib.ListN.{getD, length}
+use lib.Dec.{eqb}
+use lib.IntN.{ℤ, pos}
+use Rattle.ledger_spec.specs.Bench.{Handle, Node, Interface, Bench, fresh, Class, defect, blossom, Member}
+
+abbrev pub interface : Bench → ℕ → Interface
+interface b u = getD (b .interfaces) u fresh
+
+abbrev pub slotOf : Bench → ℕ → ℕ → Option Node
+slotOf b u s = getD (interface b u .slots) s none
+
+-- what a slot holds, if it has that serial
+unfoldable pub ifSerial : ℕ → Option Node → Option Node
+ifSerial k none = none
+ifSerial k (some n) = elim (eqb k (n .serial)) [ true ↦ some n | false ↦ none ]
+
+-- the present node that a handle names
+unfoldable pub nodeAt : Bench → Handle → Option Node
+nodeAt b h = ifSerial (h .serial) (slotOf b (h .unit) (h .slot))
+
+-- the interface without a parent at the top of u's tree: parents have higher numbers, so 8 steps are enough
+unfoldable pub climb : ℕ → Bench → ℕ → ℕ
+climb zero b u = u
+climb (suc k) b u = elim (interface b u .parent) [ none ↦ u | some p ↦ climb k b p ]
+
+abbrev pub top : Bench → ℕ → ℕ
+top b u = climb 8 b u
+
+-- the interfaces of the tree under u in the order of the index: left half, right half, itself
+unfoldable pub tree : ℕ → Bench → ℕ → List ℕ
+tree zero b u = u ∷ []
+tree (suc k) b u = elim (interface b u .halves) [ none ↦ u ∷ [] | some lr ↦ (tree k b (lr .0) ++ tree k b (lr .1)) ++ (u ∷ []) ]
+
+abbrev pub sameHandle : Handle → Handle → Bool
+sameHandle g h = (eqb (g .unit) (h .unit) && eqb (g .slot) (h .slot)) && eqb (g .serial) (h .serial)

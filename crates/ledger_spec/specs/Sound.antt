@@ -1,0 +1,109 @@
+-- A sound bench, as a test that computes: the rules of document 01's section, of the plain bench. Assumes nothing.
+use Prim.Native.Nat.{ℕ, zero, suc, _+_, _*_, _^_}
+use mathlib.Core.Bool.{Bool, true, false, not, _&&_, _||_}
+use mathlib.Core.Option.{Option, none, some}
+use mathlib.Core.List.{List, [], _∷_, _++_, map}
+use lib.ListN.{length}
+use lib.Dec.{eqb, leb, ltb}
+use lib.IntN.{ℤ, pos, _+ℤ_, _-ℤ_, natAbs}
+use lib.Signed.{leZ}
+use Rattle.ledger_spec.specs.Bench.{Handle, State, grows, stays, shrinks, Member, Class, defect, blossom, Node, Interface, Bench}
+use Rattle.ledger_spec.specs.Look.{interface, nodeAt, top, tree, sameHandle}
+use Rattle.ledger_spec.specs.Change.{share}
+use Rattle.ledger_spec.specs.Deeds.{sizes, members}
+use Rattle.ledger_spec.specs.Reads.{gather, slotsOf}
+
+unfoldable pub all : {A : Type 0} → (A → Bool) → List A → Bool
+all p [] = true
+all p (x ∷ xs) = p x && all p xs
+
+abbrev pub units : List ℕ
+units = 0 ∷ 1 ∷ 2 ∷ 3 ∷ 4 ∷ 5 ∷ 6 ∷ 7 ∷ []
+
+-- how often p holds
+unfoldable pub tally : {A : Type 0} → (A → Bool) → List A → ℕ
+tally p [] = 0
+tally p (x ∷ xs) = elim (p x) [ true ↦ suc (tally p xs) | false ↦ tally p xs ]
+
+abbrev pub isParent : Option ℕ → ℕ → Bool
+isParent none u = false
+isParent (some p) u = eqb p u
+
+abbrev pub isHalf : Option (ℕ × ℕ) → ℕ → Bool
+isHalf none u = false
+isHalf (some lr) u = eqb (lr .0) u || eqb (lr .1) u
+
+-- links of interface u, up and down
+unfoldable pub linksUp : Bench → ℕ → Bool
+linksUp b u = elim (interface b u .parent) [ none ↦ true | some p ↦ ltb u p && (leb p 7 && isHalf (interface b p .halves) u) ]
+
+unfoldable pub linksDown : Bench → ℕ → Bool
+linksDown b u = elim (interface b u .halves) [
+  | none ↦ true
+  | some lr ↦ (not (eqb (lr .0) (lr .1)) && (ltb (lr .0) u && ltb (lr .1) u)) && (isParent (interface b (lr .0) .parent) u && isParent (interface b (lr .1) .parent) u)
+]
+
+unfoldable pub soundInterface : Bench → ℕ → Bool
+soundInterface b u = (leb (length (interface b u .slots)) 64 && (leZ (pos 0) (interface b u .progress) && leZ (interface b u .progress) (pos (2 ^ 40))))
+    && (linksUp b u && linksDown b u)
+
+-- W: the progress of an interface and of all below it
+unfoldable pub reach : Bench → List ℕ → ℕ
+reach b [] = 0
+reach b (u ∷ us) = natAbs (interface b u .progress) + reach b us
+
+abbrev pub isStay : State → Bool
+isStay grows = false
+isStay stays = true
+isStay shrinks = false
+
+abbrev pub sameParent : Option Node → Handle → Bool
+sameParent none h = false
+sameParent (some n) h = elim (n .parent) [ none ↦ false | some q ↦ sameHandle q h ]
+
+-- a touching handle
+abbrev pub soundTouch : Bench → Handle → Bool
+soundTouch b t = (leb (t .unit) 7 && leb (t .slot) 63) && ltb (t .serial) (b .next)
+
+unfoldable pub soundClass : Bench → Handle → Class → ℕ → Bool
+soundClass b h (defect v) size = eqb size 1
+soundClass b h (blossom ms) size = ((leb 1 (length ms) && leb (length ms) 64) && eqb size (sizes b (map (λ (m : Member). m .node) ms)))
+    && all (λ (m : Member). sameParent (nodeAt b (m .node)) h && (soundTouch b (m .touch .0) && soundTouch b (m .touch .1))) ms
+
+-- a node's parent: a blossom of higher serial in the same tree, which has it in its circle exactly once
+unfoldable pub soundParent : Bench → Handle → Node → Bool
+soundParent b h n = elim (n .parent) [
+  | none ↦ true
+  | some q ↦ ((isStay (n .state) && ltb (n .serial) (q .serial)) && eqb (top b (q .unit)) (top b (h .unit))) && eqb (tally (sameHandle h) (members (nodeAt b q))) 1
+]
+
+unfoldable pub soundSlot : Bench → ℕ → ℕ × ℕ × Option Node → Bool
+soundSlot b w t = elim (t .2) [
+  | none ↦ true
+  | some n ↦ let h : Handle = record { unit = t .0; slot = t .1; serial = n .serial } in
+      ((leb 1 (n .serial) && ltb (n .serial) (b .next)) && leb (natAbs (n .value)) w) && (soundParent b h n && soundClass b h (n .class) (n .size))
+]
+
+unfoldable pub rates : List (ℕ × ℕ × Option Node) → ℤ
+rates [] = pos 0
+rates (t ∷ ts) = share (t .2) +ℤ rates ts
+
+-- of an interface without a parent: its nodes, its sum, its speed
+unfoldable pub soundTop : Bench → ℕ → Bool
+soundTop b u = elim (interface b u .parent) [
+  | some p ↦ true
+  | none ↦ let w : ℕ = reach b (tree 8 b u) in
+      all (soundSlot b w) (slotsOf b u) && (leb (natAbs (interface b u .sum)) (512 * w) && eqb (natAbs (interface b u .speed -ℤ rates (slotsOf b u))) 0)
+]
+
+unfoldable pub serials : List (ℕ × ℕ × Option Node) → List ℕ
+serials [] = []
+serials (t ∷ ts) = elim (t .2) [ none ↦ serials ts | some n ↦ n .serial ∷ serials ts ]
+
+unfoldable pub different : List ℕ → Bool
+different [] = true
+different (x ∷ xs) = eqb (tally (eqb x) xs) 0 && different xs
+
+unfoldable pub sound : Bench → Bool
+sound b = ((leb 1 (b .next) && leb (b .next) (2 ^ 32)) && eqb (length (b .interfaces)) 8)
+    && ((all (soundInterface b) units && all (soundTop b) units) && different (serials (gather b units)))

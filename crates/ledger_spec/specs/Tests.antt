@@ -1,0 +1,67 @@
+-- The tests behind the refusal numbers of document 01's table, each of one thing: an interface's number, a handle, a list. Assumes nothing.
+use Prim.Native.Nat.{ℕ, zero, suc, _^_}
+use mathlib.Core.Bool.{Bool, true, false, _&&_, _||_, not}
+use mathlib.Core.Option.{Option, none, some}
+use mathlib.Core.List.{List, [], _∷_}
+use lib.ListN.{length}
+use lib.Dec.{eqb, leb}
+use lib.IntN.{natAbs}
+use Rattle.ledger_spec.specs.Bench.{Handle, Node, Interface, Bench, Class, defect, blossom}
+use Rattle.ledger_spec.specs.Look.{interface, nodeAt, top, sameHandle}
+
+unfoldable pub first : List (Bool × ℕ) → ℕ
+first [] = 0
+first (t ∷ ts) = elim (t .0) [ true ↦ t .1 | false ↦ first ts ]
+
+unfoldable pub any : {A : Type 0} → (A → Bool) → List A → Bool
+any p [] = false
+any p (x ∷ xs) = p x || any p xs
+
+abbrev pub given : {A : Type 0} → Option A → Bool
+given none = false
+given (some a) = true
+
+abbrev pub empty : {A : Type 0} → List A → Bool
+empty [] = true
+empty (x ∷ xs) = false
+
+-- 3, 4: the interface's number, its parent
+abbrev pub outside : ℕ → Bool
+outside u = leb 8 u
+
+abbrev pub child : Bench → ℕ → Bool
+child b u = given (interface b u .parent)
+
+-- 8, 9, 10, 11: of a handle
+abbrev pub stale : Bench → Handle → Bool
+stale b h = not (given (nodeAt b h))
+
+abbrev pub foreign : Bench → ℕ → Handle → Bool
+foreign b u h = not (eqb (top b (h .unit)) u)
+
+abbrev pub isDefect : Option Node → Bool
+isDefect none = false
+isDefect (some n) = elim (n .class) [ defect v ↦ true | blossom ms ↦ false ]
+
+abbrev pub hasParent : Option Node → Bool
+hasParent none = false
+hasParent (some n) = given (n .parent)
+
+unfoldable pub twice : List Handle → Bool
+twice [] = false
+twice (h ∷ hs) = any (sameHandle h) hs || twice hs
+
+-- 14, 15
+abbrev pub full : Bench → ℕ → Bool
+full b u = leb 64 (length (interface b u .slots))
+
+abbrev pub worn : Bench → Bool
+worn b = leb (2 ^ 32) (b .next)
+
+abbrev pub used : Interface → Bool
+used f = not (empty (f .slots)) || (not (eqb (natAbs (f .progress)) 0) || given (f .halves))
+
+-- the two handles of each touching pair
+unfoldable pub both : List (Handle × Handle) → List Handle
+both [] = []
+both (t ∷ ts) = t .0 ∷ t .1 ∷ both ts
