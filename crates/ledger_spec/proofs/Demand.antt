@@ -12,69 +12,12 @@ use Rattle.ledger_spec.specs.Tests.{first}
 use Rattle.ledger_spec.specs.Refuse.{setUpNo, growTests, fuseTests}
 use Rattle.ledger_spec.specs.Deeds.{growBy, join}
 use Rattle.ledger_spec.specs.Calls.{Reply, nobody, settle, setUpCall, growCall, fuseCall}
-use Rattle.ledger_spec.specs.Book.{Book, Call, Gone, perform, wrote, writes, turn}
 use Rattle.ledger_spec.specs.Account.{Right, Alike}
-use Rattle.ledger_spec.specs.Sound.{sound}
 use Rattle.ledger_spec.proofs.Tops.{Frame, climb-none}
 use Rattle.ledger_spec.proofs.Kept.{Kept}
 use Rattle.ledger_spec.proofs.Passed.{fusable}
 use Rattle.ledger_spec.proofs.Laws.{grow-grow, grow-fuse}
 use Rattle.ledger_spec.proofs.Turns.{turn-kept, opened-kept}
-
--- ---- the calls with BROKEN in front
-unfoldable pub guarded : Bool → Bench → Reply → Reply
-guarded true b r = r
-guarded false b r = record { number = 2; bench = b; node = nobody }
-
-abbrev pub performed : Bench → Call → Reply
-performed b c = guarded (sound b) b (perform b c)
-
-unfoldable pub step : Book → Call → Book
-step k c = record { bench = performed (k .bench) c .bench; gone = writes (performed (k .bench) c .number) (k .gone) (wrote (k .gone) (k .bench) c) }
-
-unfoldable pub steps : Book → List Call → Book
-steps k [] = k
-steps k (c ∷ cs) = steps (step k c) cs
-
-pub step-kept : (k : Book) (c : Call) → Kept k → Kept (step k c)
-unfolding step guarded turn writes
-step-kept k c K = go (sound (k .bench))
-  where
-    book : Bool → Book
-    book x = record { bench = guarded x (k .bench) (perform (k .bench) c) .bench; gone = writes (guarded x (k .bench) (perform (k .bench) c) .number) (k .gone) (wrote (k .gone) (k .bench) c) }
-
-    go : (x : Bool) → Kept (book x)
-    go true = turn-kept k c K
-    go false = K
-
-pub steps-kept : (k : Book) (cs : List Call) → Kept k → Kept (steps k cs)
-unfolding steps
-steps-kept k [] K = K
-steps-kept k (c ∷ cs) K = steps-kept (step k c) cs (step-kept k c K)
-
--- a new book on the bench that set-up answers, from 0 too
-abbrev pub begun : ℕ → Book
-begun n = record { bench = setUpCall n .bench; gone = λ w. [] }
-
-pub begun-kept : (n : ℕ) → Kept (begun n)
-unfolding setUpCall settle
-begun-kept n = go (setUpNo n)
-  where
-    book : ℕ → Book
-    book k = record { bench = settle k (setUp 1) (setUp n) nobody .bench; gone = λ w. [] }
-
-    go : (k : ℕ) → Kept (book k)
-    go zero = opened-kept n
-    go (suc k) = opened-kept 1
-
-pub right-called : (n : ℕ) (cs : List Call) (i : ℕ) → i < 8 → interface (steps (begun n) cs .bench) i .parent ≡ none → Right (steps (begun n) cs) i
-right-called n cs i h free = record { sum = K .sums i h root; speed = K .speeds i h root }
-  where
-    K : Kept (steps (begun n) cs)
-    K = steps-kept (begun n) cs (begun-kept n)
-
-    root : top (steps (begun n) cs .bench) i ≡ i
-    root = climb-none 8 (steps (begun n) cs .bench) i free
 
 -- ---- accepted calls leave what their deeds leave
 settle-is : (n : ℕ) (d d′ : Bench) (h : Handle) → settle n d d′ h .number ≡ 0 → settle n d d′ h .bench ≡ d′

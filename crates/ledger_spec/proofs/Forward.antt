@@ -18,8 +18,9 @@ use Rattle.ledger_spec.specs.Change.{place, push, mark, markAll, restate
 use Rattle.ledger_spec.specs.Tests.{first}
 use Rattle.ledger_spec.specs.Refuse.{growTests, fuseTests}
 use Rattle.ledger_spec.specs.Deeds.{newHandle, circle, sizes, addDefect, addBlossom, removeBlossom, members, growBy, join, wipe}
-use Rattle.ledger_spec.specs.Calls.{settle, defectCall, blossomCall, expandCall, stateCall, growCall, fuseCall, clearCall}
-use Rattle.ledger_spec.specs.Book.{Book, Call, Defect, Blossom, Expand, SetState, Grow, Fuse, Clear, perform, turn, turns, opened}
+use Rattle.ledger_spec.specs.Calls.{settle, defectCall, blossomCall, expandCall, stateCall, growCall, fuseCall, clearCall, Call, Defect, Blossom, Expand, SetState, Grow, Fuse, Clear, perform}
+use Rattle.ledger_spec.specs.Book.{Book, turn, turns, begun}
+use Rattle.ledger_spec.proofs.Done.{done, turn-cases, turns-keep, opened, begun-cases}
 use Rattle.ledger_spec.proofs.Tops.{Frame}
 use Rattle.ledger_spec.proofs.Kept.{Kept, place-field}
 use Rattle.ledger_spec.proofs.KeptGrow.{push-field, grow-length}
@@ -106,20 +107,25 @@ remove-on : (b : Bench) (h : Handle) (w : ℕ) → interface (removeBlossom b h)
 unfolding removeBlossom
 remove-on b h w = markAll-on (place b (h .unit) (h .slot) none) (members (nodeAt b h)) grows none w ∙ place-on b (h .unit) (h .slot) none w
 
-pub turn-forward : (k : Book) (c : Call) → Kept k → Forward (k .bench) → Forward (turn k c .bench)
-unfolding turn perform defectCall blossomCall expandCall stateCall growCall fuseCall clearCall
-turn-forward k (Defect u v) K f = settle-forward _ (k .bench) _ _ (λ e. same (k .bench) (addDefect (k .bench) u v) (defect-on (k .bench) u v) f) f
-turn-forward k (Blossom u hs ts) K f = settle-forward _ (k .bench) _ _ (λ e. same (k .bench) (addBlossom (k .bench) u hs ts) (blossom-on (k .bench) u hs ts) f) f
-turn-forward k (Expand u h) K f = settle-forward _ (k .bench) _ _ (λ e. same (k .bench) (removeBlossom (k .bench) h) (remove-on (k .bench) h) f) f
-turn-forward k (SetState u h s) K f = settle-forward _ (k .bench) _ _ (λ e. same (k .bench) (mark (k .bench) h s none) (mark-on (k .bench) h s none) f) f
-turn-forward k (Grow u l) K f = settle-forward _ (k .bench) _ _ (λ e. grow-forward (k .bench) u l (grow-long (k .bench) u l e) f) f
-turn-forward k (Fuse p l r) K f = settle-forward _ (k .bench) _ _ (λ e. fuse-forward (k .bench) (K .frame) p l r (fusable (k .bench) p l r e) f) f
-turn-forward k (Clear u) K f = settle-forward _ (k .bench) _ _ (λ e. clear-forward k u K f) f
+pub done-forward : (k : Book) (c : Call) → Kept k → Forward (k .bench) → Forward (done k c .bench)
+unfolding done perform defectCall blossomCall expandCall stateCall growCall fuseCall clearCall
+done-forward k (Defect u v) K f = settle-forward _ (k .bench) _ _ (λ e. same (k .bench) (addDefect (k .bench) u v) (defect-on (k .bench) u v) f) f
+done-forward k (Blossom u hs ts) K f = settle-forward _ (k .bench) _ _ (λ e. same (k .bench) (addBlossom (k .bench) u hs ts) (blossom-on (k .bench) u hs ts) f) f
+done-forward k (Expand u h) K f = settle-forward _ (k .bench) _ _ (λ e. same (k .bench) (removeBlossom (k .bench) h) (remove-on (k .bench) h) f) f
+done-forward k (SetState u h s) K f = settle-forward _ (k .bench) _ _ (λ e. same (k .bench) (mark (k .bench) h s none) (mark-on (k .bench) h s none) f) f
+done-forward k (Grow u l) K f = settle-forward _ (k .bench) _ _ (λ e. grow-forward (k .bench) u l (grow-long (k .bench) u l e) f) f
+done-forward k (Fuse p l r) K f = settle-forward _ (k .bench) _ _ (λ e. fuse-forward (k .bench) (K .frame) p l r (fusable (k .bench) p l r e) f) f
+done-forward k (Clear u) K f = settle-forward _ (k .bench) _ _ (λ e. clear-forward k u K f) f
 
-turns-forward : (k : Book) (cs : List Call) → Kept k → Forward (k .bench) → Forward (turns k cs .bench)
-unfolding turns
-turns-forward k [] K f = f
-turns-forward k (c ∷ cs) K f = turns-forward (turn k c) cs (turn-kept k c K) (turn-forward k c K f)
+pub record Ahead (k : Book) : Type 0 where
+  pub kept : Kept k
+  pub forward : Forward (k .bench)
 
-pub forward : (n : ℕ) (cs : List Call) → Forward (turns (opened n) cs .bench)
-forward n cs = turns-forward (opened n) cs (opened-kept n) (λ w. ap (λ (f : Interface). ltZ (f .progress) (pos 0)) (all-fresh 8 w))
+turn-ahead : (k : Book) (c : Call) → Ahead k → Ahead (turn k c)
+turn-ahead k c a = record { kept = turn-kept k c (a .kept); forward = turn-cases (λ m. Forward (m .bench)) k c (λ e. done-forward k c (a .kept) (a .forward)) (a .forward) }
+
+opened-ahead : (n : ℕ) → Ahead (opened n)
+opened-ahead n = record { kept = opened-kept n; forward = λ w. ap (λ (f : Interface). ltZ (f .progress) (pos 0)) (all-fresh 8 w) }
+
+pub forward : (n : ℕ) (cs : List Call) → Forward (turns (begun n) cs .bench)
+forward n cs = turns-keep Ahead turn-ahead (begun n) cs (begun-cases Ahead n (λ e. opened-ahead n) (opened-ahead 1)) .forward

@@ -7,6 +7,7 @@ pub mod Kept
 pub mod KeptGrow
 pub mod KeptTree
 pub mod Passed
+pub mod Done
 pub mod Turns
 pub mod Laws
 pub mod GrowCalls

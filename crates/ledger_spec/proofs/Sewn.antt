@@ -18,7 +18,7 @@ use Rattle.ledger_spec.specs.Change.{place, push, mark, markAll, restate
 use Rattle.ledger_spec.specs.Tests.{first, any, given, stale, foreign, hasParent, isDefect, twice, both}
 use Rattle.ledger_spec.specs.Refuse.{defectTests, blossomTests, expandTests, stateTests, growTests, fuseTests, unitTests}
 use Rattle.ledger_spec.specs.Deeds.{newHandle, addDefect, addBlossom, removeBlossom, circle, sizes, members, growBy, growSlot, join, wipe}
-use Rattle.ledger_spec.specs.Sound.{tally}
+use Rattle.ledger_spec.specs.SoundTree.{tally}
 use Rattle.ledger_spec.proofs.Tops.{Frame, climb-same, climb-none}
 use Rattle.ledger_spec.proofs.Kept.{markAll-parents, place-field}
 use Rattle.ledger_spec.proofs.KeptGrow.{push-field}

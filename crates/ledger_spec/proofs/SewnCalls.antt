@@ -15,11 +15,12 @@ use Rattle.ledger_spec.specs.Bench.{Handle, State, grows, stays, Member,
 use Rattle.ledger_spec.specs.Look.{interface, slotOf, nodeAt, top, sameHandle}
 use Rattle.ledger_spec.specs.Change.{place, push, mark, markAll, restate, withNode, faster}
 use Rattle.ledger_spec.specs.Tests.{first, any, given, stale, foreign, hasParent, isDefect, twice, both}
-use Rattle.ledger_spec.specs.Refuse.{defectTests, blossomTests, expandTests, stateTests, growTests, fuseTests, unitTests}
+use Rattle.ledger_spec.specs.Refuse.{setUpNo, defectTests, blossomTests, expandTests, stateTests, growTests, fuseTests, unitTests}
 use Rattle.ledger_spec.specs.Deeds.{newHandle, addDefect, addBlossom, removeBlossom, circle, sizes, members, growBy, growSlot, join, wipe, across}
-use Rattle.ledger_spec.specs.Calls.{settle, defectCall, blossomCall, expandCall, stateCall, growCall, fuseCall, clearCall}
-use Rattle.ledger_spec.specs.Book.{Book, Call, Defect, Blossom, Expand, SetState, Grow, Fuse, Clear, perform, turn, turns, opened}
-use Rattle.ledger_spec.specs.Sound.{tally}
+use Rattle.ledger_spec.specs.Calls.{settle, defectCall, blossomCall, expandCall, stateCall, growCall, fuseCall, clearCall, Call, Defect, Blossom, Expand, SetState, Grow, Fuse, Clear, perform}
+use Rattle.ledger_spec.specs.Book.{Book, turn, turns, begun}
+use Rattle.ledger_spec.proofs.Done.{done, turn-cases, turns-keep, opened, begun-cases}
+use Rattle.ledger_spec.specs.SoundTree.{tally}
 use Rattle.ledger_spec.proofs.Tops.{Frame, climb-same, climb-none, fused-l, fused-r, fused-else, cleared-else}
 use Rattle.ledger_spec.proofs.Kept.{Kept, markAll-parents, place-field}
 use Rattle.ledger_spec.proofs.KeptGrow.{grow-field, grow-under, grow-else, grow-length}
@@ -295,20 +296,15 @@ unfolding settle
 settle-sewn zero b b′ h f S = f refl
 settle-sewn (suc n) b b′ h f S = S
 
-pub turn-sewn : (k : Book) (c : Call) → Kept k → Sewn (k .bench) → Sewn (turn k c .bench)
-unfolding turn perform defectCall blossomCall expandCall stateCall growCall fuseCall clearCall
-turn-sewn k (Defect u v) K S = settle-sewn _ (k .bench) _ _ (defect-sewn (k .bench) (K .frame) S u v) S
-turn-sewn k (Blossom u hs ts) K S = settle-sewn _ (k .bench) _ _ (blossom-sewn (k .bench) (K .frame) S u hs ts) S
-turn-sewn k (Expand u h) K S = settle-sewn _ (k .bench) _ _ (expand-sewn (k .bench) S u h) S
-turn-sewn k (SetState u h s) K S = settle-sewn _ (k .bench) _ _ (state-sewn (k .bench) S u h s) S
-turn-sewn k (Grow u l) K S = settle-sewn _ (k .bench) _ _ (λ e. grow-sewn (k .bench) (K .frame) S u l) S
-turn-sewn k (Fuse p l r) K S = settle-sewn _ (k .bench) _ _ (λ e. fuse-sewn (k .bench) (K .frame) S p l r (fusable (k .bench) p l r e)) S
-turn-sewn k (Clear u) K S = settle-sewn _ (k .bench) _ _ (λ e. clear-sewn k K S u) S
-
-turns-sewn : (k : Book) (cs : List Call) → Kept k → Sewn (k .bench) → Sewn (turns k cs .bench)
-unfolding turns
-turns-sewn k [] K S = S
-turns-sewn k (c ∷ cs) K S = turns-sewn (turn k c) cs (turn-kept k c K) (turn-sewn k c K S)
+pub done-sewn : (k : Book) (c : Call) → Kept k → Sewn (k .bench) → Sewn (done k c .bench)
+unfolding done perform defectCall blossomCall expandCall stateCall growCall fuseCall clearCall
+done-sewn k (Defect u v) K S = settle-sewn _ (k .bench) _ _ (defect-sewn (k .bench) (K .frame) S u v) S
+done-sewn k (Blossom u hs ts) K S = settle-sewn _ (k .bench) _ _ (blossom-sewn (k .bench) (K .frame) S u hs ts) S
+done-sewn k (Expand u h) K S = settle-sewn _ (k .bench) _ _ (expand-sewn (k .bench) S u h) S
+done-sewn k (SetState u h s) K S = settle-sewn _ (k .bench) _ _ (state-sewn (k .bench) S u h s) S
+done-sewn k (Grow u l) K S = settle-sewn _ (k .bench) _ _ (λ e. grow-sewn (k .bench) (K .frame) S u l) S
+done-sewn k (Fuse p l r) K S = settle-sewn _ (k .bench) _ _ (λ e. fuse-sewn (k .bench) (K .frame) S p l r (fusable (k .bench) p l r e)) S
+done-sewn k (Clear u) K S = settle-sewn _ (k .bench) _ _ (λ e. clear-sewn k K S u) S
 
 opened-sewn : (n : ℕ) → 1 ≤ n → Sewn (setUp n)
 opened-sewn n h = record {
@@ -324,6 +320,22 @@ opened-sewn n h = record {
     empty : (u s : ℕ) (m : Node) → slotOf (setUp n) u s ≡ some m → ⊥
     empty u s m e = none-some (ap (λ (f : Interface). getD (f .slots) s none) (all-fresh 8 u)) e
 
--- after any calls from set-up with a first serial that is not 0
-pub sewn : (n : ℕ) (cs : List Call) → 1 ≤ n → Sewn (turns (opened n) cs .bench)
-sewn n cs h = turns-sewn (opened n) cs (opened-kept n) (opened-sewn n h)
+-- a first serial that set-up accepts is not 0
+pub from-one : (n : ℕ) → setUpNo n ≡ 0 → 1 ≤ n
+unfolding first
+from-one zero e = absurd (omega arith)
+from-one (suc n) e = omega arith
+
+-- after any calls from set-up
+pub record Whole (k : Book) : Type 0 where
+  pub kept : Kept k
+  pub sewn : Sewn (k .bench)
+
+turn-whole : (k : Book) (c : Call) → Whole k → Whole (turn k c)
+turn-whole k c w = record { kept = turn-kept k c (w .kept); sewn = turn-cases (λ m. Sewn (m .bench)) k c (λ e. done-sewn k c (w .kept) (w .sewn)) (w .sewn) }
+
+pub sewn : (n : ℕ) (cs : List Call) → Sewn (turns (begun n) cs .bench)
+sewn n cs = turns-keep Whole turn-whole (begun n) cs start .sewn
+  where
+    start : Whole (begun n)
+    start = begun-cases Whole n (λ e. record { kept = opened-kept n; sewn = opened-sewn n (from-one n e) }) (record { kept = opened-kept 1; sewn = opened-sewn 1 (omega arith) })

@@ -19,8 +19,9 @@ use Rattle.ledger_spec.specs.Change.{worth, share, place, mark, markAll,
 use Rattle.ledger_spec.specs.Tests.{first}
 use Rattle.ledger_spec.specs.Refuse.{unitTests, defectTests, blossomTests, expandTests, stateTests, growTests, fuseTests}
 use Rattle.ledger_spec.specs.Deeds.{addDefect, addBlossom, removeBlossom, growBy, join, wipe, members, newHandle}
-use Rattle.ledger_spec.specs.Calls.{settle, defectCall, blossomCall, expandCall, stateCall, growCall, fuseCall, clearCall}
-use Rattle.ledger_spec.specs.Book.{Book, Gone, Call, Defect, Blossom, Expand, SetState, Grow, Fuse, Clear, perform, wrote, writes, noted, forgotten, turn, turns, opened}
+use Rattle.ledger_spec.specs.Calls.{settle, defectCall, blossomCall, expandCall, stateCall, growCall, fuseCall, clearCall, Call, Defect, Blossom, Expand, SetState, Grow, Fuse, Clear, perform}
+use Rattle.ledger_spec.specs.Book.{Book, Gone, wrote, writes, noted, forgotten, turn, turns, begun}
+use Rattle.ledger_spec.proofs.Done.{done, turn-cases, turns-keep, opened, begun-cases}
 use Rattle.ledger_spec.specs.Account.{over, total, gate, Σ, Under, valuesAt, ratesAt, Right}
 use Rattle.ledger_spec.proofs.Sums.{Σ-zero, zero-gate}
 use Rattle.ledger_spec.proofs.Tops.{Frame, climb-none}
@@ -90,20 +91,18 @@ fuse-call-kept : (k : Book) (p l r : ℕ) → Kept k → Fusable (k .bench) p l 
 fuse-call-kept k p l r K f = fuse-kept k p l r (f .p<8) (f .l<p) (f .r<p) (f .l≢r) (f .l-none) (f .r-none) (f .p-none) (f .no-slots) (f .no-halves) K
 
 -- ---- each call, all calls
-pub turn-kept : (k : Book) (c : Call) → Kept k → Kept (turn k c)
-unfolding turn perform wrote defectCall blossomCall expandCall stateCall growCall fuseCall clearCall
-turn-kept k (Defect u v) K = settle-kept _ k _ _ _ (defect-kept k u v K) K
-turn-kept k (Blossom u hs ts) K = settle-kept _ k _ _ _ (blossom-kept k u hs ts K) K
-turn-kept k (Expand u h) K = settle-kept _ k _ _ _ (λ e. expand-kept k h (expand-present (k .bench) u h e) K) K
-turn-kept k (SetState u h s) K = settle-kept _ k _ _ _ (λ e. mark-kept k h s none K) K
-turn-kept k (Grow u l) K = settle-kept _ k _ _ _ (λ e. grow-kept k u l (grow-open (k .bench) u l e .low) K) K
-turn-kept k (Fuse p l r) K = settle-kept _ k _ _ _ (λ e. fuse-call-kept k p l r K (fusable (k .bench) p l r e)) K
-turn-kept k (Clear u) K = settle-kept _ k _ _ _ (λ e. clear-kept k u K) K
+pub done-kept : (k : Book) (c : Call) → Kept k → Kept (done k c)
+unfolding done perform wrote defectCall blossomCall expandCall stateCall growCall fuseCall clearCall
+done-kept k (Defect u v) K = settle-kept _ k _ _ _ (defect-kept k u v K) K
+done-kept k (Blossom u hs ts) K = settle-kept _ k _ _ _ (blossom-kept k u hs ts K) K
+done-kept k (Expand u h) K = settle-kept _ k _ _ _ (λ e. expand-kept k h (expand-present (k .bench) u h e) K) K
+done-kept k (SetState u h s) K = settle-kept _ k _ _ _ (λ e. mark-kept k h s none K) K
+done-kept k (Grow u l) K = settle-kept _ k _ _ _ (λ e. grow-kept k u l (grow-open (k .bench) u l e .low) K) K
+done-kept k (Fuse p l r) K = settle-kept _ k _ _ _ (λ e. fuse-call-kept k p l r K (fusable (k .bench) p l r e)) K
+done-kept k (Clear u) K = settle-kept _ k _ _ _ (λ e. clear-kept k u K) K
 
-pub turns-kept : (k : Book) (cs : List Call) → Kept k → Kept (turns k cs)
-unfolding turns
-turns-kept k [] K = K
-turns-kept k (c ∷ cs) K = turns-kept (turn k c) cs (turn-kept k c K)
+pub turn-kept : (k : Book) (c : Call) → Kept k → Kept (turn k c)
+turn-kept k c K = turn-cases Kept k c (λ e. done-kept k c K) K
 
 -- ---- set-up
 pub all-fresh : (m u : ℕ) → getD (replicate m fresh) u fresh ≡ fresh
@@ -136,24 +135,37 @@ opened-kept n = record {
     no-halves u lr e = let f : interface (setUp n) u .halves ≡ none = ap (λ (f : Interface). f .halves) (all-fresh 8 u) in
         let z : _≡_ {A = ℕ} 0 1 = cc in omega arith
 
-pub right : (n : ℕ) (cs : List Call) (i : ℕ) → i < 8 → interface (turns (opened n) cs .bench) i .parent ≡ none → Right (turns (opened n) cs) i
+pub turns-kept : (n : ℕ) (cs : List Call) → Kept (turns (begun n) cs)
+turns-kept n cs = turns-keep Kept turn-kept (begun n) cs (begun-cases Kept n (λ e. opened-kept n) (opened-kept 1))
+
+-- Demand 3, the accounting: from set-up's own answer, for any first serial and any calls
+pub right : (n : ℕ) (cs : List Call) (i : ℕ) → i < 8 → interface (turns (begun n) cs .bench) i .parent ≡ none → Right (turns (begun n) cs) i
 right n cs i h free = record { sum = K .sums i h root; speed = K .speeds i h root }
   where
-    K : Kept (turns (opened n) cs)
-    K = turns-kept (opened n) cs (opened-kept n)
+    K : Kept (turns (begun n) cs)
+    K = turns-kept n cs
 
-    root : top (turns (opened n) cs .bench) i ≡ i
-    root = climb-none 8 (turns (opened n) cs .bench) i free
+    root : top (turns (begun n) cs .bench) i ≡ i
+    root = climb-none 8 (turns (begun n) cs .bench) i free
 
--- the same, along the tree in the order of the index: the check's total of values, and what went
-pub right-listed : (n : ℕ) (cs : List Call) (i : ℕ) → i < 8 → interface (turns (opened n) cs .bench) i .parent ≡ none
-    → interface (turns (opened n) cs .bench) i .sum ≡ totalOf (slotsOf (turns (opened n) cs .bench) i) +ℤ along (λ u. total (turns (opened n) cs .gone u)) (tree 8 (turns (opened n) cs .bench) i)
-right-listed n cs i h free = right n cs i h free .sum ∙ sym (tree-sum b (turns-kept (opened n) cs (opened-kept n) .frame) (valuesAt k) i h free)
-    ∙ along-add (λ u. over worth (interface b u .slots)) (λ u. total (k .gone u)) (tree 8 b i)
-    ∙ ap (λ (z : ℤ). z +ℤ along (λ u. total (k .gone u)) (tree 8 b i)) (sym (gather-total b (tree 8 b i)))
+-- the same, along the tree in the order of the index: the check's total of values and what went, and the growing nodes less the shrinking ones
+pub record Listed (k : Book) (i : ℕ) : Type 0 where
+  pub sum : interface (k .bench) i .sum ≡ totalOf (slotsOf (k .bench) i) +ℤ along (λ u. total (k .gone u)) (tree 8 (k .bench) i)
+  pub speed : interface (k .bench) i .speed ≡ along (ratesAt k) (tree 8 (k .bench) i)
+
+pub right-listed : (n : ℕ) (cs : List Call) (i : ℕ) → i < 8 → interface (turns (begun n) cs .bench) i .parent ≡ none → Listed (turns (begun n) cs) i
+right-listed n cs i h free = record {
+  sum = right n cs i h free .sum ∙ sym (tree-sum b F (valuesAt k) i h free)
+      ∙ along-add (λ u. over worth (interface b u .slots)) (λ u. total (k .gone u)) (tree 8 b i)
+      ∙ ap (λ (z : ℤ). z +ℤ along (λ u. total (k .gone u)) (tree 8 b i)) (sym (gather-total b (tree 8 b i)));
+  speed = right n cs i h free .speed ∙ sym (tree-sum b F (ratesAt k) i h free);
+}
   where
     k : Book
-    k = turns (opened n) cs
+    k = turns (begun n) cs
 
     b : Bench
     b = k .bench
+
+    F : Frame b
+    F = turns-kept n cs .frame

@@ -1,4 +1,4 @@
--- The plain check: a verdict and an index. Present nodes by index, members in circle order, the first finding wins. Assumes nothing.
+-- The check and the strict check: a verdict and an index. Present nodes by index, members in circle order, the first finding wins. Assumes nothing.
 use Prim.Native.Nat.{ℕ, zero, suc, _+_}
 use mathlib.Core.Bool.{Bool, true, false, not, _||_, _&&_}
 use mathlib.Core.Option.{Option, none, some}
@@ -9,8 +9,9 @@ use lib.IntN.{ℤ, pos, _+ℤ_, _-ℤ_, natAbs}
 use Rattle.ledger_spec.specs.Bench.{Handle, Member, Class, defect, blossom, Node, Interface, Bench}
 use Rattle.ledger_spec.specs.Look.{interface, nodeAt, tree, sameHandle}
 use Rattle.ledger_spec.specs.Change.{worth}
-use Rattle.ledger_spec.specs.Tests.{any, stale, isDefect}
-use Rattle.ledger_spec.specs.Reads.{slotsOf, gather}
+use Rattle.ledger_spec.specs.Tests.{first, any, stale, isDefect}
+use Rattle.ledger_spec.specs.Refuse.{unitTests}
+use Rattle.ledger_spec.specs.Reads.{said, slotsOf}
 use Rattle.ledger_spec.specs.Walk.{outerFrom, outermost}
 
 -- the index of a place in a list of slots
@@ -76,3 +77,10 @@ strictWalk b whole (t ∷ ts) = elim (t .2) [
 
 unfoldable pub strictVerdict : Bench → ℕ → ℕ × ℕ
 strictVerdict b u = let w : ℕ × ℕ = verdict b u in elim (w .0) [ zero ↦ strictWalk b (slotsOf b u) (slotsOf b u) | suc k ↦ w ]
+
+-- ---- the two reads: number, verdict, index
+unfoldable pub checkOf : Bench → ℕ → ℕ × (ℕ × ℕ)
+checkOf b u = said (first (unitTests b u)) (verdict b u) (0, 0)
+
+unfoldable pub strictOf : Bench → ℕ → ℕ × (ℕ × ℕ)
+strictOf b u = said (first (unitTests b u)) (strictVerdict b u) (0, 0)

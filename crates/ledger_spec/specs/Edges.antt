@@ -1,110 +1,99 @@
--- Document 01's edges that speak of a bench: P1 to P6 and P10, by computation. Assumes nothing.
-use Prim.Native.Nat.{ℕ, zero, suc, _+_, _^_}
+-- Document 01's edges P1 to P10, as one table about the definitions. Each row has what is computed and what document 01 says. Assumes nothing.
+use Prim.Native.Nat.{ℕ, zero, suc}
+use Prim.Native.String.{String, _++_}
 use mathlib.Core.Path.{_≡_, refl}
-use mathlib.Core.List.{List, [], _∷_, _++_, map}
-use lib.ListN.{replicate}
-use mathlib.Core.Bool.{Bool, true, false, _&&_}
-use Rattle.ledger_spec.specs.Sound.{sound, all, tally, linksUp, linksDown, soundInterface, reach, soundClass, soundParent, soundSlot, rates, soundTop, serials, different}
-use lib.IntN.{ℤ, pos, negsuc}
-use Rattle.ledger_spec.specs.Bench.{Handle, State, grows, stays, shrinks, Node, Interface, Bench, setUp}
-use Rattle.ledger_spec.specs.Look.{nodeAt, ifSerial, climb, tree}
-use Rattle.ledger_spec.specs.Change.{push, place, mark, markAll, faster}
-use Rattle.ledger_spec.specs.Tests.{first, any, twice, both}
-use Rattle.ledger_spec.specs.Refuse.{unitTests, defectTests, blossomTests, expandTests, stateTests, growTests, fuseTests}
-use Rattle.ledger_spec.specs.Deeds.{addDefect, addBlossom, removeBlossom, growBy, join, wipe, circle, sizes, growSlot, across}
-use Rattle.ledger_spec.specs.Calls.{settle, defectCall, blossomCall, expandCall, stateCall, growCall, fuseCall, clearCall}
-use Rattle.ledger_spec.specs.Check.{verdict, walk, totalOf, circleVerdict, memberVerdict, indexIn}
-use Rattle.ledger_spec.specs.Reads.{valueOf, gather, slotsFrom}
-use Rattle.ledger_spec.specs.Walk.{outerFrom, verticesFrom, verticesOf, each}
-use Rattle.ledger_spec.specs.Book.{Defect, Blossom, Expand, SetState, Grow, perform, wrote, writes, turn, turns, opened}
-use Rattle.ledger_spec.specs.Lines.{Line, D, B, E, S, G, F, C, K, answers, after, named, call, shown, unitOf, seek}
+use mathlib.Core.Bool.{true, false}
+use mathlib.Core.Option.{Option, none, some}
+use mathlib.Core.List.{List, [], _∷_, map}
+use lib.IntN.{ℤ, pos}
+use Rattle.kinds.specs.Names.{nobody}
+use Rattle.kinds.specs.declared.Entry.{Entry}
+use Rattle.kinds.specs.declared.Stop.{Stop}
+use Rattle.kinds.specs.declared.MaybePair.the-variants.{NoPair}
+use Rattle.kinds.specs.declared.Obstacle.{Obstacle}
+use Rattle.kinds.specs.declared.Obstacle.the-variants.{TouchingVirtual, BlossomNeedExpand, VertexShrinkStop}
+use Rattle.ledger_spec.specs.Bench.{Handle, Bench, setUp}
+use Rattle.ledger_spec.specs.Reads.{valueOf}
+use Rattle.ledger_spec.specs.Groups.{Group, growth, conflicts, largest, extended}
+use Rattle.ledger_spec.specs.Bytes.{bytes}
+use Rattle.ledger_spec.specs.Opened.{run, ran, pops}
 
--- the answers and the bench, with every definition open
-pub run : Bench → List Line → List (ℕ × ℕ × ℤ × ℤ)
-unfolding answers call shown unitOf named seek gather slotsFrom tree climb nodeAt ifSerial first any twice both unitTests defectTests blossomTests expandTests stateTests growTests fuseTests settle defectCall blossomCall expandCall stateCall growCall fuseCall clearCall addDefect addBlossom removeBlossom growBy join wipe circle sizes growSlot across push place mark markAll faster verdict walk totalOf circleVerdict memberVerdict outerFrom indexIn
-run b ls = answers b ls
+-- what a row shows: a text, a node's value, a group, what pops took
+pub data Shown : Type 0 where
+  text : List ℕ → Shown
+  value : ℕ × ℤ → Shown
+  group : Option Group → Shown
+  taken : List (ℕ × Option Obstacle) → Shown
 
-pub ended : Bench → List Line → Bench
-unfolding run after
-ended b ls = after b ls
+-- what lines answer after others
+pub after : String → String → Shown
+unfolding run
+after before lines = text (run (ran (setUp 1) before) lines)
 
--- lines that go before, lines that answer, and their answers: number, serial, speed, sum
-pub record Edge : Type 0 where
-  pub before : List Line
-  pub lines : List Line
-  pub says : List (ℕ × ℕ × ℤ × ℤ)
+pub says : String → Shown
+unfolding run
+says s = text (bytes s)
 
-abbrev pub fused : List Line
-fused = D 0 3 ∷ D 1 7 ∷ G 0 (pos 4) ∷ G 1 (pos 6) ∷ F 2 0 1 ∷ G 2 (pos 5) ∷ []
+pub valued : String → ℕ → Shown
+unfolding run
+valued before u = value (valueOf (ran (setUp 1) before) (record { unit = u; slot = 0; serial = suc u }))
 
-abbrev pub P1 : Edge
-P1 = record { before = D 0 3 ∷ D 1 7 ∷ G 0 (pos 4) ∷ G 1 (pos 6) ∷ F 2 0 1 ∷ []; lines = G 2 (pos 5) ∷ []; says = (0, 0, pos 2, pos 20) ∷ [] }
+pub joined : Group → Group → Shown
+unfolding run
+joined g h = group (extended g h)
 
-abbrev pub P2 : Edge
-P2 = record { before = fused; lines = D 0 5 ∷ []; says = (4, 0, pos 0, pos 0) ∷ [] }
+abbrev pub many : ℕ → String → String
+many zero s = ""
+many (suc n) s = s ++ many n s
 
-abbrev pub P3 : Edge
-P3 = record { before = []; lines = G 0 (pos (2 ^ 40)) ∷ G 0 (pos 1) ∷ []; says = (0, 0, pos 0, pos 0) ∷ (5, 0, pos 0, pos 0) ∷ [] }
+abbrev pub fused : String
+fused = "D 0 3\nD 1 7\nG 0 4\nG 1 6\nF 2 0 1\n"
 
-abbrev pub P4 : Edge
-P4 = record { before = replicate 63 (D 0 3); lines = D 0 3 ∷ D 0 3 ∷ []; says = (0, 64, pos 64, pos 0) ∷ (14, 0, pos 64, pos 0) ∷ [] }
+-- the whole case
+abbrev pub whole : String
+whole = "D 0 3\nD 0 8\nD 0 9\nG 0 5\nB 0 1 2 3\nG 0 2\nS 0 4 -1\nG 0 1\nE 0 4\nK 0\n"
 
-abbrev pub P5 : Edge
-P5 = record { before = []; lines = D 0 3 ∷ B 0 (1 ∷ 1 ∷ []) ∷ []; says = (0, 1, pos 1, pos 0) ∷ (13, 0, pos 1, pos 0) ∷ [] }
+-- two obstacles for a list, and stops at 4 and 9
+abbrev pub c1 : Obstacle
+c1 = BlossomNeedExpand nobody
 
-abbrev pub P6 : Edge
-P6 = record { before = D 0 3 ∷ []; lines = C 0 ∷ S 0 1 stays ∷ []; says = (0, 0, pos 0, pos 0) ∷ (8, 0, pos 0, pos 0) ∷ [] }
+abbrev pub c2 : Obstacle
+c2 = TouchingVirtual (record { node = nobody; touching = nobody }) (record { 0 = 7 }) false
 
-abbrev pub P10 : Edge
-P10 = record {
-  before = [];
-  lines = D 0 3 ∷ D 0 8 ∷ D 0 9 ∷ G 0 (pos 5) ∷ B 0 (1 ∷ 2 ∷ 3 ∷ []) ∷ G 0 (pos 2) ∷ S 0 4 shrinks ∷ G 0 (pos 1) ∷ E 0 4 ∷ K 0 ∷ [];
-  says = (0, 1, pos 1, pos 0) ∷ (0, 2, pos 2, pos 0) ∷ (0, 3, pos 3, pos 0) ∷ (0, 0, pos 3, pos 15) ∷ (0, 4, pos 1, pos 15)
-      ∷ (0, 0, pos 1, pos 17) ∷ (0, 4, negsuc 0, pos 17) ∷ (0, 0, negsuc 0, pos 16) ∷ (0, 4, pos 3, pos 16) ∷ (0, 5, pos 3, pos 16) ∷ [];
-}
+abbrev pub stopAt : ℕ → Stop
+stopAt v = record { vertex = record { 0 = v }; obstacle = VertexShrinkStop nobody NoPair }
 
-abbrev pub table : List Edge
-table = P1 ∷ P2 ∷ P3 ∷ P4 ∷ P5 ∷ P6 ∷ P10 ∷ []
+abbrev pub pending : Group
+pending = conflicts (record { obstacle = c1 } ∷ record { obstacle = c2 } ∷ []) (stopAt 4 ∷ stopAt 9 ∷ [])
 
-pub edges : map (λ (e : Edge). run (ended (setUp 1) (e .before)) (e .lines)) table ≡ map (λ (e : Edge). e .says) table
-unfolding run ended
+abbrev pub table : List (Shown × Shown)
+table =
+    -- P1, with both values
+    (after fused "G 2 5\n", says "0 0 2 20\n")
+    ∷ (valued (fused ++ "G 2 5\n") 0, value (0, pos 9))
+    ∷ (valued (fused ++ "G 2 5\n") 1, value (0, pos 11))
+    -- P2
+    ∷ (after (fused ++ "G 2 5\n") "D 0 5\n", says "4 0 0 0\n")
+    -- P3
+    ∷ (after "" "G 0 1099511627776\nG 0 1\n", says "0 0 0 0\n5 0 0 0\n")
+    -- P4
+    ∷ (after (many 63 "D 0 3\n") "D 0 3\nD 0 3\n", says "0 64 64 0\n14 0 64 0\n")
+    -- P5
+    ∷ (after "" "D 0 3\nB 0 1 1\n", says "0 1 1 0\n13 0 1 0\n")
+    -- P6
+    ∷ (after "D 0 3\nC 0\n" "S 0 1 0\n", says "8 0 0 0\n")
+    -- P7
+    ∷ (joined (growth (pos 5) true) (growth (pos 5) false), group (some (growth (pos 5) false)))
+    -- P8
+    ∷ (joined (growth (pos 5) false) (growth largest true), group (some (growth (pos 5) false)))
+    -- P9
+    ∷ (taken (pops 3 pending), taken ((0, some c2) ∷ (0, some c1) ∷ (0, none) ∷ []))
+    -- P10, the whole case
+    ∷ (after "" whole, says "0 1 1 0\n0 2 2 0\n0 3 3 0\n0 0 3 15\n0 4 1 15\n0 0 1 17\n0 4 -1 17\n0 0 -1 16\n0 4 3 16\n0 5 3 16\n")
+    -- a fuse that names no interface shows zeros (READING T1)
+    ∷ (after "D 2 5\n" "F 2 9 0\n", says "3 0 0 0\n")
+    ∷ []
+
+pub edges : map (λ (e : Shown × Shown). e .0) table ≡ map (λ (e : Shown × Shown). e .1) table
+unfolding run ran after says valued joined pops
 edges = refl
-
--- P1's values, and the vertices under P10's blossom
-pub P1-values : (valueOf (ended (setUp 1) fused) (record { unit = 0; slot = 0; serial = 1 }) ≡ (0, pos 9))
-    × (valueOf (ended (setUp 1) fused) (record { unit = 1; slot = 0; serial = 2 }) ≡ (0, pos 11))
-unfolding ended
-P1-values = (refl, refl)
-
-pub P10-vertices : verticesOf (ended (setUp 1) (D 0 3 ∷ D 0 8 ∷ D 0 9 ∷ B 0 (1 ∷ 2 ∷ 3 ∷ []) ∷ [])) (record { unit = 0; slot = 3; serial = 4 }) ≡ 3 ∷ 8 ∷ 9 ∷ []
-unfolding ended verticesFrom each
-P10-vertices = refl
-
-abbrev pub at : ℕ → Handle
-at s = record { unit = 0; slot = s; serial = suc s }
-
--- the book after P10's calls: one blossom went, worth 1
-pub P10-gone : turns (opened 1) (Defect 0 3 ∷ Defect 0 8 ∷ Defect 0 9 ∷ Grow 0 (pos 5) ∷ Blossom 0 (at 0 ∷ at 1 ∷ at 2 ∷ []) [] ∷ Grow 0 (pos 2) ∷ SetState 0 (at 3) shrinks ∷ Grow 0 (pos 1) ∷ Expand 0 (at 3) ∷ []) .gone 0 ≡ pos 1 ∷ []
-unfolding run turns turn perform wrote writes
-P10-gone = refl
-
--- the benches of the edges are sound, and a bench with a wrong speed is not
-abbrev pub allSound : Bench → List Line → Bool
-allSound b [] = sound b
-allSound b (l ∷ ls) = sound b && allSound (call b l .bench) ls
-
-pub runSound : Bench → List Line → Bool
-unfolding run sound all tally linksUp linksDown soundInterface reach soundClass soundParent soundSlot rates soundTop serials different
-runSound b ls = allSound b ls
-
-pub P10-sound : runSound (setUp 1) (D 0 3 ∷ D 0 8 ∷ D 0 9 ∷ G 0 (pos 5) ∷ B 0 (1 ∷ 2 ∷ 3 ∷ []) ∷ G 0 (pos 2) ∷ S 0 4 shrinks ∷ G 0 (pos 1) ∷ E 0 4 ∷ []) ≡ true
-unfolding runSound
-P10-sound = refl
-
-pub P1-sound : runSound (setUp 1) fused ≡ true
-unfolding runSound
-P1-sound = refl
-
-pub P4-sound : runSound (setUp 1) (replicate 65 (D 0 3)) ≡ true
-unfolding runSound
-P4-sound = refl

@@ -1,27 +1,19 @@
--- The text program's lines, once read, and what each answers: number, serial, speed, sum. Assumes nothing.
-use Prim.Native.Nat.{ℕ, zero, suc, _+_}
-use mathlib.Core.Bool.{Bool, true, false, not, _||_, _&&_}
+-- What each line of the text program answers: number, serial, speed, sum. Assumes nothing.
+use Prim.Native.Nat.{ℕ, zero, suc}
+use mathlib.Core.Bool.{Bool, true, false, _||_}
 use mathlib.Core.Option.{Option, none, some}
-use mathlib.Core.List.{List, [], _∷_, _++_, map}
+use mathlib.Core.List.{List, [], _∷_, map}
 use lib.Dec.{eqb}
 use lib.IntN.{ℤ, pos}
-use Rattle.ledger_spec.specs.Bench.{Handle, State, Node, Interface, Bench, setUp}
+use Rattle.ledger_spec.specs.Bench.{Handle, State, Node, Bench}
 use Rattle.ledger_spec.specs.Look.{interface}
-use Rattle.ledger_spec.specs.Tests.{first, outside, child}
-use Rattle.ledger_spec.specs.Refuse.{unitTests}
-use Rattle.ledger_spec.specs.Calls.{Reply, nobody, settle, defectCall, blossomCall, expandCall, stateCall, growCall, fuseCall, clearCall}
-use Rattle.ledger_spec.specs.Reads.{gather, slotsFrom}
-use Rattle.ledger_spec.specs.Check.{verdict}
-
-pub data Line : Type 0 where
-  D : ℕ → ℕ → Line
-  B : ℕ → List ℕ → Line
-  E : ℕ → ℕ → Line
-  S : ℕ → ℕ → State → Line
-  G : ℕ → ℤ → Line
-  F : ℕ → ℕ → ℕ → Line
-  C : ℕ → Line
-  K : ℕ → Line
+use Rattle.ledger_spec.specs.Tests.{outside, child}
+use Rattle.ledger_spec.specs.Calls.{Call, Defect, Blossom, Expand, SetState, Grow, Fuse, Clear}
+use Rattle.ledger_spec.specs.Reads.{gather}
+use Rattle.ledger_spec.specs.Check.{checkOf}
+use Rattle.ledger_spec.specs.SoundTree.{units}
+use Rattle.ledger_spec.specs.Answers.{Answer, answer, ask}
+use Rattle.ledger_spec.specs.Grammar.{Line, D, B, E, S, G, F, C, K, wrong}
 
 -- the present node with a serial, or a handle of interface 8, which names none
 unfoldable pub seek : ℕ → List (ℕ × ℕ × Option Node) → Handle
@@ -32,37 +24,33 @@ seek k (t ∷ ts) = elim (t .2) [
 ]
 
 unfoldable pub named : Bench → ℕ → Handle
-named b k = seek k (gather b (0 ∷ 1 ∷ 2 ∷ 3 ∷ 4 ∷ 5 ∷ 6 ∷ 7 ∷ []))
+named b k = seek k (gather b units)
 
-unfoldable pub unitOf : Line → ℕ
-unitOf (D u v) = u
-unitOf (B u ks) = u
-unitOf (E u k) = u
-unitOf (S u k s) = u
-unitOf (G u l) = u
-unitOf (F p l r) = p
-unitOf (C u) = u
-unitOf (K u) = u
+-- speed and sum of the interface after the call (for F the parent's): both 0 for UNIT and an interface with a parent
+unfoldable pub shown : ℕ → ℕ → Bench → ℕ → ℕ × ℕ × ℤ × ℤ
+shown number serial b u = elim (eqb number 3 || (outside u || child b u))
+    [ true ↦ (number, serial, pos 0, pos 0) | false ↦ (number, serial, interface b u .speed, interface b u .sum) ]
 
-unfoldable pub call : Bench → Line → Reply
-call b (D u v) = defectCall b u v
-call b (B u ks) = blossomCall b u (map (named b) ks) []
-call b (E u k) = expandCall b u (named b k)
-call b (S u k s) = stateCall b u (named b k) s
-call b (G u l) = growCall b u l
-call b (F p l r) = fuseCall b p l r
-call b (C u) = clearCall b u
-call b (K u) = settle (first (unitTests b u)) b b (record { unit = 0; slot = 0; serial = verdict b u .0 })
+-- a line's four numbers, and the bench after it
+pub record Said : Type 0 where
+  pub numbers : ℕ × ℕ × ℤ × ℤ
+  pub bench : Bench
 
--- speed and sum after the call: both 0 of no interface and of one with a parent
-unfoldable pub shown : ℕ → Handle → Bench → ℕ → ℕ × ℕ × ℤ × ℤ
-shown num h b u = elim (outside u || child b u)
-    [ true ↦ (num, h .serial, pos 0, pos 0) | false ↦ (num, h .serial, interface b u .speed, interface b u .sum) ]
+-- a call that names interface u
+unfoldable pub calls : Bench → ℕ → Call → Said
+calls b u c = record { numbers = shown (answer b c .number) (answer b c .node .serial) (answer b c .bench) u; bench = answer b c .bench }
 
-unfoldable pub answers : Bench → List Line → List (ℕ × ℕ × ℤ × ℤ)
-answers b [] = []
-answers b (l ∷ ls) = let r : Reply = call b l in shown (r .number) (r .node) (r .bench) (unitOf l) ∷ answers (r .bench) ls
+-- the check's verdict stands where another line has the serial
+unfoldable pub checks : Bench → ℕ → Said
+checks b u = record { numbers = shown (ask b (0, 0) (checkOf b u) .0) (ask b (0, 0) (checkOf b u) .1 .0) b u; bench = b }
 
-unfoldable pub after : Bench → List Line → Bench
-after b [] = b
-after b (l ∷ ls) = after (call b l .bench) ls
+unfoldable pub says : Bench → Line → Said
+says b (D u v) = calls b u (Defect u v)
+says b (B u ks) = calls b u (Blossom u (map (named b) ks) [])
+says b (E u k) = calls b u (Expand u (named b k))
+says b (S u k s) = calls b u (SetState u (named b k) s)
+says b (G u l) = calls b u (Grow u l)
+says b (F p l r) = calls b p (Fuse p l r)
+says b (C u) = calls b u (Clear u)
+says b (K u) = checks b u
+says b wrong = record { numbers = (1, 0, pos 0, pos 0); bench = b }

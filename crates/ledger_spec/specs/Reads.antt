@@ -1,16 +1,22 @@
--- What a bench can be asked. A read of an interface answers 3 or 4 as a call does, a read of a node 8. Assumes nothing.
-use Prim.Native.Nat.{ℕ, zero, suc, _+_, _-_}
-use mathlib.Core.Bool.{Bool, true, false, not, _||_, _&&_}
+-- What a bench can be asked of its interfaces and nodes: a number and, where that is 0, a value (on a sound bench: Answers.antt has BROKEN).
+-- A read of an interface answers 3 or 4 as a call does, a read of a node 8. Assumes nothing.
+use Prim.Native.Nat.{ℕ, zero, suc}
+use mathlib.Core.Bool.{Bool, true, false, not, _&&_}
 use mathlib.Core.Option.{Option, none, some}
-use mathlib.Core.List.{List, [], _∷_, _++_, map}
+use mathlib.Core.List.{List, [], _∷_, _++_}
 use lib.ListN.{length, getD}
-use lib.Dec.{eqb, leb, ltb}
-use lib.IntN.{ℤ, pos, _+ℤ_}
-use Rattle.ledger_spec.specs.Bench.{Handle, Member, Class, defect, blossom, Node, Interface, Bench}
-use Rattle.ledger_spec.specs.Look.{interface, slotOf, nodeAt, top, tree}
+use lib.Dec.{leb}
+use lib.IntN.{ℤ, pos}
+use Rattle.ledger_spec.specs.Bench.{Handle, Node, Bench}
+use Rattle.ledger_spec.specs.Look.{interface, nodeAt, tree}
+use Rattle.ledger_spec.specs.Change.{worth}
 use Rattle.ledger_spec.specs.Tests.{first, outside, child, stale, foreign}
 use Rattle.ledger_spec.specs.Refuse.{unitTests}
-use Rattle.ledger_spec.specs.Deeds.{sizeOf}
+
+-- a value, or what stands for it where the number is not 0
+unfoldable pub said : {A : Type 0} → ℕ → A → A → ℕ × A
+said zero v z = (0, v)
+said (suc k) v z = (suc k, z)
 
 -- the slots of a tree, in the order of the index, each with its place
 unfoldable pub slotsFrom : ℕ → ℕ → List (Option Node) → List (ℕ × ℕ × Option Node)
@@ -29,26 +35,30 @@ asHandle t = elim (t .2) [ none ↦ none | some n ↦ some (record { unit = t .0
 
 -- ---- interfaces
 
-abbrev pub sumOf : Bench → ℕ → ℕ × ℤ
-sumOf b u = elim (first (unitTests b u)) [ zero ↦ (0, interface b u .sum) | suc k ↦ (suc k, pos 0) ]
+unfoldable pub sumOf : Bench → ℕ → ℕ × ℤ
+sumOf b u = said (first (unitTests b u)) (interface b u .sum) (pos 0)
 
-abbrev pub speedOf : Bench → ℕ → ℕ × ℤ
-speedOf b u = elim (first (unitTests b u)) [ zero ↦ (0, interface b u .speed) | suc k ↦ (suc k, pos 0) ]
+unfoldable pub speedOf : Bench → ℕ → ℕ × ℤ
+speedOf b u = said (first (unitTests b u)) (interface b u .speed) (pos 0)
 
-abbrev pub countOf : Bench → ℕ → ℕ × ℕ
-countOf b u = elim (first (unitTests b u)) [ zero ↦ (0, length (slotsOf b u)) | suc k ↦ (suc k, 0) ]
+unfoldable pub countOf : Bench → ℕ → ℕ × ℕ
+countOf b u = said (first (unitTests b u)) (length (slotsOf b u)) 0
 
-unfoldable pub indexNo : Bench → ℕ → ℕ → ℕ
-indexNo b u k = first ((outside u, 3) ∷ (child b u, 4) ∷ (leb (length (slotsOf b u)) k, 18) ∷ [])
+unfoldable pub indexTests : Bench → ℕ → ℕ → List (Bool × ℕ)
+indexTests b u k = (outside u, 3) ∷ (child b u, 4) ∷ (leb (length (slotsOf b u)) k, 18) ∷ []
 
+-- index to handle, or nothing where the slot was emptied
 unfoldable pub handleOf : Bench → ℕ → ℕ → ℕ × Option Handle
-handleOf b u k = elim (indexNo b u k) [ zero ↦ (0, asHandle (getD (slotsOf b u) k (0, 0, none))) | suc n ↦ (suc n, none) ]
+handleOf b u k = said (first (indexTests b u k)) (asHandle (getD (slotsOf b u) k (0, 0, none))) none
 
 -- ---- nodes
 
-abbrev pub valueOf : Bench → Handle → ℕ × ℤ
-valueOf b h = elim (nodeAt b h) [ none ↦ (8, pos 0) | some n ↦ (0, n .value) ]
+unfoldable pub nodeTests : Bench → Handle → List (Bool × ℕ)
+nodeTests b h = (stale b h, 8) ∷ []
+
+unfoldable pub valueOf : Bench → Handle → ℕ × ℤ
+valueOf b h = said (first (nodeTests b h)) (worth (nodeAt b h)) (pos 0)
 
 -- whether a node stands in an interface's tree: no in place of 8 and 9
-abbrev pub belongs : Bench → ℕ → Handle → ℕ × Bool
-belongs b u h = elim (first (unitTests b u)) [ zero ↦ (0, not (stale b h) && not (foreign b u h)) | suc k ↦ (suc k, false) ]
+unfoldable pub belongs : Bench → ℕ → Handle → ℕ × Bool
+belongs b u h = said (first (unitTests b u)) (not (stale b h) && not (foreign b u h)) false

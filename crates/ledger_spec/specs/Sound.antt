@@ -1,56 +1,18 @@
--- A sound bench, as a test that computes: the rules of document 01's section, of the plain bench. Assumes nothing.
-use Prim.Native.Nat.{ℕ, zero, suc, _+_, _*_, _^_}
+-- A sound bench, as a test that computes: the rules of document 01's section, of the plain bench. Slots past the used ones are empty by form,
+-- and there is no cached progress to go wrong. Assumes nothing.
+use Prim.Native.Nat.{ℕ, zero, suc, _*_, _^_}
 use mathlib.Core.Bool.{Bool, true, false, not, _&&_, _||_}
 use mathlib.Core.Option.{Option, none, some}
-use mathlib.Core.List.{List, [], _∷_, _++_, map}
+use mathlib.Core.List.{List, [], _∷_, map}
 use lib.ListN.{length}
 use lib.Dec.{eqb, leb, ltb}
 use lib.IntN.{ℤ, pos, _+ℤ_, _-ℤ_, natAbs}
-use lib.Signed.{leZ}
-use Rattle.ledger_spec.specs.Bench.{Handle, State, grows, stays, shrinks, Member, Class, defect, blossom, Node, Interface, Bench}
+use Rattle.ledger_spec.specs.Bench.{Handle, State, grows, stays, shrinks, Member, Class, defect, blossom, Node, Bench}
 use Rattle.ledger_spec.specs.Look.{interface, nodeAt, top, tree, sameHandle}
 use Rattle.ledger_spec.specs.Change.{share}
 use Rattle.ledger_spec.specs.Deeds.{sizes, members}
 use Rattle.ledger_spec.specs.Reads.{gather, slotsOf}
-
-unfoldable pub all : {A : Type 0} → (A → Bool) → List A → Bool
-all p [] = true
-all p (x ∷ xs) = p x && all p xs
-
-abbrev pub units : List ℕ
-units = 0 ∷ 1 ∷ 2 ∷ 3 ∷ 4 ∷ 5 ∷ 6 ∷ 7 ∷ []
-
--- how often p holds
-unfoldable pub tally : {A : Type 0} → (A → Bool) → List A → ℕ
-tally p [] = 0
-tally p (x ∷ xs) = elim (p x) [ true ↦ suc (tally p xs) | false ↦ tally p xs ]
-
-abbrev pub isParent : Option ℕ → ℕ → Bool
-isParent none u = false
-isParent (some p) u = eqb p u
-
-abbrev pub isHalf : Option (ℕ × ℕ) → ℕ → Bool
-isHalf none u = false
-isHalf (some lr) u = eqb (lr .0) u || eqb (lr .1) u
-
--- links of interface u, up and down
-unfoldable pub linksUp : Bench → ℕ → Bool
-linksUp b u = elim (interface b u .parent) [ none ↦ true | some p ↦ ltb u p && (leb p 7 && isHalf (interface b p .halves) u) ]
-
-unfoldable pub linksDown : Bench → ℕ → Bool
-linksDown b u = elim (interface b u .halves) [
-  | none ↦ true
-  | some lr ↦ (not (eqb (lr .0) (lr .1)) && (ltb (lr .0) u && ltb (lr .1) u)) && (isParent (interface b (lr .0) .parent) u && isParent (interface b (lr .1) .parent) u)
-]
-
-unfoldable pub soundInterface : Bench → ℕ → Bool
-soundInterface b u = (leb (length (interface b u .slots)) 64 && (leZ (pos 0) (interface b u .progress) && leZ (interface b u .progress) (pos (2 ^ 40))))
-    && (linksUp b u && linksDown b u)
-
--- W: the progress of an interface and of all below it
-unfoldable pub reach : Bench → List ℕ → ℕ
-reach b [] = 0
-reach b (u ∷ us) = natAbs (interface b u .progress) + reach b us
+use Rattle.ledger_spec.specs.SoundTree.{all, units, tally, soundInterface, reach}
 
 abbrev pub isStay : State → Bool
 isStay grows = false

@@ -1,0 +1,11 @@
+-- Handles: when two are the same, and the one that a refusal answers. Assumes nothing.
+use mathlib.Core.Bool.{Bool, true, false, _&&_}
+use lib.Dec.{eqb}
+use Rattle.kinds.specs.declared.Handle.{Handle}
+
+-- interface, slot and serial agree
+abbrev pub sameHandle : Handle → Handle → Bool
+sameHandle a b = eqb (a .unit) (b .unit) && (eqb (a .slot) (b .slot) && eqb (a .serial .0) (b .serial .0))
+
+abbrev pub nobody : Handle
+nobody = record { unit = 0; slot = 0; serial = record { 0 = 0 } }

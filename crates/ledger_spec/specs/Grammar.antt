@@ -1,0 +1,114 @@
+-- Document 01, "The text program": what a line says. A line is its bytes without the newline. Assumes nothing.
+use Prim.Native.Nat.{ℕ, zero, suc}
+use mathlib.Core.Bool.{Bool, true, false}
+use mathlib.Core.Option.{Option, none, some}
+use mathlib.Core.List.{List, [], _∷_}
+use lib.Dec.{eqb, ltb}
+use lib.ListN.{length}
+use lib.IntN.{ℤ, pos, negsuc}
+use Rattle.ledger_spec.specs.Bench.{State, grows, stays, shrinks}
+use Rattle.ledger_spec.specs.Decimals.{number, integer}
+use Rattle.ledger_spec.specs.Fields.{cut}
+
+-- what a line says, or that it is not of the grammar
+pub data Line : Type 0 where
+  D : (unit vertex : ℕ) → Line
+  B : (unit : ℕ) (serials : List ℕ) → Line
+  E : (unit serial : ℕ) → Line
+  S : (unit serial : ℕ) (to : State) → Line
+  G : (unit : ℕ) (by : ℤ) → Line
+  F : (parent left right : ℕ) → Line
+  C : (unit : ℕ) → Line
+  K : (unit : ℕ) → Line
+  wrong : Line
+
+-- ---- fields
+
+abbrev pub unit : List ℕ → Option ℕ
+unit = number 0 255
+
+abbrev pub vertex : List ℕ → Option ℕ
+vertex = number 0 4294967295
+
+abbrev pub serial : List ℕ → Option ℕ
+serial = number 1 4294967295
+
+abbrev pub amount : List ℕ → Option ℤ
+amount = integer
+
+-- 1, 0, -1
+abbrev pub stateIn : Option ℤ → Option State
+stateIn none = none
+stateIn (some (pos zero)) = some stays
+stateIn (some (pos (suc zero))) = some grows
+stateIn (some (pos (suc (suc n)))) = none
+stateIn (some (negsuc zero)) = some shrinks
+stateIn (some (negsuc (suc n))) = none
+
+abbrev pub state : List ℕ → Option State
+state f = stateIn (integer f)
+
+-- ---- one field after the other
+
+abbrev pub Fields : Type 0
+Fields = List (List ℕ)
+
+-- the next field, read by r, and the fields after it
+unfoldable pub step : {A : Type 0} → (List ℕ → Option A) → Fields → Option (A × Fields)
+step r [] = none
+step r (f ∷ fs) = elim (r f) [ none ↦ none | some a ↦ some (a, fs) ]
+
+abbrev pub follow : {A : Type 0} → Option (A × Fields) → (A → Fields → Line) → Line
+follow none k = wrong
+follow (some p) k = k (p .0) (p .1)
+
+abbrev pub then : {A : Type 0} → (List ℕ → Option A) → (A → Fields → Line) → Fields → Line
+then r k fs = follow (step r fs) k
+
+-- no field is left
+abbrev pub end : Line → Fields → Line
+end l [] = l
+end l (f ∷ fs) = wrong
+
+-- each field is a serial
+unfoldable pub serials : Fields → Option (List ℕ)
+serials [] = some []
+serials (f ∷ fs) = elim (serial f) [ none ↦ none | some n ↦ elim (serials fs) [ none ↦ none | some ns ↦ some (n ∷ ns) ] ]
+
+abbrev pub gathered : ℕ → Option (List ℕ) → Line
+gathered u none = wrong
+gathered u (some ns) = B u ns
+
+-- at least one
+abbrev pub some-serials : ℕ → Fields → Line
+some-serials u [] = wrong
+some-serials u (f ∷ fs) = gathered u (serials (f ∷ fs))
+
+-- ---- the lines
+
+abbrev pub pick : Bool → Line → Line → Line
+pick true a b = a
+pick false a b = b
+
+-- after the letter and the first number, a unit (of a fuse: the parent)
+unfoldable pub rest : ℕ → ℕ → Fields → Line
+rest letter u fs =
+    pick (eqb letter 68) (then vertex (λ v. end (D u v)) fs)  -- D unit vertex
+    (pick (eqb letter 66) (some-serials u fs)  -- B unit serial..
+    (pick (eqb letter 69) (then serial (λ n. end (E u n)) fs)  -- E unit serial
+    (pick (eqb letter 83) (then serial (λ n. then state (λ g. end (S u n g))) fs)  -- S unit serial state
+    (pick (eqb letter 71) (then amount (λ l. end (G u l)) fs)  -- G unit length
+    (pick (eqb letter 70) (then unit (λ l. then unit (λ r. end (F u l r))) fs)  -- F parent left right
+    (pick (eqb letter 67) (end (C u) fs)  -- C unit
+    (pick (eqb letter 75) (end (K u) fs)  -- K unit
+    wrong)))))))
+
+-- a field of one byte
+abbrev pub letter : List ℕ → Option ℕ
+letter [] = none
+letter (c ∷ []) = some c
+letter (c ∷ d ∷ f) = none
+
+-- one space between fields; at most 1,024 bytes with the newline
+unfoldable pub lineOf : List ℕ → Line
+lineOf s = pick (ltb 1023 (length s)) wrong (then letter (λ c. then unit (rest c)) (cut 32 s))

@@ -1,0 +1,126 @@
+-- The calls on obstacle groups, for every group and bench: a number, the answer, and the group after it, which a refusal leaves as it was.
+-- Add and extend are lent the bench, the others none. Assumes nothing.
+use Prim.Native.Nat.{ℕ, zero, suc}
+use mathlib.Core.Bool.{Bool, true, false, cond, not, _&&_}
+use mathlib.Core.Option.{Option, none, some}
+use mathlib.Core.List.{List, [], _∷_, _++_}
+use lib.IntN.{ℤ, pos}
+use Rattle.kinds.specs.declared.Handle.{Handle as Code}
+use Rattle.kinds.specs.declared.Entry.{Entry}
+use Rattle.kinds.specs.declared.Stop.{Stop}
+use Rattle.kinds.specs.declared.MaybePair.{MaybePair}
+use Rattle.kinds.specs.declared.MaybePair.the-variants.{NoPair, WithPair}
+use Rattle.kinds.specs.declared.Obstacle.{Obstacle}
+use Rattle.kinds.specs.declared.Obstacle.the-variants.{NonZeroGrow, Conflicting, TouchingVirtual, BlossomNeedExpand, VertexShrinkStop}
+use Rattle.ledger_spec.specs.Bench.{Handle, Bench}
+use Rattle.ledger_spec.specs.Tests.{first, any, given, stale}
+use Rattle.ledger_spec.specs.Reads.{said}
+use Rattle.ledger_spec.specs.Walk.{firstVertex}
+use Rattle.ledger_spec.specs.Sound.{sound}
+use Rattle.ledger_spec.specs.Named.{handleNamed}
+use Rattle.ledger_spec.specs.Groups.{Group, growth, conflicts, largest, eqZ, soundGroup, added, extended, topOf, popped}
+
+-- ---- reads
+
+abbrev pub isLargest : Group → Bool
+isLargest (growth l f) = eqZ l largest
+isLargest (conflicts l s) = false
+
+abbrev pub isGrowth : Group → Bool
+isGrowth (growth l f) = true
+isGrowth (conflicts l s) = false
+
+-- all but (largest, no)
+abbrev pub active : Group → Bool
+active (growth l f) = cond (eqZ l largest) f true
+active (conflicts l s) = true
+
+unfoldable pub groupTests : Group → List (Bool × ℕ)
+groupTests g = (not (soundGroup g), 2) ∷ []
+
+unfoldable pub isEmpty : Group → ℕ × Bool
+isEmpty g = said (first (groupTests g)) (isLargest g) false
+
+unfoldable pub isActive : Group → ℕ × Bool
+isActive g = said (first (groupTests g)) (active g) false
+
+-- the length of a growth; "none" of conflicts
+abbrev pub lengthIn : Group → Option ℤ
+lengthIn (growth l f) = some l
+lengthIn (conflicts l s) = none
+
+unfoldable pub growthOf : Group → ℕ × Option ℤ
+growthOf g = said (first ((not (soundGroup g), 2) ∷ (isLargest g, 21) ∷ [])) (lengthIn g) none
+
+abbrev pub topIn : Group → Option Obstacle
+topIn (growth l f) = none
+topIn (conflicts l s) = topOf l s
+
+unfoldable pub takeTests : Group → List (Bool × ℕ)
+takeTests g = (not (soundGroup g), 2) ∷ (isGrowth g, 10) ∷ []
+
+unfoldable pub peek : Group → ℕ × Option Obstacle
+peek g = said (first (takeTests g)) (topIn g) none
+
+-- ---- changes: number, answer, group
+
+abbrev pub afterPop : Group → Group
+afterPop (growth l f) = growth l f
+afterPop (conflicts l s) = popped l s
+
+unfoldable pub pop : Group → ℕ × (Option Obstacle × Group)
+pop g = said (first (takeTests g)) (topIn g, afterPop g) (none, g)
+
+-- the nodes that an obstacle names, and those of a group
+abbrev pub pairHandles : MaybePair → List Code
+pairHandles NoPair = []
+pairHandles (WithPair p) = p .node ∷ p .touching ∷ []
+
+unfoldable pub handlesOf : Obstacle → List Code
+handlesOf (NonZeroGrow l f) = []
+handlesOf (Conflicting p q) = p .node ∷ p .touching ∷ q .node ∷ q .touching ∷ []
+handlesOf (TouchingVirtual p v m) = p .node ∷ p .touching ∷ []
+handlesOf (BlossomNeedExpand n) = n ∷ []
+handlesOf (VertexShrinkStop n p) = n ∷ pairHandles p
+
+unfoldable pub listHandles : List Entry → List Code
+listHandles [] = []
+listHandles (e ∷ es) = handlesOf (e .obstacle) ++ listHandles es
+
+unfoldable pub stopHandles : List Stop → List Code
+stopHandles [] = []
+stopHandles (s ∷ ss) = handlesOf (s .obstacle) ++ stopHandles ss
+
+abbrev pub groupHandles : Group → List Code
+groupHandles (growth l f) = []
+groupHandles (conflicts l s) = listHandles l ++ stopHandles s
+
+abbrev pub gone : Bench → Code → Bool
+gone b h = stale b (handleNamed h)
+
+-- the first vertex of a stop's node; no other obstacle is kept by one
+abbrev pub vertexOf : Bench → Obstacle → ℕ
+vertexOf b (NonZeroGrow l f) = 0
+vertexOf b (Conflicting p q) = 0
+vertexOf b (TouchingVirtual p v m) = 0
+vertexOf b (BlossomNeedExpand n) = 0
+vertexOf b (VertexShrinkStop n p) = firstVertex b (handleNamed n) .1
+
+-- the group itself where there is no room
+abbrev pub orElse : Option Group → Group → Group
+orElse none g = g
+orElse (some q) g = q
+
+unfoldable pub add : Bench → Group → Obstacle → ℕ × Group
+add b g o =
+    said
+    (first ((not (sound b && soundGroup g), 2) ∷ (any (gone b) (handlesOf o), 8) ∷ (not (given (added g o (vertexOf b o))), 20) ∷ []))
+    (orElse (added g o (vertexOf b o)) g)
+    g
+
+unfoldable pub extend : Bench → Group → Group → ℕ × Group
+extend b g h =
+    said
+    (first ((not (sound b && (soundGroup g && soundGroup h)), 2) ∷ (any (gone b) (groupHandles h), 8) ∷ (not (given (extended g h)), 20) ∷ []))
+    (orElse (extended g h) g)
+    g
