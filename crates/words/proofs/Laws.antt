@@ -252,3 +252,17 @@ module _ (b : List ℕ) (u : ℕ) (n : Interface) (len : length b ≡ 6273) (lu 
         o 11 (omega arith) (omega arith),
         o 12 (omega arith) (omega arith),
       )
+
+-- ---- the next serial is no part of an interface or a node
+pub interface-first : (b : List ℕ) (x u : ℕ) → interfaceAt (set b 0 x) u ≡ interfaceAt b u
+unfolding interfaceAt
+interface-first b x u =
+    let o : (f : ℕ) → 0 < f → getD (set b 0 x) (ibase u + f) 0 ≡ getD b (ibase u + f) 0 = λ f z. getD-set-other b 0 (ibase u + f) x 0 (λ e. omega arith) in
+    simp
+    (o 1 (omega arith), o 2 (omega arith), o 3 (omega arith), o 4 (omega arith), o 5 (omega arith), o 6 (omega arith), o 7 (omega arith))
+
+pub node-first : (b : List ℕ) (x k : ℕ) → nodeAt (set b 0 x) k ≡ nodeAt b k
+unfolding nodeAt
+node-first b x k =
+    let o : (f : ℕ) → getD (set b 0 x) (base k + f) 0 ≡ getD b (base k + f) 0 = λ f. getD-set-other b 0 (base k + f) x 0 (λ e. omega arith) in
+    simp (o 1, o 2, o 3, o 4, o 5, o 6, o 7, o 8, o 9, o 10, o 11, o 12)

@@ -1,0 +1,4 @@
+pub mod Tab
+pub mod Records
+pub mod View
+pub mod Canon
