@@ -2,3 +2,4 @@ pub mod Tab
 pub mod Records
 pub mod View
 pub mod Canon
+pub mod Fit
