@@ -1,0 +1,9 @@
+pub mod Puts
+pub mod Stores
+pub mod Keeps
+pub mod Needs
+pub mod Growing
+pub mod Setting
+pub mod Adds
+pub mod Adding
+pub mod Bodies
