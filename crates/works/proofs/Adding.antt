@@ -108,9 +108,9 @@ module _ (b : List ℕ) (u : ℕ) (v : Vertex) (F : Fit b) (P : Pushable b u) (f
       let st = F .canon .steady in
       let short = sumUp-le b st 8 u (P .root .low) in
       ap (λ (m : ℕ). viewIn m (interfaceAt b₁) (nodeAt b₁)) (push-next b u n₁ (interfaceAt b u .speed + 1) st (P .root .low) (P .room) good₁)
-      ∙ push-in (getD b 0 0) (interfaceAt b) (interfaceAt b₁) (nodeAt b) (nodeAt b₁) u
+      ∙ push-in (getD b 0 0) (interfaceAt b) (interfaceAt b₁) (nodeAt b) (nodeAt b₁) u K
       (record { serial = getD b 0 0; class = plain.defect (v .0); state = grows; parent = none; value = pos 0; size = 1 })
-      (λ w lw. good-interface b w) (st .slots) (P .root .low) (P .room) unit-here unit-there node-there circles refl
+      (λ w lw. good-interface b w) (st .slots) (P .root .low) (P .room) refl unit-here unit-there node-there circles refl
       (ap₂ (λ (n : Node) (t : ℕ). slotSeen n t (circleOf (nodeAt b₁) K)) node-here (open-total b F u (P .root)) ∙ defect-seen (getD b 0 0) t₀ v (circleOf (nodeAt b₁) K) (omega (arith, open-total b F u (P .root))))
       ∙ ap (λ (m : ℕ). push (view b) u (record { serial = m; class = plain.defect (v .0); state = grows; parent = none; value = pos 0; size = 1 })) (sym (view-next (getD b 0 0) (interfaceAt b) (nodeAt b)))
 

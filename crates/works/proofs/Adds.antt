@@ -39,12 +39,13 @@ ring-old b S u v r p st room g e =
     let back : p / 64 * 64 + p % 64 ≡ p = omega arith in
     slot-old (interfaceAt b) u (p / 64) (p % 64) room (st .slots (p / 64) (g .unit)) (g .slot) (back ∙ e)
 
-module _ (n : ℕ) (U U' : ℕ → Interface) (A A' : ℕ → Node) (u : ℕ) (x : plain.Node)
-    (good : (v : ℕ) → v < 8 → GoodUp (U v .parent)) (few : (v : ℕ) → v < 8 → U v .used ≤ 64) (lu : u < 8) (room : U u .used < 64)
+-- node x in slot k, the next of interface u
+module _ (n : ℕ) (U U' : ℕ → Interface) (A A' : ℕ → Node) (u k : ℕ) (x : plain.Node)
+    (good : (v : ℕ) → v < 8 → GoodUp (U v .parent)) (few : (v : ℕ) → v < 8 → U v .used ≤ 64) (lu : u < 8) (room : U u .used < 64) (next : k ≡ u * 64 + U u .used)
     (here : U' u ≡ withUsed (U u) (suc (U u .used)) (U u .speed + 1)) (there : (v : ℕ) → v < 8 → v ≢ u → U' v ≡ U v)
-    (others : (j : ℕ) → j ≢ u * 64 + U u .used → A' j ≡ A j)
+    (others : (j : ℕ) → j ≢ k → A' j ≡ A j)
     (circles : (v r : ℕ) → v < 8 → r < U v .used → A (v * 64 + r) .class ≡ Blossom → circleOf A' (v * 64 + r) ≡ circleOf A (v * 64 + r))
-    (growing : x .state ≡ grows) (new : slotSeen (A' (u * 64 + U u .used)) (sumUp 8 U u) (circleOf A' (u * 64 + U u .used)) ≡ some x) where
+    (growing : x .state ≡ grows) (new : slotSeen (A' k) (sumUp 8 U u) (circleOf A' k) ≡ some x) where
   kept : {X : Type 0} (φ : Interface → X) → ((y : Interface) (m z : ℕ) → φ (withUsed y m z) ≡ φ y) → (v : ℕ) → v < 8 → φ (U' v) ≡ φ (U v)
   kept = unit-held n U U' A A' u (U u .speed + 1) x lu here there
 
@@ -55,7 +56,7 @@ module _ (n : ℕ) (U U' : ℕ → Interface) (A A' : ℕ → Node) (u : ℕ) (x
   push-in =
       push-view n U U' A A' u (U u .speed + 1) x lu here there
       (off-add 1024 (U u .speed) 1 ∙ ap (λ (s : State). off 1024 (U u .speed) +ℤ rate s) (sym growing))
-      (ap (λ (w : ℕ). slotSeen (A' (u * 64 + U u .used)) w (circleOf A' (u * 64 + U u .used))) (sums u lu) ∙ new)
+      (ap₂ (λ (j w : ℕ). slotSeen (A' j) w (circleOf A' j)) (sym next) (sums u lu) ∙ new)
       (λ v r lv lr.
-      ap₂ (λ (m : Node) (w : ℕ). slotSeen m w (circleOf A' (v * 64 + r))) (others (v * 64 + r) (slot-old U u v r room (few v lv) lr)) (sums v lv)
+      ap₂ (λ (m : Node) (w : ℕ). slotSeen m w (circleOf A' (v * 64 + r))) (others (v * 64 + r) (λ e. slot-old U u v r room (few v lv) lr (e ∙ next))) (sums v lv)
       ∙ slot-like (A (v * 64 + r)) (sumUp 8 U v) (circleOf A' (v * 64 + r)) (circleOf A (v * 64 + r)) (circles v r lv lr))

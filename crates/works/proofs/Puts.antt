@@ -77,7 +77,7 @@ slot-marked n t ms g x low = go (n .class) refl
     go Blossom e = rw e (rw (value-back g (valueOf (n .state) (n .bias) t) t low))
     go (Defect v) e = rw e (rw (value-back g (valueOf (n .state) (n .bias) t) t low))
 
-speed-turns : (x y a b : ℕ) → y + b ≡ x + a → off 1024 y ≡ off 1024 x +ℤ (pos a -ℤ pos b)
+pub speed-turns : (x y a b : ℕ) → y + b ≡ x + a → off 1024 y ≡ off 1024 x +ℤ (pos a -ℤ pos b)
 speed-turns x y a b e =
     let q : y ≡ x + a - b = omega arith in
     ap (off 1024) q ∙ off-both 1024 x a b (omega arith)
