@@ -1,0 +1,4 @@
+pub mod Fusing
+pub mod Emptying
+pub mod Wiping
+pub mod Beginning
