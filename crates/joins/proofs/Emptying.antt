@@ -66,7 +66,7 @@ reset-by b u U {b₁} {b₂} lu eU E ef e₂ =
             (λ (ne : v ≡ u → ⊥). st .rising v p lv (ap (λ (x : Interface). x .parent) (sym (interface-other b₁ u noInterface len lu v ne)) ∙ e));
       };
       coded = coded-interface b₁ u noInterface len lu tt (E .coded);
-      next = stored-next b₁ u noInterface len lu tt ∙ E .next;
+      serial = stored-next b₁ u noInterface len lu tt ∙ E .next;
       here = interface-same b₁ u noInterface len lu tt;
       there = λ v lv ne. interface-other b₁ u noInterface len lu v ne ∙ E .faces v lv;
       gone = λ s l. store-interface-node b₁ u noInterface len lu (u * 64 + s) ∙ E .gone s (rw n l);

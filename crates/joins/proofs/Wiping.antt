@@ -154,7 +154,7 @@ module _ (b : List ℕ) (u : ℕ) (F : Fit b) (T : first (unitTests (view b) u) 
           within = omega arith;
           steady = R .steady;
           coded = R .coded;
-          next = R .next ∙ G .next;
+          next = R .serial ∙ G .next;
           gone = λ v lv z q. by-cases (ℕ-discrete v w)
               (λ (x : v ≡ w). rw x (R .here))
               (λ (ne : v ≡ w → ⊥). R .there v lv ne ∙ G .gone v lv (omega arith) q);

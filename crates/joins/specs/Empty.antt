@@ -29,7 +29,7 @@ pub record Emptied (b : List ℕ) (u : ℕ) (b' : List ℕ) (n : ℕ) : Type 0 w
 pub record Reset (b : List ℕ) (u : ℕ) (b' : List ℕ) : Type 0 where
   pub steady : Steady b'
   pub coded : Coded b'
-  pub next : getD b' 0 0 ≡ getD b 0 0
+  pub serial : getD b' 0 0 ≡ getD b 0 0
   pub here : interfaceAt b' u ≡ noInterface
   pub there : (v : ℕ) → v < 8 → v ≢ u → interfaceAt b' v ≡ interfaceAt b v
   pub gone : (s : ℕ) → s < interfaceAt b u .used → nodeAt b' (u * 64 + s) ≡ noNode

@@ -125,21 +125,21 @@ pub fn push(b: &mut [u64; WORDS], unit: usize, n: Node, speed: u64)
     requires { ⌜ (unit < 8) × (interfaceAt (now b) unit .used < 64) × (getD (now b) 0 0 < 4294967296) ⌝ }
     ensures { λ _. ⌜ now (b .exit) ≡ pushed (now (b .entry)) unit n speed ⌝ }
 {
-    let f = words::load_interface(b, unit);
+    let old = words::load_interface(b, unit);
     let next = words::load_next(b);
-    let parent = f.parent;
-    words::store_node(b, unit * 64 + (f.used as usize), n);
+    let parent = old.parent;
+    words::store_node(b, unit * 64 + (old.used as usize), n);
     words::store_interface(
         b,
         unit,
         Interface {
-            used: f.used + 1,
-            progress: f.progress,
-            sum: f.sum,
+            used: old.used + 1,
+            progress: old.progress,
+            sum: old.sum,
             speed,
             parent,
-            left: f.left,
-            right: f.right,
+            left: old.left,
+            right: old.right,
         },
     );
     words::store_next(b, next + 1);
