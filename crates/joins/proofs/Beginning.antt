@@ -1,29 +1,25 @@
 -- Set-up: all words zero are empty slots, and then each interface is stored as empty. Zero is its own code, so the words are canonical. Assumes nothing.
-use Prim.Native.Nat.{ℕ, zero, suc, _+_, _-_, _*_, _%_, _<_, _≤_}
-use mathlib.Core.Path.{_≡_, refl, ap, ap₂, sym, _∙_}
-use mathlib.Core.Logic.{_≢_, by-cases}
-use mathlib.Core.List.{List, [], _∷_}
+use Prim.Native.Nat.{ℕ, zero, suc, _+_, _-_, _*_, _<_, _≤_}
+use mathlib.Core.Path.{_≡_, refl, ap, sym, _∙_}
+use mathlib.Core.Logic.{by-cases}
+use mathlib.Core.List.{List}
 use native.Mathlib.Decide.{ℕ-discrete, decLt}
 use native.Mathlib.Omega.{arith}
 use lib.IntN.{pos}
 use lib.ListN.{length, getD, set, length-set, replicate, length-replicate, getD-replicate, List·getD-eq-default}
 use lib.Seq.{getD-set-same, getD-set-other}
-use Rattle.kinds.specs.declared.Class.{Class}
-use Rattle.kinds.specs.declared.Class.the-variants.{Absent, Blossom, Defect}
-use Rattle.kinds.specs.declared.Parent.{Parent}
-use Rattle.kinds.specs.declared.Parent.the-variants.{Outermost, Inside}
+use Rattle.kinds.specs.declared.Class.the-variants.{Absent}
 use Rattle.words.specs.Store.{base, ibase, nodeAt, interfaceAt, storeInterface, interfaceOf, interfaceWords, nodeWords}
 use Rattle.words.proofs.Laws.{interface-same, interface-other, store-interface-node, length-store-interface, interface-first, node-first}
 use Rattle.words.specs.declared.Node.{Node}
 use Rattle.words.specs.declared.Interface.{Interface}
 use Rattle.words.specs.declared.Up.{Up}
 use Rattle.words.specs.declared.Up.the-variants.{Top, Under}
-use Rattle.ledger_spec.specs.Bench.{Bench, fresh, setUp}
-use Rattle.ledger_spec.specs.Look.{interface}
-use Rattle.views.specs.Records.{Steady, noNode}
+use Rattle.ledger_spec.specs.Bench.{fresh, setUp}
+use Rattle.views.specs.Records.{noNode}
 use Rattle.views.specs.Tab.{tab}
-use Rattle.views.specs.View.{off, upSeen, halvesSeen, slotIn, interfaceIn, view}
-use Rattle.views.specs.Canon.{Alone, Coded, Canon}
+use Rattle.views.specs.View.{off, upSeen, halvesSeen, slotIn, interfaceIn}
+use Rattle.views.specs.Canon.{Coded}
 use Rattle.views.specs.Fit.{Done}
 use Rattle.views.proofs.Offsets.{off-zero}
 use Rattle.views.proofs.Views.{interface-is, view-is}
@@ -90,11 +86,11 @@ pub record Filling (b : List ℕ) (n : ℕ) : Type 0 where
   pub len : length b ≡ 6273
   pub within : n ≤ 8
   pub coded : Coded b
-  pub faces : (u : ℕ) → u < n → interfaceAt b u ≡ noInterface
+  pub interfaces : (u : ℕ) → u < n → interfaceAt b u ≡ noInterface
   pub nodes : (k : ℕ) → nodeAt b k ≡ noNode
 
 pub filling-begins : (b : List ℕ) → (length b ≡ 6273) × ((m : ℕ) → getD b m 0 ≡ 0) → Filling b 0
-filling-begins b z = record { len = z .0; within = omega arith; coded = zero-coded b (z .1); faces = λ u l. absurd (omega arith); nodes = zero-node b (z .1) }
+filling-begins b z = record { len = z .0; within = omega arith; coded = zero-coded b (z .1); interfaces = λ u l. absurd (omega arith); nodes = zero-node b (z .1) }
 
 pub filling-more : (b b' : List ℕ) (n : ℕ) {f : Interface} → Filling b n → n < 8 → f ≡ noInterface → b' ≡ storeInterface b n f → Filling b' (n + 1)
 filling-more b b' n I l ef e =
@@ -104,9 +100,9 @@ filling-more b b' n I l ef e =
       len = length-store-interface b n noInterface (I .len) l;
       within = omega arith;
       coded = coded-interface b n noInterface (I .len) l tt (I .coded);
-      faces = λ u lu. by-cases (ℕ-discrete u n)
+      interfaces = λ u lu. by-cases (ℕ-discrete u n)
           (λ (z : u ≡ n). rw z (interface-same b n noInterface (I .len) l tt))
-          (λ (ne : u ≡ n → ⊥). interface-other b n noInterface (I .len) l u ne ∙ I .faces u (omega arith));
+          (λ (ne : u ≡ n → ⊥). interface-other b n noInterface (I .len) l u ne ∙ I .interfaces u (omega arith));
       nodes = λ k. store-interface-node b n noInterface (I .len) l k ∙ I .nodes k;
     })
 
@@ -115,11 +111,11 @@ not-under : {o : Up} {p : ℕ} → o ≡ Top → o ≡ Under p → ⊥
 not-under {p = p} z e = let y : Under p ≡ Top = sym e ∙ z in let y2 : _≡_ {A = ℕ} 0 1 = cc in omega arith
 
 module _ (b : List ℕ) (first : ℕ) (next : getD b 0 0 ≡ first) (len : length b ≡ 6273) (coded : Coded b)
-    (faces : (u : ℕ) → u < 8 → interfaceAt b u ≡ noInterface) (bare : (k : ℕ) → nodeAt b k ≡ noNode) where
-  face-seen : (v : ℕ) → v < 8 → interfaceIn (interfaceAt b) (nodeAt b) v ≡ fresh
+    (interfaces : (u : ℕ) → u < 8 → interfaceAt b u ≡ noInterface) (bare : (k : ℕ) → nodeAt b k ≡ noNode) where
+  interface-seen : (v : ℕ) → v < 8 → interfaceIn (interfaceAt b) (nodeAt b) v ≡ fresh
   unfolding tab
-  face-seen v lv =
-      let e = faces v lv in
+  interface-seen v lv =
+      let e = interfaces v lv in
       interface-is (interfaceIn (interfaceAt b) (nodeAt b) v) fresh
       (ap (λ (f : Interface). tab (slotIn (interfaceAt b) (nodeAt b) v) 0 (f .used)) e)
       (ap (λ (f : Interface). pos (f .progress)) e) (ap (λ (f : Interface). off 4611686018427387904 (f .sum)) e ∙ off-zero 4611686018427387904) (ap (λ (f : Interface). off 1024 (f .speed)) e ∙ off-zero 1024)
@@ -131,17 +127,17 @@ module _ (b : List ℕ) (first : ℕ) (next : getD b 0 0 ≡ first) (len : lengt
   begun : Done b (setUp first)
   begun =
       record {
-        seen = view-is (getD b 0 0) (interfaceAt b) (nodeAt b) (setUp first) (sym next) (length-replicate 8 fresh) (λ v lv. face-seen v lv ∙ sym (getD-replicate 8 v fresh fresh lv));
+        seen = view-is (getD b 0 0) (interfaceAt b) (nodeAt b) (setUp first) (sym next) (length-replicate 8 fresh) (λ v lv. interface-seen v lv ∙ sym (getD-replicate 8 v fresh fresh lv));
         canon = record {
           steady = record {
             len = len;
-            slots = λ u lu. rw (faces u lu) (omega arith);
-            progress = λ u lu. rw (faces u lu) (omega arith);
-            rising = λ u p lu e. absurd (not-under (ap (λ (f : Interface). f .parent) (faces u lu)) e);
+            slots = λ u lu. rw (interfaces u lu) (omega arith);
+            progress = λ u lu. rw (interfaces u lu) (omega arith);
+            rising = λ u p lu e. absurd (not-under (ap (λ (f : Interface). f .parent) (interfaces u lu)) e);
           };
           coded = coded;
-          whole = λ u lu e. ap (λ (f : Interface). f .right) (faces u lu);
-          both = λ u lu ne. absurd (ne (ap (λ (f : Interface). f .left) (faces u lu)));
+          whole = λ u lu e. ap (λ (f : Interface). f .right) (interfaces u lu);
+          both = λ u lu ne. absurd (ne (ap (λ (f : Interface). f .left) (interfaces u lu)));
           past = λ u s lu l h. bare (u * 64 + s);
           empty = λ k lk e. bare k;
           defect = λ k v lk e. rw (bare k) (refl, refl);
@@ -156,4 +152,4 @@ pub filled : (b b' : List ℕ) (n first : ℕ) → Filling b n → 8 ≤ n → b
 filled b b' n first I l e =
     rw e
     (begun (set b 0 first) first (getD-set-same b 0 first 0 (omega (arith, I .len))) (length-set b 0 first ∙ I .len) (coded-first b first (I .coded))
-    (λ u lu. interface-first b first u ∙ I .faces u (omega arith)) (λ k. node-first b first k ∙ I .nodes k))
+    (λ u lu. interface-first b first u ∙ I .interfaces u (omega arith)) (λ k. node-first b first k ∙ I .nodes k))

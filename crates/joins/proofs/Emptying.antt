@@ -1,12 +1,11 @@
 -- Slots emptied one by one, and an interface reset: each turn stores one empty node, and the other words stay. Assumes nothing.
-use Prim.Native.Nat.{ℕ, zero, suc, _+_, _-_, _*_, _<_, _≤_}
+use Prim.Native.Nat.{ℕ, _+_, _-_, _*_, _<_}
 use mathlib.Core.Path.{_≡_, refl, ap, sym, _∙_}
-use mathlib.Core.Logic.{_≢_, by-cases}
+use mathlib.Core.Logic.{by-cases}
 use mathlib.Core.List.{List}
 use native.Mathlib.Decide.{ℕ-discrete}
 use native.Mathlib.Omega.{arith}
-use lib.ListN.{length, getD}
-use Rattle.words.specs.Store.{nodeAt, interfaceAt, storeNode, storeInterface}
+use Rattle.words.specs.Store.{interfaceAt, storeNode, storeInterface}
 use Rattle.words.proofs.Laws.{Good, load-same, load-other, store-node-interface, interface-same, interface-other, store-interface-node, length-store-interface}
 use Rattle.words.specs.declared.Node.{Node}
 use Rattle.words.specs.declared.Interface.{Interface}
@@ -22,7 +21,7 @@ good-none : Good noNode
 good-none = record { serial = omega arith; class = tt; parent = tt; left = (omega arith, omega arith, omega arith); right = (omega arith, omega arith, omega arith) }
 
 pub emptied-none : (b : List ℕ) (u : ℕ) → Steady b → Coded b → Emptied b u b 0
-emptied-none b u st co = record { steady = st; coded = co; next = refl; faces = λ v l. refl; gone = λ s l. absurd (omega arith); kept = λ k off. refl }
+emptied-none b u st co = record { steady = st; coded = co; next = refl; interfaces = λ v l. refl; gone = λ s l. absurd (omega arith); kept = λ k off. refl }
 
 pub emptied-more : (b : List ℕ) (u : ℕ) (b₁ b₂ : List ℕ) (n : ℕ) (e : Node) → Emptied b u b₁ n → u < 8 → n < 64 → e ≡ noNode → b₂ ≡ storeNode b₁ (u * 64 + n) e → Emptied b u b₂ (n + 1)
 emptied-more b u b₁ b₂ n e E lu ln ee e₂ =
@@ -35,7 +34,7 @@ emptied-more b u b₁ b₂ n e E lu ln ee e₂ =
       steady = node-steady b₁ k noNode lk good-none (E .steady);
       coded = coded-node b₁ k noNode len lk good-none (E .coded);
       next = node-next b₁ k noNode lk good-none len ∙ E .next;
-      faces = λ v lv. store-node-interface b₁ k noNode len lk v lv ∙ E .faces v lv;
+      interfaces = λ v lv. store-node-interface b₁ k noNode len lk v lv ∙ E .interfaces v lv;
       gone = λ s l. by-cases (ℕ-discrete s n)
           (λ (z : s ≡ n). rw z (load-same b₁ k noNode len lk good-none))
           (λ (ne : s ≡ n → ⊥). load-other b₁ k noNode len lk (u * 64 + s) (λ z. ne (omega arith)) ∙ E .gone s (omega arith));
@@ -68,7 +67,7 @@ reset-by b u U {b₁} {b₂} lu eU E ef e₂ =
       coded = coded-interface b₁ u noInterface len lu tt (E .coded);
       serial = stored-next b₁ u noInterface len lu tt ∙ E .next;
       here = interface-same b₁ u noInterface len lu tt;
-      there = λ v lv ne. interface-other b₁ u noInterface len lu v ne ∙ E .faces v lv;
+      there = λ v lv ne. interface-other b₁ u noInterface len lu v ne ∙ E .interfaces v lv;
       gone = λ s l. store-interface-node b₁ u noInterface len lu (u * 64 + s) ∙ E .gone s (rw n l);
       kept = λ k off. store-interface-node b₁ u noInterface len lu k ∙ E .kept k (λ s l. off s (rw n at l));
     })

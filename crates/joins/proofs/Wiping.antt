@@ -4,17 +4,15 @@ use Prim.Native.Nat.{ℕ, zero, suc, _+_, _-_, _*_, _/_, _%_, _<_, _≤_}
 use mathlib.Core.Path.{_≡_, refl, ap, ap₂, sym, _∙_, subst}
 use mathlib.Core.Logic.{_≢_, by-cases}
 use mathlib.Core.Option.{Option, none, some}
-use mathlib.Core.List.{List, []}
+use mathlib.Core.List.{List}
 use native.Mathlib.Decide.{ℕ-discrete, decLt}
 use native.Mathlib.Omega.{arith}
 use lib.IntN.{pos}
 use lib.ListN.{length, getD, List·getD-eq-default}
-use Rattle.kinds.specs.declared.Class.{Class}
-use Rattle.kinds.specs.declared.Class.the-variants.{Absent, Blossom, Defect}
+use Rattle.kinds.specs.declared.Class.the-variants.{Absent, Blossom}
 use Rattle.kinds.specs.declared.Handle.{Handle as Packed}
 use Rattle.kinds.specs.declared.Parent.{Parent}
 use Rattle.kinds.specs.declared.Parent.the-variants.{Outermost, Inside}
-use Rattle.kinds.specs.declared.Vertex.{Vertex}
 use Rattle.words.specs.Store.{nodeAt, interfaceAt}
 use Rattle.words.proofs.Laws.{GoodUp, good-interface}
 use Rattle.words.specs.declared.Node.{Node}
@@ -23,7 +21,7 @@ use Rattle.words.specs.declared.Up.{Up}
 use Rattle.words.specs.declared.Up.the-variants.{Top, Under}
 use Rattle.ledger_spec.specs.Bench.{Bench, fresh}
 use Rattle.ledger_spec.specs.Bench as plain
-use Rattle.ledger_spec.specs.Look.{interface, slotOf, top, climb}
+use Rattle.ledger_spec.specs.Look.{interface, top, climb}
 use Rattle.ledger_spec.specs.Tests.{first}
 use Rattle.ledger_spec.specs.Refuse.{unitTests}
 use Rattle.ledger_spec.specs.Deeds.{wipe}
@@ -114,8 +112,8 @@ module _ (b : List ℕ) (u : ℕ) (F : Fit b) (T : first (unitTests (view b) u) 
     lw : w < 8
     lw = let a = wipe-low in omega arith
 
-    face-now : interfaceAt b₁ w ≡ interfaceAt b w
-    face-now = G .kept w lw (λ z. absurd (omega arith))
+    interface-now : interfaceAt b₁ w ≡ interfaceAt b w
+    interface-now = G .kept w lw (λ z. absurd (omega arith))
 
     climb-now : climb 8 (view b₁) w ≡ top (view b) w
     climb-now = climb-above (view b) (view b₁) (F .frame) w (λ v lv. go v lv (decLt v 8)) 8 w (omega arith)
@@ -168,7 +166,7 @@ module _ (b : List ℕ) (u : ℕ) (F : Fit b) (T : first (unitTests (view b) u) 
         bare-here : (b₂ : List ℕ) → Reset b₁ w b₂ → (s : ℕ) → s < 64 → Dec (s < interfaceAt b₁ w .used) → nodeAt b₂ (w * 64 + s) ≡ noNode
         bare-here b₂ R s ls (yes z) = R .gone s z
         bare-here b₂ R s ls (no z) =
-            R .kept (w * 64 + s) (λ r lr q. z (omega arith)) ∙ G .same w s lw ls (λ x. absurd (omega arith)) ∙ F .canon .past w s lw ls (omega (arith, z, ap (λ (f : Interface). f .used) face-now))
+            R .kept (w * 64 + s) (λ r lr q. z (omega arith)) ∙ G .same w s lw ls (λ x. absurd (omega arith)) ∙ F .canon .past w s lw ls (omega (arith, z, ap (λ (f : Interface). f .used) interface-now))
 
   -- ---- after the last turn
   module _ (b₁ : List ℕ) (w : ℕ) (G : Wiping b u b₁ w) (all : u < w) where
@@ -190,11 +188,11 @@ module _ (b : List ℕ) (u : ℕ) (F : Fit b) (T : first (unitTests (view b) u) 
     passed-by : (v : ℕ) → top B v ≡ u → v < w
     passed-by v e = omega (arith, climb-up B (F .frame) 8 v, e)
 
-    face-gone : (v : ℕ) → v < 8 → top B v ≡ u → U₁ v ≡ noInterface
-    face-gone v lv e = G .gone v lv (passed-by v e) e
+    interface-gone : (v : ℕ) → v < 8 → top B v ≡ u → U₁ v ≡ noInterface
+    interface-gone v lv e = G .gone v lv (passed-by v e) e
 
-    face-kept : (v : ℕ) → v < 8 → top B v ≢ u → U₁ v ≡ U v
-    face-kept v lv ne = G .kept v lv (λ z. ne)
+    interface-kept : (v : ℕ) → v < 8 → top B v ≢ u → U₁ v ≡ U v
+    interface-kept v lv ne = G .kept v lv (λ z. ne)
 
     node-gone : (k : ℕ) → k < 512 → top B (k / 64) ≡ u → A₁ k ≡ noNode
     node-gone k lk e =
@@ -216,7 +214,7 @@ module _ (b : List ℕ) (u : ℕ) (F : Fit b) (T : first (unitTests (view b) u) 
     sums : (n v : ℕ) → v < 8 → top B v ≢ u → sumUp n U₁ v ≡ sumUp n U v
     unfolding sumUp
     sums zero v lv ne = refl
-    sums (suc n) v lv ne = rw (face-kept v lv ne) (ap (λ (x : ℕ). U v .progress + x) (go (U v .parent) refl (sums n)))
+    sums (suc n) v lv ne = rw (interface-kept v lv ne) (ap (λ (x : ℕ). U v .progress + x) (go (U v .parent) refl (sums n)))
       where
         go : (q : Up) → U v .parent ≡ q → ((p : ℕ) → p < 8 → top B p ≢ u → sumUp n U₁ p ≡ sumUp n U p) → over q 0 (sumUp n U₁) ≡ over q 0 (sumUp n U)
         go Top e ih = refl
@@ -236,7 +234,7 @@ module _ (b : List ℕ) (u : ℕ) (F : Fit b) (T : first (unitTests (view b) u) 
 
     seen-kept : (v : ℕ) → v < 8 → top B v ≢ u → interfaceIn U₁ A₁ v ≡ interfaceIn U A v
     seen-kept v lv ne =
-        let e = face-kept v lv ne in
+        let e = interface-kept v lv ne in
         interface-is (interfaceIn U₁ A₁ v) (interfaceIn U A v)
         (ap (λ (f : Interface). tab (slotIn U₁ A₁ v) 0 (f .used)) e ∙ tab-same (slotIn U₁ A₁ v) (slotIn U A v) (U v .used) none (λ r lr. slot-kept v r lv lr ne))
         (ap (λ (f : Interface). pos (f .progress)) e) (ap (λ (f : Interface). off 4611686018427387904 (f .sum)) e) (ap (λ (f : Interface). off 1024 (f .speed)) e)
@@ -245,7 +243,7 @@ module _ (b : List ℕ) (u : ℕ) (F : Fit b) (T : first (unitTests (view b) u) 
     seen-gone : (v : ℕ) → v < 8 → top B v ≡ u → interfaceIn U₁ A₁ v ≡ fresh
     unfolding tab
     seen-gone v lv z =
-        let e = face-gone v lv z in
+        let e = interface-gone v lv z in
         interface-is (interfaceIn U₁ A₁ v) fresh
         (ap (λ (f : Interface). tab (slotIn U₁ A₁ v) 0 (f .used)) e)
         (ap (λ (f : Interface). pos (f .progress)) e) (ap (λ (f : Interface). off 4611686018427387904 (f .sum)) e ∙ off-zero 4611686018427387904) (ap (λ (f : Interface). off 1024 (f .speed)) e ∙ off-zero 1024)
@@ -294,14 +292,14 @@ module _ (b : List ℕ) (u : ℕ) (F : Fit b) (T : first (unitTests (view b) u) 
           steady = G .steady;
           coded = G .coded;
           whole = λ v lv e. by-cases (ℕ-discrete (top B v) u)
-              (λ (z : top B v ≡ u). ap (λ (f : Interface). f .right) (face-gone v lv z))
-              (λ (ne : top B v ≡ u → ⊥). ap (λ (f : Interface). f .right) (face-kept v lv ne) ∙ C .whole v lv (ap (λ (f : Interface). f .left) (sym (face-kept v lv ne)) ∙ e));
+              (λ (z : top B v ≡ u). ap (λ (f : Interface). f .right) (interface-gone v lv z))
+              (λ (ne : top B v ≡ u → ⊥). ap (λ (f : Interface). f .right) (interface-kept v lv ne) ∙ C .whole v lv (ap (λ (f : Interface). f .left) (sym (interface-kept v lv ne)) ∙ e));
           both = λ v lv ne. by-cases (ℕ-discrete (top B v) u)
-              (λ (z : top B v ≡ u). absurd (ne (ap (λ (f : Interface). f .left) (face-gone v lv z))))
-              (λ (other : top B v ≡ u → ⊥). rw (face-kept v lv other) (C .both v lv (λ e. ne (ap (λ (f : Interface). f .left) (face-kept v lv other) ∙ e))));
+              (λ (z : top B v ≡ u). absurd (ne (ap (λ (f : Interface). f .left) (interface-gone v lv z))))
+              (λ (other : top B v ≡ u → ⊥). rw (interface-kept v lv other) (C .both v lv (λ e. ne (ap (λ (f : Interface). f .left) (interface-kept v lv other) ∙ e))));
           past = λ v s lv l h. by-cases (ℕ-discrete (top B v) u)
               (λ (z : top B v ≡ u). G .bare v s lv l (passed-by v z) z)
-              (λ (ne : top B v ≡ u → ⊥). G .same v s lv l (λ x. ne) ∙ C .past v s lv l (omega (arith, h, ap (λ (f : Interface). f .used) (face-kept v lv ne))));
+              (λ (ne : top B v ≡ u → ⊥). G .same v s lv l (λ x. ne) ∙ C .past v s lv l (omega (arith, h, ap (λ (f : Interface). f .used) (interface-kept v lv ne))));
           empty = λ k lk e. by-cases (ℕ-discrete (top B (k / 64)) u)
               (λ (z : top B (k / 64) ≡ u). node-gone k lk z)
               (λ (ne : top B (k / 64) ≡ u → ⊥). node-kept k lk ne ∙ C .empty k lk (ap (λ (n : Node). n .class) (sym (node-kept k lk ne)) ∙ e));
@@ -334,7 +332,7 @@ module _ (b : List ℕ) (u : ℕ) (F : Fit b) (T : first (unitTests (view b) u) 
             let home : j / 64 ≡ q .unit = omega arith in
             let lj : j < 512 = omega (arith, s .unit) in
             let near : top B (q .unit) ≢ u = λ z. ne (parent-near k q lk e ∙ z) in
-            intact-seat b b₁ C k q s (intact j lj (s .ring) (λ z. near (ap (λ (x : ℕ). top B x) (sym home) ∙ z))) (node-kept k lk ne) (omega (arith, ap (λ (f : Interface). f .used) (face-kept (q .unit) (s .unit) near)))
+            intact-seat b b₁ C k q s (intact j lj (s .ring) (λ z. near (ap (λ (x : ℕ). top B x) (sym home) ∙ z))) (node-kept k lk ne) (omega (arith, ap (λ (f : Interface). f .used) (interface-kept (q .unit) (s .unit) near)))
 
     pub wiped : Done b₁ (wipe B u)
     wiped = record { canon = canon₁; seen = seen }

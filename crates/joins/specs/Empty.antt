@@ -21,7 +21,7 @@ pub record Emptied (b : List ℕ) (u : ℕ) (b' : List ℕ) (n : ℕ) : Type 0 w
   pub steady : Steady b'
   pub coded : Coded b'
   pub next : getD b' 0 0 ≡ getD b 0 0
-  pub faces : (v : ℕ) → v < 8 → interfaceAt b' v ≡ interfaceAt b v
+  pub interfaces : (v : ℕ) → v < 8 → interfaceAt b' v ≡ interfaceAt b v
   pub gone : (s : ℕ) → s < n → nodeAt b' (u * 64 + s) ≡ noNode
   pub kept : (k : ℕ) → ((s : ℕ) → s < n → k ≢ u * 64 + s) → nodeAt b' k ≡ nodeAt b k
 

@@ -1,6 +1,6 @@
 -- Add blossom, done: the members are taken in and the blossom is pushed. Every node is the new one, a member, or as it was; the new circle is the one
 -- given, and every other circle is as it was. Assumes nothing.
-use Prim.Native.Nat.{ℕ, zero, suc, _+_, _-_, _*_, _/_, _%_, _<_, _≤_}
+use Prim.Native.Nat.{ℕ, suc, _+_, _-_, _*_, _/_, _%_, _<_, _≤_}
 use mathlib.Core.Path.{_≡_, refl, ap, ap₂, sym, _∙_, subst}
 use mathlib.Core.Logic.{_≢_, by-cases}
 use mathlib.Core.Option.{none, some}
@@ -25,26 +25,26 @@ use Rattle.ledger_spec.specs.Bench as plain
 use Rattle.ledger_spec.specs.Change.{push, markAll}
 use Rattle.ledger_spec.specs.Deeds.{newHandle, addBlossom, circle, sizes}
 use Rattle.ledger_spec.specs.Named.{handleNamed}
-use Rattle.views.specs.Records.{withSpeed, withUsed, noNode}
+use Rattle.views.specs.Records.{withUsed, noNode}
 use Rattle.views.specs.View.{view, viewIn, sumUp, slotSeen, circleOf, follow}
 use Rattle.views.specs.Canon.{walk, Seated, Alone, Canon}
 use Rattle.views.specs.Fit.{Fit, Done}
 use Rattle.views.proofs.Offsets.{off-zero}
-use Rattle.views.proofs.Sums.{sumUp-le, sumUp-same}
+use Rattle.views.proofs.Sums.{sumUp-same}
 use Rattle.views.proofs.Views.{view-next}
 use Rattle.views.proofs.Circles.{same-eq, circle-same}
 use Rattle.views.proofs.Rings.{Ringed, ringed}
 use Rattle.works.specs.Steps.{remarked, pushed}
 use Rattle.works.proofs.Needs.{open-total}
 use Rattle.works.proofs.Stores.{push-next, push-unit, push-unit-here, push-unit-there, push-node-here, push-node-there, push-steady, push-coded}
-use Rattle.works.proofs.Keeps.{not-blossom, used-slot, ringed-walk, Intact, intact-chain, intact-seat, halves-kept}
+use Rattle.works.proofs.Keeps.{not-blossom, ringed-walk, Intact, intact-chain, intact-seat, halves-kept}
 use Rattle.works.proofs.Adds.{slot-old, ring-old, push-in}
 use Rattle.works.proofs.Adding.{new-handle}
-use Rattle.rings.specs.Given.{handGiven, handsGiven, pairsGiven, spotAt}
+use Rattle.rings.specs.Given.{handsGiven, pairsGiven, spotAt}
 use Rattle.rings.specs.Members.{seatOf, blossomNode}
 use Rattle.rings.proofs.Givens.{Ringable}
 use Rattle.rings.proofs.Rounds.{Among, yes-at, not-at, among, Head, pacing, pacing-here, pacing-else, pacing-part, turn-off, turn-head, turn-done}
-use Rattle.rings.proofs.Links.{Linked, next-more, next-last, whole-ring, ring-walk}
+use Rattle.rings.proofs.Links.{Linked, next-last, whole-ring, ring-walk}
 use Rattle.rings.proofs.Taking.{taking, speedTo, sizeTo, Taking, q₀, loose, circles, taken-view, taken-size}
 
 blossom-seen : (s f c z t : ℕ) (ns : List Member) → t ≤ 8796093022208
@@ -89,7 +89,7 @@ module _ (b : List ℕ) (u : ℕ) (ms ts : List ℕ) (F : Fit b) (R : Ringable b
   lu = R .root .low
 
   used₁ : interfaceAt b₁ u .used ≡ interfaceAt b u .used
-  used₁ = ap (λ (f : Interface). f .used) (G .faces u lu)
+  used₁ = ap (λ (f : Interface). f .used) (G .interfaces u lu)
 
   room₁ : interfaceAt b₁ u .used < 64
   room₁ = omega (arith, used₁, R .room)
@@ -118,13 +118,13 @@ module _ (b : List ℕ) (u : ℕ) (ms ts : List ℕ) (F : Fit b) (R : Ringable b
   head k ne = subst (λ (n : Node). Head n (nodeAt b k)) (sym (node-off k ne)) (turn-head (spotAt ms) (λ i. sumUp 8 (interfaceAt b) (spotAt ms i / 64)) Stay (seatOf ms ts q₁) (nodeAt b) (length ms) k)
 
   unit-here : interfaceAt b₂ u ≡ withUsed (interfaceAt b u) (suc (interfaceAt b u .used)) (sp + 1)
-  unit-here = push-unit-here b₁ u n₁ (sp + 1) (G .steady) lu room₁ good₁ ∙ ap (λ (f : Interface). withUsed f (suc (f .used)) (sp + 1)) (G .faces u lu)
+  unit-here = push-unit-here b₁ u n₁ (sp + 1) (G .steady) lu room₁ good₁ ∙ ap (λ (f : Interface). withUsed f (suc (f .used)) (sp + 1)) (G .interfaces u lu)
 
   unit-there : (v : ℕ) → v < 8 → v ≢ u → interfaceAt b₂ v ≡ interfaceAt b v
-  unit-there v lv ne = push-unit-there b₁ u n₁ (sp + 1) (G .steady) lu room₁ good₁ v lv ne ∙ G .faces v lv
+  unit-there v lv ne = push-unit-there b₁ u n₁ (sp + 1) (G .steady) lu room₁ good₁ v lv ne ∙ G .interfaces v lv
 
   part : {X : Type 0} (φ : Interface → X) → ((x : Interface) (m z : ℕ) → φ (withUsed x m z) ≡ φ x) → (v : ℕ) → v < 8 → φ (interfaceAt b₂ v) ≡ φ (interfaceAt b v)
-  part φ e v lv = push-unit b₁ u n₁ (sp + 1) (G .steady) lu room₁ good₁ φ e v lv ∙ ap φ (G .faces v lv)
+  part φ e v lv = push-unit b₁ u n₁ (sp + 1) (G .steady) lu room₁ good₁ φ e v lv ∙ ap φ (G .interfaces v lv)
 
   more : (v : ℕ) → v < 8 → interfaceAt b v .used ≤ interfaceAt b₂ v .used
   more v lv = by-cases (ℕ-discrete v u) (λ (e : v ≡ u). rw (e, unit-here) (omega arith)) (λ (ne : v ≡ u → ⊥). rw (unit-there v lv ne) (omega arith))

@@ -1,16 +1,13 @@
 -- What the calls of a function's body come to, over plain variables: each follows by putting the callees' results in. Assumes nothing.
-use Prim.Native.Nat.{ℕ, zero, suc, _+_, _-_, _*_, _/_, _%_, _<_, _≤_}
-use mathlib.Core.Path.{_≡_, refl, ap, ap₂, sym, _∙_, subst}
+use Prim.Native.Nat.{ℕ, suc, _+_, _-_, _*_, _/_, _<_, _≤_}
+use mathlib.Core.Path.{_≡_, refl, ap, sym, _∙_, subst}
 use mathlib.Core.List.{List}
 use native.Mathlib.Numerals.{add-one}
 use native.Mathlib.Omega.{arith}
 use borrow.Author.Tests.{eq-eqb, ne-eqb, lt-ltb, le-ltb}
 use lib.ListN.{length, getD}
-use Rattle.kinds.specs.Names.{nobody}
 use Rattle.kinds.specs.declared.GrowState.the-variants.{Grow as Growing, Stay}
-use Rattle.kinds.specs.declared.Class.the-variants.{Blossom}
 use Rattle.kinds.specs.declared.Handle.{Handle as Packed}
-use Rattle.kinds.specs.declared.Parent.the-variants.{Outermost}
 use Rattle.words.specs.Codec.{handleOf}
 use Rattle.words.specs.Store.{nodeAt, interfaceAt, storeNode}
 use Rattle.words.specs.declared.Node.{Node}
@@ -20,7 +17,7 @@ use Rattle.ledger_spec.specs.Refuse.{blossomTests, expandTests}
 use Rattle.ledger_spec.specs.Deeds.{newHandle, addBlossom, removeBlossom}
 use Rattle.ledger_spec.specs.Named.{handleNamed}
 use Rattle.views.specs.Records.{Steady, Ranged, rateOf, noNode}
-use Rattle.views.specs.View.{view, sumUp}
+use Rattle.views.specs.View.{view}
 use Rattle.views.specs.Fit.{Fit, Done}
 use Rattle.trees.specs.Climb.{Climbs}
 use Rattle.works.specs.Steps.{noSeat, remarked, paced, pushed}
@@ -33,7 +30,7 @@ use Rattle.rings.specs.Members.{seatOf, takenNode, freedNode, blossomNod
 use Rattle.rings.proofs.Givens.{Ringable, ringable}
 use Rattle.rings.proofs.Taking.{Taking, taking-begins, taking-range, q₀, speedTo, sizeTo, turn-ranged, turn-size, turn-turns}
 use Rattle.rings.proofs.Blossoming.{blossomed}
-use Rattle.rings.proofs.Freeing.{Expandable, expandable, Freeing, freeing-begins, free-can, free-turns, few, f₁, m₁, s₁}
+use Rattle.rings.proofs.Freeing.{Expandable, expandable, Freeing, free-can, free-turns, few, s₁}
 use Rattle.rings.proofs.Expanding.{expanded}
 
 -- ---- a member's seat
@@ -108,22 +105,21 @@ module _ {b : List ℕ} {u : ℕ} {ms ts : List ℕ} {q : Packed} {b₁ : List �
       })
 
   pub loop-ready : (interfaceAt b₁ u .used < 64) × (getD b₁ 0 0 < 4294967296)
-  loop-ready = (rw (L .taking .faces u (L .ring .root .low)) (L .ring .room), rw (L .taking .next) (L .ring .next))
+  loop-ready = (rw (L .taking .interfaces u (L .ring .root .low)) (L .ring .room), rw (L .taking .next) (L .ring .next))
 
-  pub loop-ends : (f : Interface) {x k : ℕ} {none : Packed} {b' : List ℕ} → length ms ≤ i → f ≡ interfaceAt b u → x ≡ getD b 0 0 → k ≡ spotOf (getD ms 0 0) → none ≡ nobody
-      → b' ≡ pushed b₁ u (record { serial = record { 0 = x }; class = Blossom; state = Growing; parent = Outermost; place = 0; next = 0; left = none; right = none; bias = 1152921504606846976 - f .progress; size = size; first = k; count = i }) (speed + 1)
-      → Done b' (addBlossom (view b) u (handsGiven ms) (pairsGiven ts)) × (handleNamed q ≡ newHandle (view b) u)
-  loop-ends f {x} {k} {none} {b'} l ef ex ek en e' =
+  pub loop-ends : (f : Interface) {x k : ℕ} {n : Node} {b' : List ℕ} → length ms ≤ i → f ≡ interfaceAt b u → x ≡ getD b 0 0 → k ≡ spotOf (getD ms 0 0) → n ≡ blossomNode x k i size (f .progress)
+      → b' ≡ pushed b₁ u n (speed + 1) → Done b' (addBlossom (view b) u (handsGiven ms) (pairsGiven ts)) × (handleNamed q ≡ newHandle (view b) u)
+  loop-ends f {x} {k} {b' = b'} l ef ex ek en e' =
       let F = L .fit in
       let R = L .ring in
       let Q = q₀ b u ms ts F R in
       let G = L .taking in
       let w = G .within in
-      let n : i ≡ length ms = omega arith in
-      let z : size ≡ sizeTo b ms ts Q (length ms) = G .sized ∙ ap (sizeTo b ms ts Q) n in
-      let p : speed ≡ speedTo b u ms ts Q (length ms) = G .paced ∙ ap (speedTo b u ms ts Q) n in
-      let e : b' ≡ pushed b₁ u (blossomNode (getD b 0 0) (spotAt ms 0) (length ms) (sizeTo b ms ts Q (length ms)) (interfaceAt b u .progress)) (speedTo b u ms ts Q (length ms) + 1) = simp (e', ex, ek, en, ef, z, p, n) in
-      let G' : Taking b u ms ts Q b₁ (sizeTo b ms ts Q (length ms)) (speedTo b u ms ts Q (length ms)) (length ms) = taking-at G z p n in
+      let all : i ≡ length ms = omega arith in
+      let z : size ≡ sizeTo b ms ts Q (length ms) = G .sized ∙ ap (sizeTo b ms ts Q) all in
+      let p : speed ≡ speedTo b u ms ts Q (length ms) = G .paced ∙ ap (speedTo b u ms ts Q) all in
+      let e : b' ≡ pushed b₁ u (blossomNode (getD b 0 0) (spotAt ms 0) (length ms) (sizeTo b ms ts Q (length ms)) (interfaceAt b u .progress)) (speedTo b u ms ts Q (length ms) + 1) = simp (e', en, ex, ek, ef, z, p, all) in
+      let G' : Taking b u ms ts Q b₁ (sizeTo b ms ts Q (length ms)) (speedTo b u ms ts Q (length ms)) (length ms) = taking-at G z p all in
       (rw e (blossomed b u ms ts F R b₁ G'), ap handleNamed (L .mine) ∙ new-handle b u Q (interfaceAt b u) (R .root .low) refl refl refl refl)
 
 -- ---- a member let out

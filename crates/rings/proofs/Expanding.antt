@@ -1,6 +1,6 @@
 -- Expand, done: the members are let out, the blossom's slot is emptied and the speed set. Every node is the empty slot, a member let out, or as it was;
 -- a node that was seated in the blossom is one of its members, so every seat that is left is in a circle that is left. Assumes nothing.
-use Prim.Native.Nat.{ℕ, zero, suc, _+_, _-_, _*_, _/_, _%_, _<_, _≤_}
+use Prim.Native.Nat.{ℕ, _+_, _-_, _*_, _/_, _%_, _<_, _≤_}
 use mathlib.Core.Path.{_≡_, refl, ap, ap₂, sym, _∙_, subst, fun-ext}
 use mathlib.Core.Logic.{_≢_, by-cases}
 use mathlib.Core.List.{List}
@@ -27,9 +27,9 @@ use Rattle.views.proofs.Rings.{Ringed}
 use Rattle.works.specs.Steps.{noSeat, remarked, paced}
 use Rattle.works.proofs.Stores.{put-next, put-unit, put-unit-here, put-unit-there, put-node-here, put-node-there, put-steady, put-coded}
 use Rattle.works.proofs.Keeps.{not-blossom, ringed-walk, Intact, intact-chain, intact-seat, halves-kept}
-use Rattle.rings.proofs.Rounds.{Among, yes-at, not-at, among, Head, view-faces, pacing, pacing-here, pacing-else, pacing-part, turned, turn-off, turn-head, turn-done}
+use Rattle.rings.proofs.Rounds.{Among, yes-at, not-at, among, Head, view-interfaces, pacing, pacing-here, pacing-else, pacing-part, turn-off, turn-head, turn-done}
 use Rattle.rings.proofs.Blossoming.{not-inside}
-use Rattle.rings.proofs.Freeing.{Expandable, Freeing, freeing, k₁, f₁, m₁, at₁, s₁, A₁, to₁, member, apart, not-top, not-member, gone-here, gone-else, freed-view}
+use Rattle.rings.proofs.Freeing.{Expandable, Freeing, freeing, f₁, m₁, at₁, s₁, A₁, to₁, member, apart, not-top, not-member, gone-here, gone-else, freed-view}
 
 not-defect : {c : Class} {v : Vertex} → c ≡ Absent → c ≡ Defect v → ⊥
 not-defect {v = v} p q = let z : Absent ≡ Defect v = sym p ∙ q in let z2 : _≡_ {A = ℕ} 0 1 = cc in omega arith
@@ -96,18 +96,18 @@ module _ (b : List ℕ) (t : ℕ) (h : Handle) (F : Fit b) (X : Expandable b t h
       go (no ne) (not-at f) = node-old j ne f ∙ sym (turn-off at T Growing (λ i. noSeat) (A₁ b t h F X) m j f ∙ gone-else b t h F X j ne)
 
   part : {Y : Type 0} (φ : Interface → Y) → ((x : Interface) (z : ℕ) → φ (withSpeed x z) ≡ φ x) → (v : ℕ) → v < 8 → φ (interfaceAt b₂ v) ≡ φ (interfaceAt b v)
-  part φ e v lv = put-unit b₁ k noNode t s (G .steady) lk lt good-none φ e v lv ∙ ap φ (G .faces v lv)
+  part φ e v lv = put-unit b₁ k noNode t s (G .steady) lk lt good-none φ e v lv ∙ ap φ (G .interfaces v lv)
 
-  face-is : (v : ℕ) → v < 8 → interfaceAt b₂ v ≡ pacing (interfaceAt b) t s v
-  face-is v lv = by-cases (ℕ-discrete v t)
-      (λ (e : v ≡ t). rw e (put-unit-here b₁ k noNode t s (G .steady) lk lt good-none ∙ ap (λ (f : Interface). withSpeed f s) (G .faces t lt) ∙ sym (pacing-here (interfaceAt b) t s)))
-      (λ (ne : v ≡ t → ⊥). put-unit-there b₁ k noNode t s (G .steady) lk lt good-none v lv ne ∙ G .faces v lv ∙ sym (pacing-else (interfaceAt b) t s v ne))
+  interface-now : (v : ℕ) → v < 8 → interfaceAt b₂ v ≡ pacing (interfaceAt b) t s v
+  interface-now v lv = by-cases (ℕ-discrete v t)
+      (λ (e : v ≡ t). rw e (put-unit-here b₁ k noNode t s (G .steady) lk lt good-none ∙ ap (λ (f : Interface). withSpeed f s) (G .interfaces t lt) ∙ sym (pacing-here (interfaceAt b) t s)))
+      (λ (ne : v ≡ t → ⊥). put-unit-there b₁ k noNode t s (G .steady) lk lt good-none v lv ne ∙ G .interfaces v lv ∙ sym (pacing-else (interfaceAt b) t s v ne))
 
   seen : view b₂ ≡ removeBlossom (view b) h
   seen =
       let A-is : A₂ ≡ to₁ b t h F X m = fun-ext node-is in
       ap₂ (λ (n : ℕ) (B : ℕ → Node). viewIn n (interfaceAt b₂) B) (put-next b₁ k noNode t s (G .steady) lk lt good-none ∙ G .next) A-is
-      ∙ view-faces (getD b 0 0) (pacing (interfaceAt b) t s) (interfaceAt b₂) (to₁ b t h F X m) (λ v lv. rw (pacing-part (interfaceAt b) t s (λ x. x .parent) (λ x z. refl) v) (good-interface b v)) face-is
+      ∙ view-interfaces (getD b 0 0) (pacing (interfaceAt b) t s) (interfaceAt b₂) (to₁ b t h F X m) (λ v lv. rw (pacing-part (interfaceAt b) t s (λ x. x .parent) (λ x z. refl) v) (good-interface b v)) interface-now
       ∙ freed-view b t h F X
 
   -- ---- the words stay canonical

@@ -9,18 +9,16 @@ use native.Mathlib.Decide.{ℕ-discrete}
 use native.Mathlib.Omega.{arith}
 use lib.IntN.{ℤ, pos, _-ℤ_, _+ℤ_}
 use lib.ListN.{length, getD}
-use Rattle.kinds.specs.Names.{nobody}
 use Rattle.kinds.specs.declared.GrowState.{GrowState}
 use Rattle.kinds.specs.declared.GrowState.the-variants.{Grow as Growing, Stay, Shrink}
 use Rattle.kinds.specs.declared.Class.{Class}
 use Rattle.kinds.specs.declared.Class.the-variants.{Absent, Blossom, Defect}
-use Rattle.kinds.specs.declared.Handle.{Handle as Packed}
 use Rattle.kinds.specs.declared.Parent.the-variants.{Outermost}
 use Rattle.words.specs.Store.{nodeAt, interfaceAt, storeNode}
 use Rattle.words.proofs.Laws.{Good, good-node, good-interface, load-same, load-other, store-node-interface}
 use Rattle.words.specs.declared.Node.{Node}
 use Rattle.words.specs.declared.Interface.{Interface}
-use Rattle.ledger_spec.specs.Bench.{Handle, State, stays, grows, blossom, Member}
+use Rattle.ledger_spec.specs.Bench.{Handle, stays, grows, blossom, Member}
 use Rattle.ledger_spec.specs.Bench as plain
 use Rattle.ledger_spec.specs.Look.{climb}
 use Rattle.ledger_spec.specs.Look as look
@@ -28,7 +26,7 @@ use Rattle.ledger_spec.specs.Change.{place, markAll}
 use Rattle.ledger_spec.specs.Deeds.{members, removeBlossom}
 use Rattle.ledger_spec.specs.Tests.{first}
 use Rattle.ledger_spec.specs.Refuse.{expandTests}
-use Rattle.ledger_spec.specs.Named.{stateNamed, parentNamed, handleNamed}
+use Rattle.ledger_spec.specs.Named.{stateNamed, parentNamed}
 use Rattle.ledger_spec.proofs.Knit.{nodes, none-some, some-eq}
 use Rattle.ledger_spec.proofs.Passed.{Open, passed}
 use Rattle.views.specs.Records.{Steady, Ranged, rateOf, noNode}
@@ -39,7 +37,7 @@ use Rattle.views.proofs.Offsets.{rates}
 use Rattle.views.proofs.Sums.{sumUp-le, sumUp-same}
 use Rattle.views.proofs.Views.{view-slot}
 use Rattle.views.proofs.Circles.{same-eq, circle-same}
-use Rattle.views.proofs.Rings.{Ringed, ringed, ring-near, slot-blossom, Blossoms}
+use Rattle.views.proofs.Rings.{Ringed, ringed, ring-near, slot-blossom}
 use Rattle.views.proofs.Ranges.{ranged}
 use Rattle.views.proofs.Codes.{coded-node}
 use Rattle.works.specs.Steps.{noSeat, remarked}
@@ -81,12 +79,12 @@ pub record Freeing (b : List ℕ) (f : ℕ) (b₁ : List ℕ) (p i : ℕ) : Type
   pub steady : Steady b₁
   pub coded : Coded b₁
   pub next : getD b₁ 0 0 ≡ getD b 0 0
-  pub faces : (v : ℕ) → v < 8 → interfaceAt b₁ v ≡ interfaceAt b v
+  pub interfaces : (v : ℕ) → v < 8 → interfaceAt b₁ v ≡ interfaceAt b v
   pub nodes : (k : ℕ) → nodeAt b₁ k ≡ freeing b f i k
 
 pub freeing-begins : (b : List ℕ) (f : ℕ) → Fit b → Freeing b f b f 0
 unfolding walk turned
-freeing-begins b f F = record { at = refl; steady = F .canon .steady; coded = F .canon .coded; next = refl; faces = λ v l. refl; nodes = λ k. refl }
+freeing-begins b f F = record { at = refl; steady = F .canon .steady; coded = F .canon .coded; next = refl; interfaces = λ v l. refl; nodes = λ k. refl }
 
 -- ---- what a slot shows of a state
 slot-state : (n : Node) (t : ℕ) (ms : List Member) (m : plain.Node) → slotSeen n t ms ≡ some m → m .state ≡ stateNamed (n .state)
@@ -210,14 +208,14 @@ module _ (b : List ℕ) (t : ℕ) (h : Handle) (F : Fit b) (X : Expandable b t h
         let good : Good x = record { serial = old .serial; class = old .class; parent = tt; left = (omega arith, omega arith, omega arith); right = (omega arith, omega arith, omega arith) } in
         let q : b₂ ≡ storeNode b₁ k x = e ∙ ap (λ (z : ℕ). storeNode b₁ z (freedNode (interfaceAt b₁) (nodeAt b₁) z)) (G .at) in
         let sum : sumUp 8 (interfaceAt b₁) (k / 64) ≡ T₁ i =
-        sumUp-same (interfaceAt b) (interfaceAt b₁) (λ v lv. good-interface b v) (λ v lv. ap (λ (f : Interface). f .parent) (G .faces v lv)) (λ v lv. ap (λ (f : Interface). f .progress) (G .faces v lv)) 8 (k / 64) (omega arith) in
+        sumUp-same (interfaceAt b) (interfaceAt b₁) (λ v lv. good-interface b v) (λ v lv. ap (λ (f : Interface). f .parent) (G .interfaces v lv)) (λ v lv. ap (λ (f : Interface). f .progress) (G .interfaces v lv)) 8 (k / 64) (omega arith) in
         rw q
         (record {
           at = ep ∙ ap (λ (n : Node). n .next) node-now;
           steady = node-steady b₁ k x lk good (G .steady);
           coded = coded-node b₁ k x len lk good (G .coded);
           next = node-next b₁ k x lk good len ∙ G .next;
-          faces = λ v lv. store-node-interface b₁ k x len lk v lv ∙ G .faces v lv;
+          interfaces = λ v lv. store-node-interface b₁ k x len lk v lv ∙ G .interfaces v lv;
           nodes = λ j. by-cases (ℕ-discrete j k)
               (λ (z : j ≡ k).
               ap (nodeAt (storeNode b₁ k x)) z ∙ load-same b₁ k x len lk good ∙ ap₂ (λ (n : Node) (w : ℕ). remarked n w Growing noSeat) (G .nodes k) sum

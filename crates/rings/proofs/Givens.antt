@@ -1,23 +1,23 @@
 -- What the passed tests of add blossom say of the words given: each is a packed handle of a node that stands, in the tree and without a parent, at a
 -- place of its own; touching handles come two a member or not at all, since one left over would be stale. Assumes nothing.
 use Prim.Native.Nat.{ℕ, zero, suc, _+_, _-_, _*_, _/_, _%_, _<_, _≤_}
-use mathlib.Core.Path.{_≡_, refl, ap, ap₂, sym, _∙_, subst}
+use mathlib.Core.Path.{_≡_, refl, ap, sym, _∙_}
 use mathlib.Core.Logic.{_≢_, by-cases}
 use mathlib.Core.Bool.{Bool, true, false, not, _&&_, _||_, true≢false}
-use mathlib.Core.Option.{Option, none, some}
-use mathlib.Core.List.{List, [], _∷_, _++_, map}
+use mathlib.Core.Option.{Option, some}
+use mathlib.Core.List.{List, [], _∷_, _++_}
 use native.Mathlib.Decide.{ℕ-discrete, decLt}
 use native.Mathlib.Omega.{arith}
 use lib.Dec.{eqb, ltb}
 use borrow.Author.Tests.{eq-eqb, ne-eqb, lt-ltb, le-ltb, ltb-false, eqb-true, not-false}
 use lib.ListN.{length, getD, length-map}
-use Rattle.words.specs.Codec.{pick, handleOf}
+use Rattle.words.specs.Codec.{handleOf}
 use Rattle.words.specs.Store.{nodeAt, interfaceAt}
 use Rattle.kinds.specs.declared.Parent.the-variants.{Outermost}
-use Rattle.ledger_spec.specs.Bench.{Handle, Bench}
+use Rattle.ledger_spec.specs.Bench.{Handle}
 use Rattle.ledger_spec.specs.Look.{sameHandle, climb, ifSerial}
 use Rattle.ledger_spec.specs.Look as look
-use Rattle.ledger_spec.specs.Tests.{first, any, empty, given, outside, child, stale, foreign, hasParent, twice, full, worn, both}
+use Rattle.ledger_spec.specs.Tests.{first, any, empty, given, stale, foreign, hasParent, twice, full, worn, both}
 use Rattle.ledger_spec.specs.Refuse.{blossomTests}
 use Rattle.ledger_spec.specs.Named.{handleNamed}
 use Rattle.ledger_spec.proofs.Knit.{In, here, there, same-self}
@@ -27,7 +27,7 @@ use Rattle.views.specs.View.{view}
 use Rattle.views.specs.Fit.{Fit}
 use Rattle.views.proofs.Views.{view-out}
 use Rattle.works.proofs.Needs.{open-of, open-room, open-next, Stands, stands, stands-free, under-of}
-use Rattle.rings.specs.Given.{nowhere, handGiven, handsGiven, pairsGiven, spotOf, spotAt, touchWord}
+use Rattle.rings.specs.Given.{nowhere, handGiven, handsGiven, pairsGiven, spotAt, touchWord}
 
 -- ---- one word
 pub given-fine : (w : ℕ) → w < 2199023255552 → handGiven w ≡ handleNamed (handleOf w)

@@ -1,18 +1,17 @@
 -- Members that are linked, followed: the circle that was given. From the last member back, each one's next is the one after it. Assumes nothing.
 use Prim.Native.Nat.{ℕ, zero, suc, _+_, _*_, _/_, _%_, _<_, _≤_}
 use mathlib.Core.Path.{_≡_, refl, ap, ap₂, sym, _∙_}
-use mathlib.Core.Logic.{_≢_, by-cases}
+use mathlib.Core.Logic.{by-cases}
 use mathlib.Core.List.{List, [], _∷_}
 use native.Mathlib.Decide.{ℕ-discrete}
 use native.Mathlib.Numerals.{add-one}
 use native.Mathlib.Omega.{arith}
-use lib.Dec.{eqb, ltb}
 use borrow.Author.Tests.{eq-eqb, ne-eqb, lt-ltb, le-ltb}
 use lib.ListN.{length, getD, drop, drop-of-length-le}
 use lib.Seq.{drop-cons}
 use Rattle.words.specs.Codec.{handleOf}
 use Rattle.words.specs.declared.Node.{Node}
-use Rattle.ledger_spec.specs.Bench.{Handle, Member}
+use Rattle.ledger_spec.specs.Bench.{Member}
 use Rattle.ledger_spec.specs.Deeds.{circle}
 use Rattle.ledger_spec.specs.Named.{handleNamed}
 use Rattle.views.specs.View.{follow, memberAt}

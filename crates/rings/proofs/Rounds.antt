@@ -9,7 +9,7 @@ use native.Mathlib.Decide.{ℕ-discrete, decLt}
 use native.Mathlib.Omega.{arith}
 use lib.Dec.{eqb}
 use lib.IntN.{pos}
-use lib.ListN.{length, List·getD-eq-default}
+use lib.ListN.{List·getD-eq-default}
 use borrow.Author.Tests.{eq-eqb, ne-eqb}
 use Rattle.kinds.specs.declared.GrowState.{GrowState}
 use Rattle.kinds.specs.declared.Class.the-variants.{Absent, Blossom}
@@ -77,14 +77,14 @@ among at k (suc n) = go (among at k n) (ℕ-discrete k (at n))
     go (not-at f) (no ne) = not-at (λ j l e. by-cases (ℕ-discrete j n) (λ (q : j ≡ n). ne (e ∙ ap at q)) (λ (q : j ≡ n → ⊥). f j (omega arith) e))
 
 -- the same interfaces below 8, the same view
-pub view-faces : (n : ℕ) (U U' : ℕ → Interface) (A : ℕ → Node) → ((v : ℕ) → v < 8 → GoodUp (U v .parent)) → ((v : ℕ) → v < 8 → U' v ≡ U v) → viewIn n U' A ≡ viewIn n U A
-view-faces n U U' A good same = view-is n U' A (viewIn n U A) (view-next n U A) (view-eight n U A) (λ v lv. face v lv ∙ sym (interface-in n U A v lv))
+pub view-interfaces : (n : ℕ) (U U' : ℕ → Interface) (A : ℕ → Node) → ((v : ℕ) → v < 8 → GoodUp (U v .parent)) → ((v : ℕ) → v < 8 → U' v ≡ U v) → viewIn n U' A ≡ viewIn n U A
+view-interfaces n U U' A good same = view-is n U' A (viewIn n U A) (view-next n U A) (view-eight n U A) (λ v lv. shown v lv ∙ sym (interface-in n U A v lv))
   where
     sums : (v : ℕ) → v < 8 → sumUp 8 U' v ≡ sumUp 8 U v
     sums v lv = sumUp-same U U' good (λ w lw. ap (λ (f : Interface). f .parent) (same w lw)) (λ w lw. ap (λ (f : Interface). f .progress) (same w lw)) 8 v lv
 
-    face : (v : ℕ) → v < 8 → interfaceIn U' A v ≡ interfaceIn U A v
-    face v lv =
+    shown : (v : ℕ) → v < 8 → interfaceIn U' A v ≡ interfaceIn U A v
+    shown v lv =
         ap₂
         (λ (f : Interface) (t : ℕ).
         record {

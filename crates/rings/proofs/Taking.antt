@@ -3,8 +3,8 @@
 use Prim.Native.Nat.{ℕ, zero, suc, _+_, _-_, _*_, _/_, _%_, _<_, _≤_}
 use mathlib.Core.Path.{_≡_, refl, ap, ap₂, sym, _∙_, subst}
 use mathlib.Core.Logic.{_≢_, by-cases}
-use mathlib.Core.Option.{Option, none, some}
-use mathlib.Core.List.{List, [], _∷_}
+use mathlib.Core.Option.{some}
+use mathlib.Core.List.{List, _∷_}
 use native.Mathlib.Decide.{ℕ-discrete}
 use native.Mathlib.Omega.{arith}
 use lib.ListN.{length, getD, drop, drop-of-length-le}
@@ -12,7 +12,6 @@ use lib.Seq.{drop-cons}
 use Rattle.kinds.specs.declared.GrowState.the-variants.{Stay}
 use Rattle.kinds.specs.declared.Class.the-variants.{Blossom}
 use Rattle.kinds.specs.declared.Handle.{Handle as Packed}
-use Rattle.words.specs.Codec.{handleOf}
 use Rattle.words.specs.Store.{nodeAt, interfaceAt, storeNode}
 use Rattle.words.proofs.Laws.{Good, GoodHandle, good-node, good-handle, good-interface, load-same, load-other, store-node-interface}
 use Rattle.words.specs.declared.Node.{Node}
@@ -33,12 +32,12 @@ use Rattle.views.proofs.Rings.{Ringed, ringed}
 use Rattle.views.proofs.Codes.{coded-node}
 use Rattle.works.specs.Steps.{remarked}
 use Rattle.works.proofs.Puts.{value-low, rate-small}
-use Rattle.works.proofs.Needs.{Stands, open-paced}
+use Rattle.works.proofs.Needs.{open-paced}
 use Rattle.works.proofs.Stores.{node-next, node-steady}
-use Rattle.rings.specs.Given.{handGiven, handsGiven, spotOf, spotAt}
+use Rattle.rings.specs.Given.{handGiven, handsGiven, spotAt}
 use Rattle.rings.specs.Members.{seatOf, takenNode}
 use Rattle.rings.proofs.Givens.{Ringable, given-fine}
-use Rattle.rings.proofs.Rounds.{pacing, pacing-self, turned, turn-here, turn-else, turn-none, turn-off, turn-head, turn-coming, turns-view}
+use Rattle.rings.proofs.Rounds.{pacing, pacing-self, turned, turn-here, turn-else, turn-off, turn-head, turn-coming, turns-view}
 
 -- ---- after i members: the nodes, the speed, the size
 abbrev pub taking : List ℕ → List ℕ → List ℕ → Packed → ℕ → ℕ → Node
@@ -58,7 +57,7 @@ pub record Taking (b : List ℕ) (u : ℕ) (ms ts : List ℕ) (q : Packed) (b₁
   pub steady : Steady b₁
   pub coded : Coded b₁
   pub next : getD b₁ 0 0 ≡ getD b 0 0
-  pub faces : (v : ℕ) → v < 8 → interfaceAt b₁ v ≡ interfaceAt b v
+  pub interfaces : (v : ℕ) → v < 8 → interfaceAt b₁ v ≡ interfaceAt b v
   pub nodes : (k : ℕ) → nodeAt b₁ k ≡ taking b ms ts q i k
   pub paced : speed ≡ speedTo b u ms ts q i
   pub sized : size ≡ sizeTo b ms ts q i
@@ -71,7 +70,7 @@ taking-begins b u ms ts q U F e =
       steady = F .canon .steady;
       coded = F .canon .coded;
       next = refl;
-      faces = λ v l. refl;
+      interfaces = λ v l. refl;
       nodes = λ k. refl;
       paced = ap (λ (x : Interface). x .speed) e;
       sized = refl;
@@ -160,14 +159,14 @@ module _ (b : List ℕ) (u : ℕ) (ms ts : List ℕ) (F : Fit b) (R : Ringable b
         let good : Good x = record { serial = old .serial; class = old .class; parent = good-q; left = good-handle _; right = good-handle _ } in
         let len = G .steady .len in
         let sum : sumUp 8 (interfaceAt b₁) (k / 64) ≡ T₀ i =
-        sumUp-same (interfaceAt b) (interfaceAt b₁) (λ v lv. good-interface b v) (λ v lv. ap (λ (f : Interface). f .parent) (G .faces v lv)) (λ v lv. ap (λ (f : Interface). f .progress) (G .faces v lv)) 8 (k / 64) (omega arith) in
+        sumUp-same (interfaceAt b) (interfaceAt b₁) (λ v lv. good-interface b v) (λ v lv. ap (λ (f : Interface). f .parent) (G .interfaces v lv)) (λ v lv. ap (λ (f : Interface). f .progress) (G .interfaces v lv)) 8 (k / 64) (omega arith) in
         rw e
         (record {
           within = l;
           steady = node-steady b₁ k x lk good (G .steady);
           coded = coded-node b₁ k x len lk good (G .coded);
           next = node-next b₁ k x lk good len ∙ G .next;
-          faces = λ v lv. store-node-interface b₁ k x len lk v lv ∙ G .faces v lv;
+          interfaces = λ v lv. store-node-interface b₁ k x len lk v lv ∙ G .interfaces v lv;
           nodes = λ j. by-cases (ℕ-discrete j k)
               (λ (q : j ≡ k).
               ap (nodeAt (storeNode b₁ k x)) q ∙ load-same b₁ k x len lk good ∙ ap₂ (λ (n : Node) (t : ℕ). remarked n t Stay (seatOf ms ts q₀ i)) (G .nodes k) sum

@@ -9,8 +9,8 @@ use words::Node;
 use words::WORDS;
 use works::Seat;
 ghost use mathlib.Core.Path.{_≡_};
-ghost use Prim.Native.Nat.{ℕ, _+_, _*_, _/_, _%_, _<_, _≤_};
-ghost use lib.ListN.{length, getD};
+ghost use Prim.Native.Nat.{_+_, _*_, _/_, _%_, _<_, _≤_};
+ghost use lib.ListN.{length};
 ghost use Rattle.words.specs.Codec.{handleOf};
 ghost use Rattle.words.specs.Store.{nodeAt, interfaceAt, storeNode};
 ghost use Rattle.ledger_spec.specs.Tests.{first};
@@ -21,7 +21,7 @@ ghost use Rattle.views.specs.Records.{Steady, Ranged, rateOf};
 ghost use Rattle.views.specs.View.{view};
 ghost use Rattle.views.specs.Fit.{Fit, Done};
 ghost use Rattle.rings.specs.Given.{spotOf, handsGiven, pairsGiven, nextSpot, touchWord};
-ghost use Rattle.rings.specs.Members.{seatOf, takenNode, freedNode};
+ghost use Rattle.rings.specs.Members.{seatOf, takenNode, freedNode, blossomNode};
 
 // What a member adds to its blossom: its size, and its share of the speed, one higher than it is.
 struct Share {
@@ -90,6 +90,28 @@ fn take_in(b: &mut [u64; WORDS], w: u64, seat: Seat) -> Share
     Share { size: n.size, rate }
 }
 
+// A new blossom, growing from value 0 at T = t.
+fn new_blossom(serial: Serial, first: u64, count: u64, size: u64, t: u64) -> Node
+    requires { ⌜ t ≤ 1099511627776 ⌝ }
+    ensures { λ r. ⌜ r ≡ blossomNode (serial .0) first count size t ⌝ }
+{
+    let nobody = Handle::nobody();
+    Node {
+        serial,
+        class: Class::Blossom,
+        state: GrowState::Grow,
+        parent: Parent::Outermost,
+        place: 0,
+        next: 0,
+        left: nobody,
+        right: nobody,
+        bias: 1152921504606846976 - t,
+        size,
+        first,
+        count,
+    }
+}
+
 // Adds a blossom: its members stay and get their seats; then the blossom, growing from value 0. Gives its handle.
 pub fn add_blossom(b: &mut [u64; WORDS], unit: usize, members: &[u64], touching: &[u64]) -> Handle
     requires { ⌜ Fit (now b) × (first (blossomTests (view (now b)) unit (handsGiven (now members)) (pairsGiven (now touching))) ≡ 0) ⌝ }
@@ -113,26 +135,8 @@ pub fn add_blossom(b: &mut [u64; WORDS], unit: usize, members: &[u64], touching:
         i = i + 1;
     }
     let first = spot(members[0]) as u64;
-    let nobody = Handle::nobody();
-    works::push(
-        b,
-        unit,
-        Node {
-            serial,
-            class: Class::Blossom,
-            state: GrowState::Grow,
-            parent: Parent::Outermost,
-            place: 0,
-            next: 0,
-            left: nobody,
-            right: nobody,
-            bias: 1152921504606846976 - f.progress,
-            size,
-            first,
-            count: i as u64,
-        },
-        speed + 1,
-    );
+    let n = new_blossom(serial, first, i as u64, size, f.progress);
+    works::push(b, unit, n, speed + 1);
     q
 }
 

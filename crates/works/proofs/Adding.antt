@@ -1,5 +1,5 @@
 -- Add defect: one node in a slot that was not used, in no circle and without links. Assumes nothing.
-use Prim.Native.Nat.{ℕ, zero, suc, _+_, _-_, _*_, _/_, _%_, _<_, _≤_}
+use Prim.Native.Nat.{ℕ, suc, _+_, _-_, _*_, _/_, _%_, _<_, _≤_}
 use mathlib.Core.Path.{_≡_, refl, ap, ap₂, sym, _∙_, subst}
 use mathlib.Core.Logic.{_≢_, by-cases}
 use mathlib.Core.Option.{none, some}
@@ -17,25 +17,25 @@ use Rattle.words.specs.Store.{nodeAt, interfaceAt}
 use Rattle.words.proofs.Laws.{Good, good-interface}
 use Rattle.words.specs.declared.Node.{Node}
 use Rattle.words.specs.declared.Interface.{Interface}
-use Rattle.ledger_spec.specs.Bench.{Handle, grows, Member}
+use Rattle.ledger_spec.specs.Bench.{grows, Member}
 use Rattle.ledger_spec.specs.Bench as plain
 use Rattle.ledger_spec.specs.Look.{interface}
 use Rattle.ledger_spec.specs.Change.{push}
 use Rattle.ledger_spec.specs.Deeds.{newHandle, addDefect}
 use Rattle.ledger_spec.specs.Named.{handleNamed}
-use Rattle.views.specs.Records.{withUsed, noNode}
-use Rattle.views.specs.View.{off, viewIn, view, sumUp, slotSeen, circleOf}
+use Rattle.views.specs.Records.{withUsed}
+use Rattle.views.specs.View.{viewIn, view, slotSeen, circleOf}
 use Rattle.views.specs.Canon.{walk, Seated, Alone, Canon}
 use Rattle.views.specs.Fit.{Fit, Done}
 use Rattle.views.proofs.Offsets.{off-zero}
 use Rattle.views.proofs.Sums.{sumUp-le}
 use Rattle.views.proofs.Views.{view-next, view-count}
-use Rattle.views.proofs.Circles.{Same, same-eq, circle-same}
-use Rattle.views.proofs.Rings.{Ringed, ringed}
+use Rattle.views.proofs.Circles.{same-eq, circle-same}
+use Rattle.views.proofs.Rings.{ringed}
 use Rattle.works.specs.Steps.{defectNode, pushed}
 use Rattle.works.proofs.Needs.{Pushable, open-total}
 use Rattle.works.proofs.Stores.{push-next, push-unit, push-unit-here, push-unit-there, push-node-here, push-node-there, push-steady, push-coded}
-use Rattle.works.proofs.Keeps.{not-blossom, used-slot, ringed-walk, Intact, intact-chain, intact-seat, halves-kept}
+use Rattle.works.proofs.Keeps.{ringed-walk, Intact, intact-chain, intact-seat, halves-kept}
 use Rattle.works.proofs.Adds.{slot-old, ring-old, push-in}
 
 -- the handle of the node that is added next

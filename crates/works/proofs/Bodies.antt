@@ -1,6 +1,6 @@
 -- What the calls of a function's body come to, over plain variables: each follows by putting the callees' results in. Assumes nothing.
-use Prim.Native.Nat.{ℕ, zero, suc, _+_, _-_, _*_, _<_, _≤_}
-use mathlib.Core.Path.{_≡_, refl, ap, ap₂, sym, _∙_}
+use Prim.Native.Nat.{ℕ, _+_, _-_, _*_, _<_, _≤_}
+use mathlib.Core.Path.{_≡_, refl}
 use mathlib.Core.Option.{none}
 use mathlib.Core.List.{List}
 use native.Mathlib.Numerals.{add-one}
@@ -16,14 +16,13 @@ use Rattle.kinds.specs.declared.Vertex.{Vertex}
 use Rattle.words.specs.Store.{nodeAt, interfaceAt, storeNode, storeInterface}
 use Rattle.words.specs.declared.Node.{Node}
 use Rattle.words.specs.declared.Interface.{Interface}
-use Rattle.ledger_spec.specs.Bench.{Handle}
 use Rattle.ledger_spec.specs.Change.{mark}
 use Rattle.ledger_spec.specs.Deeds.{newHandle, addDefect}
 use Rattle.ledger_spec.specs.Named.{stateNamed, handleNamed}
 use Rattle.ledger_spec.specs.Tests.{first}
 use Rattle.ledger_spec.specs.Refuse.{defectTests, stateTests}
 use Rattle.views.specs.Records.{withSpeed, withUsed, rateOf, Steady, Ranged}
-use Rattle.views.specs.View.{valueOf, biasOf, sumUp, view}
+use Rattle.views.specs.View.{sumUp, view}
 use Rattle.views.specs.Fit.{Fit, Done}
 use Rattle.trees.specs.Climb.{Climbs}
 use Rattle.works.specs.Steps.{noSeat, remarked, defectNode, paced, pushed}

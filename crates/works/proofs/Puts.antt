@@ -1,9 +1,9 @@
 -- A slot changed, over interfaces and nodes as functions. The other slots show what they showed, since no circle changes; the changed one shows
 -- what it is said to; and the ledger's own readings of `place` say the same of every part. Assumes nothing.
-use Prim.Native.Nat.{ℕ, zero, suc, _+_, _-_, _*_, _<_, _≤_}
+use Prim.Native.Nat.{ℕ, _+_, _-_, _*_, _<_, _≤_}
 use mathlib.Core.Path.{_≡_, refl, ap, ap₂, sym, _∙_}
 use mathlib.Core.Logic.{_≢_}
-use mathlib.Core.Option.{Option, none, some}
+use mathlib.Core.Option.{Option, none}
 use mathlib.Core.List.{List}
 use native.Mathlib.Omega.{arith}
 use lib.IntN.{ℤ, pos, _+ℤ_, _-ℤ_}
@@ -19,7 +19,7 @@ use Rattle.ledger_spec.specs.Bench as plain
 use Rattle.ledger_spec.specs.Look.{top}
 use Rattle.ledger_spec.specs.Change.{share, place, mark, restate}
 use Rattle.ledger_spec.specs.Named.{stateNamed, parentNamed}
-use Rattle.views.specs.Records.{withSpeed, rateOf, Ranged}
+use Rattle.views.specs.Records.{withSpeed, rateOf}
 use Rattle.views.specs.View.{off, sumUp, slotSeen, slotIn, viewIn, circleOf, valueOf, biasOf}
 use Rattle.views.proofs.Offsets.{off-both, rates}
 use Rattle.views.proofs.Sums.{sumUp-same}

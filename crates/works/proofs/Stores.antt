@@ -1,11 +1,11 @@
 -- What the words hold after a node is stored, an interface paced, a node pushed: the laws of stores, put together. Assumes nothing.
-use Prim.Native.Nat.{ℕ, zero, suc, _+_, _-_, _*_, _<_, _≤_}
+use Prim.Native.Nat.{ℕ, suc, _+_, _-_, _*_, _<_, _≤_}
 use mathlib.Core.Path.{_≡_, refl, ap, sym, _∙_}
 use mathlib.Core.Logic.{_≢_, by-cases}
 use mathlib.Core.List.{List}
 use native.Mathlib.Decide.{ℕ-discrete}
 use native.Mathlib.Omega.{arith}
-use lib.ListN.{length, getD, set, length-set}
+use lib.ListN.{length, getD, length-set}
 use lib.Seq.{getD-set-same}
 use Rattle.words.specs.Store.{nodeAt, interfaceAt, storeNode, storeInterface}
 use Rattle.words.proofs.Laws.{Good, GoodUp, good-interface, load-same, load-other, length-store, store-out, store-node-interface, interface-same, interface-other, store-interface-out, store-interface-node, length-store-interface, interface-first, node-first}

@@ -29,7 +29,7 @@ loop-less : tie.Need-loop-less Inv-loop μ-loop
 loop-less c = search needs
 
 loop-again : tie.Need-loop-again Inv-loop μ-loop
-loop-again c = let l = c .before .loop in erasing-more (l .b) _ (l .i) (l .inv) (c .loop-test .taken) refl
+loop-again c = let l = c .before .loop in erasing-more (l .b) _ (l .i) (l .inv) (omega arith) refl
 
 returns : tie.Need-returns Inv-loop μ-loop
 returns c = let l = c .before .loop in erased (l .b) (l .i) (l .inv) (omega arith)

@@ -1,6 +1,5 @@
 -- The sums and speeds of two tops add up below 2^64; the words stored are those of the law of fuse. Assumes nothing.
 use native.Mathlib.Omega.{arith}
-use borrow.Author.Needs.{needs}
 use Rattle.joins.proofs.Fusing.{p<8, l<8, r<8, join-room, join-by}
 use Rattle.joins.proofs.join.Statement.{statement}
 use Rattle.joins.proofs.join.Tie as tie

@@ -1,6 +1,6 @@
 -- The loop takes the members in one by one, with the size and the speed so far; then the blossom is pushed. Assumes nothing.
 use Prim.Native.Nat.{_-_}
-use mathlib.Core.Path.{ap, refl}
+use mathlib.Core.Path.{ap}
 use native.Mathlib.Omega.{arith}
 use borrow.Author.Needs.{needs}
 use lib.ListN.{length}
@@ -76,23 +76,20 @@ shared-slice-read-spot c = omega (arith, c .before .before .loop .inv .ring .som
 spot-requires : tie.Need-spot-requires Inv-loop μ-loop
 spot-requires c κs = search needs
 
-nobody-requires : tie.Need-nobody-requires Inv-loop μ-loop
-nobody-requires c κs = search needs
-
-sub-t28 : tie.Need-sub-t28 Inv-loop μ-loop
-sub-t28 c =
-    let l = c .before .before .before .before .before .before .loop .inv in
-    omega (arith, l .fit .canon .steady .progress _ (l .ring .root .low), ap (λ (x : Interface). x .progress) (c .before .before .before .before .before .before .before .before .before .before .load-interface .ensures))
+new-blossom-requires : tie.Need-new-blossom-requires Inv-loop μ-loop
+new-blossom-requires c κs =
+    let l = c .before .before .before .loop .inv in
+    omega (arith, l .fit .canon .steady .progress _ (l .ring .root .low), ap (λ (x : Interface). x .progress) (c .before .before .before .before .before .before .before .load-interface .ensures))
 
 add-push : tie.Need-add-push Inv-loop μ-loop
-add-push c = omega (arith, loop-range (c .before .before .before .before .before .before .loop .inv) .1)
+add-push c = omega (arith, loop-range (c .before .before .before .before .before .loop .inv) .1)
 
 push-requires : tie.Need-push-requires Inv-loop μ-loop
-push-requires c κs = let l = c .before .before .before .before .before .before .loop .inv in (l .ring .root .low, loop-ready l .0, loop-ready l .1)
+push-requires c κs = let l = c .before .before .before .before .before .loop .inv in (l .ring .root .low, loop-ready l .0, loop-ready l .1)
 
 returns : tie.Need-returns Inv-loop μ-loop
 returns c =
-    loop-ends (c .before .before .before .before .before .before .before .loop .inv) (c .before .before .before .before .before .before .before .before .before .before .before .load-interface .result) (omega arith) (c .before .before .before .before .before .before .before .before .before .before .before .load-interface .ensures) (c .before .before .before .before .before .before .before .before .before .load-next .ensures) (c .before .before .before .before .spot .ensures .0) (c .before .before .before .nobody .ensures) (c .push .ensures)
+    loop-ends (c .before .before .before .before .before .before .loop .inv) (c .before .before .before .before .before .before .before .before .before .before .load-interface .result) (omega arith) (c .before .before .before .before .before .before .before .before .before .before .load-interface .ensures) (c .before .before .before .before .before .before .before .before .load-next .ensures) (c .before .before .before .spot .ensures .0) (c .before .before .new-blossom .ensures) (c .push .ensures)
 
 pub add-blossom-spec : {M : Type 1} → statement M
 add-blossom-spec =
@@ -118,8 +115,7 @@ add-blossom-spec =
     loop-again
     shared-slice-read-spot
     spot-requires
-    nobody-requires
-    sub-t28
+    new-blossom-requires
     add-push
     push-requires
     returns)
