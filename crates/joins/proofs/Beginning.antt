@@ -26,7 +26,7 @@ use Rattle.views.proofs.Views.{interface-is, view-is}
 use Rattle.views.proofs.Codes.{coded-interface, coded-first}
 use Rattle.works.proofs.Keeps.{not-blossom}
 use Rattle.joins.specs.Empty.{noInterface}
-use Rattle.joins.proofs.Wiping.{not-inside}
+use Rattle.joins.proofs.Cleared.{not-inside}
 
 -- ---- words erased one by one
 pub record Erasing (b : List ℕ) (n : ℕ) : Type 0 where

@@ -1,6 +1,6 @@
 -- Fuse: three interfaces' words change and no node's. The parent has grown nothing, so every T stays and with it every value; no class and no link of a
 -- node changes. Assumes nothing.
-use Prim.Native.Nat.{ℕ, zero, suc, _+_, _-_, _*_, _<_, _≤_}
+use Prim.Native.Nat.{ℕ, _+_, _-_, _*_, _<_, _≤_}
 use mathlib.Core.Path.{_≡_, refl, ap, ap₂, sym, _∙_, fun-ext}
 use mathlib.Core.Logic.{_≢_, by-cases}
 use mathlib.Core.Bool.{not, _||_}
@@ -9,14 +9,13 @@ use mathlib.Core.List.{List}
 use native.Mathlib.Decide.{ℕ-discrete}
 use native.Mathlib.Omega.{arith}
 use lib.Dec.{eqb}
-use lib.IntN.{ℤ, pos, negℤ, natAbs, _+ℤ_, _-ℤ_, +ℤ-assoc}
+use lib.IntN.{ℤ, pos, natAbs, _+ℤ_}
 use lib.ListN.{length, getD}
 use borrow.Author.Tests.{ne-eqb, eqb-true, not-false}
 use Rattle.words.specs.Store.{nodeAt, interfaceAt, storeInterface}
 use Rattle.words.proofs.Laws.{interface-same, interface-other, store-interface-out, store-interface-node, length-store-interface}
 use Rattle.words.specs.declared.Node.{Node}
 use Rattle.words.specs.declared.Interface.{Interface}
-use Rattle.words.specs.declared.Up.{Up}
 use Rattle.words.specs.declared.Up.the-variants.{Top, Under}
 use Rattle.ledger_spec.specs.Bench as plain
 use Rattle.ledger_spec.specs.Look.{interface}
@@ -27,43 +26,15 @@ use Rattle.ledger_spec.proofs.Passed.{Open, Fusable, fusable, passed, or-false}
 use Rattle.ledger_spec.proofs.KeptTree.{join-slots, join-else, join-kept, join-l, join-r, join-p, join-length}
 use Rattle.views.specs.Records.{Steady}
 use Rattle.views.specs.Tab.{tab}
-use Rattle.views.specs.View.{off, upSeen, halvesSeen, over, sumUp, slotIn, slotSeen, circleOf, interfaceIn, viewIn, view}
+use Rattle.views.specs.View.{off, upSeen, halvesSeen, sumUp, slotIn, slotSeen, circleOf, interfaceIn, viewIn, view}
 use Rattle.views.specs.Canon.{Coded}
 use Rattle.views.specs.Fit.{Fit, Done}
-use Rattle.views.proofs.Offsets.{off-sub, off-add}
 use Rattle.views.proofs.Views.{interface-in, interface-is, view-is, view-next, view-eight, view-count}
 use Rattle.views.proofs.Codes.{coded-interface}
 use Rattle.works.proofs.Needs.{Paced, open-top, open-paced}
 use Rattle.works.proofs.Keeps.{sim-self, canon-like}
 use Rattle.joins.specs.Empty.{withUp}
-
-off-join : (c a b : ℕ) → c ≤ a + b → off c (a + b - c) ≡ off c a +ℤ off c b
-unfolding off
-off-join c a b l = off-sub c (a + b) c l ∙ ap (λ (z : ℤ). z -ℤ pos c) (off-add c a b) ∙ +ℤ-assoc (off c a) (pos b) (negℤ (pos c))
-
--- ---- the sums stay
-module _ (A A' : ℕ → Interface) (p l r : ℕ) (top-l : A l .parent ≡ Top) (top-r : A r .parent ≡ Top) (bare : A p .progress ≡ 0)
-    (at-p : A' p .parent ≡ Top) (at-l : A' l .parent ≡ Under p) (at-r : A' r .parent ≡ Under p)
-    (other : (v : ℕ) → v ≢ l → v ≢ r → A' v .parent ≡ A v .parent) (progress : (v : ℕ) → A' v .progress ≡ A v .progress) where
-  sum-p : (n : ℕ) → sumUp n A' p ≡ 0
-  unfolding sumUp
-  sum-p zero = refl
-  sum-p (suc n) = rw (at-p, progress p, bare)
-
-  over-same : (q : Up) (n : ℕ) → ((w : ℕ) → sumUp n A' w ≡ sumUp n A w) → over q 0 (sumUp n A') ≡ over q 0 (sumUp n A)
-  over-same Top n h = refl
-  over-same (Under q) n h = h q
-
-  fuse-sums : (n v : ℕ) → sumUp n A' v ≡ sumUp n A v
-  unfolding sumUp
-  fuse-sums zero v = refl
-  fuse-sums (suc n) v =
-      by-cases (ℕ-discrete v l)
-      (λ (e : v ≡ l). rw (e, progress l, at-l, top-l, sum-p n))
-      (λ (nl : v ≡ l → ⊥).
-      by-cases (ℕ-discrete v r)
-      (λ (e : v ≡ r). rw (e, progress r, at-r, top-r, sum-p n))
-      (λ (nr : v ≡ r → ⊥). rw (progress v, other v nl nr) (ap (λ (x : ℕ). A v .progress + x) (over-same (A v .parent) n (fuse-sums n)))))
+use Rattle.joins.proofs.Fuses.{off-join, fuse-sums}
 
 -- ---- the words
 module _ (b : List ℕ) (p l r : ℕ) (F : Fit b) (T : first (fuseTests (view b) p l r) ≡ 0) where

@@ -30,7 +30,8 @@ use Rattle.rings.specs.Members.{seatOf, takenNode, freedNode, blossomNod
 use Rattle.rings.proofs.Givens.{Ringable, ringable}
 use Rattle.rings.proofs.Taking.{Taking, taking-begins, taking-range, q₀, speedTo, sizeTo, turn-ranged, turn-size, turn-turns}
 use Rattle.rings.proofs.Blossoming.{blossomed}
-use Rattle.rings.proofs.Freeing.{Expandable, expandable, Freeing, free-can, free-turns, few, s₁}
+use Rattle.rings.proofs.Freeing.{Expandable, expandable, Freeing, free-can, free-turns, few}
+use Rattle.rings.proofs.Gone.{s₁}
 use Rattle.rings.proofs.Expanding.{expanded}
 
 -- ---- a member's seat

@@ -29,7 +29,8 @@ use Rattle.works.proofs.Stores.{put-next, put-unit, put-unit-here, put-unit-the
 use Rattle.works.proofs.Keeps.{not-blossom, ringed-walk, Intact, intact-chain, intact-seat, halves-kept}
 use Rattle.rings.proofs.Rounds.{Among, yes-at, not-at, among, Head, view-interfaces, pacing, pacing-here, pacing-else, pacing-part, turn-off, turn-head, turn-done}
 use Rattle.rings.proofs.Blossoming.{not-inside}
-use Rattle.rings.proofs.Freeing.{Expandable, Freeing, freeing, f₁, m₁, at₁, s₁, A₁, to₁, member, apart, not-top, not-member, gone-here, gone-else, freed-view}
+use Rattle.rings.proofs.Freeing.{Expandable, Freeing, freeing, f₁, m₁, at₁, member, apart, not-top, not-member}
+use Rattle.rings.proofs.Gone.{s₁, A₁, to₁, gone-here, gone-else, freed-view}
 
 not-defect : {c : Class} {v : Vertex} → c ≡ Absent → c ≡ Defect v → ⊥
 not-defect {v = v} p q = let z : Absent ≡ Defect v = sym p ∙ q in let z2 : _≡_ {A = ℕ} 0 1 = cc in omega arith

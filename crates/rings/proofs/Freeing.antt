@@ -1,13 +1,12 @@
--- The loop that lets members out, turn by turn, and the bench that it shows. Members stand in one circle, each at a place of its own, and stay; the
--- blossom itself is in no circle, and another blossom's members are other nodes. Assumes nothing.
+-- The loop that lets members out, turn by turn. Members stand in one circle, each at a place of its own, and stay; the blossom itself is in no circle,
+-- and another blossom's members are other nodes. Assumes nothing.
 use Prim.Native.Nat.{ℕ, zero, suc, _+_, _-_, _*_, _/_, _%_, _<_, _≤_}
 use mathlib.Core.Path.{_≡_, refl, ap, ap₂, sym, _∙_, subst}
 use mathlib.Core.Logic.{_≢_, by-cases}
 use mathlib.Core.Option.{Option, none, some}
-use mathlib.Core.List.{List, [], _∷_}
+use mathlib.Core.List.{List}
 use native.Mathlib.Decide.{ℕ-discrete}
 use native.Mathlib.Omega.{arith}
-use lib.IntN.{ℤ, pos, _-ℤ_, _+ℤ_}
 use lib.ListN.{length, getD}
 use Rattle.kinds.specs.declared.GrowState.{GrowState}
 use Rattle.kinds.specs.declared.GrowState.the-variants.{Grow as Growing, Stay, Shrink}
@@ -18,35 +17,31 @@ use Rattle.words.specs.Store.{nodeAt, interfaceAt, storeNode}
 use Rattle.words.proofs.Laws.{Good, good-node, good-interface, load-same, load-other, store-node-interface}
 use Rattle.words.specs.declared.Node.{Node}
 use Rattle.words.specs.declared.Interface.{Interface}
-use Rattle.ledger_spec.specs.Bench.{Handle, stays, grows, blossom, Member}
+use Rattle.ledger_spec.specs.Bench.{Handle, stays, Member}
 use Rattle.ledger_spec.specs.Bench as plain
 use Rattle.ledger_spec.specs.Look.{climb}
-use Rattle.ledger_spec.specs.Look as look
-use Rattle.ledger_spec.specs.Change.{place, markAll}
-use Rattle.ledger_spec.specs.Deeds.{members, removeBlossom}
+use Rattle.ledger_spec.specs.Change.{place}
 use Rattle.ledger_spec.specs.Tests.{first}
 use Rattle.ledger_spec.specs.Refuse.{expandTests}
 use Rattle.ledger_spec.specs.Named.{stateNamed, parentNamed}
 use Rattle.ledger_spec.proofs.Knit.{nodes, none-some, some-eq}
 use Rattle.ledger_spec.proofs.Passed.{Open, passed}
-use Rattle.views.specs.Records.{Steady, Ranged, rateOf, noNode}
-use Rattle.views.specs.View.{off, view, viewIn, sumUp, slotSeen, circleOf, follow, handleAt}
+use Rattle.views.specs.Records.{Steady, Ranged}
+use Rattle.views.specs.View.{view, sumUp, slotSeen, circleOf, follow}
 use Rattle.views.specs.Canon.{walk, Coded}
 use Rattle.views.specs.Fit.{Fit}
-use Rattle.views.proofs.Offsets.{rates}
-use Rattle.views.proofs.Sums.{sumUp-le, sumUp-same}
+use Rattle.views.proofs.Sums.{sumUp-same}
 use Rattle.views.proofs.Views.{view-slot}
 use Rattle.views.proofs.Circles.{same-eq, circle-same}
-use Rattle.views.proofs.Rings.{Ringed, ringed, ring-near, slot-blossom}
+use Rattle.views.proofs.Rings.{Ringed, ringed, slot-blossom}
 use Rattle.views.proofs.Ranges.{ranged}
 use Rattle.views.proofs.Codes.{coded-node}
 use Rattle.works.specs.Steps.{noSeat, remarked}
-use Rattle.works.proofs.Puts.{value-low, rate-small, slot-share, speed-turns, put-in}
-use Rattle.works.proofs.Needs.{open-of, Stands, stands, stands-free, stands-blossom, under-of, open-paced}
+use Rattle.works.proofs.Needs.{open-of, Stands, stands, stands-free, stands-blossom, under-of}
 use Rattle.works.proofs.Stores.{node-next, node-steady}
-use Rattle.works.proofs.Keeps.{not-blossom, walk-in}
+use Rattle.works.proofs.Keeps.{walk-in}
 use Rattle.rings.specs.Members.{freedNode}
-use Rattle.rings.proofs.Rounds.{instead, instead-here, instead-else, pacing, pacing-here, pacing-else, climb-in, turned, turn-here, turn-else, turn-off, turn-head, turn-coming, turns-view}
+use Rattle.rings.proofs.Rounds.{turned, turn-here, turn-else, turn-coming}
 
 -- ---- the tests of expand, passed
 pub record Expandable (b : List ℕ) (t : ℕ) (h : Handle) : Type 0 where
@@ -124,13 +119,13 @@ module _ (b : List ℕ) (t : ℕ) (h : Handle) (F : Fit b) (X : Expandable b t h
   abbrev pub at₁ : ℕ → ℕ
   at₁ i = walk i (nodeAt b) f₁
 
-  abbrev T₁ : ℕ → ℕ
+  abbrev pub T₁ : ℕ → ℕ
   T₁ i = sumUp 8 (interfaceAt b) (at₁ i / 64)
 
-  lu : h .unit < 8
+  pub lu : h .unit < 8
   lu = X .stands .unit
 
-  ls : h .slot < interfaceAt b (h .unit) .used
+  pub ls : h .slot < interfaceAt b (h .unit) .used
   ls = X .stands .slot
 
   -- ---- the members
@@ -157,13 +152,13 @@ module _ (b : List ℕ) (t : ℕ) (h : Handle) (F : Fit b) (X : Expandable b t h
       let c = F .circle (h .unit) (h .slot) (B .node) (circleOf (nodeAt b) k₁) (view-slot (getD b 0 0) (interfaceAt b) (nodeAt b) (h .unit) (h .slot) lu ls ∙ B .shown) (B .class) in
       omega (arith, c .1, length-follow m₁ (nodeAt b) f₁)
 
-  member-ranged : (i : ℕ) → i < m₁ → Ranged (nodeAt b (at₁ i))
+  pub member-ranged : (i : ℕ) → i < m₁ → Ranged (nodeAt b (at₁ i))
   member-ranged i l =
       let g = member i l in
       subst (λ (p : ℕ). Ranged (nodeAt b p)) (back i)
       (ranged b (F .canon .steady) (F .within) (at₁ i / 64) (at₁ i % 64) (g .unit) (g .slot) (subst (λ (p : ℕ). nodeAt b p .class ≡ Absent → ⊥) (sym (back i)) (g .present)))
 
-  still : (i : ℕ) → i < m₁ → nodeAt b (at₁ i) .state ≡ Stay
+  pub still : (i : ℕ) → i < m₁ → nodeAt b (at₁ i) .state ≡ Stay
   still i l =
       let g = member i l in
       let q : Handle = record { unit = h .unit; slot = h .slot; serial = nodeAt b k₁ .serial .0 } in
@@ -222,105 +217,3 @@ module _ (b : List ℕ) (t : ℕ) (h : Handle) (F : Fit b) (X : Expandable b t h
               ∙ sym (turn-here at₁ T₁ Growing (λ n. noSeat) (nodeAt b) i j z))
               (λ (ne : j ≡ k → ⊥). load-other b₁ k x len lk j ne ∙ G .nodes j ∙ sym (turn-else at₁ T₁ Growing (λ n. noSeat) (nodeAt b) i j ne));
         })
-
-  -- ---- the blossom gone
-  abbrev pub A₁ : ℕ → Node
-  A₁ = instead (nodeAt b) k₁ noNode
-
-  abbrev pub s₁ : ℕ
-  s₁ = interfaceAt b t .speed + 1 - rateOf (nodeAt b k₁ .state)
-
-  pub gone-here : A₁ k₁ ≡ noNode
-  gone-here = instead-here (nodeAt b) k₁ noNode k₁ refl
-
-  pub gone-else : (p : ℕ) → p ≢ k₁ → A₁ p ≡ nodeAt b p
-  gone-else p ne = instead-else (nodeAt b) k₁ noNode p ne
-
-  gone-member : (i : ℕ) → i < m₁ → A₁ (at₁ i) ≡ nodeAt b (at₁ i)
-  gone-member i l = gone-else (at₁ i) (not-top (h .unit) (h .slot) (at₁ i) (member i l))
-
-  -- a blossom that is left is another one
-  other : (B : ℕ → Node) (k : ℕ) → B k .class ≡ A₁ k .class → B k .class ≡ Blossom → k ≢ k₁
-  other B k same e q = not-blossom (ap (λ (x : ℕ). A₁ x .class) q ∙ ap (λ (n : Node). n .class) gone-here) (sym same ∙ e)
-
-  gone-circles : (v r : ℕ) → v < 8 → r < interfaceAt b v .used → A₁ (v * 64 + r) .class ≡ Blossom → circleOf A₁ (v * 64 + r) ≡ circleOf (nodeAt b) (v * 64 + r)
-  gone-circles v r lv lr e =
-      let ne = other A₁ (v * 64 + r) refl e in
-      let same = gone-else (v * 64 + r) ne in
-      ring-kept A₁ (λ p q off. gone-else p q) v r lv lr ne (ap (λ (n : Node). n .class) (sym same) ∙ e) (ap (λ (n : Node). n .count) same) (ap (λ (n : Node). n .first) same)
-
-  no-slot : (u : ℕ) (ms : List Member) → slotSeen noNode u ms ≡ none
-  unfolding slotSeen
-  no-slot u ms = refl
-
-  slow : rateOf (nodeAt b k₁ .state) ≤ interfaceAt b t .speed + 1
-  slow =
-      let p = open-paced b F t (X .root) .slow in
-      let r = rate-small (nodeAt b k₁ .state) in
-      omega arith
-
-  gone-view : viewIn (getD b 0 0) (pacing (interfaceAt b) t s₁) A₁ ≡ place (view b) (h .unit) (h .slot) none
-  gone-view =
-      let l = slow in
-      put-in (getD b 0 0) (interfaceAt b) (pacing (interfaceAt b) t s₁) (nodeAt b) A₁ (h .unit) (h .slot) t s₁ (λ v lv. good-interface b v) (F .canon .steady .slots) lu ls (X .root .low) (X .under)
-      (pacing-here (interfaceAt b) t s₁) (λ v lv ne. pacing-else (interfaceAt b) t s₁ v ne) gone-else gone-circles none
-      (speed-turns (interfaceAt b t .speed) s₁ 1 (rateOf (nodeAt b k₁ .state)) (omega arith)
-      ∙ ap (λ (z : ℤ). off 1024 (interfaceAt b t .speed) +ℤ z)
-      (rates Stay (nodeAt b k₁ .state) ∙ ap (λ (z : ℤ). pos 0 -ℤ z) (sym (slot-share (nodeAt b k₁) (sumUp 8 (interfaceAt b) (h .unit)) (circleOf (nodeAt b) k₁) (X .stands .shows .present)))))
-      (ap (λ (n : Node). slotSeen n (sumUp 8 (interfaceAt b) (h .unit)) (circleOf A₁ k₁)) gone-here ∙ no-slot (sumUp 8 (interfaceAt b) (h .unit)) (circleOf A₁ k₁))
-
-  -- ---- and its members let out
-  abbrev pub to₁ : ℕ → ℕ → Node
-  to₁ = turned at₁ T₁ Growing (λ i. noSeat) A₁
-
-  turn-circles : (i v r : ℕ) → i ≤ m₁ → v < 8 → r < interfaceAt b v .used → to₁ i (v * 64 + r) .class ≡ Blossom → circleOf (to₁ i) (v * 64 + r) ≡ circleOf A₁ (v * 64 + r)
-  turn-circles i v r l lv lr e =
-      let hd = turn-head at₁ T₁ Growing (λ j. noSeat) A₁ i (v * 64 + r) in
-      let ne = other (to₁ i) (v * 64 + r) (hd .class) e in
-      let same = gone-else (v * 64 + r) ne in
-      let was : A₁ (v * 64 + r) .class ≡ Blossom = sym (hd .class) ∙ e in
-      ring-kept (to₁ i) (λ p q off. turn-off at₁ T₁ Growing (λ j. noSeat) A₁ i p (λ j lj. off j (omega arith)) ∙ gone-else p q) v r lv lr ne
-      (ap (λ (n : Node). n .class) (sym same) ∙ was) (hd .count ∙ ap (λ (n : Node). n .count) same) (hd .first ∙ ap (λ (n : Node). n .first) same)
-      ∙ sym (gone-circles v r lv lr was)
-
-  follow-more : (i : ℕ) → i < m₁ → nodes (follow (m₁ - i) (nodeAt b) (at₁ i)) ≡ handleAt (nodeAt b) (at₁ i) ∷ nodes (follow (m₁ - suc i) (nodeAt b) (at₁ (suc i)))
-  unfolding follow walk
-  follow-more i l =
-      let e : m₁ - i ≡ suc (m₁ - suc i) = omega arith in
-      ap (λ (x : ℕ). nodes (follow x (nodeAt b) (at₁ i))) e
-
-  follow-end : nodes (follow (m₁ - m₁) (nodeAt b) (at₁ m₁)) ≡ []
-  unfolding follow
-  follow-end =
-      let e : m₁ - m₁ ≡ 0 = omega arith in
-      ap (λ (x : ℕ). nodes (follow x (nodeAt b) (at₁ m₁))) e
-
-  all-of : (l : List Handle) → nodes (follow (m₁ - 0) (nodeAt b) (at₁ 0)) ≡ l → nodes (circleOf (nodeAt b) k₁) ≡ l
-  unfolding walk
-  all-of l e =
-      let z : m₁ ≡ m₁ - 0 = omega arith in
-      ap (λ (x : ℕ). nodes (follow x (nodeAt b) f₁)) z ∙ e
-
-  members-seen : members (look.nodeAt (view b) h) ≡ nodes (circleOf (nodeAt b) k₁)
-  members-seen =
-      let B = slot-blossom (nodeAt b k₁) (sumUp 8 (interfaceAt b) (h .unit)) (circleOf (nodeAt b) k₁) (X .class) in
-      let n : X .stands .node ≡ B .node = some-eq (X .stands .seen) (B .shown) in
-      ap members (X .stands .named) ∙ of-class (X .stands .node) (circleOf (nodeAt b) k₁) (ap (λ (x : plain.Node). x .class) n ∙ B .class)
-    where
-      of-class : (n : plain.Node) (ms : List Member) → n .class ≡ blossom ms → members (some n) ≡ nodes ms
-      of-class n ms e = rw e
-
-  pub freed-view : viewIn (getD b 0 0) (pacing (interfaceAt b) t (s₁ + m₁)) (to₁ m₁) ≡ removeBlossom (view b) h
-  unfolding removeBlossom
-  freed-view =
-      let st = F .canon .steady in
-      let z : s₁ + 0 ≡ s₁ = omega arith in
-      turns-view at₁ T₁ Growing (λ i. noSeat) A₁ m₁ apart (getD b 0 0) (interfaceAt b) t (λ i. s₁ + i) (λ v lv. good-interface b v) (st .slots) (X .root .low)
-      (λ i l. member i l .unit) (λ i l. member i l .slot)
-      (λ i l. climb-in (getD b 0 0) (getD b 0 0) (interfaceAt b) (interfaceAt b) (nodeAt b) A₁ (λ v lv. refl) 8 (at₁ i / 64) ∙ ring-near b (F .sewn) (h .unit) (h .slot) (at₁ i) lu ls (X .class) (member i l) ∙ X .under)
-      (λ i l. refl) (λ i l. rw (gone-member i l) (member i l .present))
-      (λ i l. rw (gone-member i l) (value-low (nodeAt b (at₁ i) .state) (nodeAt b (at₁ i) .bias) (T₁ i) (member-ranged i l .least) (omega (arith, sumUp-le b st 8 (at₁ i / 64) (member i l .unit)))))
-      (λ i l. rw (gone-member i l, still i l) (omega arith))
-      turn-circles none (λ i l. refl) (λ i. nodeAt b (at₁ i) .serial .0) (λ i. nodes (follow (m₁ - i) (nodeAt b) (at₁ i))) follow-more follow-end
-      ∙ ap₂ (λ (s : ℕ) (l : List Handle). markAll (viewIn (getD b 0 0) (pacing (interfaceAt b) t s) A₁) l grows none) z (sym (all-of (nodes (follow (m₁ - 0) (nodeAt b) (at₁ 0))) refl))
-      ∙ ap₂ (λ (B : plain.Bench) (l : List Handle). markAll B l grows none) gone-view (sym members-seen)

@@ -4,5 +4,6 @@ pub mod Taking
 pub mod Links
 pub mod Blossoming
 pub mod Freeing
+pub mod Gone
 pub mod Expanding
 pub mod Bodies

@@ -3,7 +3,8 @@ use Prim.Native.Nat.{suc, _-_}
 use mathlib.Core.Logic.{⊎-elim}
 use native.Mathlib.Omega.{arith}
 use borrow.Author.Needs.{needs}
-use Rattle.joins.proofs.Wiping.{Wiping, wipe-low, wiping-begins, wiping-past, wiping-reset, wiped}
+use Rattle.joins.proofs.Wiping.{Wiping, wipe-low, wiping-begins, wiping-past, wiping-reset}
+use Rattle.joins.proofs.Cleared.{wiped}
 use Rattle.joins.proofs.wipe.Statement.{statement}
 use Rattle.joins.proofs.wipe.Tie as tie
 
@@ -38,7 +39,7 @@ loop-again c =
     (c .if1 .came)
 
 returns : tie.Need-returns Inv-loop μ-loop
-returns c = let a = c .before .before .args in let l = c .before .loop in wiped (a .b .now) (a .unit) (c .before .before .pre .0) (c .before .before .pre .1) (l .b) (l .w) (l .inv) (omega arith)
+returns c = let a = c .before .before .args in let l = c .before .loop in wiped (a .b .now) (a .unit) (c .before .before .pre .0) (l .b) (l .w) (l .inv) (omega arith)
 
 pub wipe-spec : {M : Type 1} → statement M
 wipe-spec =
