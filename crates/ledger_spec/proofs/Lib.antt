@@ -13,6 +13,8 @@ pub mod Laws
 pub mod GrowCalls
 pub mod Range
 pub mod Trees
+pub mod Counts
+pub mod Sizes
 pub mod Walks
 pub mod FuseCalls
 pub mod Knit
