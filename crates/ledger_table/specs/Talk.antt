@@ -203,13 +203,13 @@ turn k c l =
     let h : Handle = named b (nat l 0) in
     let n : ℕ → Code = λ i. code′ b (nat l i) in
     let p : ℕ → ℕ → Pair = λ i j. record { node = n i; touching = n j } in
-    let t : List (ℕ × ℕ × ℕ) = triples 64 (drop 1 l) in
+    let t : List (ℕ × ℕ × ℕ) = triples 400 (drop 1 l) in
     let m : ℕ = nat l 1 in
     pick (is c "N") (record { says = num (setUpCall u .number) ∷ []; desk = fresh (setUpCall u .bench) })
     (pick (is c "D") (acts k u (Defect u (nat l 1)))
     (pick (is c "B") (acts k u (Blossom u (map (λ (z : ℤ). named b (natAbs z)) (drop 1 l)) []))
     (pick (is c "b") (acts k u (Blossom u (map (λ (x : ℕ × ℕ × ℕ). named b (x .0)) t) (map (λ (x : ℕ × ℕ × ℕ). (named b (x .1), named b (x .2))) t)))
-    (pick (is c "t") (acts k u (Blossom u (map (named b) (members m (drop 2 l))) (map (λ (x : ℕ × ℕ). (named b (x .0), named b (x .1))) (pairs 128 (drop (2 + m) l)))))
+    (pick (is c "t") (acts k u (Blossom u (map (named b) (members m (drop 2 l))) (map (λ (x : ℕ × ℕ). (named b (x .0), named b (x .1))) (pairs 400 (drop (2 + m) l)))))
     (pick (is c "E") (acts k u (Expand u (named b (nat l 1))))
     (pick (is c "S") (acts k u (SetState u (named b (nat l 1)) (stateOf (arg l 2))))
     (pick (is c "G") (acts k u (Grow u (arg l 1)))
