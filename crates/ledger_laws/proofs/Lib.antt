@@ -16,3 +16,4 @@ pub mod Turns
 pub mod Laws
 pub mod GrowCalls
 pub mod Demand
+pub mod Five

@@ -17,4 +17,5 @@ pub mod SoundParts
 pub mod Says
 pub mod Holds
 pub mod Walks
+pub mod Chains
 pub mod Bounds
