@@ -17,3 +17,5 @@ pub mod Laws
 pub mod GrowCalls
 pub mod Demand
 pub mod Five
+pub mod Untouched
+pub mod Effects
