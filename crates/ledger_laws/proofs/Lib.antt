@@ -19,3 +19,5 @@ pub mod Demand
 pub mod Five
 pub mod Untouched
 pub mod Effects
+pub mod GroupSound
+pub mod GroupLaws
