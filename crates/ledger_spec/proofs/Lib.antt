@@ -14,6 +14,7 @@ pub mod TreeReadings
 pub mod Gathered
 pub mod Serials
 pub mod SoundParts
+pub mod SaysFrame
 pub mod Says
 pub mod Holds
 pub mod Walks
