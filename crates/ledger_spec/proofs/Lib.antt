@@ -17,6 +17,8 @@ pub mod SoundParts
 pub mod SaysFrame
 pub mod Says
 pub mod Holds
+pub mod Counts
+pub mod Sizes
 pub mod Walks
 pub mod Chains
 pub mod Bounds

@@ -1,0 +1,5 @@
+pub mod Talk
+pub mod Replay
+pub mod Opened
+pub mod First
+pub mod Broken

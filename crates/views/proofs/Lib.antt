@@ -1,0 +1,11 @@
+pub mod Tabs
+pub mod Sums
+pub mod Offsets
+pub mod Views
+pub mod Circles
+pub mod Rings
+pub mod Along
+pub mod Codes
+pub mod Ranges
+pub mod Unique
+pub mod Fits

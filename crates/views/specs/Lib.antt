@@ -1,0 +1,5 @@
+pub mod Tab
+pub mod Records
+pub mod View
+pub mod Canon
+pub mod Fit
