@@ -8,11 +8,11 @@ use mathlib.Core.List.{List, [], _∷_}
 use native.Mathlib.Omega.{arith}
 use lib.Dec.{ltb}
 use borrow.Author.Tests.{ltb-true, lt-ltb, le-ltb}
-use lib.ListN.{length, length-append}
+use lib.ListN.{length}
 use lib.IntN.{ℤ, pos, natAbs, _+ℤ_}
 use Rattle.ledger_spec.specs.Bench.{Handle, Member, Class, defect, blossom, Node, Bench}
 use Rattle.ledger_spec.specs.Look.{interface, slotOf, nodeAt, top, tree}
-use Rattle.ledger_spec.specs.Reads.{slotsFrom, gather, slotsOf}
+use Rattle.ledger_spec.specs.Reads.{gather, slotsOf}
 use Rattle.ledger_spec.specs.SoundTree.{tally}
 use Rattle.ledger_spec.specs.Walk.{parentOf, outerFrom, linksFrom, underFrom, outermost}
 use Rattle.ledger_spec.specs.Knit.{Has, Up}
@@ -24,6 +24,7 @@ use Rattle.ledger_spec.proofs.Tops.{top-root, below}
 use Rattle.ledger_spec.proofs.Trees.{along, tree-sum}
 use Rattle.ledger_spec.proofs.Passed.{node-has, has-node}
 use Rattle.ledger_spec.proofs.Gathered.{held-unit, held-in}
+use Rattle.ledger_spec.proofs.Indices.{gather-length}
 use Rattle.ledger_spec.proofs.Bounds.{under-bound}
 
 -- ---- a walk with fuel enough follows the chain
@@ -106,17 +107,29 @@ module _ (b : Bench) where
     sym (chain-outer c (k + k′) (omega arith)) ∙ chain-outer d (k + k′) (omega arith),
   )
 
--- ---- a sound bench: slots of a tree are at most 512
-slots-length : (u k : ℕ) (l : List (Option Node)) → length (slotsFrom u k l) ≡ length l
-unfolding slotsFrom
-slots-length u k [] = refl
-slots-length u k (x ∷ xs) = ap suc (slots-length u (suc k) xs)
+-- ---- the parent of a present node: present, a blossom, of higher serial, in the same tree
+pub record Outer (b : Bench) (h p : Handle) : Type 0 where
+  pub node : Node
+  pub is : nodeAt b p ≡ some node
+  pub ms : List Member
+  pub ring : node .class ≡ blossom ms
+  pub older : h .serial < p .serial
+  pub near : top b (h .unit) ≡ top b (p .unit)
 
-gather-length : (b : Bench) (us : List ℕ) → pos (length (gather b us)) ≡ along (λ u. pos (length (interface b u .slots))) us
+pub outer : (b : Bench) → Sound b → (h p : Handle) (n : Node) → nodeAt b h ≡ some n → n .parent ≡ some p → Outer b h p
+outer b S h p n e f = record { node = U .over; is = has-node b p (U .over) (U .has); ms = U .ms; ring = U .ring; older = omega (arith, U .older, H .serial); near = U .near }
+  where
+    H : Has (slotOf b) h n
+    H = node-has b h n e
+
+    U : Up (slotOf b) (top b) (h .unit) (h .slot) n p
+    U = S .sewn .knit .up (h .unit) (h .slot) n p (H .stands) f
+
+-- ---- a sound bench: slots of a tree are at most 512
+length-along : (b : Bench) (us : List ℕ) → pos (length (gather b us)) ≡ along (λ u. pos (length (interface b u .slots))) us
 unfolding gather along
-gather-length b [] = refl
-gather-length b (u ∷ us) = ap pos (length-append (slotsFrom u 0 (interface b u .slots)) (gather b us)) ∙ ap (λ (n : ℕ). pos n +ℤ pos (length (gather b us))) (slots-length u 0 (interface b u .slots))
-    ∙ ap (λ (z : ℤ). pos (length (interface b u .slots)) +ℤ z) (gather-length b us)
+length-along b [] = refl
+length-along b (u ∷ us) = ap pos (gather-length b u us) ∙ ap (λ (z : ℤ). pos (length (interface b u .slots)) +ℤ z) (length-along b us)
 
 -- a blossom of serial above k
 abbrev Entry : Type 0
@@ -156,35 +169,21 @@ ring-is k (some n) e = and-true (isBlossom (some n)) (ltb k (n .serial)) e .0
 
 module _ (b : Bench) (S : Sound b) where
   pub slots-most : (i : ℕ) → i < 8 → interface b i .parent ≡ none → length (slotsOf b i) ≤ 512
-  slots-most i h free = subst (λ (z : ℤ). natAbs z ≤ 512) (sym (gather-length b (tree 8 b i) ∙ tree-sum b (S .frame) (λ u. pos (length (interface b u .slots))) i h free))
+  slots-most i h free = subst (λ (z : ℤ). natAbs z ≤ 512) (sym (length-along b (tree 8 b i) ∙ tree-sum b (S .frame) (λ u. pos (length (interface b u .slots))) i h free))
       (under-bound (top b) (λ u. pos (length (interface b u .slots))) 64 i (λ w. S .few w))
 
-  -- the parent of a present node
-  record Over (h p : Handle) : Type 0 where
-    node : Node
-    is : nodeAt b p ≡ some node
-    near : top b (h .unit) ≡ top b (p .unit)
-    fewer : suc (above b (p .serial) (top b (p .unit))) ≤ above b (h .serial) (top b (h .unit))
-
-  over : (h p : Handle) (n : Node) → nodeAt b h ≡ some n → n .parent ≡ some p → Over h p
+  -- at each link the blossoms above are fewer
+  fewer : (h p : Handle) (n : Node) → nodeAt b h ≡ some n → n .parent ≡ some p → suc (above b (p .serial) (top b (p .unit))) ≤ above b (h .serial) (top b (h .unit))
   unfolding above
-  over h p n e f = record {
-    node = U .over;
-    is = has-node b p (U .over) (U .has);
-    near = U .near;
-    fewer = subst (λ (i : ℕ). suc (tally (λ (t : Entry). ringAbove (p .serial) (t .2)) (slotsOf b (top b (p .unit)))) ≤ tally (λ (t : Entry). ringAbove (h .serial) (t .2)) (slotsOf b i)) (sym (U .near))
-        (tally-less (λ (t : Entry). ringAbove (p .serial) (t .2)) (λ (t : Entry). ringAbove (h .serial) (t .2)) (slotsOf b (top b (p .unit))) (λ t k. ring-lower (h .serial) (p .serial) (omega (arith, older)) (t .2) k)
-        (held-in b (S .frame) (p .unit) (p .slot) (U .over) (U .has .stands)) (ring-yes (h .serial) (U .over) (U .ms) (U .ring) (omega (arith, older, U .has .serial))) (ring-no (p .serial) (U .over) (omega (arith, U .has .serial))));
-  }
+  fewer h p n e f = subst (λ (i : ℕ). suc (tally (λ (t : Entry). ringAbove (p .serial) (t .2)) (slotsOf b (top b (p .unit)))) ≤ tally (λ (t : Entry). ringAbove (h .serial) (t .2)) (slotsOf b i)) (sym (O .near))
+      (tally-less (λ (t : Entry). ringAbove (p .serial) (t .2)) (λ (t : Entry). ringAbove (h .serial) (t .2)) (slotsOf b (top b (p .unit))) (λ t k. ring-lower (h .serial) (p .serial) (omega (arith, O .older)) (t .2) k)
+      (held-in b (S .frame) (p .unit) (p .slot) (O .node) (H .stands)) (ring-yes (h .serial) (O .node) (O .ms) (O .ring) (omega (arith, O .older, H .serial))) (ring-no (p .serial) (O .node) (omega (arith, H .serial))))
     where
-      H : Has (slotOf b) h n
-      H = node-has b h n e
+      O : Outer b h p
+      O = outer b S h p n e f
 
-      U : Up (slotOf b) (top b) (h .unit) (h .slot) n p
-      U = S .sewn .knit .up (h .unit) (h .slot) n p (H .stands) f
-
-      older : h .serial < p .serial
-      older = omega (arith, U .older, H .serial)
+      H : Has (slotOf b) p (O .node)
+      H = node-has b p (O .node) (O .is)
 
   -- with as much fuel as there are blossoms above, the walk is the chain
   walked : (k : ℕ) (h : Handle) (n : Node) → nodeAt b h ≡ some n → above b (h .serial) (top b (h .unit)) ≤ k → Chain b h (linksFrom k b h) (outerFrom k b h)
@@ -192,17 +191,17 @@ module _ (b : Bench) (S : Sound b) where
     where
       go : (q : Option Handle) → n .parent ≡ q → Chain b h (linksFrom zero b h) (outerFrom zero b h)
       go none f = let g : parentOf (nodeAt b h) ≡ none = ap parentOf e ∙ f in subst (λ (t : Handle). Chain b h (linksFrom zero b h) t) (sym (outer-none b zero h g)) (subst (λ (j : ℕ). Chain b h j h) (sym (links-none b zero h g)) (end g))
-      go (some p) f = absurd (omega (arith, x, over h p n e f .fewer))
+      go (some p) f = absurd (omega (arith, x, fewer h p n e f))
   walked (suc k) h n e x = go (n .parent) refl (walked k)
     where
       go : (q : Option Handle) → n .parent ≡ q → ((g : Handle) (m : Node) → nodeAt b g ≡ some m → above b (g .serial) (top b (g .unit)) ≤ k → Chain b g (linksFrom k b g) (outerFrom k b g)) → Chain b h (linksFrom (suc k) b h) (outerFrom (suc k) b h)
       go none f ih = let g : parentOf (nodeAt b h) ≡ none = ap parentOf e ∙ f in subst (λ (t : Handle). Chain b h (linksFrom (suc k) b h) t) (sym (outer-none b (suc k) h g)) (subst (λ (j : ℕ). Chain b h j h) (sym (links-none b (suc k) h g)) (end g))
       go (some p) f ih = let g : parentOf (nodeAt b h) ≡ some p = ap parentOf e ∙ f in
           subst (λ (t : Handle). Chain b h (linksFrom (suc k) b h) t) (sym (outer-some b k h p g)) (subst (λ (j : ℕ). Chain b h j (outerFrom k b p)) (sym (links-some b k h p g))
-          (link p g (ih p (O .node) (O .is) (omega (arith, x, O .fewer)))))
+          (link p g (ih p (O .node) (O .is) (omega (arith, x, fewer h p n e f)))))
         where
-          O : Over h p
-          O = over h p n e f
+          O : Outer b h p
+          O = outer b S h p n e f
 
   above-all : (k i : ℕ) → above b k i ≤ blossomsIn b i
   unfolding above blossomsIn
@@ -215,11 +214,11 @@ module _ (b : Bench) (S : Sound b) where
   -- a chain from a present node: no longer than the blossoms above, and to a present node of the same tree
   chain-bound : {h t : Handle} {k : ℕ} → Chain b h k t → (n : Node) → nodeAt b h ≡ some n → k ≤ above b (h .serial) (top b (h .unit))
   chain-bound (end e) n f = omega arith
-  chain-bound (link {h} p e c) n f = let O : Over h p = over h p n f (ap parentOf (sym f) ∙ e) in omega (arith, O .fewer, chain-bound c (O .node) (O .is))
+  chain-bound (link {h} p e c) n f = let O : Outer b h p = outer b S h p n f (ap parentOf (sym f) ∙ e) in omega (arith, fewer h p n f (ap parentOf (sym f) ∙ e), chain-bound c (O .node) (O .is))
 
   chain-present : {h t : Handle} {k : ℕ} → Chain b h k t → (n : Node) → nodeAt b h ≡ some n → (o : Node) × (nodeAt b t ≡ some o) × (top b (h .unit) ≡ top b (t .unit))
   chain-present (end e) n f = (n, f, refl)
-  chain-present (link {h} p e c) n f = let O : Over h p = over h p n f (ap parentOf (sym f) ∙ e) in let r = chain-present c (O .node) (O .is) in (r .0, r .1, O .near ∙ r .2)
+  chain-present (link {h} p e c) n f = let O : Outer b h p = outer b S h p n f (ap parentOf (sym f) ∙ e) in let r = chain-present c (O .node) (O .is) in (r .0, r .1, O .near ∙ r .2)
 
   -- ---- the walk of document 01: from a present node, within 512 links, to a node without a parent
   module _ (h : Handle) (n : Node) (e : nodeAt b h ≡ some n) where

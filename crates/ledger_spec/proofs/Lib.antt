@@ -12,6 +12,7 @@ pub mod Readings
 pub mod DeedReadings
 pub mod TreeReadings
 pub mod Gathered
+pub mod Indices
 pub mod Serials
 pub mod SoundParts
 pub mod SaysFrame
