@@ -10,7 +10,7 @@ use lib.IntN.{ℤ, pos, _+ℤ_, _-ℤ_, _*ℤ_}
 use Rattle.ledger_spec.specs.Bench.{Handle, State, rate, stays, grows, Node, Bench, fresh}
 use Rattle.ledger_spec.specs.Look.{interface, slotOf, nodeAt, top}
 use Rattle.ledger_spec.specs.Change.{share, restate, withNode, mark}
-use Rattle.ledger_spec.specs.Deeds.{newHandle, members, addDefect, addBlossom, removeBlossom, growSlot}
+use Rattle.ledger_spec.specs.Deeds.{newHandle, members, addDefect, addBlossom, removeBlossom, growSlot, growBy}
 use Rattle.ledger_spec.specs.Calls.{nobody, Defect, Blossom, Expand, SetState, Grow, Fuse, Clear}
 use Rattle.ledger_spec.specs.Answers.{answer}
 use Rattle.ledger_spec.specs.Knit.{In}
@@ -20,7 +20,7 @@ use Rattle.ledger_spec.proofs.Accepted.{defect-passed, BlossomPassed, blossom-p
 use Rattle.ledger_spec.proofs.Says.{says}
 use Rattle.ledger_spec.proofs.Readings.{mark-at, mark-off, mark-next, mark-count, mark-slow, mark-fast, push-fast}
 use Rattle.ledger_spec.proofs.DeedReadings.{defectNode, defect-is, defect-at, defect-off, defect-next, blossomNode, blossom-at, blossom-member, blossom-off, blossom-next, expand-at, expand-member, expand-off, expand-next, expand-count}
-use Rattle.ledger_spec.proofs.TreeReadings.{Joins, joins, grow-parent, grow-halves, grow-speed, grow-at, grow-off, grow-next, grow-count, grow-sum, grow-sum-else, grow-progress, grow-progress-else, join-slots, join-kept, join-l, join-r, join-p, join-rest, join-next, wipe-next, wipe-under, wipe-else}
+use Rattle.ledger_spec.proofs.TreeReadings.{Joins, joins, grownNode, grow-node, grow-parent, grow-halves, grow-speed, grow-at, grow-off, grow-next, grow-count, grow-sum, grow-sum-else, grow-progress, grow-progress-else, join-slots, join-kept, join-l, join-r, join-p, join-rest, join-next, wipe-next, wipe-under, wipe-else}
 use Rattle.ledger_laws.proofs.Quiet.{Quiet, defect-quiet, blossom-quiet, expand-quiet, mark-quiet}
 use Rattle.ledger_laws.proofs.Paced.{inside}
 use Rattle.ledger_laws.proofs.Sewn.{away, far}
@@ -154,6 +154,7 @@ state-leaves b u h s z = subst (StateLeaves b u h s (answer b (SetState u h s) .
 pub record GrowLeaves (b : Bench) (u : ℕ) (l : ℤ) (h : Handle) (b′ : Bench) : Type 0 where
   pub handle : h ≡ nobody
   pub inside : (w s : ℕ) → top b w ≡ u → slotOf b′ w s ≡ growSlot l (slotOf b w s)
+  pub named : (g : Handle) (n : Node) → top b (g .unit) ≡ u → nodeAt b g ≡ some n → nodeAt b′ g ≡ some (grownNode l n)
   pub outside : (w s : ℕ) → top b w ≢ u → slotOf b′ w s ≡ slotOf b w s
   pub sum : interface b′ u .sum ≡ interface b u .sum +ℤ l *ℤ interface b u .speed
   pub sum-else : (w : ℕ) → w ≢ u → interface b′ w .sum ≡ interface b w .sum
@@ -170,6 +171,7 @@ unfolding testsOf deedOf nodeOf
 grow-leaves b u l z = subst (GrowLeaves b u l (answer b (Grow u l) .node)) (sym (zero-bench b (Grow u l) z)) (record {
   handle = zero-node b (Grow u l) z;
   inside = grow-at b u l;
+  named = λ g n e k. let H = node-has b g n k in has-node (growBy b u l) g (grownNode l n) (record { stands = grow-node b u l (g .unit) (g .slot) n e (H .stands); serial = H .serial });
   outside = grow-off b u l;
   sum = grow-sum b u l low;
   sum-else = grow-sum-else b u l;
