@@ -11,7 +11,7 @@ use lib.Dec.{eqb}
 use borrow.Author.Tests.{eq-eqb, ne-eqb}
 use lib.ListN.{getD, length}
 use lib.IntN.{ℤ, natAbs, _*ℤ_}
-use Rattle.ledger_spec.specs.Bench.{Handle, State, rate, stays, grows, Member, defect, blossom, Node, Interface, Bench}
+use Rattle.ledger_spec.specs.Bench.{Handle, State, rate, stays, grows, Member, defect, Node, Interface, Bench}
 use Rattle.ledger_spec.specs.Look.{interface, slotOf, nodeAt, top}
 use Rattle.ledger_spec.specs.Change.{mark, restate, withNode}
 use Rattle.ledger_spec.specs.Tests.{both}
@@ -21,7 +21,7 @@ use Rattle.ledger_spec.specs.Knit.{In, here, there, Has, Sewn}
 use Rattle.ledger_spec.specs.Facts.{Touching, Circle, Ring, Sound}
 use Rattle.ledger_spec.proofs.Range.{abs-add, abs-step}
 use Rattle.ledger_spec.proofs.Lists.{not-in-nil, in-cases}
-use Rattle.ledger_spec.proofs.Knit.{some-eq, none-some, Place, hit, miss, place-in}
+use Rattle.ledger_spec.proofs.Knit.{some-eq, none-some, class-apart, blossom-eq, Place, hit, miss, place-in}
 use Rattle.ledger_spec.proofs.Passed.{Fusable, has-node}
 use Rattle.ledger_spec.proofs.Accepted.{Named, DefectPassed, BlossomPassed, ExpandPassed}
 use Rattle.ledger_spec.proofs.Gathered.{held-unit, held-slot}
@@ -38,10 +38,7 @@ still u = 0
 
 -- ---- defect
 defect-ring : (b : Bench) (n : Node) (v : ℕ) → n .class ≡ defect v → n .size ≡ 1 → Ring b n
-defect-ring b n v c z = record { single = λ w r. z; circle = λ ms r. absurd (apart c r) }
-  where
-    apart : {v : ℕ} {ms : List Member} → n .class ≡ defect v → n .class ≡ blossom ms → ⊥
-    apart {v} {ms} p q = let k : _≡_ {A = ℕ} 0 1 = cc in omega arith
+defect-ring b n v c z = record { single = λ w r. z; circle = λ ms r. absurd (class-apart c r) }
 
 pub defect-came : (b : Bench) → Frame b → (u v : ℕ) → DefectPassed b u → Came b (addDefect b u v) still
 defect-came b F u v P w s x e = go (ℕ-discrete w u) (ℕ-discrete s (length (interface b u .slots)))
@@ -108,12 +105,6 @@ module _ (b : Bench) (S : Sound b) (u : ℕ) (hs : List Handle) (ts : List (Hand
       N : Named b u h
       N = P .member h i
 
-  ring-eq : {ms ns : List Member} → blossom ms ≡ blossom ns → ms ≡ ns
-  ring-eq r = cc
-
-  apart : {v : ℕ} {ms : List Member} → blossom ms ≡ defect v → ⊥
-  apart {v} {ms} p = let k : _≡_ {A = ℕ} 0 1 = cc in omega arith
-
   later : (h : Handle) → Touching b h → Touching b′ h
   later h T = record { unit = T .unit; slot = T .slot; serial = omega (arith, T .serial, blossom-next b u hs ts) }
 
@@ -126,7 +117,7 @@ module _ (b : Bench) (S : Sound b) (u : ℕ) (hs : List Handle) (ts : List (Hand
   }
 
   new-ring : Ring b′ (blossomNode b hs ts)
-  new-ring = record { single = λ v r. absurd (apart r); circle = λ ms r. subst (Circle b′ (blossomNode b hs ts)) (ring-eq r) new-circle }
+  new-ring = record { single = λ v r. absurd (class-apart r refl); circle = λ ms r. subst (Circle b′ (blossomNode b hs ts)) (blossom-eq refl r) new-circle }
 
   pub blossom-came : Came b b′ still
   blossom-came w s x e = go (place-in hs w s) (ℕ-discrete w u) (ℕ-discrete s (length (interface b u .slots)))

@@ -11,8 +11,14 @@ pub mod Reach
 pub mod SoundCalls
 pub mod Answered
 pub mod Always
+pub mod Asked
 pub mod Booked
 pub mod Turns
+pub mod Five
 pub mod Laws
 pub mod GrowCalls
 pub mod Demand
+pub mod Untouched
+pub mod Effects
+pub mod GroupSound
+pub mod GroupLaws

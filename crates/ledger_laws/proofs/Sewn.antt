@@ -8,14 +8,14 @@ use native.Mathlib.Omega.{arith}
 use native.Mathlib.Decide.{ℕ-discrete}
 use lib.ListN.{getD, length}
 use lib.IntN.{ℤ}
-use Rattle.ledger_spec.specs.Bench.{Handle, State, Member, defect, blossom, Node, Interface, Bench, setUp}
+use Rattle.ledger_spec.specs.Bench.{Handle, State, Node, Interface, Bench, setUp}
 use Rattle.ledger_spec.specs.Look.{interface, slotOf, nodeAt, top}
 use Rattle.ledger_spec.specs.Change.{mark, restate, withNode}
 use Rattle.ledger_spec.specs.Deeds.{addDefect, addBlossom, removeBlossom, circle, members, growBy, growSlot, join, wipe}
 use Rattle.ledger_spec.specs.Frame.{Frame}
 use Rattle.ledger_spec.specs.Knit.{At, mk, nodes, In, Down, Knit, Sewn}
 use Rattle.ledger_spec.proofs.Lists.{not-in-nil}
-use Rattle.ledger_spec.proofs.Knit.{some-eq, none-some}
+use Rattle.ledger_spec.proofs.Knit.{some-eq, none-some, class-apart, blossom-eq}
 use Rattle.ledger_spec.proofs.Tops.{climb-none}
 use Rattle.ledger_spec.proofs.Passed.{Fusable}
 use Rattle.ledger_spec.proofs.Accepted.{DefectPassed, BlossomPassed, ExpandPassed, StatePassed}
@@ -36,14 +36,11 @@ sewn-at : (b b′ : Bench) (n : ℕ) → b′ .next ≡ n → 1 ≤ n → Knit (
 sewn-at b b′ n e h K = record { begun = omega (arith, e, h); knit = subst (λ (m : ℕ). Knit (slotOf b′) m (top b′)) (sym e) K }
 
 -- ---- defect, blossom
-class-apart : {v : ℕ} {ms : List Member} → defect v ≡ blossom ms → ⊥
-class-apart {v} {ms} r = let z : _≡_ {A = ℕ} 0 1 = cc in omega arith
-
 pub defect-sewn : (b : Bench) → Frame b → Sewn b → (u v : ℕ) → DefectPassed b u → Sewn (addDefect b u v)
 defect-sewn b F S u v P = sewn-at b b′ (suc (b .next)) (defect-next b u v) (omega arith)
     (re-top b b′ (quiet-top b b′ (defect-quiet b u v))
     (knit-add (slotOf b) (slotOf b′) (b .next) (top b) u (length (interface b u .slots)) (defectNode b v) [] (S .knit) (S .begun) (bare b u)
-    (defect-at b u v low) refl refl (λ ms r. absurd (class-apart r)) (λ h i. absurd (not-in-nil i)) (λ h i. absurd (not-in-nil i))
+    (defect-at b u v low) refl refl (λ ms r. absurd (class-apart refl r)) (λ h i. absurd (not-in-nil i)) (λ h i. absurd (not-in-nil i))
     (λ w t m off. defect-off b u v low w t off) (λ h i. absurd (not-in-nil i)) (λ h i. absurd (not-in-nil i))))
   where
     b′ : Bench
@@ -58,9 +55,6 @@ circle-nodes [] ts = refl
 circle-nodes (h ∷ hs) [] = ap {B = List Handle} (λ r. h ∷ r) (circle-nodes hs [])
 circle-nodes (h ∷ hs) (t ∷ ts) = ap {B = List Handle} (λ r. h ∷ r) (circle-nodes hs ts)
 
-ring-eq : {ms ns : List Member} → blossom ms ≡ blossom ns → ms ≡ ns
-ring-eq r = cc
-
 -- a member's place is not the new one
 pub away : (b : Bench) (u : ℕ) (hs : List Handle) (ts : List (Handle × Handle)) → BlossomPassed b u hs ts → (h : Handle) → In h hs → h .unit ≡ u → h .slot ≡ length (interface b u .slots) → ⊥
 away b u hs ts P h i x y = none-some (bare b u) (ap₂ (slotOf b) (sym x) (sym y) ∙ P .member h i .has .stands)
@@ -69,7 +63,7 @@ pub blossom-sewn : (b : Bench) → Frame b → Sewn b → (u : ℕ) (hs : List H
 blossom-sewn b F S u hs ts P = sewn-at b b′ (suc (b .next)) (blossom-next b u hs ts) (omega arith)
     (re-top b b′ (quiet-top b b′ (blossom-quiet b u hs ts))
     (knit-add (slotOf b) (slotOf b′) (b .next) (top b) u (length (interface b u .slots)) (blossomNode b hs ts) hs (S .knit) (S .begun) (bare b u)
-    (blossom-at b u hs ts low) refl refl (λ ms r. ap nodes (sym (ring-eq r)) ∙ circle-nodes hs ts) (λ h i. (circle hs ts, refl))
+    (blossom-at b u hs ts low) refl refl (λ ms r. ap nodes (blossom-eq r refl) ∙ circle-nodes hs ts) (λ h i. (circle hs ts, refl))
     (λ h i. blossom-member b u hs ts low h i (away b u hs ts P h i)) (blossom-off b u hs ts low)
     (λ h i. record { node = P .member h i .node; has = P .member h i .has; free = P .orphan h i; near = P .member h i .near ∙ sym (climb-none 8 b u (P .here .free)) })
     (P .once)))

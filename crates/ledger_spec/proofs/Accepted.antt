@@ -117,16 +117,21 @@ pub record ExpandPassed (b : Bench) (u : ℕ) (h : Handle) : Type 0 where
   pub orphan : named .node .parent ≡ none
   pub circle : members (nodeAt b h) ≡ nodes ms
 
-defect-test : Class → Bool
-defect-test k = elim k [ defect v ↦ true | blossom ms ↦ false ]
-
+-- the members of a node, by its class
 ring-nodes : Class → List Handle
 ring-nodes k = elim k [ defect v ↦ [] | blossom ms ↦ nodes ms ]
 
--- a blossom's circle
-pub members-of : (b : Bench) (h : Handle) (n : Node) (ms : List Member) → nodeAt b h ≡ some n → n .class ≡ blossom ms → members (nodeAt b h) ≡ nodes ms
-unfolding ring-nodes
-members-of b h n ms e r = ap members e ∙ ap ring-nodes r
+module _ (b : Bench) (h : Handle) (n : Node) (e : nodeAt b h ≡ some n) where
+  pub members-of : (ms : List Member) → n .class ≡ blossom ms → members (nodeAt b h) ≡ nodes ms
+  unfolding ring-nodes
+  members-of ms r = ap members e ∙ ap ring-nodes r
+
+  pub members-none : (v : ℕ) → n .class ≡ defect v → members (nodeAt b h) ≡ []
+  unfolding ring-nodes
+  members-none v r = ap members e ∙ ap ring-nodes r
+
+defect-test : Class → Bool
+defect-test k = elim k [ defect v ↦ true | blossom ms ↦ false ]
 
 pub expand-passed : (b : Bench) (u : ℕ) (h : Handle) → first (expandTests b u h) ≡ 0 → ExpandPassed b u h
 unfolding expandTests defect-test
@@ -140,7 +145,7 @@ expand-passed b u h e = go (N .node .class) refl
 
     go : (k : Class) → N .node .class ≡ k → ExpandPassed b u h
     go (defect v) r = absurd (true≢false (sym (ap isDefect (N .is) ∙ ap defect-test r) ∙ t .1 .1 .1 .1 .0))
-    go (blossom ms) r = record { here = open-of b u (t .0) (t .1 .0); named = N; ms = ms; ring = r; orphan = orphan-of b u h N (t .1 .1 .1 .1 .1 .0); circle = members-of b h (N .node) ms (N .is) r }
+    go (blossom ms) r = record { here = open-of b u (t .0) (t .1 .0); named = N; ms = ms; ring = r; orphan = orphan-of b u h N (t .1 .1 .1 .1 .1 .0); circle = members-of b h (N .node) (N .is) ms r }
 
 -- ---- set state
 pub record StatePassed (b : Bench) (u : ℕ) (h : Handle) : Type 0 where

@@ -4,7 +4,7 @@ use mathlib.Core.Path.{_≡_, refl, sym, _∙_, ap, subst}
 use mathlib.Core.Logic.{_⊎_, inl, inr}
 use mathlib.Core.Bool.{Bool, true, false, not, _&&_, _||_, true≢false, or-true}
 use mathlib.Core.Option.{Option, none, some}
-use mathlib.Core.List.{List, []}
+use mathlib.Core.List.{List}
 use native.Mathlib.Omega.{arith}
 use lib.Dec.{eqb}
 use borrow.Author.Tests.{le-leb, lt-ltb, eq-eqb, ne-eqb}
@@ -27,6 +27,7 @@ use Rattle.ledger_spec.proofs.Knit.{same-self}
 use Rattle.ledger_spec.proofs.Tops.{climb-none}
 use Rattle.ledger_spec.proofs.Trees.{tree-sum, gather-rates}
 use Rattle.ledger_spec.proofs.Passed.{has-node}
+use Rattle.ledger_spec.proofs.Accepted.{members-of}
 use Rattle.ledger_spec.proofs.Gathered.{units-in, Slot, in-gather, in-tree}
 use Rattle.ledger_spec.proofs.Serials.{all-different}
 use Rattle.ledger_spec.proofs.SoundParts.{up-none, up-open, down-none, down-open, top-some, top-open, parent-none, parent-open}
@@ -38,9 +39,6 @@ ahead (negsuc n) m h k = absurd (pos-ne-negsuc (suc n) n (sym h))
 
 is-parent : (q : Option ℕ) (u : ℕ) → q ≡ some u → isParent q u ≡ true
 is-parent q u e = ap (λ (o : Option ℕ). isParent o u) e ∙ eq-eqb u u refl
-
-ring-nodes : Class → List Handle
-ring-nodes c = elim c [ defect v ↦ [] | blossom ms ↦ nodes ms ]
 
 module _ (b : Bench) (S : Sound b) where
   half-holds : (u p : ℕ) → interface b u .parent ≡ some p → isHalf (interface b p .halves) u ≡ true
@@ -83,14 +81,13 @@ module _ (b : Bench) (S : Sound b) where
 
   -- ---- a node
   parent-holds : (u s : ℕ) (n : Node) → slotOf b u s ≡ some n → soundParent b (mk u s n) n ≡ true
-  unfolding ring-nodes
   parent-holds u s n e = go (n .parent) refl
     where
       go : (q : Option Handle) → n .parent ≡ q → soundParent b (mk u s n) n ≡ true
       go none f = parent-none b (mk u s n) n f
       go (some q) f = parent-open b (mk u s n) q n f
           ∙ both-true (both-true (both-true (ap isStay (U .still)) (lt-ltb (n .serial) (q .serial) (U .older))) (eq-eqb (top b (q .unit)) (top b u) (sym (U .near))))
-          (eq-eqb (tally (sameHandle (mk u s n)) (members (nodeAt b q))) 1 (ap (λ (o : Option Node). tally (sameHandle (mk u s n)) (members o)) (has-node b q (U .over) (U .has)) ∙ ap (λ (c : Class). tally (sameHandle (mk u s n)) (ring-nodes c)) (U .ring) ∙ U .once))
+          (eq-eqb (tally (sameHandle (mk u s n)) (members (nodeAt b q))) 1 (ap (tally (sameHandle (mk u s n))) (members-of b q (U .over) (has-node b q (U .over) (U .has)) (U .ms) (U .ring)) ∙ U .once))
         where
           U : Up (slotOf b) (top b) u s n q
           U = S .sewn .knit .up u s n q e f

@@ -12,11 +12,14 @@ pub mod Readings
 pub mod DeedReadings
 pub mod TreeReadings
 pub mod Gathered
+pub mod Indices
 pub mod Serials
 pub mod SoundParts
+pub mod SaysFrame
 pub mod Says
 pub mod Holds
 pub mod Counts
 pub mod Sizes
 pub mod Walks
+pub mod Chains
 pub mod Bounds

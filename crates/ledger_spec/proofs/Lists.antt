@@ -87,6 +87,29 @@ tally-most p (x ∷ xs) = go (p x) refl (tally-most p xs)
     go true e h = omega (arith, tally-yes p x xs e, h)
     go false e h = omega (arith, tally-no p x xs e, h)
 
+-- one test that holds less often than another
+pub tally-mono : {A : Type 0} (p q : A → Bool) (xs : List A) → ((x : A) → p x ≡ true → q x ≡ true) → tally p xs ≤ tally q xs
+unfolding tally
+tally-mono p q [] h = omega arith
+tally-mono p q (x ∷ xs) h = go (p x) (q x) refl refl (tally-mono p q xs h)
+  where
+    go : (c d : Bool) → p x ≡ c → q x ≡ d → tally p xs ≤ tally q xs → tally p (x ∷ xs) ≤ tally q (x ∷ xs)
+    go true true e f ih = omega (arith, tally-yes p x xs e, tally-yes q x xs f, ih)
+    go true false e f ih = absurd (true≢false (sym (h x e) ∙ f))
+    go false true e f ih = omega (arith, tally-no p x xs e, tally-yes q x xs f, ih)
+    go false false e f ih = omega (arith, tally-no p x xs e, tally-no q x xs f, ih)
+
+pub tally-less : {A : Type 0} (p q : A → Bool) {y : A} (xs : List A) → ((x : A) → p x ≡ true → q x ≡ true) → In y xs → q y ≡ true → p y ≡ false → suc (tally p xs) ≤ tally q xs
+unfolding tally
+tally-less p q {y} xs h (here {g} {hs = tl} k) f e = omega (arith, tally-no p g tl (ap p (sym k) ∙ e), tally-yes q g tl (ap q (sym k) ∙ f), tally-mono p q tl h)
+tally-less p q {y} xs h (there {g} {hs = tl} i) f e = go (p g) (q g) refl refl (tally-less p q tl h i f e)
+  where
+    go : (c d : Bool) → p g ≡ c → q g ≡ d → suc (tally p tl) ≤ tally q tl → suc (tally p (g ∷ tl)) ≤ tally q (g ∷ tl)
+    go true true x z ih = omega (arith, tally-yes p g tl x, tally-yes q g tl z, ih)
+    go true false x z ih = absurd (true≢false (sym (h g x) ∙ z))
+    go false true x z ih = omega (arith, tally-no p g tl x, tally-yes q g tl z, ih)
+    go false false x z ih = omega (arith, tally-no p g tl x, tally-no q g tl z, ih)
+
 -- none of them, or one
 pub tally-none : {A : Type 0} (p : A → Bool) {x : A} (xs : List A) → tally p xs ≡ 0 → In x xs → p x ≡ false
 unfolding tally

@@ -12,7 +12,7 @@ use lib.Dec.{eqb}
 use borrow.Author.Tests.{eqb-true, eqb-false}
 use lib.ListN.{getD, length, set, length-set, length-map, List·getD-eq-default, List·getD-map}
 use lib.IntN.{ℤ, pos, _+ℤ_, _*ℤ_}
-use Rattle.ledger_spec.specs.Bench.{Node, Interface, Bench, fresh}
+use Rattle.ledger_spec.specs.Bench.{rate, Node, Interface, Bench, fresh}
 use Rattle.ledger_spec.specs.Look.{interface, slotOf, top}
 use Rattle.ledger_spec.specs.Change.{withInterface, withSlots, withParent}
 use Rattle.ledger_spec.specs.Deeds.{growSlot, across, booked, growBy, join, wipe}
@@ -31,6 +31,10 @@ inTree false l f = f
 abbrev pub atTop : Bool → ℤ → Interface → Interface
 atTop true l f = booked f l
 atTop false l f = f
+
+-- a node of the tree: only its value moves
+abbrev pub grownNode : ℤ → Node → Node
+grownNode l n = record { serial = n .serial; class = n .class; state = n .state; parent = n .parent; value = n .value +ℤ l *ℤ rate (n .state); size = n .size }
 
 module _ (b : Bench) (u : ℕ) (l : ℤ) where
   abbrev lift : Interface → Interface
@@ -108,6 +112,10 @@ module _ (b : Bench) (u : ℕ) (l : ℤ) where
       go : Dec (w < length (b .interfaces)) → slotOf (growBy b u l) w v ≡ growSlot l (slotOf b w v)
       go (yes h) = ap (λ (s : List (Option Node)). getD s v none) (grow-under w h e) ∙ List·getD-map (growSlot l) (interface b w .slots) v none
       go (no h) = slot-out (growBy b u l) w v (omega (arith, h, grow-length)) ∙ ap (growSlot l) (sym (slot-out b w v (omega arith)))
+
+  pub grow-node : (w v : ℕ) (n : Node) → top b w ≡ u → slotOf b w v ≡ some n → slotOf (growBy b u l) w v ≡ some (grownNode l n)
+  unfolding growSlot
+  grow-node w v n e k = grow-at w v e ∙ ap (growSlot l) k
 
   pub grow-off : (w v : ℕ) → top b w ≢ u → slotOf (growBy b u l) w v ≡ slotOf b w v
   grow-off w v e = go (decLt w (length (b .interfaces)))
