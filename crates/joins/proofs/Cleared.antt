@@ -8,7 +8,7 @@ use mathlib.Core.List.{List}
 use native.Mathlib.Decide.{ℕ-discrete}
 use native.Mathlib.Omega.{arith}
 use lib.IntN.{pos}
-use lib.ListN.{length, getD}
+use lib.ListN.{getD}
 use Rattle.kinds.specs.declared.Class.the-variants.{Absent, Blossom}
 use Rattle.kinds.specs.declared.Handle.{Handle as Packed}
 use Rattle.kinds.specs.declared.Parent.{Parent}
@@ -25,7 +25,7 @@ use Rattle.ledger_spec.specs.Tests.{first}
 use Rattle.ledger_spec.specs.Deeds.{wipe}
 use Rattle.ledger_spec.specs.Named.{handleNamed, parentNamed}
 use Rattle.ledger_spec.proofs.Tops.{top-parent}
-use Rattle.ledger_spec.proofs.Interfaces.{across-yes, across-no, across-length}
+use Rattle.ledger_spec.proofs.TreeReadings.{wipe-length, wipe-next, wipe-under, wipe-else}
 use Rattle.views.specs.Records.{noNode}
 use Rattle.views.specs.Tab.{tab}
 use Rattle.views.specs.View.{off, upSeen, halvesSeen, sumUp, over, slotIn, slotSeen, circleOf, interfaceIn, viewIn, view}
@@ -125,15 +125,13 @@ module _ (b : List ℕ) (u : ℕ) (F : Fit b) (b₁ : List ℕ) (w : ℕ) (G : W
       (ap (λ (f : Interface). upSeen (f .parent)) e) (ap (λ (f : Interface). halvesSeen (f .left) (f .right)) e)
 
   seen : view b₁ ≡ wipe B u
-  unfolding wipe
   seen =
       ap (λ (n : ℕ). viewIn n U₁ A₁) (G .next)
-      ∙ view-is (getD b 0 0) U₁ A₁ (wipe B u) (view-next (getD b 0 0) U A) (across-length (λ f. fresh) B u 0 (B .interfaces) ∙ view-eight (getD b 0 0) U A)
+      ∙ view-is (getD b 0 0) U₁ A₁ (wipe B u) (wipe-next B u ∙ view-next (getD b 0 0) U A) (wipe-length B u ∙ view-eight (getD b 0 0) U A)
       (λ v lv.
-      let h : v < length (B .interfaces) = omega (arith, view-eight (getD b 0 0) U A) in
       by-cases (ℕ-discrete (top B v) u)
-      (λ (e : top B v ≡ u). seen-gone v lv e ∙ sym (across-yes (λ f. fresh) B u v h e))
-      (λ (ne : top B v ≡ u → ⊥). seen-kept v lv ne ∙ sym (interface-in (getD b 0 0) U A v lv) ∙ sym (across-no (λ f. fresh) B u v h ne)))
+      (λ (e : top B v ≡ u). seen-gone v lv e ∙ sym (wipe-under B u v e))
+      (λ (ne : top B v ≡ u → ⊥). seen-kept v lv ne ∙ sym (interface-in (getD b 0 0) U A v lv) ∙ sym (wipe-else B u v ne)))
 
   -- ---- the words stay canonical
   intact : (k : ℕ) → k < 512 → A k .class ≡ Blossom → top B (k / 64) ≢ u → Intact b b₁ (F .canon) k

@@ -3,15 +3,13 @@
 use Prim.Native.Nat.{ℕ, _+_, _-_, _*_, _<_, _≤_}
 use mathlib.Core.Path.{_≡_, refl, ap, ap₂, sym, _∙_, fun-ext}
 use mathlib.Core.Logic.{_≢_, by-cases}
-use mathlib.Core.Bool.{not, _||_}
 use mathlib.Core.Option.{some}
 use mathlib.Core.List.{List}
 use native.Mathlib.Decide.{ℕ-discrete}
 use native.Mathlib.Omega.{arith}
-use lib.Dec.{eqb}
 use lib.IntN.{ℤ, pos, natAbs, _+ℤ_}
 use lib.ListN.{length, getD}
-use borrow.Author.Tests.{ne-eqb, eqb-true, not-false}
+use borrow.Author.Tests.{ne-eqb}
 use Rattle.words.specs.Store.{nodeAt, interfaceAt, storeInterface}
 use Rattle.words.proofs.Laws.{interface-same, interface-other, store-interface-out, store-interface-node, length-store-interface}
 use Rattle.words.specs.declared.Node.{Node}
@@ -19,11 +17,11 @@ use Rattle.words.specs.declared.Interface.{Interface}
 use Rattle.words.specs.declared.Up.the-variants.{Top, Under}
 use Rattle.ledger_spec.specs.Bench as plain
 use Rattle.ledger_spec.specs.Look.{interface}
-use Rattle.ledger_spec.specs.Tests.{first, empty, given, used}
+use Rattle.ledger_spec.specs.Tests.{first, used}
 use Rattle.ledger_spec.specs.Refuse.{fuseTests}
 use Rattle.ledger_spec.specs.Deeds.{join}
-use Rattle.ledger_spec.proofs.Passed.{Open, Fusable, fusable, passed, or-false}
-use Rattle.ledger_spec.proofs.KeptTree.{join-slots, join-else, join-kept, join-l, join-r, join-p, join-length}
+use Rattle.ledger_spec.proofs.Passed.{Open, Fusable, fusable}
+use Rattle.ledger_spec.proofs.TreeReadings.{Joins, joins, join-slots, join-else, join-kept, join-l, join-r, join-p, join-length, join-next}
 use Rattle.views.specs.Records.{Steady}
 use Rattle.views.specs.Tab.{tab}
 use Rattle.views.specs.View.{off, upSeen, halvesSeen, sumUp, slotIn, slotSeen, circleOf, interfaceIn, viewIn, view}
@@ -66,13 +64,7 @@ module _ (b : List ℕ) (p l r : ℕ) (F : Fit b) (T : first (fuseTests (view b)
   both-paced = (open-paced b F l open-l, open-paced b F r open-r)
 
   no-progress : U p .progress ≡ 0
-  unfolding fuseTests
-  no-progress =
-      let t = passed (fuseTests B p l r) tt T in
-      let u₁ = or-false (not (empty (interface B p .slots))) (not (eqb (natAbs (interface B p .progress)) 0) || given (interface B p .halves)) (t .1 .1 .1 .0) in
-      let u₂ = or-false (not (eqb (natAbs (interface B p .progress)) 0)) (given (interface B p .halves)) (u₁ .1) in
-      let e = eqb-true (natAbs (interface B p .progress)) 0 (not-false (eqb (natAbs (interface B p .progress)) 0) (u₂ .0)) in
-      ap (λ (f : plain.Interface). natAbs (f .progress)) (sym (interface-in (getD b 0 0) U (nodeAt b) p p<8)) ∙ e
+  no-progress = ap (λ (f : plain.Interface). natAbs (f .progress)) (sym (interface-in (getD b 0 0) U (nodeAt b) p p<8)) ∙ S .no-progress
 
   no-slots : U p .used ≡ 0
   no-slots = sym (view-count (getD b 0 0) U (nodeAt b) p p<8) ∙ ap length (S .no-slots)
@@ -155,8 +147,8 @@ module _ (b : List ℕ) (p l r : ℕ) (F : Fit b) (T : first (fuseTests (view b)
   abbrev J : plain.Bench
   J = join B p l r
 
-  low : p < length (B .interfaces)
-  low = let a = p<8 in omega (arith, F .frame .eight)
+  joining : Joins B p l r
+  joining = joins (F .frame) S
 
   abbrev A : ℕ → Node
   A = nodeAt b
@@ -167,27 +159,27 @@ module _ (b : List ℕ) (p l r : ℕ) (F : Fit b) (T : first (fuseTests (view b)
   slots₃ : (v : ℕ) → v < 8 → tab (slotIn U₃ A v) 0 (U₃ v .used) ≡ interface J v .slots
   slots₃ v lv =
       ap₂ (λ (t n : ℕ). tab (λ s. slotSeen (A (v * 64 + s)) t (circleOf A (v * 64 + s))) 0 n) (sums₃ v) (used₃ v)
-      ∙ sym (join-slots B p l r low (S .l<p) (S .r<p) (S .l≢r) v ∙ is (λ f. f .slots) v lv)
+      ∙ sym (join-slots B p l r joining v ∙ is (λ f. f .slots) v lv)
 
   -- a field of the ledger's that shows a part of the words'
   field : {X Y : Type 0} (φ : Interface → Y) (show : Y → X) (ψ : plain.Interface → X) → ((f : Interface) (q : ℕ) → φ (withUp f q) ≡ φ f) → ((f : plain.Interface) (q : ℕ) → ψ (record { slots = f .slots; progress = f .progress; sum = f .sum; speed = f .speed; parent = some q; halves = f .halves }) ≡ ψ f)
       → ((v : ℕ) → v < 8 → ψ (interface B v) ≡ show (φ (U v))) → show (φ f₀) ≡ ψ (interface J p) → (v : ℕ) → v < 8 → show (φ (U₃ v)) ≡ ψ (interface J v)
   field φ show ψ e e' seen at-p v lv = by-cases (ℕ-discrete v p)
       (λ (q : v ≡ p). rw (q, here-p) at-p)
-      (λ (np : v ≡ p → ⊥). ap show (part φ e v np) ∙ sym (seen v lv) ∙ sym (join-kept B p l r low (S .l<p) (S .r<p) (S .l≢r) ψ e' v np))
+      (λ (np : v ≡ p → ⊥). ap show (part φ e v np) ∙ sym (seen v lv) ∙ sym (join-kept B p l r joining ψ e' v np))
 
   progress-now : (v : ℕ) → v < 8 → pos (U₃ v .progress) ≡ interface J v .progress
-  progress-now = field (λ f. f .progress) pos (λ f. f .progress) (λ f q. refl) (λ f q. refl) (is (λ f. f .progress)) (sym (join-p B p l r low (S .l<p) (S .r<p) (S .l≢r) (λ f. f .progress)))
+  progress-now = field (λ f. f .progress) pos (λ f. f .progress) (λ f q. refl) (λ f q. refl) (is (λ f. f .progress)) (sym (ap (λ (f : plain.Interface). f .progress) (join-p B p l r joining)))
 
   sum-now : (v : ℕ) → v < 8 → off 4611686018427387904 (U₃ v .sum) ≡ interface J v .sum
   sum-now = field (λ f. f .sum) (off 4611686018427387904) (λ f. f .sum) (λ f q. refl) (λ f q. refl) (is (λ f. f .sum))
       (off-join 4611686018427387904 (U l .sum) (U r .sum) (let x = both-paced .0 .low in let y = both-paced .1 .low in omega arith)
-      ∙ ap₂ (λ (x y : ℤ). x +ℤ y) (sym (is (λ f. f .sum) l l<8)) (sym (is (λ f. f .sum) r r<8)) ∙ sym (join-p B p l r low (S .l<p) (S .r<p) (S .l≢r) (λ f. f .sum)))
+      ∙ ap₂ (λ (x y : ℤ). x +ℤ y) (sym (is (λ f. f .sum) l l<8)) (sym (is (λ f. f .sum) r r<8)) ∙ sym (ap (λ (f : plain.Interface). f .sum) (join-p B p l r joining)))
 
   speed-now : (v : ℕ) → v < 8 → off 1024 (U₃ v .speed) ≡ interface J v .speed
   speed-now = field (λ f. f .speed) (off 1024) (λ f. f .speed) (λ f q. refl) (λ f q. refl) (is (λ f. f .speed))
       (off-join 1024 (U l .speed) (U r .speed) (let x = both-paced .0 .slow in let y = both-paced .1 .slow in omega arith)
-      ∙ ap₂ (λ (x y : ℤ). x +ℤ y) (sym (is (λ f. f .speed) l l<8)) (sym (is (λ f. f .speed) r r<8)) ∙ sym (join-p B p l r low (S .l<p) (S .r<p) (S .l≢r) (λ f. f .speed)))
+      ∙ ap₂ (λ (x y : ℤ). x +ℤ y) (sym (is (λ f. f .speed) l l<8)) (sym (is (λ f. f .speed) r r<8)) ∙ sym (ap (λ (f : plain.Interface). f .speed) (join-p B p l r joining)))
 
   halves-new : halvesSeen (l + 1) (r + 1) ≡ some (l, r)
   halves-new =
@@ -197,26 +189,22 @@ module _ (b : List ℕ) (p l r : ℕ) (F : Fit b) (T : first (fuseTests (view b)
 
   halves-now : (v : ℕ) → v < 8 → halvesSeen (U₃ v .left) (U₃ v .right) ≡ interface J v .halves
   halves-now = field (λ f. (f .left, f .right)) (λ (x : ℕ × ℕ). halvesSeen (x .0) (x .1)) (λ f. f .halves) (λ f q. refl) (λ f q. refl) (is (λ f. f .halves))
-      (halves-new ∙ sym (join-p B p l r low (S .l<p) (S .r<p) (S .l≢r) (λ f. f .halves)))
+      (halves-new ∙ sym (ap (λ (f : plain.Interface). f .halves) (join-p B p l r joining)))
 
   parent-now : (v : ℕ) → v < 8 → upSeen (U₃ v .parent) ≡ interface J v .parent
   parent-now v lv = by-cases (ℕ-discrete v p)
-      (λ (q : v ≡ p). rw (q, here-p) (sym (join-p B p l r low (S .l<p) (S .r<p) (S .l≢r) (λ f. f .parent))))
+      (λ (q : v ≡ p). rw (q, here-p) (sym (ap (λ (f : plain.Interface). f .parent) (join-p B p l r joining))))
       (λ (np : v ≡ p → ⊥). by-cases (ℕ-discrete v l)
-      (λ (q : v ≡ l). rw (q, here-l) (sym (join-l B p l r low (S .l<p) (S .r<p) (S .l≢r))))
+      (λ (q : v ≡ l). rw (q, here-l) (sym (join-l B p l r joining)))
       (λ (nl : v ≡ l → ⊥). by-cases (ℕ-discrete v r)
-      (λ (q : v ≡ r). rw (q, here-r) (sym (join-r B p l r low (S .l<p) (S .r<p) (S .l≢r))))
-      (λ (nr : v ≡ r → ⊥). ap (λ (f : Interface). upSeen (f .parent)) (here-else v np nl nr) ∙ sym (is (λ f. f .parent) v lv) ∙ sym (join-else B p l r low (S .l<p) (S .r<p) (S .l≢r) (λ f. f .parent) v np nl nr))))
-
-  join-next : J .next ≡ B .next
-  unfolding join
-  join-next = refl
+      (λ (q : v ≡ r). rw (q, here-r) (sym (join-r B p l r joining)))
+      (λ (nr : v ≡ r → ⊥). ap (λ (f : Interface). upSeen (f .parent)) (here-else v np nl nr) ∙ sym (is (λ f. f .parent) v lv) ∙ sym (ap (λ (f : plain.Interface). f .parent) (join-else B p l r joining v np nl nr)))))
 
   seen₃ : view b₃ ≡ J
   seen₃ =
       let same : nodeAt b₃ ≡ nodeAt b = fun-ext node₃ in
       ap₂ (λ (n : ℕ) (X : ℕ → Node). viewIn n U₃ X) next₃ same
-      ∙ view-is (getD b 0 0) U₃ A J (join-next ∙ view-next (getD b 0 0) U A) (join-length B p l r low (S .l<p) (S .r<p) (S .l≢r) ∙ view-eight (getD b 0 0) U A)
+      ∙ view-is (getD b 0 0) U₃ A J (join-next B p l r joining ∙ view-next (getD b 0 0) U A) (join-length B p l r joining ∙ view-eight (getD b 0 0) U A)
       (λ v lv. interface-is (interfaceIn U₃ A v) (interface J v) (slots₃ v lv) (progress-now v lv) (sum-now v lv) (speed-now v lv) (parent-now v lv) (halves-now v lv))
 
   -- ---- the words stay canonical

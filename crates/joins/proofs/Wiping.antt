@@ -15,14 +15,14 @@ use Rattle.ledger_spec.specs.Bench as plain
 use Rattle.ledger_spec.specs.Look.{interface, top, climb}
 use Rattle.ledger_spec.specs.Tests.{first}
 use Rattle.ledger_spec.specs.Refuse.{unitTests}
-use Rattle.ledger_spec.proofs.Tops.{Frame, climb-none, climb-some}
-use Rattle.ledger_spec.proofs.Passed.{Open, passed}
+use Rattle.ledger_spec.specs.Frame.{Frame}
+use Rattle.ledger_spec.proofs.Tops.{climb-none, climb-some}
+use Rattle.ledger_spec.proofs.Passed.{Open, open-of, passed}
 use Rattle.views.specs.Records.{Steady, noNode}
 use Rattle.views.specs.View.{off, upSeen, view}
 use Rattle.views.specs.Canon.{Coded}
 use Rattle.views.specs.Fit.{Fit}
 use Rattle.views.proofs.Views.{view-eight, view-parent}
-use Rattle.works.proofs.Needs.{open-of}
 use Rattle.trees.specs.Climb.{Climbs}
 use Rattle.joins.specs.Empty.{noInterface, Reset}
 

@@ -24,8 +24,9 @@ use Rattle.ledger_spec.specs.Change.{place}
 use Rattle.ledger_spec.specs.Tests.{first}
 use Rattle.ledger_spec.specs.Refuse.{expandTests}
 use Rattle.ledger_spec.specs.Named.{stateNamed, parentNamed}
-use Rattle.ledger_spec.proofs.Knit.{nodes, none-some, some-eq}
-use Rattle.ledger_spec.proofs.Passed.{Open, passed}
+use Rattle.ledger_spec.specs.Knit.{nodes}
+use Rattle.ledger_spec.proofs.Knit.{none-some, some-eq}
+use Rattle.ledger_spec.proofs.Passed.{Open, open-of, passed}
 use Rattle.views.specs.Records.{Steady, Ranged}
 use Rattle.views.specs.View.{view, sumUp, slotSeen, circleOf, follow}
 use Rattle.views.specs.Canon.{walk, Coded}
@@ -37,7 +38,7 @@ use Rattle.views.proofs.Rings.{Ringed, ringed, slot-blossom}
 use Rattle.views.proofs.Ranges.{ranged}
 use Rattle.views.proofs.Codes.{coded-node}
 use Rattle.works.specs.Steps.{noSeat, remarked}
-use Rattle.works.proofs.Needs.{open-of, Stands, stands, stands-free, stands-blossom, under-of}
+use Rattle.works.proofs.Needs.{Stands, stands, stands-free, stands-blossom, under-of}
 use Rattle.works.proofs.Stores.{node-next, node-steady}
 use Rattle.works.proofs.Keeps.{walk-in}
 use Rattle.rings.specs.Members.{freedNode}

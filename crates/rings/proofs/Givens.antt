@@ -20,13 +20,14 @@ use Rattle.ledger_spec.specs.Look as look
 use Rattle.ledger_spec.specs.Tests.{first, any, empty, given, stale, foreign, hasParent, twice, full, worn, both}
 use Rattle.ledger_spec.specs.Refuse.{blossomTests}
 use Rattle.ledger_spec.specs.Named.{handleNamed}
-use Rattle.ledger_spec.proofs.Knit.{In, here, there, same-self}
-use Rattle.ledger_spec.proofs.Sewn.{any-no, in-left}
-use Rattle.ledger_spec.proofs.Passed.{Open, passed, or-false}
+use Rattle.ledger_spec.specs.Knit.{In, here, there}
+use Rattle.ledger_spec.proofs.Knit.{same-self}
+use Rattle.ledger_spec.proofs.Lists.{or-false, any-no, in-left, in-right}
+use Rattle.ledger_spec.proofs.Passed.{Open, open-of, passed}
 use Rattle.views.specs.View.{view}
 use Rattle.views.specs.Fit.{Fit}
 use Rattle.views.proofs.Views.{view-out}
-use Rattle.works.proofs.Needs.{open-of, open-room, open-next, Stands, stands, stands-free, under-of}
+use Rattle.works.proofs.Needs.{open-room, open-next, Stands, stands, stands-free, under-of}
 use Rattle.rings.specs.Given.{nowhere, handGiven, handsGiven, pairsGiven, spotAt, touchWord}
 
 -- ---- one word
@@ -51,10 +52,6 @@ module _ (b : List ℕ) where
       go (no q) = absurd (true≢false (sym stale-out ∙ ap (stale (view b)) (sym (given-out w (omega arith))) ∙ e))
 
 -- ---- lists of words
-in-right : (h : Handle) (hs gs : List Handle) → In h gs → In h (hs ++ gs)
-in-right h [] gs i = i
-in-right h (x ∷ hs) gs i = there (in-right h hs gs i)
-
 given-in : (ms : List ℕ) (i : ℕ) → i < length ms → In (handGiven (getD ms i 0)) (handsGiven ms)
 given-in [] i l = absurd (omega arith)
 given-in (x ∷ ms) zero l = here refl
@@ -64,7 +61,7 @@ given-twice : (ms : List ℕ) (i j : ℕ) → i < j → j < length ms → twice 
 unfolding twice
 given-twice [] i j l k e = absurd (omega arith)
 given-twice (x ∷ ms) i zero l k e = absurd (omega arith)
-given-twice (x ∷ ms) zero (suc j) l k e = any-no (sameHandle (handGiven x)) (handsGiven ms) (handGiven (getD ms j 0)) (or-false (any (sameHandle (handGiven x)) (handsGiven ms)) (twice (handsGiven ms)) e .0) (given-in ms j (omega arith))
+given-twice (x ∷ ms) zero (suc j) l k e = any-no (sameHandle (handGiven x)) (handsGiven ms) (or-false (any (sameHandle (handGiven x)) (handsGiven ms)) (twice (handsGiven ms)) e .0) (given-in ms j (omega arith))
 given-twice (x ∷ ms) (suc i) (suc j) l k e = given-twice ms i j (omega arith) (omega arith) (or-false (any (sameHandle (handGiven x)) (handsGiven ms)) (twice (handsGiven ms)) e .1)
 
 touch-in : (ts : List ℕ) (j : ℕ) → j < length ts → In (handGiven (getD ts j 0)) (both (pairsGiven ts))
@@ -120,10 +117,10 @@ module _ (b : List ℕ) (u : ℕ) (ms ts : List ℕ) (F : Fit b)
     (outer : any (λ h. hasParent (look.nodeAt (view b) h)) (handsGiven ms) ≡ false)
     (once : twice (handsGiven ms) ≡ false) where
   live-member : (i : ℕ) → i < length ms → stale (view b) (handGiven (getD ms i 0)) ≡ false
-  live-member i l = any-no (stale (view b)) (handsGiven ms ++ both (pairsGiven ts)) (handGiven (getD ms i 0)) live (in-left (handGiven (getD ms i 0)) (handsGiven ms) (both (pairsGiven ts)) (given-in ms i l))
+  live-member i l = any-no (stale (view b)) (handsGiven ms ++ both (pairsGiven ts)) live (in-left (both (pairsGiven ts)) (given-in ms i l))
 
   live-touch : (h : Handle) → In h (both (pairsGiven ts)) → stale (view b) h ≡ false
-  live-touch h i = any-no (stale (view b)) (handsGiven ms ++ both (pairsGiven ts)) h live (in-right h (handsGiven ms) (both (pairsGiven ts)) i)
+  live-touch h i = any-no (stale (view b)) (handsGiven ms ++ both (pairsGiven ts)) live (in-right (handsGiven ms) i)
 
   is-sure : (i : ℕ) → i < length ms → getD ms i 0 < 2199023255552
   is-sure i l = given-sure b (getD ms i 0) (live-member i l)
@@ -184,10 +181,10 @@ module _ (b : List ℕ) (u : ℕ) (ms ts : List ℕ) (F : Fit b)
         stands = does-stand;
         under = λ i l.
             ap (λ (h : Handle). climb 8 (view b) (h .unit)) (sym (is-hand i l))
-            ∙ under-of (view b) u (handGiven (getD ms i 0)) (any-no (foreign (view b) u) (handsGiven ms ++ both (pairsGiven ts)) (handGiven (getD ms i 0)) near (in-left (handGiven (getD ms i 0)) (handsGiven ms) (both (pairsGiven ts)) (given-in ms i l)));
+            ∙ under-of (view b) u (handGiven (getD ms i 0)) (any-no (foreign (view b) u) (handsGiven ms ++ both (pairsGiven ts)) near (in-left (both (pairsGiven ts)) (given-in ms i l)));
         free = λ i l.
             stands-free (does-stand i l)
-            (ap (λ (h : Handle). hasParent (look.nodeAt (view b) h)) (sym (is-hand i l)) ∙ any-no (λ h. hasParent (look.nodeAt (view b) h)) (handsGiven ms) (handGiven (getD ms i 0)) outer (given-in ms i l));
+            (ap (λ (h : Handle). hasParent (look.nodeAt (view b) h)) (sym (is-hand i l)) ∙ any-no (λ h. hasParent (look.nodeAt (view b) h)) (handsGiven ms) outer (given-in ms i l));
         apart = is-apart;
         touch = is-touch;
       }

@@ -18,7 +18,8 @@ use Rattle.ledger_spec.specs.Look as look
 use Rattle.ledger_spec.specs.Change.{place, markAll}
 use Rattle.ledger_spec.specs.Deeds.{members, removeBlossom}
 use Rattle.ledger_spec.specs.Tests.{first}
-use Rattle.ledger_spec.proofs.Knit.{nodes, some-eq}
+use Rattle.ledger_spec.specs.Knit.{nodes}
+use Rattle.ledger_spec.proofs.Knit.{some-eq}
 use Rattle.views.specs.Records.{rateOf, noNode}
 use Rattle.views.specs.View.{off, view, viewIn, sumUp, slotSeen, circleOf, follow, handleAt}
 use Rattle.views.specs.Canon.{walk}

@@ -11,8 +11,8 @@ use Rattle.ledger_spec.specs.Bench.{Member, blossom, Bench}
 use Rattle.ledger_spec.specs.Bench as plain
 use Rattle.ledger_spec.specs.Look.{interface, slotOf}
 use Rattle.ledger_spec.specs.Sound.{sound}
-use Rattle.ledger_spec.proofs.Tops.{Frame}
-use Rattle.ledger_spec.proofs.Sewn.{Sewn}
+use Rattle.ledger_spec.specs.Frame.{Frame}
+use Rattle.ledger_spec.specs.Knit.{Sewn}
 use Rattle.views.specs.View.{view}
 use Rattle.views.specs.Canon.{Canon, Within}
 

@@ -16,7 +16,7 @@ use Rattle.words.specs.declared.Interface.{Interface}
 use Rattle.ledger_spec.specs.Bench.{State, grows, rate}
 use Rattle.ledger_spec.specs.Bench as plain
 use Rattle.ledger_spec.specs.Change.{push}
-use Rattle.ledger_spec.proofs.Sewn.{Sewn}
+use Rattle.ledger_spec.specs.Knit.{Sewn}
 use Rattle.views.specs.Records.{withUsed, Steady}
 use Rattle.views.specs.View.{off, sumUp, slotSeen, viewIn, view, circleOf}
 use Rattle.views.proofs.Offsets.{off-add}

@@ -10,8 +10,8 @@ use Rattle.kinds.specs.declared.Class.{Class}
 use Rattle.kinds.specs.declared.Class.the-variants.{Absent, Blossom}
 use Rattle.kinds.specs.declared.Handle.{Handle as Packed}
 use Rattle.words.specs.declared.Node.{Node}
-use Rattle.ledger_spec.proofs.Sewn.{Sewn}
-use Rattle.ledger_spec.proofs.Knit.{In, here, there, nodes}
+use Rattle.ledger_spec.specs.Knit.{Sewn}
+use Rattle.ledger_spec.specs.Knit.{In, here, there, nodes}
 use Rattle.views.specs.View.{handleAt, follow, view}
 use Rattle.views.specs.Records.{Steady}
 use Rattle.views.specs.Canon.{walk, Seated, Coded, Canon}

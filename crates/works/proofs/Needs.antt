@@ -26,12 +26,13 @@ use Rattle.ledger_spec.specs.Bench.{Handle, Member, Bench, defect}
 use Rattle.ledger_spec.specs.Bench as plain
 use Rattle.ledger_spec.specs.Look.{interface, slotOf, climb}
 use Rattle.ledger_spec.specs.Look as look
-use Rattle.ledger_spec.specs.Tests.{first, outside, child, stale, foreign, hasParent, isDefect, given, full, worn}
+use Rattle.ledger_spec.specs.Tests.{first, stale, foreign, hasParent, isDefect, given, full, worn}
 use Rattle.ledger_spec.specs.Refuse.{defectTests, stateTests, growTests}
 use Rattle.ledger_spec.specs.Named.{parentNamed}
-use Rattle.ledger_spec.proofs.Knit.{none-some, Has}
-use Rattle.ledger_spec.proofs.Sewn.{has-of}
-use Rattle.ledger_spec.proofs.Passed.{Open, passed, given-false, or-false}
+use Rattle.ledger_spec.specs.Knit.{Has}
+use Rattle.ledger_spec.proofs.Knit.{none-some}
+use Rattle.ledger_spec.proofs.Lists.{or-false}
+use Rattle.ledger_spec.proofs.Passed.{Open, open-of, has-of, passed, given-false}
 use Rattle.views.specs.View.{view, upSeen, slotIn, slotSeen, sumUp, circleOf}
 use Rattle.views.specs.Records.{Ranged}
 use Rattle.views.specs.Fit.{Fit}
@@ -41,9 +42,6 @@ use Rattle.views.proofs.Rings.{Shows, slot-shows}
 use Rattle.views.proofs.Ranges.{off-range, ranged}
 
 -- ---- an interface that may be named
-pub open-of : (B : Bench) (u : ℕ) → outside u ≡ false → child B u ≡ false → Open B u
-open-of B u x y = record { low = leb-false 8 u x; free = given-false (interface B u .parent) y }
-
 pub record Paced (f : Interface) : Type 0 where
   pub slow : 512 ≤ f .speed
   pub fast : f .speed ≤ 1536
