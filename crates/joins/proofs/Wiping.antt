@@ -17,7 +17,7 @@ use Rattle.ledger_spec.specs.Tests.{first}
 use Rattle.ledger_spec.specs.Refuse.{unitTests}
 use Rattle.ledger_spec.specs.Frame.{Frame}
 use Rattle.ledger_spec.proofs.Tops.{climb-none, climb-some}
-use Rattle.ledger_spec.proofs.Passed.{Open, open-of, passed}
+use Rattle.ledger_spec.proofs.Accepted.{clear-passed}
 use Rattle.views.specs.Records.{Steady, noNode}
 use Rattle.views.specs.View.{off, upSeen, view}
 use Rattle.views.specs.Canon.{Coded}
@@ -66,12 +66,8 @@ pub record Wiping (b : List ℕ) (u : ℕ) (b₁ : List ℕ) (w : ℕ) : Type 0 
   pub same : (v s : ℕ) → v < 8 → s < 64 → (v < w → top (view b) v ≢ u) → nodeAt b₁ (v * 64 + s) ≡ nodeAt b (v * 64 + s)
 
 module _ (b : List ℕ) (u : ℕ) (F : Fit b) (T : first (unitTests (view b) u) ≡ 0) where
-  root : Open (view b) u
-  unfolding unitTests
-  root = let t = passed (unitTests (view b) u) tt T in open-of (view b) u (t .0) (t .1 .0)
-
   pub wipe-low : u < 8
-  wipe-low = root .low
+  wipe-low = clear-passed (view b) u T .low
 
   pub wiping-begins : Wiping b u b 0
   wiping-begins =

@@ -26,7 +26,8 @@ use Rattle.ledger_spec.specs.Refuse.{expandTests}
 use Rattle.ledger_spec.specs.Named.{stateNamed, parentNamed}
 use Rattle.ledger_spec.specs.Knit.{nodes}
 use Rattle.ledger_spec.proofs.Knit.{none-some, some-eq}
-use Rattle.ledger_spec.proofs.Passed.{Open, open-of, passed}
+use Rattle.ledger_spec.proofs.Passed.{Open}
+use Rattle.ledger_spec.proofs.Accepted.{expand-passed}
 use Rattle.views.specs.Records.{Steady, Ranged}
 use Rattle.views.specs.View.{view, sumUp, slotSeen, circleOf, follow}
 use Rattle.views.specs.Canon.{walk, Coded}
@@ -38,7 +39,7 @@ use Rattle.views.proofs.Rings.{Ringed, ringed, slot-blossom}
 use Rattle.views.proofs.Ranges.{ranged}
 use Rattle.views.proofs.Codes.{coded-node}
 use Rattle.works.specs.Steps.{noSeat, remarked}
-use Rattle.works.proofs.Needs.{Stands, stands, stands-free, stands-blossom, under-of}
+use Rattle.works.proofs.Needs.{Stands, stands, stands-free, stands-blossom}
 use Rattle.works.proofs.Stores.{node-next, node-steady}
 use Rattle.works.proofs.Keeps.{walk-in}
 use Rattle.rings.specs.Members.{freedNode}
@@ -53,17 +54,10 @@ pub record Expandable (b : List ℕ) (t : ℕ) (h : Handle) : Type 0 where
   pub free : nodeAt b (h .unit * 64 + h .slot) .parent ≡ Outermost
 
 pub expandable : (b : List ℕ) (t : ℕ) (h : Handle) → Fit b → first (expandTests (view b) t h) ≡ 0 → Expandable b t h
-unfolding expandTests
 expandable b t h F e =
-    let p = passed (expandTests (view b) t h) tt e in
-    let s = stands b F h (p .1 .1 .0) in
-    record {
-      root = open-of (view b) t (p .0) (p .1 .0);
-      stands = s;
-      under = under-of (view b) t h (p .1 .1 .1 .0);
-      class = stands-blossom s (p .1 .1 .1 .1 .0);
-      free = stands-free s (p .1 .1 .1 .1 .1 .0);
-    }
+    let P = expand-passed (view b) t h e in
+    let s = stands b F h (P .named) in
+    record { root = P .here; stands = s; under = P .named .near; class = stands-blossom s (P .named .is) (P .ring); free = stands-free s (P .named .is) (P .orphan) }
 
 -- ---- after i members let out
 abbrev pub freeing : List ℕ → ℕ → ℕ → ℕ → Node

@@ -2,17 +2,15 @@
 -- may be named has its speed and sum in range. The ledger's own readings of the tests, carried through the view. Assumes nothing.
 use Prim.Native.Nat.{ℕ, _+_, _-_, _*_, _<_, _≤_}
 use mathlib.Core.Path.{_≡_, refl, ap, sym, _∙_, subst}
-use mathlib.Core.Logic.{_≢_}
-use mathlib.Core.Bool.{true, false, true≢false}
+use mathlib.Core.Bool.{false}
 use mathlib.Core.Option.{none, some}
 use mathlib.Core.List.{List}
 use native.Mathlib.Decide.{decLt}
 use native.Mathlib.Omega.{arith}
-use lib.Dec.{eqb}
 use lib.IntN.{pos, natAbs, _+ℤ_}
 use lib.Signed.{ltZ}
 use lib.ListN.{length, getD}
-use borrow.Author.Tests.{leb-false, ltb-false, eqb-true, not-false}
+use borrow.Author.Tests.{ltb-false}
 use Rattle.words.specs.Store.{nodeAt, interfaceAt}
 use Rattle.kinds.specs.declared.Class.{Class}
 use Rattle.kinds.specs.declared.Class.the-variants.{Absent, Blossom, Defect}
@@ -22,17 +20,16 @@ use Rattle.words.specs.declared.Node.{Node}
 use Rattle.words.specs.declared.Interface.{Interface}
 use Rattle.words.specs.declared.Up.{Up}
 use Rattle.words.specs.declared.Up.the-variants.{Top, Under}
-use Rattle.ledger_spec.specs.Bench.{Handle, Member, Bench, defect}
+use Rattle.ledger_spec.specs.Bench.{Handle, Member, defect, blossom}
 use Rattle.ledger_spec.specs.Bench as plain
-use Rattle.ledger_spec.specs.Look.{interface, slotOf, climb}
+use Rattle.ledger_spec.specs.Look.{interface, climb}
 use Rattle.ledger_spec.specs.Look as look
-use Rattle.ledger_spec.specs.Tests.{first, stale, foreign, hasParent, isDefect, given, full, worn}
+use Rattle.ledger_spec.specs.Tests.{first}
 use Rattle.ledger_spec.specs.Refuse.{defectTests, stateTests, growTests}
 use Rattle.ledger_spec.specs.Named.{parentNamed}
-use Rattle.ledger_spec.specs.Knit.{Has}
-use Rattle.ledger_spec.proofs.Knit.{none-some}
-use Rattle.ledger_spec.proofs.Lists.{or-false}
-use Rattle.ledger_spec.proofs.Passed.{Open, open-of, has-of, passed, given-false}
+use Rattle.ledger_spec.proofs.Knit.{none-some, some-eq}
+use Rattle.ledger_spec.proofs.Passed.{Open}
+use Rattle.ledger_spec.proofs.Accepted.{Named, grow-passed, state-passed, defect-passed}
 use Rattle.views.specs.View.{view, upSeen, slotIn, slotSeen, sumUp, circleOf}
 use Rattle.views.specs.Records.{Ranged}
 use Rattle.views.specs.Fit.{Fit}
@@ -70,13 +67,13 @@ module _ (b : List ℕ) (F : Fit b) (u : ℕ) (o : Open (view b) u) where
       record { slow = omega arith; fast = omega arith; low = omega arith; high = omega arith }
 
   -- room for one more node, and a serial for it
-  pub open-room : full (view b) u ≡ false → interfaceAt b u .used < 64
-  open-room e = omega (arith, leb-false 64 (length (interface (view b) u .slots)) e, view-count (getD b 0 0) (interfaceAt b) (nodeAt b) u (o .low))
+  pub open-room : length (interface (view b) u .slots) < 64 → interfaceAt b u .used < 64
+  open-room l = omega (arith, l, view-count (getD b 0 0) (interfaceAt b) (nodeAt b) u (o .low))
 
-  pub open-next : worn (view b) ≡ false → getD b 0 0 < 4294967296
-  open-next e = omega (arith, leb-false 4294967296 (view b .next) e, view-next (getD b 0 0) (interfaceAt b) (nodeAt b))
+  pub open-next : view b .next < 4294967296 → getD b 0 0 < 4294967296
+  open-next l = omega (arith, l, view-next (getD b 0 0) (interfaceAt b) (nodeAt b))
 
--- ---- a handle that is not stale
+-- ---- a handle that names a node
 pub record Stands (b : List ℕ) (h : Handle) : Type 0 where
   pub unit : h .unit < 8
   pub slot : h .slot < interfaceAt b (h .unit) .used
@@ -89,31 +86,28 @@ pub record Stands (b : List ℕ) (h : Handle) : Type 0 where
   pub size : nodeAt b (h .unit * 64 + h .slot) .size ≤ 512
   pub ranged : Ranged (nodeAt b (h .unit * 64 + h .slot))
 
-module _ (b : List ℕ) (F : Fit b) (h : Handle) where
-  pub stands : stale (view b) h ≡ false → Stands b h
-  stands e = go (decLt (h .unit) 8) (decLt (h .slot) (interfaceAt b (h .unit) .used))
+module _ (b : List ℕ) (F : Fit b) {u : ℕ} (h : Handle) where
+  pub stands : Named (view b) u h → Stands b h
+  stands N = go (decLt (h .unit) 8) (decLt (h .slot) (interfaceAt b (h .unit) .used))
     where
-      found : (n : plain.Node) × Has (slotOf (view b)) h n × (look.nodeAt (view b) h ≡ some n)
-      found = has-of (view b) h e
-
       go : Dec (h .unit < 8) → Dec (h .slot < interfaceAt b (h .unit) .used) → Stands b h
-      go (no q) w = absurd (none-some (view-out (getD b 0 0) (interfaceAt b) (nodeAt b) (h .unit) (h .slot) (omega arith)) (found .1 .stands))
-      go (yes q) (no w) = absurd (none-some (view-past (getD b 0 0) (interfaceAt b) (nodeAt b) (h .unit) (h .slot) q (omega arith)) (found .1 .stands))
+      go (no q) w = absurd (none-some (view-out (getD b 0 0) (interfaceAt b) (nodeAt b) (h .unit) (h .slot) (omega arith)) (N .has .stands))
+      go (yes q) (no w) = absurd (none-some (view-past (getD b 0 0) (interfaceAt b) (nodeAt b) (h .unit) (h .slot) q (omega arith)) (N .has .stands))
       go (yes q) (yes w) =
           let k = h .unit * 64 + h .slot in
-          let n = found .0 in
-          let seen : slotIn (interfaceAt b) (nodeAt b) (h .unit) (h .slot) ≡ some n = sym (view-slot (getD b 0 0) (interfaceAt b) (nodeAt b) (h .unit) (h .slot) q w) ∙ found .1 .stands in
+          let n = N .node in
+          let seen : slotIn (interfaceAt b) (nodeAt b) (h .unit) (h .slot) ≡ some n = sym (view-slot (getD b 0 0) (interfaceAt b) (nodeAt b) (h .unit) (h .slot) q w) ∙ N .has .stands in
           let sh : Shows (nodeAt b k) n = slot-shows (nodeAt b k) (sumUp 8 (interfaceAt b) (h .unit)) (circleOf (nodeAt b) k) n seen in
           record {
             unit = q;
             slot = w;
             low = omega (arith, F .canon .steady .slots (h .unit) q);
             node = n;
-            named = found .2;
+            named = N .is;
             seen = seen;
             shows = sh;
-            serial = sym (sh .serial) ∙ found .1 .serial;
-            size = omega (arith, sh .size, F .size (h .unit) (h .slot) n (found .1 .stands));
+            serial = sym (sh .serial) ∙ N .has .serial;
+            size = omega (arith, sh .size, F .size (h .unit) (h .slot) n (N .has .stands));
             ranged = ranged b (F .canon .steady) (F .within) (h .unit) (h .slot) q w (sh .present);
           }
 
@@ -121,14 +115,15 @@ parent-none : (p : Parent) → parentNamed p ≡ none → p ≡ Outermost
 parent-none Outermost e = refl
 parent-none (Inside q) e = absurd (none-some e refl)
 
-pub stands-free : {b : List ℕ} {h : Handle} → Stands b h → hasParent (look.nodeAt (view b) h) ≡ false → nodeAt b (h .unit * 64 + h .slot) .parent ≡ Outermost
-stands-free {b} {h} s e =
-    let f : given (s .node .parent) ≡ false = ap hasParent (sym (s .named)) ∙ e in
-    parent-none (nodeAt b (h .unit * 64 + h .slot) .parent) (sym (s .shows .parent) ∙ given-false (s .node .parent) f)
+pub stands-free : {b : List ℕ} {h : Handle} {n : plain.Node} → Stands b h → look.nodeAt (view b) h ≡ some n → n .parent ≡ none → nodeAt b (h .unit * 64 + h .slot) .parent ≡ Outermost
+stands-free {b} {h} s e o = parent-none (nodeAt b (h .unit * 64 + h .slot) .parent) (sym (s .shows .parent) ∙ ap (λ (x : plain.Node). x .parent) (some-eq (s .named) e) ∙ o)
 
-kind : (n : Node) (t : ℕ) (ms : List Member) (m : plain.Node) → slotSeen n t ms ≡ some m → isDefect (some m) ≡ false → n .class ≡ Blossom
+not-both : {c : plain.Class} {v : ℕ} {ms : List Member} → c ≡ defect v → c ≡ blossom ms → ⊥
+not-both {v = v} {ms = ms} p q = let z : defect v ≡ blossom ms = sym p ∙ q in let z2 : _≡_ {A = ℕ} 0 1 = cc in omega arith
+
+kind : (n : Node) (t : ℕ) (ms ns : List Member) (m : plain.Node) → slotSeen n t ms ≡ some m → m .class ≡ blossom ns → n .class ≡ Blossom
 unfolding slotSeen
-kind n t ms m h q = go (n .class) refl
+kind n t ms ns m h q = go (n .class) refl
   where
     go : (c : Class) → n .class ≡ c → n .class ≡ Blossom
     go Absent e = absurd (none-some refl (rw e at h))
@@ -136,17 +131,11 @@ kind n t ms m h q = go (n .class) refl
     go (Defect v) e =
         let h2 = rw e at h in
         let d : m .class ≡ defect (v .0) = cc in
-        absurd (true≢false (sym (is m (v .0) d) ∙ q))
-      where
-        is : (m : plain.Node) (v : ℕ) → m .class ≡ defect v → isDefect (some m) ≡ true
-        is m v d = rw d
+        absurd (not-both d q)
 
-pub stands-blossom : {b : List ℕ} {h : Handle} → Stands b h → isDefect (look.nodeAt (view b) h) ≡ false → nodeAt b (h .unit * 64 + h .slot) .class ≡ Blossom
-stands-blossom {b} {h} s e =
-    kind (nodeAt b (h .unit * 64 + h .slot)) (sumUp 8 (interfaceAt b) (h .unit)) (circleOf (nodeAt b) (h .unit * 64 + h .slot)) (s .node) (s .seen) (ap isDefect (sym (s .named)) ∙ e)
-
-pub under-of : (B : Bench) (u : ℕ) (h : Handle) → foreign B u h ≡ false → climb 8 B (h .unit) ≡ u
-under-of B u h e = eqb-true (climb 8 B (h .unit)) u (not-false (eqb (climb 8 B (h .unit)) u) e)
+pub stands-blossom : {b : List ℕ} {h : Handle} {n : plain.Node} {ms : List Member} → Stands b h → look.nodeAt (view b) h ≡ some n → n .class ≡ blossom ms → nodeAt b (h .unit * 64 + h .slot) .class ≡ Blossom
+stands-blossom {b} {h} {ms = ms} s e r =
+    kind (nodeAt b (h .unit * 64 + h .slot)) (sumUp 8 (interfaceAt b) (h .unit)) (circleOf (nodeAt b) (h .unit * 64 + h .slot)) ms (s .node) (s .seen) (ap (λ (x : plain.Node). x .class) (some-eq (s .named) e) ∙ r)
 
 -- ---- the tests of each call, passed
 pub record Growable (b : List ℕ) (u l : ℕ) : Type 0 where
@@ -154,15 +143,12 @@ pub record Growable (b : List ℕ) (u l : ℕ) : Type 0 where
   pub short : interfaceAt b u .progress + l ≤ 1099511627776
 
 pub growable : (b : List ℕ) (u l : ℕ) → first (growTests (view b) u (pos l)) ≡ 0 → Growable b u l
-unfolding growTests
 growable b u l e =
-    let t = passed (growTests (view b) u (pos l)) tt e in
-    let o = open-of (view b) u (t .0) (t .1 .0) in
-    let seen = interface-in (getD b 0 0) (interfaceAt b) (nodeAt b) u (o .low) in
-    let p = or-false (ltZ (pos l) (pos 0)) (ltZ (pos 1099511627776) (interface (view b) u .progress +ℤ pos l)) (t .1 .1 .0) .1 in
+    let P = grow-passed (view b) u (pos l) e in
+    let seen = interface-in (getD b 0 0) (interfaceAt b) (nodeAt b) u (P .here .low) in
     record {
-      root = o;
-      short = ltb-false 1099511627776 (interfaceAt b u .progress + l) (subst (λ (f : plain.Interface). ltZ (pos 1099511627776) (f .progress +ℤ pos l) ≡ false) seen p);
+      root = P .here;
+      short = ltb-false 1099511627776 (interfaceAt b u .progress + l) (subst (λ (f : plain.Interface). ltZ (pos 1099511627776) (f .progress +ℤ pos l) ≡ false) seen (P .limit));
     }
 
 pub record Settable (b : List ℕ) (u : ℕ) (h : Handle) : Type 0 where
@@ -172,11 +158,10 @@ pub record Settable (b : List ℕ) (u : ℕ) (h : Handle) : Type 0 where
   pub free : nodeAt b (h .unit * 64 + h .slot) .parent ≡ Outermost
 
 pub settable : (b : List ℕ) (u : ℕ) (h : Handle) → Fit b → first (stateTests (view b) u h) ≡ 0 → Settable b u h
-unfolding stateTests
 settable b u h F e =
-    let t = passed (stateTests (view b) u h) tt e in
-    let s = stands b F h (t .1 .1 .0) in
-    record { root = open-of (view b) u (t .0) (t .1 .0); stands = s; under = under-of (view b) u h (t .1 .1 .1 .0); free = stands-free s (t .1 .1 .1 .1 .0) }
+    let P = state-passed (view b) u h e in
+    let s = stands b F h (P .named) in
+    record { root = P .here; stands = s; under = P .named .near; free = stands-free s (P .named .is) (P .orphan) }
 
 pub record Pushable (b : List ℕ) (u : ℕ) : Type 0 where
   pub root : Open (view b) u
@@ -184,8 +169,6 @@ pub record Pushable (b : List ℕ) (u : ℕ) : Type 0 where
   pub next : getD b 0 0 < 4294967296
 
 pub pushable : (b : List ℕ) (u : ℕ) → Fit b → first (defectTests (view b) u) ≡ 0 → Pushable b u
-unfolding defectTests
 pushable b u F e =
-    let t = passed (defectTests (view b) u) tt e in
-    let o = open-of (view b) u (t .0) (t .1 .0) in
-    record { root = o; room = open-room b F u o (t .1 .1 .0); next = open-next b F u o (t .1 .1 .1 .0) }
+    let P = defect-passed (view b) u e in
+    record { root = P .here; room = open-room b F u (P .here) (P .room); next = open-next b F u (P .here) (P .unworn) }
