@@ -1,0 +1,133 @@
+-- One turn of the walk up: at a node without a parent it ends, and else it goes on at the parent with one link more, by the definitions' own steps.
+-- Assumes nothing.
+use Prim.Native.Nat.{ℕ, zero, suc, _+_, _-_, _<_, _≤_}
+use mathlib.Core.Path.{_≡_, refl, ap, sym, _∙_}
+use mathlib.Core.Option.{none, some}
+use mathlib.Core.List.{List}
+use native.Mathlib.Omega.{arith}
+use lib.ListN.{getD}
+use Rattle.words.specs.Store.{nodeAt, interfaceAt}
+use Rattle.words.specs.declared.Node.{Node}
+use Rattle.kinds.specs.declared.Handle.{Handle as Code}
+use Rattle.kinds.specs.declared.Parent.the-variants.{Outermost, Inside}
+use Rattle.ledger_spec.specs.Bench.{Handle, Bench}
+use Rattle.ledger_spec.specs.Bench as plain
+use Rattle.ledger_spec.specs.Look.{slotOf, top, nodeAt as nodeNamed}
+use Rattle.ledger_spec.specs.Named.{handleNamed, parentNamed}
+use Rattle.ledger_spec.specs.Walk.{parentOf, outerFrom, linksFrom, underFrom}
+use Rattle.ledger_spec.proofs.Knit.{Up}
+use Rattle.views.specs.View.{view, sumUp, circleOf, nodeSeen}
+use Rattle.views.specs.Fit.{Fit}
+use Rattle.views.proofs.Views.{view-slot}
+use Rattle.views.proofs.Rings.{slot-held}
+use Rattle.links.specs.declared.Outer.{Outer}
+use Rattle.links.specs.Find.{spot, Stands}
+use Rattle.links.specs.Outer.{Outers}
+use Rattle.links.proofs.Finding.{stands-by}
+
+-- ---- the definitions, step by step
+module _ (B : Bench) (h : Handle) where
+  pub outer-none : (k : ℕ) → parentOf (nodeNamed B h) ≡ none → outerFrom k B h ≡ h
+  unfolding outerFrom
+  outer-none zero e = refl
+  outer-none (suc k) e = rw (e, outerFrom)
+
+  pub links-none : (k : ℕ) → parentOf (nodeNamed B h) ≡ none → linksFrom k B h ≡ 0
+  unfolding linksFrom
+  links-none zero e = refl
+  links-none (suc k) e = rw (e, linksFrom)
+
+  pub under-none : (k : ℕ) (g : Handle) → parentOf (nodeNamed B h) ≡ none → underFrom k B g h ≡ g
+  unfolding underFrom
+  under-none zero g e = refl
+  under-none (suc k) g e = rw (e, underFrom)
+
+  module _ (k : ℕ) (p : Handle) (e : parentOf (nodeNamed B h) ≡ some p) where
+    pub outer-some : outerFrom (suc k) B h ≡ outerFrom k B p
+    unfolding outerFrom
+    outer-some = rw (e, outerFrom)
+
+    pub links-some : linksFrom (suc k) B h ≡ suc (linksFrom k B p)
+    unfolding linksFrom
+    links-some = rw (e, linksFrom)
+
+    pub under-some : (g : Handle) → underFrom (suc k) B g h ≡ underFrom k B h p
+    unfolding underFrom
+    under-some g = rw (e, underFrom)
+
+-- ---- in words
+module _ (b : List ℕ) (h : Handle) (S : Stands b h) where
+  abbrev here : Node
+  here = nodeAt b (spot h)
+
+  pub seen-node : (c : plain.Class) × (nodeNamed (view b) h ≡ some (nodeSeen here (sumUp 8 (interfaceAt b) (h .unit)) c))
+  seen-node = let k = slot-held here (sumUp 8 (interfaceAt b) (h .unit)) (circleOf (nodeAt b) (spot h)) (S .present) in (k .0, S .seen ∙ k .1)
+
+  pub parent-seen : parentOf (nodeNamed (view b) h) ≡ parentNamed (here .parent)
+  parent-seen = ap parentOf (seen-node .1)
+
+  -- a parent is present too
+  pub stands-parent : Fit b → (q : Code) → here .parent ≡ Inside q → Stands b (handleNamed q)
+  stands-parent F q e =
+      let k = slot-held here (sumUp 8 (interfaceAt b) (h .unit)) (circleOf (nodeAt b) (spot h)) (S .present) in
+      let n = nodeSeen here (sumUp 8 (interfaceAt b) (h .unit)) (k .0) in
+      let at = view-slot (getD b 0 0) (interfaceAt b) (nodeAt b) (h .unit) (h .slot) (S .unit) (S .slot) ∙ k .1 in
+      let up : Up (slotOf (view b)) (top (view b)) (h .unit) (h .slot) n (handleNamed q) = F .sewn .knit .up (h .unit) (h .slot) n (handleNamed q) at (ap parentNamed e) in
+      stands-by b (F .canon) (handleNamed q) (up .over) (up .has .stands) (up .has .serial)
+
+-- what holds at each turn of the walk from h: the node reached, the one before it, and the links so far
+pub record Going (b : List ℕ) (h at under : Handle) (links : ℕ) : Type 0 where
+  pub fit : Fit b
+  pub stands : Stands b at
+  pub few : links ≤ 512
+  pub node : outerFrom (512 - links) (view b) at ≡ outerFrom 512 (view b) h
+  pub below : underFrom (512 - links) (view b) under at ≡ underFrom 512 (view b) h h
+  pub counted : links + linksFrom (512 - links) (view b) at ≡ linksFrom 512 (view b) h
+
+pub going-starts : (b : List ℕ) (h : Handle) → Fit b → Stands b h → Going b h h h 0
+going-starts b h F S = record { fit = F; stands = S; few = omega arith; node = refl; below = refl; counted = omega arith }
+
+module _ (b : List ℕ) (h at under : Handle) (links : ℕ) (G : Going b h at under links) where
+  pub spot-low : spot at < 512
+  spot-low = let S = G .stands in omega arith
+
+  pub going-spent : 512 ≤ links → (r : Outer) → handleNamed (r .node) ≡ at → handleNamed (r .under) ≡ under → r .links ≡ links → Outers b h r
+  unfolding outerFrom underFrom linksFrom
+  going-spent l r e f g =
+      let few = G .few in
+      let z : 512 - links ≡ 0 = omega arith in
+      record {
+        node = e ∙ sym (ap (λ (k : ℕ). outerFrom k (view b) at) z) ∙ G .node;
+        under = f ∙ sym (ap (λ (k : ℕ). underFrom k (view b) under at) z) ∙ G .below;
+        links = omega (arith, g, ap (λ (k : ℕ). linksFrom k (view b) at) z, G .counted);
+        few = omega (arith, g, few);
+        stands = rw e (G .stands);
+      }
+
+  module _ (n : Node) (e : n ≡ nodeAt b (spot at)) where
+    parent-now : parentOf (nodeNamed (view b) at) ≡ parentNamed (n .parent)
+    parent-now = parent-seen b at (G .stands) ∙ ap (λ (x : Node). parentNamed (x .parent)) (sym e)
+
+    pub going-ends : n .parent ≡ Outermost → (r : Outer) → handleNamed (r .node) ≡ at → handleNamed (r .under) ≡ under → r .links ≡ links → Outers b h r
+    going-ends q r x y z =
+        let top = parent-now ∙ ap parentNamed q in
+        record {
+          node = x ∙ sym (outer-none (view b) at (512 - links) top) ∙ G .node;
+          under = y ∙ sym (under-none (view b) at (512 - links) under top) ∙ G .below;
+          links = omega (arith, z, links-none (view b) at (512 - links) top, G .counted);
+          few = omega (arith, z, G .few);
+          stands = rw x (G .stands);
+        }
+
+    pub going-on : links < 512 → (q : Code) → n .parent ≡ Inside q → Going b h (handleNamed q) at (links + 1)
+    going-on l q p =
+        let up = parent-now ∙ ap parentNamed p in
+        let back : suc (512 - (links + 1)) ≡ 512 - links = omega arith in
+        record {
+          fit = G .fit;
+          stands = stands-parent b at (G .stands) (G .fit) q (sym (ap (λ (x : Node). x .parent) e) ∙ p);
+          few = omega arith;
+          node = sym (outer-some (view b) at (512 - (links + 1)) (handleNamed q) up) ∙ ap (λ (k : ℕ). outerFrom k (view b) at) back ∙ G .node;
+          below = sym (under-some (view b) at (512 - (links + 1)) (handleNamed q) up under) ∙ ap (λ (k : ℕ). underFrom k (view b) under at) back ∙ G .below;
+          counted = omega (arith, links-some (view b) at (512 - (links + 1)) (handleNamed q) up, ap (λ (k : ℕ). linksFrom k (view b) at) back, G .counted);
+        }
