@@ -1,0 +1,4 @@
+pub mod Sized
+pub mod Walks
+pub mod Circling
+pub mod Named
