@@ -1,7 +1,7 @@
 -- A handle names a node exactly where its slot holds one of its serial: past the used slots every slot is empty, so a present node's slot is used.
 -- Assumes nothing.
 use Prim.Native.Nat.{ℕ, _<_, _≤_}
-use mathlib.Core.Path.{_≡_, refl, ap, sym, _∙_}
+use mathlib.Core.Path.{_≡_, refl, ap, sym, _∙_, subst}
 use mathlib.Core.Logic.{by-cases}
 use mathlib.Core.Bool.{Bool, true, false}
 use mathlib.Core.Option.{Option, none, some}
@@ -24,7 +24,9 @@ use Rattle.views.specs.View.{view, slotSeen, nodeSeen, sumUp, circleOf}
 use Rattle.views.specs.Canon.{Canon}
 use Rattle.views.proofs.Views.{view-slot, view-past, view-out}
 use Rattle.views.proofs.Rings.{slot-held, Shows, slot-shows}
-use Rattle.links.specs.Find.{absentOf, spot, Stands, Held}
+use Rattle.links.specs.declared.Found.{Found}
+use Rattle.links.specs.declared.Found.the-variants.{At, Stale}
+use Rattle.links.specs.Find.{absentOf, spot, Stands, Held, Finds}
 use Rattle.links.specs.Given.{given}
 
 -- ---- the ledger's node by a handle
@@ -150,3 +152,11 @@ no-handle b w l = rw (le-ltb w 2199023255552 l) (out-unit b (record { unit = 8; 
 
 pub is-handle : (w : ℕ) → w < 2199023255552 → handleNamed (handleOf w) ≡ given w
 is-handle w l = rw (lt-ltb w 2199023255552 l)
+
+-- ---- by what was found
+module _ (b : List ℕ) (h : Handle) {r : Found} (f : Finds b h r) where
+  pub found-at : (k : ℕ) → r ≡ At k → Held b h k
+  found-at k e = subst (λ (x : Found). Finds b h x) e f
+
+  pub found-none : r ≡ Stale → nodeNamed (view b) h ≡ none
+  found-none e = subst (λ (x : Found). Finds b h x) e f
