@@ -51,7 +51,7 @@ absent-yes (Defect v) e = absurd (let z : _≡_ {A = ℕ} 0 1 = cc in omega arit
 pub absent-no : {c : Class} → absentOf c ≡ false → c ≡ Absent → ⊥
 absent-no {c} e q = let z : _≡_ {A = ℕ} 0 1 = cc in omega arith
 
-slot-absent : (n : Node) (t : ℕ) (ms : List Member) → n .class ≡ Absent → slotSeen n t ms ≡ none
+pub slot-absent : (n : Node) (t : ℕ) (ms : List Member) → n .class ≡ Absent → slotSeen n t ms ≡ none
 unfolding slotSeen
 slot-absent n t ms e = rw e
 
@@ -160,3 +160,10 @@ module _ (b : List ℕ) (h : Handle) {r : Found} (f : Finds b h r) where
 
   pub found-none : r ≡ Stale → nodeNamed (view b) h ≡ none
   found-none e = subst (λ (x : Found). Finds b h x) e f
+
+  pub found-stands : (r ≡ Stale → ⊥) → Stands b h
+  found-stands ne = go r refl
+    where
+      go : (x : Found) → r ≡ x → Stands b h
+      go (At k) e = found-at k e .stands
+      go Stale e = absurd (ne e)

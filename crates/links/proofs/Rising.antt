@@ -2,7 +2,7 @@
 -- Assumes nothing.
 use Prim.Native.Nat.{ℕ, zero, suc, _+_, _-_, _<_, _≤_}
 use mathlib.Core.Path.{_≡_, refl, ap, sym, _∙_}
-use mathlib.Core.Option.{none, some}
+use mathlib.Core.Option.{Option, none, some}
 use mathlib.Core.List.{List}
 use native.Mathlib.Omega.{arith}
 use lib.ListN.{getD}
@@ -55,6 +55,22 @@ module _ (B : Bench) (h : Handle) where
     unfolding underFrom
     under-some g = rw (e, underFrom)
 
+-- no link is followed exactly from a node without a parent
+module _ (B : Bench) (h : Handle) where
+  pub no-link : linksFrom 512 B h ≡ 0 → parentOf (nodeNamed B h) ≡ none
+  no-link z = go (parentOf (nodeNamed B h)) refl
+    where
+      go : (o : Option Handle) → parentOf (nodeNamed B h) ≡ o → parentOf (nodeNamed B h) ≡ none
+      go none e = e
+      go (some p) e = absurd (omega (arith, z, links-some B h 511 p e))
+
+  pub some-link : (linksFrom 512 B h ≡ 0 → ⊥) → (p : Handle) × (parentOf (nodeNamed B h) ≡ some p)
+  some-link z = go (parentOf (nodeNamed B h)) refl
+    where
+      go : (o : Option Handle) → parentOf (nodeNamed B h) ≡ o → (p : Handle) × (parentOf (nodeNamed B h) ≡ some p)
+      go none e = absurd (z (links-none B h 512 e))
+      go (some p) e = (p, e)
+
 -- ---- in words
 module _ (b : List ℕ) (h : Handle) (S : Stands b h) where
   abbrev here : Node
@@ -62,6 +78,9 @@ module _ (b : List ℕ) (h : Handle) (S : Stands b h) where
 
   pub seen-node : (c : plain.Class) × (nodeNamed (view b) h ≡ some (nodeSeen here (sumUp 8 (interfaceAt b) (h .unit)) c))
   seen-node = let k = slot-held here (sumUp 8 (interfaceAt b) (h .unit)) (circleOf (nodeAt b) (spot h)) (S .present) in (k .0, S .seen ∙ k .1)
+
+  pub seen-some : (n : plain.Node) × (nodeNamed (view b) h ≡ some n)
+  seen-some = (nodeSeen here (sumUp 8 (interfaceAt b) (h .unit)) (seen-node .0), seen-node .1)
 
   pub parent-seen : parentOf (nodeNamed (view b) h) ≡ parentNamed (here .parent)
   parent-seen = ap parentOf (seen-node .1)

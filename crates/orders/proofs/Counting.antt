@@ -22,7 +22,9 @@ use Rattle.views.specs.View.{view}
 use Rattle.views.specs.Fit.{Fit}
 use Rattle.views.proofs.Views.{view-count}
 use Rattle.orders.specs.declared.Order.{Order}
-use Rattle.orders.specs.Order.{Lists, Indexed}
+use Rattle.orders.specs.declared.Spot.{Spot}
+use Rattle.orders.specs.declared.Spot.the-variants.{Slot, Past}
+use Rattle.orders.specs.Order.{Lists, AtIndex, Locates}
 use Rattle.orders.proofs.Trees.{tree-low, below-get}
 
 -- ---- the slots of one interface
@@ -120,7 +122,7 @@ module _ (b : List ℕ) (F : Fit b) (unit : ℕ) (lu : unit < 8) (o : Order) (L 
           ap₂ drop r left-more ∙ drop-append-add xs (left (i + 1)) (rest - f .used)
 
       -- an index into this interface
-      pub drop-here : (index rest k : ℕ) → drop index (left 0) ≡ drop rest (left i) → rest < f .used → k ≡ u * 64 + rest → Indexed b unit index k
+      pub drop-here : (index rest k : ℕ) → drop index (left 0) ≡ drop rest (left i) → rest < f .used → k ≡ u * 64 + rest → AtIndex b unit index k
       drop-here index rest k d m p =
           let xs = slotsFrom u 0 (interface (view b) u .slots) in
           let n : length xs ≡ f .used = length-slots u 0 (interface (view b) u .slots) ∙ used-seen in
@@ -188,3 +190,11 @@ module _ (b : List ℕ) (F : Fit b) (unit : ℕ) (lu : unit < 8) (o : Order) (L 
   pub index-ends : (h : Handle) (i n : ℕ) → o .count ≤ i → Passed b unit h i n → 0 ≡ indexIn (slotsOf (view b) unit) 0 h
   unfolding indexIn
   index-ends h i n l P = sym (P .index ∙ ap (λ (ts : List (ℕ × ℕ × Option Node)). indexIn ts n h) (left-none b F unit lu o L i l))
+
+-- ---- by what was located
+module _ (b : List ℕ) (unit index : ℕ) {r : Spot} (f : Locates b unit index r) where
+  pub located : (k : ℕ) → r ≡ Slot k → AtIndex b unit index k
+  located k e = subst (λ (x : Spot). Locates b unit index x) e f
+
+  pub located-past : r ≡ Past → length (slotsOf (view b) unit) ≤ index
+  located-past e = subst (λ (x : Spot). Locates b unit index x) e f

@@ -28,12 +28,12 @@ pub record Lists (b : List ℕ) (unit : ℕ) (o : Order) : Type 0 where
   pub long : length (o .units) ≡ 8
 
 -- position k is what stands at an index of the tree
-pub record Indexed (b : List ℕ) (unit index k : ℕ) : Type 0 where
+pub record AtIndex (b : List ℕ) (unit index k : ℕ) : Type 0 where
   pub inside : index < length (slotsOf (view b) unit)
   pub at : getD (slotsOf (view b) unit) index (0, 0, none) ≡ (k / 64, k % 64, slotOf (view b) (k / 64) (k % 64))
   pub low : k / 64 < 8
   pub used : k % 64 < interfaceAt b (k / 64) .used
 
 abbrev pub Locates : List ℕ → ℕ → ℕ → Spot → Type 0
-Locates b unit index (Slot k) = Indexed b unit index k
+Locates b unit index (Slot k) = AtIndex b unit index k
 Locates b unit index Past = length (slotsOf (view b) unit) ≤ index
