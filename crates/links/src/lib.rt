@@ -117,7 +117,8 @@ pub fn is_foreign(b: &[u64; WORDS], unit: u8, h: Handle) -> bool
     requires { ⌜ h .unit < 8 ⌝ }
     ensures { λ r. ⌜ r ≡ foreign (view (now (b .entry))) unit (handleNamed h) ⌝ }
 {
-    let c = trees::climb(b, h.unit as usize);
+    let from = h.unit as usize;
+    let c = trees::climb(b, from);
     c.top != (unit as usize)
 }
 

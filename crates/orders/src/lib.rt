@@ -70,15 +70,15 @@ pub fn count(b: &[u64; WORDS], unit: usize) -> u64
     ensures { λ r. ⌜ r ≡ length (slotsOf (view (now (b .entry))) unit) ⌝ }
 {
     let o = order_of(b, unit);
-    let mut n: u64 = 0;
+    let mut total: u64 = 0;
     let mut i: usize = 0;
     while i < o.count {
         let u = o.units[i];
         let f = words::load_interface(b, u);
-        n = n + f.used;
+        total = total + f.used;
         i = i + 1;
     }
-    n
+    total
 }
 
 // The position at an index, or that the index is past the count.
@@ -117,15 +117,15 @@ pub fn index_of(b: &[u64; WORDS], unit: usize, h: Handle) -> NodeIndex
     ensures { λ r. ⌜ r .0 ≡ indexIn (slotsOf (view (now (b .entry))) unit) 0 (handleNamed h) ⌝ }
 {
     let o = order_of(b, unit);
-    let mut n: u64 = 0;
+    let mut passed: u64 = 0;
     let mut i: usize = 0;
     while i < o.count {
         let u = o.units[i];
         if u == (h.unit as usize) {
-            return NodeIndex((n + (h.slot as u64)) as u32);
+            return NodeIndex((passed + (h.slot as u64)) as u32);
         }
         let f = words::load_interface(b, u);
-        n = n + f.used;
+        passed = passed + f.used;
         i = i + 1;
     }
     NodeIndex(0)

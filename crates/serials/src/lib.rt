@@ -125,8 +125,8 @@ pub fn seek(b: &[u64; WORDS], serial: Serial, hints: &mut [u16; HINTS]) -> Found
 pub fn remember(hints: &mut [u16; HINTS], serial: Serial, k: usize)
     ensures { λ _. ⌜ now (hints .exit) ≡ set (now (hints .entry)) (serial .0 % 512) (k % 512) ⌝ }
 {
-    let i = (serial.0 % 512) as usize;
-    hints[i] = (k % 512) as u16;
+    let at = (serial.0 % 512) as usize;
+    hints[at] = (k % 512) as u16;
 }
 
 // The same as a handle: one of interface 8 where no node has the serial.

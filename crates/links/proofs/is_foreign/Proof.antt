@@ -7,8 +7,8 @@ use lib.Dec.{eqb}
 use Rattle.links.proofs.is_foreign.Statement.{statement}
 use Rattle.links.proofs.is_foreign.Tie as tie
 
-cast-climb : tie.Need-cast-climb
-cast-climb c = search needs
+cast-from : tie.Need-cast-from
+cast-from c = search needs
 
 climb-requires : tie.Need-climb-requires
 climb-requires c κs = search needs
@@ -17,4 +17,4 @@ returns : tie.Need-returns
 returns c = ap (λ (t : ℕ). not (eqb t (c .before .before .before .args .unit))) (c .before .climb .ensures .top)
 
 pub is-foreign-spec : {M : Type 1} → statement M
-is-foreign-spec = tie.close (tie.spec cast-climb climb-requires returns)
+is-foreign-spec = tie.close (tie.spec cast-from climb-requires returns)

@@ -1,6 +1,7 @@
 -- The loop goes up by the definitions' own steps, and the links left to 512 fall. Assumes nothing.
 use Prim.Native.Nat.{_-_}
 use mathlib.Core.Path.{_≡_, refl}
+use native.Mathlib.Omega.{arith}
 use borrow.Author.Needs.{needs}
 use Rattle.kinds.specs.declared.Parent.the-variants.{Inside}
 use Rattle.ledger_spec.specs.Named.{handleNamed}
@@ -57,12 +58,12 @@ loop-again c =
     let l = c .before .before .before .before .before .before .before .loop in
     let q : c .before .before .before .load-node .result .parent ≡ Inside (c .before .parent .given .0 .0) = cc in
     going-on (c .before .before .before .before .before .before .before .before .args .b .now) (handleNamed (c .before .before .before .before .before .before .before .before .args .h)) (handleNamed (l .at)) (handleNamed (l .under)) (l .links) (l .inv) (c .before .before .before .load-node .result) (c .before .before .before .load-node .ensures)
-    (c .before .before .before .before .before .before .loop-test .taken) (c .before .parent .given .0 .0) q
+    (omega (arith, c .before .before .before .before .before .before .loop-test .taken)) (c .before .parent .given .0 .0) q
 
 returns-2 : tie.Need-returns-2 Inv-loop μ-loop
 returns-2 c =
     let l = c .before .loop in
-    going-spent (c .before .before .args .b .now) (handleNamed (c .before .before .args .h)) (handleNamed (l .at)) (handleNamed (l .under)) (l .links) (l .inv) (c .loop-test .left)
+    going-spent (c .before .before .args .b .now) (handleNamed (c .before .before .args .h)) (handleNamed (l .at)) (handleNamed (l .under)) (l .links) (l .inv) (omega (arith, c .loop-test .left))
     (record { node = l .at; under = l .under; links = l .links }) refl refl refl
 
 pub outermost-spec : {M : Type 1} → statement M

@@ -9,10 +9,10 @@ use Rattle.orders.proofs.count.Statement.{statement}
 use Rattle.orders.proofs.count.Tie as tie
 
 abbrev Inv-loop : tie.InvT-loop
-Inv-loop b unit o n₀ i₀ n i = Counted b unit i n
+Inv-loop b unit o total₀ i₀ total i = Counted b unit i total
 
 abbrev μ-loop : tie.MeasureT-loop
-μ-loop b unit o n₀ i₀ n i = o .count - i
+μ-loop b unit o total₀ i₀ total i = o .count - i
 
 order-of-requires : tie.Need-order-of-requires Inv-loop μ-loop
 order-of-requires c κs = search needs
@@ -33,8 +33,8 @@ load-interface-requires c κs =
     let i = c .before .before .loop .i in
     unit-low (s .args .b .now) (s .pre .0) (s .args .unit) (s .pre .1 .0) (o .result) (o .ensures) i (getD (o .result .units) i 0) (c .before .loop-test .taken) refl
 
-add-n : tie.Need-add-n Inv-loop μ-loop
-add-n c =
+add-total : tie.Need-add-total Inv-loop μ-loop
+add-total c =
     let s = c .before .before .before .before .before .before in
     let o = c .before .before .before .before .before .order-of in
     let i = c .before .before .before .before .loop .i in
@@ -52,13 +52,13 @@ loop-again c =
     let s = c .before .before .before .before .before .before in
     let o = c .before .before .before .before .before .order-of in
     let i = c .before .before .before .before .loop .i in
-    count-on (s .args .b .now) (s .pre .0) (s .args .unit) (s .pre .1 .0) (o .result) (o .ensures) i (getD (o .result .units) i 0) (c .before .before .before .loop-test .taken) refl (c .before .load-interface .result) (c .before .load-interface .ensures) (c .before .before .before .before .loop .n) (c .before .before .before .before .loop .inv)
+    count-on (s .args .b .now) (s .pre .0) (s .args .unit) (s .pre .1 .0) (o .result) (o .ensures) i (getD (o .result .units) i 0) (c .before .before .before .loop-test .taken) refl (c .before .load-interface .result) (c .before .load-interface .ensures) (c .before .before .before .before .loop .total) (c .before .before .before .before .loop .inv)
 
 returns : tie.Need-returns Inv-loop μ-loop
 returns c =
     let s = c .before .before .before in
     let o = c .before .before .order-of in
-    count-ends (s .args .b .now) (s .pre .0) (s .args .unit) (s .pre .1 .0) (o .result) (o .ensures) (c .before .loop .i) (c .before .loop .n) (c .loop-test .left) (c .before .loop .inv)
+    count-ends (s .args .b .now) (s .pre .0) (s .args .unit) (s .pre .1 .0) (o .result) (o .ensures) (c .before .loop .i) (c .before .loop .total) (c .loop-test .left) (c .before .loop .inv)
 
 pub count-spec : {M : Type 1} → statement M
 count-spec =
@@ -71,7 +71,7 @@ count-spec =
     mul-u
     element-copy-out-u
     load-interface-requires
-    add-n
+    add-total
     add-i
     loop-less
     loop-again

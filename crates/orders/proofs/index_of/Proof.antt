@@ -10,10 +10,10 @@ use Rattle.orders.proofs.index_of.Statement.{statement}
 use Rattle.orders.proofs.index_of.Tie as tie
 
 abbrev Inv-loop : tie.InvT-loop
-Inv-loop b unit h o n₀ i₀ n i = Passed b unit (handleNamed h) i n
+Inv-loop b unit h o passed₀ i₀ passed i = Passed b unit (handleNamed h) i passed
 
 abbrev μ-loop : tie.MeasureT-loop
-μ-loop b unit h o n₀ i₀ n i = o .count - i
+μ-loop b unit h o passed₀ i₀ passed i = o .count - i
 
 order-of-requires : tie.Need-order-of-requires Inv-loop μ-loop
 order-of-requires c κs = search needs
@@ -45,7 +45,7 @@ returns c =
     let o = c .before .before .before .before .before .before .order-of in
     let i = c .before .before .before .before .before .loop .i in
     sym (c .before .before .before .before .before .loop .inv .index
-    ∙ index-there (s .args .b .now) (s .pre .0) (s .args .unit) (s .pre .1 .0) (o .result) (o .ensures) i (getD (o .result .units) i 0) (c .before .before .before .before .loop-test .taken) refl (c .before .before .before .before .before .loop .n) (handleNamed (s .args .h)) (c .before .if1 .taken) (s .pre .1 .1 .1 .slot))
+    ∙ index-there (s .args .b .now) (s .pre .0) (s .args .unit) (s .pre .1 .0) (o .result) (o .ensures) i (getD (o .result .units) i 0) (c .before .before .before .before .loop-test .taken) refl (c .before .before .before .before .before .loop .passed) (handleNamed (s .args .h)) (c .before .if1 .taken) (s .pre .1 .1 .1 .slot))
 
 load-interface-requires : tie.Need-load-interface-requires Inv-loop μ-loop
 load-interface-requires c κs =
@@ -54,8 +54,8 @@ load-interface-requires c κs =
     let i = c .before .before .before .before .loop .i in
     unit-low (s .args .b .now) (s .pre .0) (s .args .unit) (s .pre .1 .0) (o .result) (o .ensures) i (getD (o .result .units) i 0) (c .before .before .before .loop-test .taken) refl
 
-add-n : tie.Need-add-n Inv-loop μ-loop
-add-n c =
+add-passed : tie.Need-add-passed Inv-loop μ-loop
+add-passed c =
     let s = c .before .before .before .before .before .before .before .before in
     let o = c .before .before .before .before .before .before .before .order-of in
     let i = c .before .before .before .before .before .before .loop .i in
@@ -74,13 +74,13 @@ loop-again c =
     let o = c .before .before .before .before .before .before .before .order-of in
     let i = c .before .before .before .before .before .before .loop .i in
     pass-on (s .args .b .now) (s .pre .0) (s .args .unit) (s .pre .1 .0) (o .result) (o .ensures) i (getD (o .result .units) i 0) (c .before .before .before .before .before .loop-test .taken) refl (c .before .load-interface .result) (c .before .load-interface .ensures)
-    (c .before .before .before .before .before .before .loop .n) (handleNamed (s .args .h)) (c .before .before .before .before .before .before .loop .inv) (c .before .before .if1 .left)
+    (c .before .before .before .before .before .before .loop .passed) (handleNamed (s .args .h)) (c .before .before .before .before .before .before .loop .inv) (c .before .before .if1 .left)
 
 returns-2 : tie.Need-returns-2 Inv-loop μ-loop
 returns-2 c =
     let s = c .before .before .before in
     let o = c .before .before .order-of in
-    index-ends (s .args .b .now) (s .pre .0) (s .args .unit) (s .pre .1 .0) (o .result) (o .ensures) (handleNamed (s .args .h)) (c .before .loop .i) (c .before .loop .n) (c .loop-test .left) (c .before .loop .inv)
+    index-ends (s .args .b .now) (s .pre .0) (s .args .unit) (s .pre .1 .0) (o .result) (o .ensures) (handleNamed (s .args .h)) (c .before .loop .i) (c .before .loop .passed) (c .loop-test .left) (c .before .loop .inv)
 
 pub index-of-spec : {M : Type 1} → statement M
 index-of-spec =
@@ -98,7 +98,7 @@ index-of-spec =
     cast-t17
     returns
     load-interface-requires
-    add-n
+    add-passed
     add-i
     loop-less
     loop-again
