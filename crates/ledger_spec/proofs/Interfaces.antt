@@ -1,24 +1,24 @@
 -- What a bench says of an interface after another has been put in its place, and sums over slots after one has changed. Assumes nothing.
 use Prim.Native.Nat.{ℕ, zero, suc, _+_, _≤_, _<_}
-use mathlib.Core.Path.{_≡_, refl, sym, _∙_, ap, ap₂, subst}
+use mathlib.Core.Path.{_≡_, refl, sym, _∙_, ap, subst}
 use mathlib.Core.Logic.{_≢_}
 use mathlib.Core.Bool.{Bool, true, false}
-use mathlib.Core.Option.{Option, none, some}
-use mathlib.Core.List.{List, [], _∷_, _++_, map}
+use mathlib.Core.Option.{Option, none}
+use mathlib.Core.List.{List, [], _∷_, _++_}
 use native.Mathlib.Omega.{arith}
 use native.Mathlib.Nat.{zero-add, add-zero}
 use native.Mathlib.Decide.{ℕ-discrete, decLt}
 use lib.Dec.{eqb}
 use borrow.Author.Tests.{eq-eqb, ne-eqb}
-use lib.ListN.{getD, length, set, length-set, List·getD-eq-default}
+use lib.ListN.{getD, length, set}
 use lib.Seq.{getD-set-same, getD-set-other, set-out}
-use lib.IntN.{ℤ, pos, negℤ, _+ℤ_, _-ℤ_, _*ℤ_, +ℤ-assoc, +ℤ-comm, +ℤ-idl, +ℤ-idr, +ℤ-invr, +ℤ-invl, *ℤ-zero}
+use lib.IntN.{ℤ, pos, _+ℤ_, _-ℤ_, +ℤ-assoc, +ℤ-comm, +ℤ-idl, +ℤ-invr}
 use Rattle.ledger_spec.specs.Bench.{Node, Interface, Bench, fresh}
 use Rattle.ledger_spec.specs.Look.{interface, top}
 use Rattle.ledger_spec.specs.Change.{withInterface}
 use Rattle.ledger_spec.specs.Deeds.{across}
-use Rattle.ledger_spec.specs.Account.{over, total}
-use Rattle.ledger_spec.proofs.Ints.{sums, +ℤ-left-comm, add-diff}
+use Rattle.ledger_spec.specs.Account.{over}
+use Rattle.ledger_spec.proofs.Ints.{add-diff}
 
 module _ {X : Type 0} (φ : Interface → X) (b : Bench) (u : ℕ) (f : Interface) where
   pub put-here : u < length (b .interfaces) → φ (interface (withInterface b u f) u) ≡ φ f

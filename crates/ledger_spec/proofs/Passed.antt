@@ -1,20 +1,21 @@
 -- What an accepted call's tests say: number 0 means that each test failed. Assumes nothing.
-use Prim.Native.Nat.{ℕ, zero, suc, _≤_, _<_}
-use mathlib.Core.Path.{_≡_, refl, sym, _∙_, ap}
+use Prim.Native.Nat.{ℕ, _<_}
+use mathlib.Core.Path.{_≡_, refl, sym, _∙_, ap, ap₂}
 use mathlib.Core.Logic.{_≢_}
 use mathlib.Core.Bool.{Bool, true, false, _||_, _&&_, not, true≢false}
 use mathlib.Core.Option.{Option, none, some}
 use mathlib.Core.List.{List, [], _∷_}
 use native.Mathlib.Omega.{arith}
 use lib.Dec.{T, eqb, leb, ltb, ltb→lt}
-use lib.IntN.{ℤ, natAbs}
-use lib.ListN.{getD, List·getD-eq-default, length}
-use borrow.Author.Tests.{leb-false, eqb-false, not-false, not-true, ne-eqb}
-use Rattle.ledger_spec.specs.Bench.{Handle, Node, Interface, Bench, fresh}
-use Rattle.ledger_spec.specs.Look.{interface, slotOf, nodeAt, ifSerial, top}
-use Rattle.ledger_spec.specs.Tests.{first, given, empty, outside, child, stale, foreign, used}
-use Rattle.ledger_spec.specs.Refuse.{unitTests, defectTests, blossomTests, expandTests, stateTests, growTests, fuseTests}
-use Rattle.ledger_spec.proofs.Tops.{Frame}
+use lib.IntN.{natAbs}
+use borrow.Author.Tests.{lt-leb, ne-eqb, eqb-true, eq-eqb, leb-false, eqb-false, not-false}
+use Rattle.ledger_spec.specs.Bench.{Handle, Node, Bench}
+use Rattle.ledger_spec.specs.Look.{interface, slotOf, nodeAt, ifSerial}
+use Rattle.ledger_spec.specs.Knit.{Has}
+use Rattle.ledger_spec.proofs.Lists.{or-false}
+use Rattle.ledger_spec.proofs.Knit.{some-eq, none-some}
+use Rattle.ledger_spec.specs.Tests.{first, given, empty, outside, child, stale}
+use Rattle.ledger_spec.specs.Refuse.{fuseTests}
 
 -- each test of a list failed; and no number of it is 0, which is computed
 abbrev pub Failed : List (Bool × ℕ) → Type 0
@@ -41,9 +42,17 @@ passed (t ∷ ts) p e = go (t .0) refl e (passed ts (more (ltb 0 (t .1)) (number
     go true q e ih = absurd (omega (arith, e, ltb→lt 0 (t .1) (more (ltb 0 (t .1)) (numbered ts) p .0)))
     go false q e ih = (q, ih e)
 
-pub or-false : (a b : Bool) → (a || b) ≡ false → (a ≡ false) × (b ≡ false)
-or-false true b e = absurd (true≢false e)
-or-false false b e = (refl, e)
+pub failed : (ts : List (Bool × ℕ)) → Failed ts → first ts ≡ 0
+unfolding first
+failed [] f = refl
+failed (t ∷ ts) f = go (t .0) (f .0) (failed ts (f .1))
+  where
+    won : Bool → ℕ
+    won c = elim c [ true ↦ t .1 | false ↦ first ts ]
+
+    go : (c : Bool) → c ≡ false → first ts ≡ 0 → won c ≡ 0
+    go true e h = absurd (true≢false e)
+    go false e h = h
 
 pub given-false : {A : Type 0} (o : Option A) → given o ≡ false → o ≡ none
 given-false none e = refl
@@ -58,48 +67,44 @@ pub record Open (b : Bench) (u : ℕ) : Type 0 where
   pub low : u < 8
   pub free : interface b u .parent ≡ none
 
-open-of : (b : Bench) (u : ℕ) → outside u ≡ false → child b u ≡ false → Open b u
+pub open-of : (b : Bench) (u : ℕ) → outside u ≡ false → child b u ≡ false → Open b u
 open-of b u x y = record { low = leb-false 8 u x; free = given-false (interface b u .parent) y }
 
-pub defect-open : (b : Bench) (u : ℕ) → first (defectTests b u) ≡ 0 → Open b u
-unfolding defectTests
-defect-open b u e = let t = passed (defectTests b u) tt e in open-of b u (t .0) (t .1 .0)
-
-pub blossom-open : (b : Bench) (u : ℕ) (hs : List Handle) (ts : List (Handle × Handle)) → first (blossomTests b u hs ts) ≡ 0 → Open b u
-unfolding blossomTests
-blossom-open b u hs ts e = let t = passed (blossomTests b u hs ts) tt e in open-of b u (t .0) (t .1 .0)
-
-pub grow-open : (b : Bench) (u : ℕ) (l : ℤ) → first (growTests b u l) ≡ 0 → Open b u
-unfolding growTests
-grow-open b u l e = let t = passed (growTests b u l) tt e in open-of b u (t .0) (t .1 .0)
-
--- a handle that is not stale names the node of its slot, in an interface of the bench
-pub record Present (b : Bench) (h : Handle) : Type 0 where
-  pub here : nodeAt b h ≡ slotOf b (h .unit) (h .slot)
-  pub there : nodeAt b h ≢ none
-
-serial-here : (k : ℕ) (o : Option Node) → given (ifSerial k o) ≡ true → ifSerial k o ≡ o
+-- ---- the node that a handle names stands in its slot, under its serial
+serial-some : (k : ℕ) (o : Option Node) (n : Node) → ifSerial k o ≡ some n → (o ≡ some n) × (n .serial ≡ k)
 unfolding ifSerial
-serial-here k none e = refl
-serial-here k (some n) e = go (eqb k (n .serial)) e
+serial-some k none n e = absurd (none-some refl e)
+serial-some k (some m) n e = go (eqb k (m .serial)) refl e
   where
     pick : Bool → Option Node
-    pick c = elim c [ true ↦ some n | false ↦ none ]
+    pick c = elim c [ true ↦ some m | false ↦ none ]
 
-    go : (c : Bool) → given (pick c) ≡ true → pick c ≡ some n
-    go true e = refl
-    go false e = absurd (true≢false (sym e))
+    go : (c : Bool) → eqb k (m .serial) ≡ c → pick c ≡ some n → (some m ≡ some n) × (n .serial ≡ k)
+    go true t e = (e, ap (λ (x : Node). x .serial) (sym (some-eq refl e)) ∙ sym (eqb-true k (m .serial) t))
+    go false t e = absurd (none-some refl e)
 
-pub present : (b : Bench) (h : Handle) → stale b h ≡ false → Present b h
+serial-is : (k : ℕ) (n : Node) → n .serial ≡ k → ifSerial k (some n) ≡ some n
+unfolding ifSerial
+serial-is k n e = go (eq-eqb k (n .serial) (sym e))
+  where
+    go : eqb k (n .serial) ≡ true → ifSerial k (some n) ≡ some n
+    go t = rw (t, ifSerial)
+
+pub node-has : (b : Bench) (h : Handle) (n : Node) → nodeAt b h ≡ some n → Has (slotOf b) h n
 unfolding nodeAt
-present b h e = record {
-  here = serial-here (h .serial) (slotOf b (h .unit) (h .slot)) (not-false (given (nodeAt b h)) e);
-  there = λ z. true≢false (sym (not-false (given (nodeAt b h)) e) ∙ ap given z);
-}
+node-has b h n e = let r = serial-some (h .serial) (slotOf b (h .unit) (h .slot)) n e in record { stands = r .0; serial = r .1 }
 
-pub expand-present : (b : Bench) (u : ℕ) (h : Handle) → first (expandTests b u h) ≡ 0 → Present b h
-unfolding expandTests
-expand-present b u h e = present b h (passed (expandTests b u h) tt e .1 .1 .0)
+pub has-node : (b : Bench) (h : Handle) (n : Node) → Has (slotOf b) h n → nodeAt b h ≡ some n
+unfolding nodeAt
+has-node b h n H = ap (ifSerial (h .serial)) (H .stands) ∙ serial-is (h .serial) n (H .serial)
+
+-- a handle that is not stale
+pub has-of : (b : Bench) (h : Handle) → stale b h ≡ false → (n : Node) × Has (slotOf b) h n × (nodeAt b h ≡ some n)
+has-of b h e = go (nodeAt b h) refl
+  where
+    go : (o : Option Node) → nodeAt b h ≡ o → (n : Node) × Has (slotOf b) h n × (nodeAt b h ≡ some n)
+    go none k = absurd (true≢false (sym (ap (λ (o : Option Node). not (given o)) k) ∙ e))
+    go (some n) k = (n, node-has b h n k, k)
 
 pub record Fusable (b : Bench) (p l r : ℕ) : Type 0 where
   pub p<8 : p < 8
@@ -110,6 +115,7 @@ pub record Fusable (b : Bench) (p l r : ℕ) : Type 0 where
   pub r-none : interface b r .parent ≡ none
   pub p-none : interface b p .parent ≡ none
   pub no-slots : interface b p .slots ≡ []
+  pub no-progress : natAbs (interface b p .progress) ≡ 0
   pub no-halves : given (interface b p .halves) ≡ false
 
 pub fusable : (b : Bench) (p l r : ℕ) → first (fuseTests b p l r) ≡ 0 → Fusable b p l r
@@ -131,5 +137,20 @@ fusable b p l r e =
       l-none = given-false (interface b l .parent) (c₂ .0);
       r-none = given-false (interface b r .parent) (c₂ .1);
       no-slots = empty-true (interface b p .slots) (not-false (empty (interface b p .slots)) (u₁ .0));
+      no-progress = eqb-true (natAbs (interface b p .progress)) 0 (not-false (eqb (natAbs (interface b p .progress)) 0) (u₂ .0));
       no-halves = u₂ .1;
     }
+
+-- and back: what can be fused is
+pub fusable-tests : (b : Bench) (p l r : ℕ) → Fusable b p l r → first (fuseTests b p l r) ≡ 0
+unfolding fuseTests
+fusable-tests b p l r f = failed (fuseTests b p l r) (
+  ap₂ _||_ (lt-leb 8 p (f .p<8)) (ap₂ _||_ (lt-leb 8 l (omega arith)) (lt-leb 8 r (omega arith))),
+  (
+    ap₂ _||_ (ap given (f .p-none)) (ap₂ _||_ (ap given (f .l-none)) (ap given (f .r-none))),
+    (
+      ap₂ _||_ (ne-eqb l r (f .l≢r)) (ap₂ _||_ (lt-leb p l (f .l<p)) (lt-leb p r (f .r<p))),
+      (ap₂ _||_ (ap (λ (x : List (Option Node)). not (empty x)) (f .no-slots)) (ap₂ _||_ (ap (λ (z : ℕ). not (eqb z 0)) (f .no-progress)) (f .no-halves)), tt),
+    ),
+  ),
+)

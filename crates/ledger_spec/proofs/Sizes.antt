@@ -17,9 +17,10 @@ use Rattle.ledger_spec.specs.Tests.{given, hasParent}
 use Rattle.ledger_spec.specs.Deeds.{sizeOf, sizes, members}
 use Rattle.ledger_spec.specs.SoundTree.{tally}
 use Rattle.ledger_spec.proofs.Counts.{sumTo, sumOf, one, rest, count, Below, sum-one, sum-zero, sum-has, sum-most, list-has, family}
-use Rattle.ledger_spec.proofs.Knit.{mk, nodes, In, here, there, Has, Up, Down, none-some, some-eq, same-handle, same-self, tally-yes, tally-no, blossom-eq}
-use Rattle.ledger_spec.proofs.Slots.{slot-out}
-use Rattle.ledger_spec.proofs.Sewn.{Sewn}
+use Rattle.ledger_spec.specs.Knit.{mk, nodes, In, here, there, Has, Up, Down, Sewn}
+use Rattle.ledger_spec.proofs.Knit.{none-some, some-eq, same-handle, same-self, blossom-eq}
+use Rattle.ledger_spec.proofs.Lists.{tally-yes, tally-no}
+use Rattle.ledger_spec.proofs.Readings.{slot-out}
 
 -- a handle's position among the 512 slots
 abbrev pub spot : Handle → ℕ

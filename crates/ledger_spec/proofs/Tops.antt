@@ -1,28 +1,17 @@
 -- The top of an interface's tree: what it depends on, that the climb ends, and what fusing and clearing do to it. Assumes nothing.
 use Prim.Native.Nat.{ℕ, zero, suc, _+_, _≤_, _<_}
 use mathlib.Core.Path.{_≡_, refl, sym, _∙_, ap, ap₂, subst}
-use mathlib.Core.Logic.{_≢_, _⊎_}
+use mathlib.Core.Logic.{_≢_}
 use mathlib.Core.Bool.{Bool, true, false, cond, _||_, true≢false}
 use mathlib.Core.Option.{Option, none, some}
-use mathlib.Core.List.{List, [], _∷_}
 use native.Mathlib.Omega.{arith}
 use native.Mathlib.Decide.{ℕ-discrete}
 use lib.Dec.{eqb}
 use borrow.Author.Tests.{eq-eqb, ne-eqb}
-use lib.ListN.{length}
-use Rattle.ledger_spec.specs.Bench.{Interface, Bench}
+use Rattle.ledger_spec.specs.Bench.{Bench}
 use Rattle.ledger_spec.specs.Look.{interface, climb, top}
 use Rattle.ledger_spec.specs.Tests.{given}
-
--- how interfaces are linked: to parents of higher numbers, which have halves; and the halves of one are two whose parent it is
-pub record Frame (b : Bench) : Type 0 where
-  pub eight : length (b .interfaces) ≡ 8
-  pub rising : (u p : ℕ) → interface b u .parent ≡ some p → (u < p) × (p < 8)
-  pub linked : (u p : ℕ) → interface b u .parent ≡ some p → given (interface b p .halves) ≡ true
-  pub up : (w u l r : ℕ) → interface b w .parent ≡ some u → interface b u .halves ≡ some (l, r) → (w ≡ l) ⊎ (w ≡ r)
-  pub left : (u l r : ℕ) → interface b u .halves ≡ some (l, r) → interface b l .parent ≡ some u
-  pub right : (u l r : ℕ) → interface b u .halves ≡ some (l, r) → interface b r .parent ≡ some u
-  pub apart : (u l r : ℕ) → interface b u .halves ≡ some (l, r) → l ≢ r
+use Rattle.ledger_spec.specs.Frame.{Frame}
 
 pub climb-none : (k : ℕ) (b : Bench) (u : ℕ) → interface b u .parent ≡ none → climb k b u ≡ u
 unfolding climb

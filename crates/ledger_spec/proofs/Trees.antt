@@ -1,7 +1,7 @@
 -- The tree under an interface, listed down its halves, is what climbs up to it: a sum over the list is a sum over the interfaces whose top
 -- it is. So demand 3's account may be read either way. Assumes nothing.
 use Prim.Native.Nat.{ℕ, zero, suc, _+_, _≤_, _<_}
-use mathlib.Core.Path.{_≡_, refl, sym, _∙_, ap, ap₂, subst}
+use mathlib.Core.Path.{_≡_, refl, sym, _∙_, ap, ap₂}
 use mathlib.Core.Logic.{_≢_, _⊎_, inl, inr}
 use mathlib.Core.Bool.{Bool, true, false, _||_, true≢false}
 use mathlib.Core.Option.{Option, none, some}
@@ -9,18 +9,20 @@ use mathlib.Core.List.{List, [], _∷_, _++_}
 use native.Mathlib.Omega.{arith}
 use native.Mathlib.Decide.{ℕ-discrete}
 use lib.Dec.{eqb}
-use borrow.Author.Tests.{eq-eqb, ne-eqb, eqb-true}
+use borrow.Author.Tests.{eq-eqb, ne-eqb}
 use lib.IntN.{ℤ, pos, _+ℤ_, +ℤ-assoc, +ℤ-comm, +ℤ-idl, +ℤ-idr}
-use Rattle.ledger_spec.specs.Bench.{Node, Interface, Bench}
+use Rattle.ledger_spec.specs.Bench.{Node, Bench}
 use Rattle.ledger_spec.specs.Look.{interface, climb, top, tree}
 use Rattle.ledger_spec.specs.Tests.{given}
-use Rattle.ledger_spec.specs.Account.{Σ, gate, Under, over}
-use Rattle.ledger_spec.specs.Change.{worth}
+use Rattle.ledger_spec.specs.Account.{Σ, gate, Under, over, ratesIn}
+use Rattle.ledger_spec.specs.Change.{worth, share}
 use Rattle.ledger_spec.specs.Reads.{slotsFrom, gather}
 use Rattle.ledger_spec.specs.Check.{totalOf}
+use Rattle.ledger_spec.specs.Sound.{rates}
 use Rattle.ledger_spec.proofs.Ints.{swap-mid}
-use Rattle.ledger_spec.proofs.Sums.{Σ-same, Σ-add, Σ-zero, Σ-change, gate-yes, gate-no, zero-gate}
-use Rattle.ledger_spec.proofs.Tops.{Frame, climb-none, climb-some}
+use Rattle.ledger_spec.proofs.Sums.{Σ-same, Σ-add, Σ-zero, Σ-change, gate-yes, gate-no}
+use Rattle.ledger_spec.specs.Frame.{Frame}
+use Rattle.ledger_spec.proofs.Tops.{climb-none, climb-some}
 
 unfoldable pub along : (ℕ → ℤ) → List ℕ → ℤ
 along v [] = pos 0
@@ -31,11 +33,11 @@ unfolding along
 along-append v [] t = sym (+ℤ-idl (along v t))
 along-append v (u ∷ us) t = ap (λ (z : ℤ). v u +ℤ z) (along-append v us t) ∙ sym (+ℤ-assoc (v u) (along v us) (along v t))
 
-tree-leaf : (k : ℕ) (b : Bench) (u : ℕ) → interface b u .halves ≡ none → tree (suc k) b u ≡ u ∷ []
+pub tree-leaf : (k : ℕ) (b : Bench) (u : ℕ) → interface b u .halves ≡ none → tree (suc k) b u ≡ u ∷ []
 unfolding tree
 tree-leaf k b u e = rw (e, tree)
 
-tree-fork : (k : ℕ) (b : Bench) (u : ℕ) (lr : ℕ × ℕ) → interface b u .halves ≡ some lr → tree (suc k) b u ≡ (tree k b (lr .0) ++ tree k b (lr .1)) ++ (u ∷ [])
+pub tree-fork : (k : ℕ) (b : Bench) (u : ℕ) (lr : ℕ × ℕ) → interface b u .halves ≡ some lr → tree (suc k) b u ≡ (tree k b (lr .0) ++ tree k b (lr .1)) ++ (u ∷ [])
 unfolding tree
 tree-fork k b u lr e = rw (e, tree)
 
@@ -212,6 +214,17 @@ pub gather-total : (b : Bench) (us : List ℕ) → totalOf (gather b us) ≡ alo
 unfolding gather along totalOf
 gather-total b [] = refl
 gather-total b (u ∷ us) = slots-total u 0 (interface b u .slots) (gather b us) ∙ ap (λ (z : ℤ). over worth (interface b u .slots) +ℤ z) (gather-total b us)
+
+-- and so are the rates
+slots-rates : (u k : ℕ) (l : List (Option Node)) (ts : List (ℕ × ℕ × Option Node)) → rates (slotsFrom u k l ++ ts) ≡ over share l +ℤ rates ts
+unfolding slotsFrom rates over
+slots-rates u k [] ts = sym (+ℤ-idl (rates ts))
+slots-rates u k (x ∷ xs) ts = ap (λ (z : ℤ). share x +ℤ z) (slots-rates u (suc k) xs ts) ∙ sym (+ℤ-assoc (share x) (over share xs) (rates ts))
+
+pub gather-rates : (b : Bench) (us : List ℕ) → rates (gather b us) ≡ along (ratesIn b) us
+unfolding gather along rates
+gather-rates b [] = refl
+gather-rates b (u ∷ us) = slots-rates u 0 (interface b u .slots) (gather b us) ∙ ap (λ (z : ℤ). over share (interface b u .slots) +ℤ z) (gather-rates b us)
 
 pub along-add : (f g : ℕ → ℤ) (us : List ℕ) → along (λ u. f u +ℤ g u) us ≡ along f us +ℤ along g us
 unfolding along

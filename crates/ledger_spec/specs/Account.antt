@@ -2,11 +2,11 @@
 use Prim.Native.Nat.{ℕ, zero, suc, _<_}
 use mathlib.Core.Path.{_≡_}
 use mathlib.Core.Bool.{Bool, true, false}
-use mathlib.Core.Option.{Option, none, some}
+use mathlib.Core.Option.{Option, none}
 use mathlib.Core.List.{List, [], _∷_}
 use lib.Dec.{eqb}
 use lib.IntN.{ℤ, pos, _+ℤ_}
-use Rattle.ledger_spec.specs.Bench.{Node, Interface, Bench}
+use Rattle.ledger_spec.specs.Bench.{Node, Bench}
 use Rattle.ledger_spec.specs.Look.{interface, top}
 use Rattle.ledger_spec.specs.Change.{share, worth}
 use Rattle.ledger_spec.specs.Book.{Book}
@@ -35,8 +35,11 @@ Under tp v i = Σ 8 (λ u. gate (eqb (tp u) i) (v u))
 abbrev pub valuesAt : Book → ℕ → ℤ
 valuesAt k u = over worth (interface (k .bench) u .slots) +ℤ total (k .gone u)
 
+abbrev pub ratesIn : Bench → ℕ → ℤ
+ratesIn b u = over share (interface b u .slots)
+
 abbrev pub ratesAt : Book → ℕ → ℤ
-ratesAt k u = over share (interface (k .bench) u .slots)
+ratesAt k u = ratesIn (k .bench) u
 
 -- The stored sum and speed of each interface without a parent are those of the nodes in its tree
 pub record Right (k : Book) (i : ℕ) : Type 0 where

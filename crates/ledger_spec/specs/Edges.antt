@@ -1,4 +1,5 @@
--- Document 01's edges P1 to P10, as one table about the definitions. Each row has what is computed and what document 01 says. Assumes nothing.
+-- Document 01's edges P1 to P10 as one table about the definitions, and after them some rows that tempting and wrong definitions break. Each row has
+-- what is computed and what document 01 says. Assumes nothing.
 use Prim.Native.Nat.{ℕ, zero, suc}
 use Prim.Native.String.{String, _++_}
 use mathlib.Core.Path.{_≡_, refl}
@@ -7,21 +8,27 @@ use mathlib.Core.Option.{Option, none, some}
 use mathlib.Core.List.{List, [], _∷_, map}
 use lib.IntN.{ℤ, pos}
 use Rattle.kinds.specs.Names.{nobody}
-use Rattle.kinds.specs.declared.Entry.{Entry}
 use Rattle.kinds.specs.declared.Stop.{Stop}
 use Rattle.kinds.specs.declared.MaybePair.the-variants.{NoPair}
 use Rattle.kinds.specs.declared.Obstacle.{Obstacle}
 use Rattle.kinds.specs.declared.Obstacle.the-variants.{TouchingVirtual, BlossomNeedExpand, VertexShrinkStop}
-use Rattle.ledger_spec.specs.Bench.{Handle, Bench, setUp}
-use Rattle.ledger_spec.specs.Reads.{valueOf}
+use Rattle.ledger_spec.specs.Bench.{Handle, grows, defect, Bench, setUp}
+use Rattle.ledger_spec.specs.Change.{withInterface}
+use Rattle.ledger_spec.specs.Calls.{Call, Defect, Blossom, Expand, Grow, Fuse}
+use Rattle.ledger_spec.specs.Reads.{handleOf, valueOf}
+use Rattle.ledger_spec.specs.Answers.{answer}
+use Rattle.ledger_spec.specs.Book.{turns, begun}
 use Rattle.ledger_spec.specs.Groups.{Group, growth, conflicts, largest, extended}
 use Rattle.ledger_spec.specs.Bytes.{bytes}
 use Rattle.ledger_spec.specs.Opened.{run, ran, pops}
 
--- what a row shows: a text, a node's value, a group, what pops took
+-- what a row shows: a text, a node's value, the handle of an index, what went from an interface, a number, a group, what pops took
 pub data Shown : Type 0 where
   text : List ℕ → Shown
   value : ℕ × ℤ → Shown
+  handle : ℕ × Option Handle → Shown
+  went : List ℤ → Shown
+  number : ℕ → Shown
   group : Option Group → Shown
   taken : List (ℕ × Option Obstacle) → Shown
 
@@ -38,6 +45,18 @@ pub valued : String → ℕ → Shown
 unfolding run
 valued before u = value (valueOf (ran (setUp 1) before) (record { unit = u; slot = 0; serial = suc u }))
 
+pub indexed : String → ℕ → ℕ → Shown
+unfolding run
+indexed before u k = handle (handleOf (ran (setUp 1) before) u k)
+
+pub lost : List Call → ℕ → Shown
+unfolding run
+lost cs u = went (turns (begun 1) cs .gone u)
+
+pub refused : Bench → Call → Shown
+unfolding run
+refused b c = number (answer b c .number)
+
 pub joined : Group → Group → Shown
 unfolding run
 joined g h = group (extended g h)
@@ -52,6 +71,14 @@ fused = "D 0 3\nD 1 7\nG 0 4\nG 1 6\nF 2 0 1\n"
 -- the whole case
 abbrev pub whole : String
 whole = "D 0 3\nD 0 8\nD 0 9\nG 0 5\nB 0 1 2 3\nG 0 2\nS 0 4 -1\nG 0 1\nE 0 4\nK 0\n"
+
+-- a blossom of value 4 in interface 0, expanded by its fused parent's number
+abbrev pub expanded : List Call
+expanded = Defect 0 3 ∷ Blossom 0 (record { unit = 0; slot = 0; serial = 1 } ∷ []) [] ∷ Grow 0 (pos 4) ∷ Fuse 2 0 1 ∷ Expand 2 (record { unit = 0; slot = 1; serial = 2 }) ∷ []
+
+-- a bench made by hand: a defect of this value where nothing has grown yet
+abbrev pub worthAtOnce : ℤ → Bench
+worthAtOnce v = withInterface (setUp 2) 0 (record { slots = some (record { serial = 1; class = defect 3; state = grows; parent = none; value = v; size = 1 }) ∷ []; progress = pos 0; sum = pos 0; speed = pos 1; parent = none; halves = none })
 
 -- two obstacles for a list, and stops at 4 and 9
 abbrev pub c1 : Obstacle
@@ -92,8 +119,22 @@ table =
     ∷ (after "" whole, says "0 1 1 0\n0 2 2 0\n0 3 3 0\n0 0 3 15\n0 4 1 15\n0 0 1 17\n0 4 -1 17\n0 0 -1 16\n0 4 3 16\n0 5 3 16\n")
     -- a fuse that names no interface shows zeros (READING T1)
     ∷ (after "D 2 5\n" "F 2 9 0\n", says "3 0 0 0\n")
+    -- of several refusals the lowest: gone before of another tree (READING T16), a child before all that a handle can be
+    ∷ (after "D 1 4\n" "B 0 1 9\n", says "8 0 0 0\n")
+    ∷ (after fused "E 0 1\n", says "4 0 0 0\n")
+    -- the index counts the left half's slots, then the right half's
+    ∷ (indexed fused 2 0, handle (0, some (record { unit = 0; slot = 0; serial = 1 })))
+    ∷ (indexed fused 2 1, handle (0, some (record { unit = 1; slot = 0; serial = 2 })))
+    -- a clear empties and unfuses the halves too; the next serial stays
+    ∷ (after (fused ++ "C 2\n") "D 0 5\nK 1\n", says "0 3 1 0\n0 0 0 0\n")
+    -- what went is booked by the interface whose slot it held
+    ∷ (lost expanded 0, went (pos 4 ∷ []))
+    ∷ (lost expanded 2, went [])
+    -- a value outside W is BROKEN
+    ∷ (refused (worthAtOnce (pos 0)) (Grow 0 (pos 1)), number 0)
+    ∷ (refused (worthAtOnce (pos 1)) (Grow 0 (pos 1)), number 2)
     ∷ []
 
 pub edges : map (λ (e : Shown × Shown). e .0) table ≡ map (λ (e : Shown × Shown). e .1) table
-unfolding run ran after says valued joined pops
+unfolding run ran after says valued indexed lost refused joined pops
 edges = refl

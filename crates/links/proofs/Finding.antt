@@ -8,7 +8,7 @@ use mathlib.Core.Option.{Option, none, some}
 use mathlib.Core.List.{List}
 use native.Mathlib.Decide.{decLt}
 use native.Mathlib.Omega.{arith}
-use borrow.Author.Tests.{eq-eqb, ne-eqb, le-ltb, lt-ltb}
+use borrow.Author.Tests.{ne-eqb, le-ltb, lt-ltb}
 use lib.ListN.{getD}
 use Rattle.words.specs.Codec.{handleOf}
 use Rattle.words.specs.Store.{nodeAt, interfaceAt}
@@ -20,6 +20,7 @@ use Rattle.ledger_spec.specs.Bench as plain
 use Rattle.ledger_spec.specs.Look.{slotOf, ifSerial, nodeAt as nodeNamed}
 use Rattle.ledger_spec.specs.Named.{handleNamed}
 use Rattle.ledger_spec.proofs.Knit.{none-some}
+use Rattle.ledger_spec.proofs.Passed.{has-node}
 use Rattle.views.specs.View.{view, slotSeen, nodeSeen, sumUp, circleOf}
 use Rattle.views.specs.Canon.{Canon}
 use Rattle.views.proofs.Views.{view-slot, view-past, view-out}
@@ -36,8 +37,7 @@ module _ (B : plain.Bench) (h : Handle) where
   named-none e = rw e
 
   pub named-some : (n : plain.Node) → slotOf B (h .unit) (h .slot) ≡ some n → n .serial ≡ h .serial → nodeNamed B h ≡ some n
-  unfolding nodeNamed ifSerial
-  named-some n e s = rw (e, eq-eqb (h .serial) (n .serial) (sym s), ifSerial)
+  named-some n e s = has-node B h n (record { stands = e; serial = s })
 
   pub named-other : (n : plain.Node) → slotOf B (h .unit) (h .slot) ≡ some n → (n .serial ≡ h .serial → ⊥) → nodeNamed B h ≡ none
   unfolding nodeNamed ifSerial

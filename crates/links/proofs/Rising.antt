@@ -1,6 +1,6 @@
 -- One turn of the walk up: at a node without a parent it ends, and else it goes on at the parent with one link more, by the definitions' own steps.
 -- Assumes nothing.
-use Prim.Native.Nat.{ℕ, zero, suc, _+_, _-_, _<_, _≤_}
+use Prim.Native.Nat.{ℕ, suc, _+_, _-_, _<_, _≤_}
 use mathlib.Core.Path.{_≡_, refl, ap, sym, _∙_}
 use mathlib.Core.Option.{Option, none, some}
 use mathlib.Core.List.{List}
@@ -15,7 +15,8 @@ use Rattle.ledger_spec.specs.Bench as plain
 use Rattle.ledger_spec.specs.Look.{slotOf, top, nodeAt as nodeNamed}
 use Rattle.ledger_spec.specs.Named.{handleNamed, parentNamed}
 use Rattle.ledger_spec.specs.Walk.{parentOf, outerFrom, linksFrom, underFrom}
-use Rattle.ledger_spec.proofs.Knit.{Up}
+use Rattle.ledger_spec.specs.Knit.{Up}
+use Rattle.ledger_spec.proofs.Chains.{outer-none, outer-some, links-none, links-some, under-none, under-some}
 use Rattle.views.specs.View.{view, sumUp, circleOf, nodeSeen}
 use Rattle.views.specs.Fit.{Fit}
 use Rattle.views.proofs.Views.{view-slot}
@@ -25,36 +26,6 @@ use Rattle.links.specs.Find.{spot, Stands}
 use Rattle.links.specs.Outer.{Outers}
 use Rattle.links.proofs.Finding.{stands-by}
 
--- ---- the definitions, step by step
-module _ (B : Bench) (h : Handle) where
-  pub outer-none : (k : ℕ) → parentOf (nodeNamed B h) ≡ none → outerFrom k B h ≡ h
-  unfolding outerFrom
-  outer-none zero e = refl
-  outer-none (suc k) e = rw (e, outerFrom)
-
-  pub links-none : (k : ℕ) → parentOf (nodeNamed B h) ≡ none → linksFrom k B h ≡ 0
-  unfolding linksFrom
-  links-none zero e = refl
-  links-none (suc k) e = rw (e, linksFrom)
-
-  pub under-none : (k : ℕ) (g : Handle) → parentOf (nodeNamed B h) ≡ none → underFrom k B g h ≡ g
-  unfolding underFrom
-  under-none zero g e = refl
-  under-none (suc k) g e = rw (e, underFrom)
-
-  module _ (k : ℕ) (p : Handle) (e : parentOf (nodeNamed B h) ≡ some p) where
-    pub outer-some : outerFrom (suc k) B h ≡ outerFrom k B p
-    unfolding outerFrom
-    outer-some = rw (e, outerFrom)
-
-    pub links-some : linksFrom (suc k) B h ≡ suc (linksFrom k B p)
-    unfolding linksFrom
-    links-some = rw (e, linksFrom)
-
-    pub under-some : (g : Handle) → underFrom (suc k) B g h ≡ underFrom k B h p
-    unfolding underFrom
-    under-some g = rw (e, underFrom)
-
 -- no link is followed exactly from a node without a parent
 module _ (B : Bench) (h : Handle) where
   pub no-link : linksFrom 512 B h ≡ 0 → parentOf (nodeNamed B h) ≡ none
@@ -62,13 +33,13 @@ module _ (B : Bench) (h : Handle) where
     where
       go : (o : Option Handle) → parentOf (nodeNamed B h) ≡ o → parentOf (nodeNamed B h) ≡ none
       go none e = e
-      go (some p) e = absurd (omega (arith, z, links-some B h 511 p e))
+      go (some p) e = absurd (omega (arith, z, links-some B 511 h p e))
 
   pub some-link : (linksFrom 512 B h ≡ 0 → ⊥) → (p : Handle) × (parentOf (nodeNamed B h) ≡ some p)
   some-link z = go (parentOf (nodeNamed B h)) refl
     where
       go : (o : Option Handle) → parentOf (nodeNamed B h) ≡ o → (p : Handle) × (parentOf (nodeNamed B h) ≡ some p)
-      go none e = absurd (z (links-none B h 512 e))
+      go none e = absurd (z (links-none B 512 h e))
       go (some p) e = (p, e)
 
 -- ---- in words
@@ -131,9 +102,9 @@ module _ (b : List ℕ) (h at under : Handle) (links : ℕ) (G : Going b h at un
     going-ends q r x y z =
         let top = parent-now ∙ ap parentNamed q in
         record {
-          node = x ∙ sym (outer-none (view b) at (512 - links) top) ∙ G .node;
-          under = y ∙ sym (under-none (view b) at (512 - links) under top) ∙ G .below;
-          links = omega (arith, z, links-none (view b) at (512 - links) top, G .counted);
+          node = x ∙ sym (outer-none (view b) (512 - links) at top) ∙ G .node;
+          under = y ∙ sym (under-none (view b) (512 - links) under at top) ∙ G .below;
+          links = omega (arith, z, links-none (view b) (512 - links) at top, G .counted);
           few = omega (arith, z, G .few);
           stands = rw x (G .stands);
         }
@@ -146,7 +117,7 @@ module _ (b : List ℕ) (h at under : Handle) (links : ℕ) (G : Going b h at un
           fit = G .fit;
           stands = stands-parent b at (G .stands) (G .fit) q (sym (ap (λ (x : Node). x .parent) e) ∙ p);
           few = omega arith;
-          node = sym (outer-some (view b) at (512 - (links + 1)) (handleNamed q) up) ∙ ap (λ (k : ℕ). outerFrom k (view b) at) back ∙ G .node;
-          below = sym (under-some (view b) at (512 - (links + 1)) (handleNamed q) up under) ∙ ap (λ (k : ℕ). underFrom k (view b) under at) back ∙ G .below;
-          counted = omega (arith, links-some (view b) at (512 - (links + 1)) (handleNamed q) up, ap (λ (k : ℕ). linksFrom k (view b) at) back, G .counted);
+          node = sym (outer-some (view b) (512 - (links + 1)) at (handleNamed q) up) ∙ ap (λ (k : ℕ). outerFrom k (view b) at) back ∙ G .node;
+          below = sym (under-some (view b) (512 - (links + 1)) under at (handleNamed q) up) ∙ ap (λ (k : ℕ). underFrom k (view b) under at) back ∙ G .below;
+          counted = omega (arith, links-some (view b) (512 - (links + 1)) at (handleNamed q) up, ap (λ (k : ℕ). linksFrom k (view b) at) back, G .counted);
         }

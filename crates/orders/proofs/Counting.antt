@@ -1,23 +1,20 @@
 -- Along the interfaces of a tree: what is left of the slots is the first interface's and then the others', so a count, an index and a place fall
 -- into one interface after the other. Assumes nothing.
-use Prim.Native.Nat.{ℕ, zero, suc, _+_, _-_, _*_, _/_, _%_, _<_, _≤_}
-use mathlib.Core.Path.{_≡_, refl, ap, ap₂, sym, _∙_, subst}
-use mathlib.Core.Bool.{Bool, true, false, _&&_}
+use Prim.Native.Nat.{ℕ, _+_, _-_, _*_, _/_, _%_, _<_, _≤_}
+use mathlib.Core.Path.{_≡_, ap, ap₂, sym, _∙_, subst}
 use mathlib.Core.Option.{Option, none}
-use mathlib.Core.List.{List, [], _∷_, _++_}
-use native.Mathlib.Decide.{ℕ-discrete}
+use mathlib.Core.List.{List, [], _∷_}
 use native.Mathlib.Numerals.{add-one}
 use native.Mathlib.Omega.{arith}
-use lib.Dec.{eqb}
-use borrow.Author.Tests.{eq-eqb, ne-eqb}
-use lib.ListN.{length, drop, getD, length-append, length-drop, drop-of-length-le, List·getD-append}
-use lib.Seq.{drop-cons, drop-append-add, getD-drop, getD-take, length-take-le}
+use lib.ListN.{length, drop, getD, drop-of-length-le}
+use lib.Seq.{drop-cons, getD-take, length-take-le}
 use Rattle.words.specs.Store.{nodeAt, interfaceAt}
 use Rattle.words.specs.declared.Interface.{Interface}
 use Rattle.ledger_spec.specs.Bench.{Handle, Node}
 use Rattle.ledger_spec.specs.Look.{interface, slotOf, tree}
-use Rattle.ledger_spec.specs.Reads.{slotsFrom, gather, slotsOf}
+use Rattle.ledger_spec.specs.Reads.{gather, slotsOf}
 use Rattle.ledger_spec.specs.Check.{indexIn}
+use Rattle.ledger_spec.proofs.Indices.{gather-length, gather-at, gather-past, index-here, index-past}
 use Rattle.views.specs.View.{view}
 use Rattle.views.specs.Fit.{Fit}
 use Rattle.views.proofs.Views.{view-count}
@@ -25,54 +22,7 @@ use Rattle.orders.specs.declared.Order.{Order}
 use Rattle.orders.specs.declared.Spot.{Spot}
 use Rattle.orders.specs.declared.Spot.the-variants.{Slot, Past}
 use Rattle.orders.specs.Order.{Lists, AtIndex, Locates}
-use Rattle.orders.proofs.Trees.{tree-low, below-get}
-
--- ---- the slots of one interface
-pub length-slots : (u k : ℕ) (xs : List (Option Node)) → length (slotsFrom u k xs) ≡ length xs
-unfolding slotsFrom
-length-slots u k [] = refl
-length-slots u k (x ∷ xs) = ap suc (length-slots u (suc k) xs)
-
-pub get-slots : (u k : ℕ) (xs : List (Option Node)) (s : ℕ) → s < length xs → getD (slotsFrom u k xs) s (0, 0, none) ≡ (u, k + s, getD xs s none)
-unfolding slotsFrom
-get-slots u k [] s l = absurd (omega arith)
-get-slots u k (x ∷ xs) zero l = let e : k ≡ k + 0 = omega arith in ap (λ (z : ℕ). (u, z, x)) e
-get-slots u k (x ∷ xs) (suc s) l =
-    let e : suc k + s ≡ k + suc s = omega arith in
-    get-slots u (suc k) xs s (omega arith) ∙ ap (λ (z : ℕ). (u, z, getD xs s none)) e
-
--- ---- the index of a place
-pub index-else : (t : ℕ × ℕ × Option Node) (ts : List (ℕ × ℕ × Option Node)) (k : ℕ) (h : Handle) → (eqb (t .0) (h .unit) && eqb (t .1) (h .slot)) ≡ false → indexIn (t ∷ ts) k h ≡ indexIn ts (suc k) h
-unfolding indexIn
-index-else t ts k h e = rw (e, indexIn)
-
-pub index-here : (t : ℕ × ℕ × Option Node) (ts : List (ℕ × ℕ × Option Node)) (k : ℕ) (h : Handle) → (eqb (t .0) (h .unit) && eqb (t .1) (h .slot)) ≡ true → indexIn (t ∷ ts) k h ≡ k
-unfolding indexIn
-index-here t ts k h e = rw (e, indexIn)
-
-and-no : (p : Bool) → (p && false) ≡ false
-and-no true = refl
-and-no false = refl
-
-pub index-miss : (u j : ℕ) (xs : List (Option Node)) (ts : List (ℕ × ℕ × Option Node)) (k : ℕ) (h : Handle) → (u ≡ h .unit → ⊥) → indexIn (slotsFrom u j xs ++ ts) k h ≡ indexIn ts (k + length xs) h
-unfolding slotsFrom
-index-miss u j [] ts k h ne = let e : k ≡ k + 0 = omega arith in ap (λ (z : ℕ). indexIn ts z h) e
-index-miss u j (x ∷ xs) ts k h ne =
-    let e : suc k + length xs ≡ k + suc (length xs) = omega arith in
-    index-else (u, j, x) (slotsFrom u (suc j) xs ++ ts) k h (ap (λ (c : Bool). c && eqb j (h .slot)) (ne-eqb u (h .unit) ne))
-    ∙ index-miss u (suc j) xs ts (suc k) h ne
-    ∙ ap (λ (z : ℕ). indexIn ts z h) e
-
-pub index-hit : (u j : ℕ) (xs : List (Option Node)) (ts : List (ℕ × ℕ × Option Node)) (k : ℕ) (h : Handle) → u ≡ h .unit → j ≤ h .slot → h .slot < j + length xs → indexIn (slotsFrom u j xs ++ ts) k h ≡ k + (h .slot - j)
-unfolding slotsFrom
-index-hit u j [] ts k h e l m = absurd (omega arith)
-index-hit u j (x ∷ xs) ts k h e l m = go (ℕ-discrete j (h .slot)) (index-hit u (suc j) xs ts (suc k) h e)
-  where
-    go : Dec (j ≡ h .slot) → (suc j ≤ h .slot → h .slot < suc j + length xs → indexIn (slotsFrom u (suc j) xs ++ ts) (suc k) h ≡ suc k + (h .slot - suc j)) → indexIn ((u, j, x) ∷ (slotsFrom u (suc j) xs ++ ts)) k h ≡ k + (h .slot - j)
-    go (yes q) ih = let z : k ≡ k + (h .slot - j) = omega arith in index-here (u, j, x) (slotsFrom u (suc j) xs ++ ts) k h (ap₂ _&&_ (eq-eqb u (h .unit) e) (eq-eqb j (h .slot) q)) ∙ z
-    go (no q) ih =
-        let z : suc k + (h .slot - suc j) ≡ k + (h .slot - j) = omega arith in
-        index-else (u, j, x) (slotsFrom u (suc j) xs ++ ts) k h (ap₂ _&&_ (eq-eqb u (h .unit) e) (ne-eqb j (h .slot) q)) ∙ ih (omega arith) (omega arith) ∙ z
+use Rattle.orders.proofs.Trees.{tree-low}
 
 -- ---- one turn along the order
 
@@ -96,11 +46,17 @@ module _ (b : List ℕ) (F : Fit b) (unit : ℕ) (lu : unit < 8) (o : Order) (L 
     unit-at = sym (ap (λ (us : List ℕ). getD us i 0) (L .list)) ∙ getD-take (o .count) (o .units) i 0 l ∙ sym e
 
     pub unit-low : u < 8
-    unit-low = subst (λ (x : ℕ). x < 8) unit-at (below-get (tree 8 (view b) unit) i (tree-low (view b) (F .frame) 8 unit lu) (omega (arith, counted)))
+    unit-low = subst (λ (x : ℕ). x < 8) unit-at (tree-low (view b) (F .frame) unit i lu (omega (arith, counted)))
 
-    pub left-more : left i ≡ slotsFrom u 0 (interface (view b) u .slots) ++ left (i + 1)
-    unfolding gather
+    left-more : left i ≡ gather (view b) (u ∷ drop (i + 1) (tree 8 (view b) unit))
     left-more = ap (gather (view b)) (drop-cons (tree 8 (view b) unit) i 0 (omega (arith, counted)) ∙ ap₂ (λ (x : ℕ) (n : ℕ). x ∷ drop n (tree 8 (view b) unit)) unit-at (sym (add-one i)))
+
+    pub index-there : (n : ℕ) (h : Handle) → u ≡ h .unit → h .slot < interfaceAt b (h .unit) .used → indexIn (left i) n h ≡ n + h .slot
+    index-there n h q m =
+        let c = view-count (getD b 0 0) (interfaceAt b) (nodeAt b) (h .unit) (subst (λ (x : ℕ). x < 8) q unit-low) in
+        ap (λ (ts : List (ℕ × ℕ × Option Node)). indexIn ts n h) left-more
+        ∙ ap (λ (x : ℕ). indexIn (gather (view b) (x ∷ drop (i + 1) (tree 8 (view b) unit))) n h) q
+        ∙ index-here (view b) (drop (i + 1) (tree 8 (view b) unit)) n h (omega arith)
 
     module _ (f : Interface) (g : f ≡ interfaceAt b u) where
       used-seen : length (interface (view b) u .slots) ≡ f .used
@@ -110,58 +66,31 @@ module _ (b : List ℕ) (F : Fit b) (unit : ℕ) (lu : unit < 8) (o : Order) (L 
       used-small = rw g (F .canon .steady .slots u unit-low)
 
       pub length-more : length (left i) ≡ f .used + length (left (i + 1))
-      length-more = ap length left-more ∙ length-append (slotsFrom u 0 (interface (view b) u .slots)) (left (i + 1))
-          ∙ ap (λ (x : ℕ). x + length (left (i + 1))) (length-slots u 0 (interface (view b) u .slots) ∙ used-seen)
+      length-more = ap length left-more ∙ gather-length (view b) u (drop (i + 1) (tree 8 (view b) unit)) ∙ ap (λ (x : ℕ). x + length (left (i + 1))) used-seen
 
-      -- an index past this interface
-      pub drop-more : (rest : ℕ) → f .used ≤ rest → drop rest (left i) ≡ drop (rest - f .used) (left (i + 1))
-      drop-more rest m =
-          let xs = slotsFrom u 0 (interface (view b) u .slots) in
-          let n : length xs ≡ f .used = length-slots u 0 (interface (view b) u .slots) ∙ used-seen in
-          let r : rest ≡ length xs + (rest - f .used) = omega arith in
-          ap₂ drop r left-more ∙ drop-append-add xs (left (i + 1)) (rest - f .used)
+      -- an index into this interface, and one past it
+      pub at-here : (rest : ℕ) → rest < f .used → getD (left i) rest (0, 0, none) ≡ (u, rest, slotOf (view b) u rest)
+      at-here rest m = ap (λ (ts : List (ℕ × ℕ × Option Node)). getD ts rest (0, 0, none)) left-more
+          ∙ gather-at (view b) u (drop (i + 1) (tree 8 (view b) unit)) (0, 0, none) rest (omega (arith, used-seen))
 
-      -- an index into this interface
-      pub drop-here : (index rest k : ℕ) → drop index (left 0) ≡ drop rest (left i) → rest < f .used → k ≡ u * 64 + rest → AtIndex b unit index k
-      drop-here index rest k d m p =
-          let xs = slotsFrom u 0 (interface (view b) u .slots) in
-          let n : length xs ≡ f .used = length-slots u 0 (interface (view b) u .slots) ∙ used-seen in
-          let s = used-small in
-          let q : k / 64 ≡ u = omega arith in
-          let t : k % 64 ≡ rest = omega arith in
-          let lo = unit-low in
-          let a : rest + 0 ≡ rest = omega arith in
-          let z : 0 + rest ≡ rest = omega arith in
-          let i0 : index + 0 ≡ index = omega arith in
-          record {
-            inside = omega (arith, length-drop index (left 0), length-drop rest (left i), ap length d, length-more);
-            at = sym (ap (λ (x : ℕ). getD (left 0) x (0, 0, none)) i0)
-                ∙ sym (getD-drop index (left 0) 0 (0, 0, none))
-                ∙ ap (λ (ts : List (ℕ × ℕ × Option Node)). getD ts 0 (0, 0, none)) d
-                ∙ getD-drop rest (left i) 0 (0, 0, none)
-                ∙ ap₂ (λ (ts : List (ℕ × ℕ × Option Node)) (x : ℕ). getD ts x (0, 0, none)) left-more a
-                ∙ List·getD-append xs (left (i + 1)) (0, 0, none) rest (omega arith)
-                ∙ get-slots u 0 (interface (view b) u .slots) rest (omega (arith, used-seen))
-                ∙ ap (λ (x : ℕ). (u, x, slotOf (view b) u rest)) z
-                ∙ ap₂ (λ (v s : ℕ). (v, s, slotOf (view b) v s)) (sym q) (sym t);
-            low = omega arith;
-            used = rw (q, t) (omega (arith, m, ap (λ (x : Interface). x .used) g));
-          }
+      pub at-more : (rest : ℕ) → f .used ≤ rest → getD (left i) rest (0, 0, none) ≡ getD (left (i + 1)) (rest - f .used) (0, 0, none)
+      at-more rest m =
+          let r : rest ≡ length (interface (view b) u .slots) + (rest - f .used) = omega (arith, used-seen) in
+          ap₂ (λ (ts : List (ℕ × ℕ × Option Node)) (x : ℕ). getD ts x (0, 0, none)) left-more r ∙ gather-past (view b) u (drop (i + 1) (tree 8 (view b) unit)) (0, 0, none) (rest - f .used)
 
       pub index-more : (n : ℕ) (h : Handle) → (u ≡ h .unit → ⊥) → indexIn (left i) n h ≡ indexIn (left (i + 1)) (n + f .used) h
-      index-more n h ne = ap (λ (ts : List (ℕ × ℕ × Option Node)). indexIn ts n h) left-more ∙ index-miss u 0 (interface (view b) u .slots) (left (i + 1)) n h ne
+      index-more n h ne = ap (λ (ts : List (ℕ × ℕ × Option Node)). indexIn ts n h) left-more ∙ index-past (view b) (drop (i + 1) (tree 8 (view b) unit)) n h u ne
           ∙ ap (λ (x : ℕ). indexIn (left (i + 1)) (n + x) h) used-seen
-
-    pub index-there : (n : ℕ) (h : Handle) → u ≡ h .unit → h .slot < interfaceAt b (h .unit) .used → indexIn (left i) n h ≡ n + h .slot
-    index-there n h q m =
-        let c : length (interface (view b) u .slots) ≡ interfaceAt b (h .unit) .used = used-seen (interfaceAt b u) refl ∙ ap (λ (x : ℕ). interfaceAt b x .used) q in
-        let z : n + (h .slot - 0) ≡ n + h .slot = omega arith in
-        ap (λ (ts : List (ℕ × ℕ × Option Node)). indexIn ts n h) left-more ∙ index-hit u 0 (interface (view b) u .slots) (left (i + 1)) n h q (omega arith) (omega arith) ∙ z
 
 -- ---- what holds at each turn
 pub record Counted (b : List ℕ) (unit i n : ℕ) : Type 0 where
   pub sum : n + length (slotsLeft b unit i) ≡ length (slotsLeft b unit 0)
   pub small : n ≤ i * 64
+
+-- the index is what is left of it among the slots that are left
+pub record Sought (b : List ℕ) (unit index i rest : ℕ) : Type 0 where
+  pub at : getD (slotsLeft b unit 0) index (0, 0, none) ≡ getD (slotsLeft b unit i) rest (0, 0, none)
+  pub count : length (slotsLeft b unit 0) + rest ≡ index + length (slotsLeft b unit i)
 
 pub record Passed (b : List ℕ) (unit : ℕ) (h : Handle) (i n : ℕ) : Type 0 where
   pub index : indexIn (slotsLeft b unit 0) 0 h ≡ indexIn (slotsLeft b unit i) n h
@@ -175,6 +104,25 @@ module _ (b : List ℕ) (F : Fit b) (unit : ℕ) (lu : unit < 8) (o : Order) (L 
         let s = used-small b F unit lu o L i u l e f g in
         record { sum = omega (arith, C .sum); small = omega (arith, C .small) }
 
+    pub seek-on : (index rest : ℕ) → Sought b unit index i rest → f .used ≤ rest → Sought b unit index (i + 1) (rest - f .used)
+    seek-on index rest S m =
+        let n = length-more b F unit lu o L i u l e f g in
+        record { at = S .at ∙ at-more b F unit lu o L i u l e f g rest m; count = omega (arith, S .count) }
+
+    pub seek-ends : (index rest k : ℕ) → Sought b unit index i rest → rest < f .used → k ≡ u * 64 + rest → AtIndex b unit index k
+    seek-ends index rest k S m p =
+        let n = length-more b F unit lu o L i u l e f g in
+        let s = used-small b F unit lu o L i u l e f g in
+        let lo = unit-low b F unit lu o L i u l e in
+        let q : k / 64 ≡ u = omega arith in
+        let t : k % 64 ≡ rest = omega arith in
+        record {
+          inside = omega (arith, S .count);
+          at = S .at ∙ at-here b F unit lu o L i u l e f g rest m ∙ ap₂ (λ (v s : ℕ). (v, s, slotOf (view b) v s)) (sym q) (sym t);
+          low = omega arith;
+          used = rw (q, t) (omega (arith, m, ap (λ (x : Interface). x .used) g));
+        }
+
     pub pass-on : (n : ℕ) (h : Handle) → Passed b unit h i n → (u ≡ h .unit → ⊥) → Passed b unit h (i + 1) (n + f .used)
     pass-on n h P ne =
         let s = used-small b F unit lu o L i u l e f g in
@@ -183,9 +131,8 @@ module _ (b : List ℕ) (F : Fit b) (unit : ℕ) (lu : unit < 8) (o : Order) (L 
   pub count-ends : (i n : ℕ) → o .count ≤ i → Counted b unit i n → n ≡ length (slotsOf (view b) unit)
   count-ends i n l C = omega (arith, C .sum, ap length (left-none b F unit lu o L i l))
 
-  pub locate-ends : (index rest i : ℕ) → o .count ≤ i → drop index (slotsLeft b unit 0) ≡ drop rest (slotsLeft b unit i) → length (slotsOf (view b) unit) ≤ index
-  locate-ends index rest i l d =
-      omega (arith, length-drop index (slotsLeft b unit 0), length-drop rest (slotsLeft b unit i), ap length d, ap length (left-none b F unit lu o L i l))
+  pub seek-past : (index rest i : ℕ) → o .count ≤ i → Sought b unit index i rest → length (slotsOf (view b) unit) ≤ index
+  seek-past index rest i l S = omega (arith, S .count, ap length (left-none b F unit lu o L i l))
 
   pub index-ends : (h : Handle) (i n : ℕ) → o .count ≤ i → Passed b unit h i n → 0 ≡ indexIn (slotsOf (view b) unit) 0 h
   unfolding indexIn

@@ -17,7 +17,8 @@ use Rattle.views.specs.Fit.{Fit}
 use Rattle.views.proofs.Views.{interface-in}
 use Rattle.orders.specs.declared.Order.{Order}
 use Rattle.orders.specs.Order.{Longer, Lists}
-use Rattle.orders.proofs.Trees.{tree-leaf, tree-halves, tree-few, left-low, right-low}
+use Rattle.ledger_spec.proofs.Trees.{tree-leaf}
+use Rattle.orders.proofs.Trees.{tree-halves, tree-few, left-low, right-low}
 
 pub pushed : (o : Order) (u : ℕ) → o .count < length (o .units) → Longer o (u ∷ []) (record { units = set (o .units) (o .count) u; count = o .count + 1 })
 pushed o u l = record { list = rw (add-one (o .count)) (take-suc-set (o .units) (o .count) u l); count = refl; long = length-set (o .units) (o .count) u }

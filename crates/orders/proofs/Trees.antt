@@ -12,17 +12,10 @@ use lib.IntN.{ℤ, pos, _+ℤ_}
 use Rattle.ledger_spec.specs.Bench.{Bench}
 use Rattle.ledger_spec.specs.Look.{interface, top, tree}
 use Rattle.ledger_spec.specs.Account.{Σ, gate}
-use Rattle.ledger_spec.proofs.Tops.{Frame}
-use Rattle.ledger_spec.proofs.Trees.{along, tree-sum}
-use Rattle.ledger_spec.proofs.Counts.{Below}
-
-pub tree-leaf : (k : ℕ) (b : Bench) (u : ℕ) → interface b u .halves ≡ none → tree (suc k) b u ≡ u ∷ []
-unfolding tree
-tree-leaf k b u e = rw (e, tree)
-
-pub tree-fork : (k : ℕ) (b : Bench) (u : ℕ) (lr : ℕ × ℕ) → interface b u .halves ≡ some lr → tree (suc k) b u ≡ (tree k b (lr .0) ++ tree k b (lr .1)) ++ (u ∷ [])
-unfolding tree
-tree-fork k b u lr e = rw (e, tree)
+use Rattle.ledger_spec.specs.Frame.{Frame}
+use Rattle.ledger_spec.specs.Knit.{In, here, there}
+use Rattle.ledger_spec.proofs.Trees.{along, tree-leaf, tree-fork, tree-sum}
+use Rattle.ledger_spec.proofs.Gathered.{in-tree}
 
 module _ (b : Bench) (F : Frame b) where
   pub left-low : (u : ℕ) (lr : ℕ × ℕ) → interface b u .halves ≡ some lr → lr .0 < u
@@ -57,22 +50,13 @@ module _ (b : Bench) (F : Frame b) where
       tree-fork 7 b u lr e ∙ ap₂ (λ (s t : List ℕ). (s ++ t) ++ (u ∷ [])) (sym (tree-more 7 (lr .0) (omega arith))) (sym (tree-more 7 (lr .1) (omega arith)))
 
   -- ---- all below eight
-  pub tree-low : (k u : ℕ) → u < 8 → Below 8 (tree k b u)
-  unfolding tree
-  tree-low zero u l = (l, tt)
-  tree-low (suc k) u l = go (interface b u .halves) refl (tree-low k)
-    where
-      both : (s t : List ℕ) → Below 8 s → Below 8 t → Below 8 (s ++ t)
-      both [] t p q = q
-      both (x ∷ s) t p q = (p .0, both s t (p .1) q)
+  get-in : (us : List ℕ) (i : ℕ) → i < length us → In (getD us i 0) us
+  get-in [] i l = absurd (omega arith)
+  get-in (u ∷ us) zero l = here refl
+  get-in (u ∷ us) (suc i) l = there (get-in us i (omega arith))
 
-      go : (q : Option (ℕ × ℕ)) → interface b u .halves ≡ q → ((w : ℕ) → w < 8 → Below 8 (tree k b w)) → Below 8 (tree (suc k) b u)
-      go none e ih = rw (tree-leaf k b u e) (l, tt)
-      go (some lr) e ih =
-          let x = left-low u lr e in
-          let y = right-low u lr e in
-          rw (tree-fork k b u lr e)
-          (both (tree k b (lr .0) ++ tree k b (lr .1)) (u ∷ []) (both (tree k b (lr .0)) (tree k b (lr .1)) (ih (lr .0) (omega arith)) (ih (lr .1) (omega arith))) (l, tt))
+  pub tree-low : (u i : ℕ) → u < 8 → i < length (tree 8 b u) → getD (tree 8 b u) i 0 < 8
+  tree-low u i l m = in-tree b F 8 u (getD (tree 8 b u) i 0) l (get-in (tree 8 b u) i m) .0
 
   -- ---- at most eight
   along-one : (us : List ℕ) → along (λ u. pos 1) us ≡ pos (length us)
@@ -99,8 +83,3 @@ module _ (b : Bench) (F : Frame b) where
       let k = few 8 (λ w. eqb (top b w) u) in
       let e : length (tree 8 b u) ≡ k .0 = pos-eq (sym (along-one (tree 8 b u)) ∙ tree-sum b F (λ w. pos 1) u l free ∙ k .1) in
       omega (arith, k .2, e)
-
-pub below-get : (us : List ℕ) (i : ℕ) → Below 8 us → i < length us → getD us i 0 < 8
-below-get [] i p l = absurd (omega arith)
-below-get (u ∷ us) zero p l = p .0
-below-get (u ∷ us) (suc i) p l = below-get us i (p .1) (omega arith)

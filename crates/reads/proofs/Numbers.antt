@@ -4,7 +4,7 @@ use mathlib.Core.Path.{_≡_, refl, ap, sym, _∙_}
 use mathlib.Core.Bool.{Bool, true, false, not}
 use mathlib.Core.Option.{Option, none, some}
 use mathlib.Core.List.{List, [], _∷_}
-use borrow.Author.Tests.{le-leb, lt-leb, leb-false}
+use borrow.Author.Tests.{le-leb, lt-leb}
 use lib.ListN.{getD}
 use Rattle.words.specs.Store.{nodeAt, interfaceAt}
 use Rattle.words.specs.declared.Interface.{Interface}
@@ -14,7 +14,6 @@ use Rattle.ledger_spec.specs.Look.{interface, nodeAt as nodeNamed}
 use Rattle.ledger_spec.specs.Tests.{first, given, outside, child, stale}
 use Rattle.ledger_spec.specs.Refuse.{unitTests}
 use Rattle.ledger_spec.specs.Reads.{said, nodeTests}
-use Rattle.ledger_spec.proofs.Passed.{Open, passed, given-false}
 use Rattle.views.specs.View.{view, upSeen}
 use Rattle.views.proofs.Views.{view-parent}
 
@@ -41,10 +40,6 @@ unfolding first
 first-none = refl
 
 -- ---- an interface
-pub unit-open : (b : Bench) (u : ℕ) → first (unitTests b u) ≡ 0 → Open b u
-unfolding unitTests
-unit-open b u e = let t = passed (unitTests b u) tt e in record { low = leb-false 8 u (t .0); free = given-false (interface b u .parent) (t .1 .0) }
-
 module _ (b : List ℕ) (u : ℕ) where
   pub number-out : 8 ≤ u → 3 ≡ first (unitTests (view b) u)
   unfolding unitTests

@@ -78,7 +78,7 @@ module _ (b : List ℕ) (n : ℕ) where
         let S = H .stands in
         let x = slot-held (nodeAt b (spot h)) (sumUp 8 (interfaceAt b) (k / 64)) (circleOf (nodeAt b) (spot h)) (S .present) in
         record {
-          same = sym (named-one (view b) n (F .sewn .knit) (k / 64) (k % 64) (nodeSeen (nodeAt b (spot h)) (sumUp 8 (interfaceAt b) (k / 64)) (x .0)) (S .unit)
+          same = sym (named-one (view b) n (F .frame) (F .sewn .knit) (k / 64) (k % 64) (nodeSeen (nodeAt b (spot h)) (sumUp 8 (interfaceAt b) (k / 64)) (x .0))
               (view-slot (getD b 0 0) (interfaceAt b) (nodeAt b) (k / 64) (k % 64) (S .unit) (S .slot) ∙ x .1) (S .serial));
           finds = H;
         }

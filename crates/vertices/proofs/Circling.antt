@@ -12,22 +12,28 @@ use Rattle.words.specs.declared.Node.{Node}
 use Rattle.kinds.specs.declared.Class.the-variants.{Absent, Blossom, Defect}
 use Rattle.kinds.specs.declared.Vertex.{Vertex}
 use Rattle.ledger_spec.specs.Bench.{Handle, Member, defect, blossom}
-use Rattle.ledger_spec.specs.Bench as plain
 use Rattle.ledger_spec.specs.Look.{nodeAt as nodeNamed}
 use Rattle.ledger_spec.specs.Walk.{each, verticesOf}
-use Rattle.ledger_spec.proofs.Knit.{In, here, there, nodes}
-use Rattle.ledger_spec.proofs.Walks.{Sized}
+use Rattle.ledger_spec.specs.Knit.{In, here, there, nodes}
+use Rattle.ledger_spec.proofs.Lists.{map-in}
+use Rattle.ledger_spec.proofs.Walks.{inner, vertices-defect, vertices-blossom, first-inner}
 use Rattle.views.specs.View.{view, handleAt, memberAt, follow, circleOf, sumUp, slotSeen, nodeSeen}
 use Rattle.views.specs.Fit.{Fit}
 use Rattle.views.proofs.Rings.{Ringed, ringed}
 use Rattle.links.specs.Find.{Stands}
 use Rattle.links.proofs.Finding.{find-there}
 use Rattle.vertices.specs.Under.{Placed, under, Wrote}
-use Rattle.vertices.proofs.Sized.{older, has-named, sized}
-use Rattle.vertices.proofs.Walks.{each-cons, each-nil, of-defect, of-blossom, first-of}
 
 -- ---- lists
-pub sets-append : (xs ys l : List ℕ) (i : ℕ) → sets l i (xs ++ ys) ≡ sets (sets l i xs) (i + length xs) ys
+each-cons : (f : Handle → List ℕ) (m : Member) (ms : List Member) → each f (m ∷ ms) ≡ f (m .node) ++ each f ms
+unfolding each
+each-cons f m ms = refl
+
+each-nil : (f : Handle → List ℕ) → each f [] ≡ []
+unfolding each
+each-nil f = refl
+
+sets-append : (xs ys l : List ℕ) (i : ℕ) → sets l i (xs ++ ys) ≡ sets (sets l i xs) (i + length xs) ys
 sets-append [] ys l i = let e : i ≡ i + 0 = omega arith in ap (λ (k : ℕ). sets l k ys) e
 sets-append (x ∷ xs) ys l i =
     let e : suc i + length xs ≡ i + suc (length xs) = omega arith in
@@ -45,12 +51,6 @@ module _ (b : List ℕ) (F : Fit b) where
   abbrev A : ℕ → Node
   A = nodeAt b
 
-  pub sizes-fit : Sized (view b)
-  sizes-fit = sized (view b) (F .sewn) (F .single) (F .added)
-
-  ring-some : (h : Handle) (n : plain.Node) (ms : List Member) → nodeNamed (view b) h ≡ some n → n .class ≡ blossom ms → 1 ≤ length ms
-  ring-some h n ms e f = F .circle (h .unit) (h .slot) n ms (has-named (view b) h n e .stands) f .0
-
   module _ (k : ℕ) (P : Placed b k) where
     split : k / 64 * 64 + k % 64 ≡ k
     split = omega arith
@@ -64,15 +64,15 @@ module _ (b : List ℕ) (F : Fit b) where
     shown = standing .seen ∙ ap (λ (x : ℕ). slotSeen (A x) (sumUp 8 (interfaceAt b) (k / 64)) (circleOf A x)) split
 
     pub under-defect : (v : Vertex) → A k .class ≡ Defect v → under b k ≡ v .0 ∷ []
-    under-defect v e = of-defect (view b) sizes-fit (handleAt A k) (nodeSeen (A k) (sumUp 8 (interfaceAt b) (k / 64)) (defect (v .0)))
-        (shown ∙ slot-defect (A k) (sumUp 8 (interfaceAt b) (k / 64)) (circleOf A k) v e) (v .0) refl
+    under-defect v e = vertices-defect (view b) (F .facts) (handleAt A k) (nodeSeen (A k) (sumUp 8 (interfaceAt b) (k / 64)) (defect (v .0))) (v .0)
+        (shown ∙ slot-defect (A k) (sumUp 8 (interfaceAt b) (k / 64)) (circleOf A k) v e) refl
 
     module _ (e : A k .class ≡ Blossom) where
       blossom-there : nodeNamed (view b) (handleAt A k) ≡ some (nodeSeen (A k) (sumUp 8 (interfaceAt b) (k / 64)) (blossom (circleOf A k)))
       blossom-there = shown ∙ slot-ring (A k) (sumUp 8 (interfaceAt b) (k / 64)) (circleOf A k) e
 
       pub under-blossom : under b k ≡ each (λ g. verticesOf (view b) g) (circleOf A k)
-      under-blossom = of-blossom (view b) sizes-fit (handleAt A k) (nodeSeen (A k) (sumUp 8 (interfaceAt b) (k / 64)) (blossom (circleOf A k))) blossom-there (circleOf A k) refl
+      under-blossom = vertices-blossom (view b) (F .facts) (handleAt A k) (nodeSeen (A k) (sumUp 8 (interfaceAt b) (k / 64)) (blossom (circleOf A k))) (circleOf A k) blossom-there refl
 
       -- a member
       pub member-placed : (p : ℕ) → In (handleAt A p) (nodes (circleOf A k)) → Placed b p
@@ -84,8 +84,9 @@ module _ (b : List ℕ) (F : Fit b) where
 
       pub member-older : (p : ℕ) → In (handleAt A p) (nodes (circleOf A k)) → A p .serial .0 < A k .serial .0
       member-older p i =
-          older (view b) (F .sewn) (k / 64) (k % 64) (nodeSeen (A k) (sumUp 8 (interfaceAt b) (k / 64)) (blossom (circleOf A k))) (circleOf A k) (handleAt A p)
-          (has-named (view b) (handleAt A k) (nodeSeen (A k) (sumUp 8 (interfaceAt b) (k / 64)) (blossom (circleOf A k))) blossom-there .stands) refl i .less
+          let m = map-in (λ (x : Member). x .node) (circleOf A k) i in
+          let l = inner (view b) (F .facts) (handleAt A k) (nodeSeen (A k) (sumUp 8 (interfaceAt b) (k / 64)) (blossom (circleOf A k))) (circleOf A k) blossom-there refl (m .0) (m .1) .lower in
+          omega (arith, l, ap (λ (g : Handle). g .serial) (m .2))
 
 follow-more : (A : ℕ → Node) (m p : ℕ) → 0 < m → follow m A p ≡ memberAt A p ∷ follow (m - 1) A (A p .next)
 unfolding follow
@@ -141,7 +142,7 @@ module _ (b : List ℕ) (F : Fit b) (k : ℕ) (P : Placed b k) (n : Node) (e : n
     first-older = member-older b F k P ring (n .first) first-in
 
     pub first-under : getD (under b (n .first)) 0 0 ≡ getD (under b k) 0 0
-    first-under = sym (first-of (view b) (sizes-fit b F) (ring-some b F) (handleAt (nodeAt b) k) (nodeSeen (nodeAt b k) (sumUp 8 (interfaceAt b) (k / 64)) (blossom (circleOf (nodeAt b) k)))
+    first-under = sym (first-inner (view b) (F .facts) (handleAt (nodeAt b) k) (nodeSeen (nodeAt b k) (sumUp 8 (interfaceAt b) (k / 64)) (blossom (circleOf (nodeAt b) k)))
         (memberAt (nodeAt b) (n .first)) (follow (n .count - 1) (nodeAt b) (nodeAt b (n .first) .next)) (blossom-there b F k P ring) (ap blossom led))
 
     pub going-starts : (at : ℕ) (out : List ℕ) → Going b k at out at (n .first) (n .count) out

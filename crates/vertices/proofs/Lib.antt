@@ -1,4 +1,2 @@
-pub mod Sized
-pub mod Walks
 pub mod Circling
 pub mod Named

@@ -16,7 +16,6 @@ use Rattle.views.specs.Fit.{Fit}
 use Rattle.links.specs.Find.{spot, Stands, Held}
 use Rattle.links.proofs.Rising.{seen-node}
 use Rattle.vertices.specs.Under.{Placed, under, Wrote}
-use Rattle.vertices.proofs.Circling.{sizes-fit}
 
 module _ (b : List ℕ) (h : Handle) (S : Stands b h) where
   unit-is : spot h / 64 ≡ h .unit
@@ -45,7 +44,7 @@ module _ (b : List ℕ) (h : Handle) (S : Stands b h) where
   size-at = ap sizeOf (seen-node b h S .1)
 
   pub as-many-at : Fit b → length (verticesOf (view b) h) ≡ nodeAt b (spot h) .size
-  as-many-at F = as-many (view b) (sizes-fit b F) h (nodeSeen (nodeAt b (spot h)) (sumUp 8 (interfaceAt b) (h .unit)) (seen-node b h S .0)) (seen-node b h S .1)
+  as-many-at F = as-many (view b) (F .facts) h (nodeSeen (nodeAt b (spot h)) (sumUp 8 (interfaceAt b) (h .unit)) (seen-node b h S .0)) (seen-node b h S .1)
 
 -- ---- by the position that was found
 module _ (b : List ℕ) (h : Handle) (k : ℕ) (H : Held b h k) where

@@ -8,7 +8,7 @@ use native.Mathlib.Omega.{arith}
 use Rattle.words.specs.Store.{nodeAt, interfaceAt}
 use Rattle.kinds.specs.declared.Class.the-variants.{Absent, Blossom, Defect}
 use Rattle.words.specs.declared.Node.{Node}
-use Rattle.ledger_spec.proofs.Sewn.{Sewn}
+use Rattle.ledger_spec.specs.Knit.{Sewn}
 use Rattle.views.specs.View.{circleOf, view}
 use Rattle.views.proofs.Circles.{Same, same-eq, circle-same}
 use Rattle.views.proofs.Rings.{Ringed, ringed}

@@ -11,7 +11,7 @@ use Rattle.words.specs.Store.{nodeAt, interfaceAt}
 use Rattle.words.specs.declared.Node.{Node}
 use Rattle.kinds.specs.declared.Handle.{Handle as Packed}
 use Rattle.ledger_spec.specs.Bench.{Handle, Member}
-use Rattle.ledger_spec.proofs.Knit.{In, here, there, nodes}
+use Rattle.ledger_spec.specs.Knit.{In, here, there, nodes}
 use Rattle.views.specs.View.{follow, circleOf, handleAt, memberAt}
 use Rattle.ledger_spec.specs.Named.{handleNamed}
 

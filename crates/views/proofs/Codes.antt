@@ -16,7 +16,7 @@ use Rattle.words.specs.declared.Interface.{Interface}
 use Rattle.words.specs.declared.Up.the-variants.{Top, Under}
 use Rattle.ledger_spec.specs.Bench as plain
 use Rattle.ledger_spec.specs.Look.{interface}
-use Rattle.ledger_spec.proofs.Tops.{Frame}
+use Rattle.ledger_spec.specs.Frame.{Frame}
 use Rattle.views.specs.View.{view, upSeen}
 use Rattle.views.specs.Records.{Steady}
 use Rattle.views.specs.Canon.{Coded}

@@ -8,3 +8,4 @@ pub mod Along
 pub mod Codes
 pub mod Ranges
 pub mod Unique
+pub mod Fits

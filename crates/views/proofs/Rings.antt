@@ -15,8 +15,8 @@ use Rattle.ledger_spec.specs.Bench.{Handle, Member, blossom}
 use Rattle.ledger_spec.specs.Bench as plain
 use Rattle.ledger_spec.specs.Look.{slotOf, top, sameHandle}
 use Rattle.ledger_spec.specs.SoundTree.{tally}
-use Rattle.ledger_spec.proofs.Knit.{In, here, there, nodes, mk, Has, Up, Down, Knit, none-some, some-eq, blossom-eq}
-use Rattle.ledger_spec.proofs.Sewn.{Sewn}
+use Rattle.ledger_spec.specs.Knit.{In, here, there, nodes, mk, Has, Up, Down, Knit, Sewn}
+use Rattle.ledger_spec.proofs.Knit.{none-some, some-eq, blossom-eq}
 use Rattle.views.specs.View.{circleOf, handleAt, slotSeen, nodeSeen, slotIn, sumUp, view}
 use Rattle.ledger_spec.specs.Named.{parentNamed}
 use Rattle.views.specs.Records.{Steady}

@@ -26,8 +26,8 @@ use Rattle.ledger_spec.specs.Look.{interface, slotOf, top, climb}
 use Rattle.ledger_spec.specs.Change.{share, place, push, faster}
 use Rattle.ledger_spec.specs.Deeds.{growBy, growSlot, booked, across}
 use Rattle.ledger_spec.proofs.Tops.{climb-none, climb-some}
-use Rattle.ledger_spec.proofs.Kept.{place-field, place-else, place-here, place-slow, place-fast, place-length}
-use Rattle.ledger_spec.proofs.KeptGrow.{push-field, push-else, push-here, push-slow, push-fast, push-length, grow-field, grow-under, grow-else, grow-sum, grow-sum-else, grow-length, grow-progress, grow-progress-else}
+use Rattle.ledger_spec.proofs.Readings.{place-field, place-else, place-here, place-slow, place-fast, place-length, push-field, push-else, push-here, push-slow, push-fast, push-length}
+use Rattle.ledger_spec.proofs.TreeReadings.{grow-field, grow-under, grow-else, grow-sum, grow-sum-else, grow-length, grow-progress, grow-progress-else}
 use Rattle.views.specs.Tab.{tab}
 use Rattle.views.specs.View.{off, upSeen, halvesSeen, sumUp, over, slotSeen, nodeSeen, slotIn, interfaceIn, viewIn, circleOf, valueOf}
 use Rattle.ledger_spec.specs.Named.{stateNamed}

@@ -7,14 +7,13 @@ use mathlib.Core.Option.{none, some}
 use mathlib.Core.List.{List}
 use lib.ListN.{length, getD}
 use lib.IntN.{natAbs}
-use Rattle.ledger_spec.specs.Bench.{Member, defect, blossom, Bench}
+use Rattle.ledger_spec.specs.Bench.{Member, blossom, Bench}
 use Rattle.ledger_spec.specs.Bench as plain
 use Rattle.ledger_spec.specs.Look.{interface, slotOf}
-use Rattle.ledger_spec.specs.Deeds.{sizes}
 use Rattle.ledger_spec.specs.Sound.{sound}
-use Rattle.ledger_spec.proofs.Knit.{nodes}
-use Rattle.ledger_spec.proofs.Tops.{Frame}
-use Rattle.ledger_spec.proofs.Sewn.{Sewn}
+use Rattle.ledger_spec.specs.Frame.{Frame}
+use Rattle.ledger_spec.specs.Knit.{Sewn}
+use Rattle.ledger_spec.specs.Facts.{Sound}
 use Rattle.views.specs.View.{view}
 use Rattle.views.specs.Canon.{Canon, Within}
 
@@ -31,6 +30,7 @@ pub record Done (b : List ℕ) (after : Bench) : Type 0 where
 -- what the work of a call needs of sound words, spelled out
 pub record Fit (b : List ℕ) : Type 0 where
   pub canon : Canon b
+  pub facts : Sound (view b)
   pub frame : Frame (view b)
   pub sewn : Sewn (view b)
   pub within : Within (view b)
@@ -39,6 +39,4 @@ pub record Fit (b : List ℕ) : Type 0 where
   pub speed : (u : ℕ) → u < 8 → interface (view b) u .parent ≡ none → natAbs (interface (view b) u .speed) ≤ 512
   pub sum : (u : ℕ) → u < 8 → interface (view b) u .parent ≡ none → natAbs (interface (view b) u .sum) ≤ 4503599627370496
   pub size : (u s : ℕ) (n : plain.Node) → slotOf (view b) u s ≡ some n → n .size ≤ 512
-  pub single : (u s : ℕ) (n : plain.Node) (v : ℕ) → slotOf (view b) u s ≡ some n → n .class ≡ defect v → n .size ≡ 1
-  pub added : (u s : ℕ) (n : plain.Node) (ms : List Member) → slotOf (view b) u s ≡ some n → n .class ≡ blossom ms → n .size ≡ sizes (view b) (nodes ms)
   pub circle : (u s : ℕ) (n : plain.Node) (ms : List Member) → slotOf (view b) u s ≡ some n → n .class ≡ blossom ms → (1 ≤ length ms) × (length ms ≤ 64)

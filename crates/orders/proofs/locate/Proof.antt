@@ -1,15 +1,15 @@
--- At each turn the slots from the index on are those from the rest on among the slots that are left. Assumes nothing.
+-- At each turn the index in the whole is what is left of it among the slots that are left. Assumes nothing.
 use Prim.Native.Nat.{_-_, _+_, _*_}
-use mathlib.Core.Path.{_≡_, refl, _∙_}
+use mathlib.Core.Path.{refl}
 use native.Mathlib.Omega.{arith}
 use borrow.Author.Needs.{needs}
-use lib.ListN.{getD, drop}
-use Rattle.orders.proofs.Counting.{slotsLeft, unit-low, used-small, drop-more, drop-here, locate-ends}
+use lib.ListN.{getD}
+use Rattle.orders.proofs.Counting.{Sought, unit-low, used-small, seek-on, seek-ends, seek-past}
 use Rattle.orders.proofs.locate.Statement.{statement}
 use Rattle.orders.proofs.locate.Tie as tie
 
 abbrev Inv-loop : tie.InvT-loop
-Inv-loop b unit index o rest₀ i₀ rest i = drop index (slotsLeft b unit 0) ≡ drop rest (slotsLeft b unit i)
+Inv-loop b unit index o rest₀ i₀ rest i = Sought b unit index i rest
 
 abbrev μ-loop : tie.MeasureT-loop
 μ-loop b unit index o rest₀ i₀ rest i = o .count - i
@@ -18,7 +18,7 @@ order-of-requires : tie.Need-order-of-requires Inv-loop μ-loop
 order-of-requires c κs = search needs
 
 loop-holds : tie.Need-loop-holds Inv-loop μ-loop
-loop-holds c = refl
+loop-holds c = record { at = refl; count = omega arith }
 
 mul-u : tie.Need-mul-u Inv-loop μ-loop
 mul-u c = search needs
@@ -55,7 +55,7 @@ returns c =
     let s = c .before .before .before .before .before .before .before in
     let o = c .before .before .before .before .before .before .order-of in
     let i = c .before .before .before .before .before .loop .i in
-    drop-here (s .args .b .now) (s .pre .0) (s .args .unit) (s .pre .1 .0) (o .result) (o .ensures) i (getD (o .result .units) i 0) (c .before .before .before .before .loop-test .taken) refl (c .before .before .load-interface .result) (c .before .before .load-interface .ensures)
+    seek-ends (s .args .b .now) (s .pre .0) (s .args .unit) (s .pre .1 .0) (o .result) (o .ensures) i (getD (o .result .units) i 0) (c .before .before .before .before .loop-test .taken) refl (c .before .before .load-interface .result) (c .before .before .load-interface .ensures)
     (s .args .index) (c .before .before .before .before .before .loop .rest) (getD (o .result .units) i 0 * 64 + c .before .before .before .before .before .loop .rest) (c .before .before .before .before .before .loop .inv) (c .if1 .taken) refl
 
 add-i : tie.Need-add-i Inv-loop μ-loop
@@ -69,14 +69,13 @@ loop-again c =
     let s = c .before .before .before .before .before .before .before .before in
     let o = c .before .before .before .before .before .before .before .order-of in
     let i = c .before .before .before .before .before .before .loop .i in
-    c .before .before .before .before .before .before .loop .inv
-    ∙ drop-more (s .args .b .now) (s .pre .0) (s .args .unit) (s .pre .1 .0) (o .result) (o .ensures) i (getD (o .result .units) i 0) (c .before .before .before .before .before .loop-test .taken) refl (c .before .before .before .load-interface .result) (c .before .before .before .load-interface .ensures) (c .before .before .before .before .before .before .loop .rest) (c .before .if1 .left)
+    seek-on (s .args .b .now) (s .pre .0) (s .args .unit) (s .pre .1 .0) (o .result) (o .ensures) i (getD (o .result .units) i 0) (c .before .before .before .before .before .loop-test .taken) refl (c .before .before .before .load-interface .result) (c .before .before .before .load-interface .ensures) (s .args .index) (c .before .before .before .before .before .before .loop .rest) (c .before .before .before .before .before .before .loop .inv) (c .before .if1 .left)
 
 returns-2 : tie.Need-returns-2 Inv-loop μ-loop
 returns-2 c =
     let s = c .before .before .before in
     let o = c .before .before .order-of in
-    locate-ends (s .args .b .now) (s .pre .0) (s .args .unit) (s .pre .1 .0) (o .result) (o .ensures) (s .args .index) (c .before .loop .rest) (c .before .loop .i) (c .loop-test .left) (c .before .loop .inv)
+    seek-past (s .args .b .now) (s .pre .0) (s .args .unit) (s .pre .1 .0) (o .result) (o .ensures) (s .args .index) (c .before .loop .rest) (c .before .loop .i) (c .loop-test .left) (c .before .loop .inv)
 
 pub locate-spec : {M : Type 1} → statement M
 locate-spec =

@@ -6,7 +6,7 @@ use Rattle.orders.specs.declared.Spot.the-variants.{Slot, Past}
 use Rattle.orders.proofs.Counting.{located, located-past}
 use Rattle.views.specs.View.{view}
 use Rattle.reads.specs.Shown.{maybe}
-use Rattle.reads.proofs.Numbers.{unit-open}
+use Rattle.ledger_spec.proofs.Accepted.{clear-passed}
 use Rattle.reads.proofs.Saying.{index-no, index-past, index-there}
 use Rattle.reads.proofs.get_node.Statement.{statement}
 use Rattle.reads.proofs.get_node.Tie as tie
@@ -22,7 +22,7 @@ cast-locate c = search needs
 
 locate-requires : tie.Need-locate-requires
 locate-requires c κs =
-    let o = unit-open (view (c .before .before .before .args .b .now)) (c .before .before .before .args .unit) (sym (c .before .before .unit-number .ensures) ∙ c .before .if1 .left) in
+    let o = clear-passed (view (c .before .before .before .args .b .now)) (c .before .before .before .args .unit) (sym (c .before .before .unit-number .ensures) ∙ c .before .if1 .left) in
     (c .before .before .before .pre, (o .low, o .free))
 
 enum-told : tie.Need-enum-told

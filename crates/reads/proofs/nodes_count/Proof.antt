@@ -2,7 +2,7 @@
 use mathlib.Core.Path.{sym, _∙_}
 use borrow.Author.Needs.{needs}
 use Rattle.views.specs.View.{view}
-use Rattle.reads.proofs.Numbers.{unit-open}
+use Rattle.ledger_spec.proofs.Accepted.{clear-passed}
 use Rattle.reads.proofs.Saying.{count-no, count-yes}
 use Rattle.reads.proofs.nodes_count.Statement.{statement}
 use Rattle.reads.proofs.nodes_count.Tie as tie
@@ -15,7 +15,7 @@ returns c = count-no (view (c .before .before .args .b .now)) (c .before .before
 
 count-requires : tie.Need-count-requires
 count-requires c κs =
-    let o = unit-open (view (c .before .before .args .b .now)) (c .before .before .args .unit) (sym (c .before .unit-number .ensures) ∙ c .if1 .left) in
+    let o = clear-passed (view (c .before .before .args .b .now)) (c .before .before .args .unit) (sym (c .before .unit-number .ensures) ∙ c .if1 .left) in
     (c .before .before .pre, (o .low, o .free))
 
 returns-2 : tie.Need-returns-2

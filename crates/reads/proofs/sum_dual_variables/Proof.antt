@@ -5,7 +5,7 @@ use mir.Syntax.{w64}
 use mir.Val.{toZ, ofZ}
 use mir.Facts.{toZ-ofZ}
 use Rattle.views.specs.View.{view}
-use Rattle.reads.proofs.Numbers.{unit-open}
+use Rattle.ledger_spec.proofs.Accepted.{clear-passed}
 use Rattle.reads.proofs.Saying.{sum-no, sum-yes}
 use Rattle.reads.proofs.sum_dual_variables.Statement.{statement}
 use Rattle.reads.proofs.sum_dual_variables.Tie as tie
@@ -18,7 +18,7 @@ returns c = sum-no (view (c .before .before .args .b .now)) (c .before .before .
 
 sum-requires : tie.Need-sum-requires
 sum-requires c κs =
-    let o = unit-open (view (c .before .before .args .b .now)) (c .before .before .args .unit) (sym (c .before .unit-number .ensures) ∙ c .if1 .left) in
+    let o = clear-passed (view (c .before .before .args .b .now)) (c .before .before .args .unit) (sym (c .before .unit-number .ensures) ∙ c .if1 .left) in
     (c .before .before .pre, (o .low, o .free))
 
 returns-2 : tie.Need-returns-2

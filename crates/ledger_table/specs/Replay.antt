@@ -1,0 +1,59 @@
+-- A recording is lines: a call, then `= ` and its answer; `#` begins a comment. Replayed, it counts the answers compared and those that differ.
+-- Assumes nothing.
+use Prim.Native.Nat.{ℕ, zero, suc}
+use Prim.Native.String.{String}
+use mathlib.Core.Bool.{Bool, true, false, _&&_}
+use mathlib.Core.Option.{Option, none, some}
+use mathlib.Core.List.{List, [], _∷_, _++_, map}
+use lib.ListN.{drop}
+use lib.Dec.{eqb}
+use lib.IntN.{ℤ, pos}
+use Rattle.ledger_spec.specs.Bench.{setUp}
+use Rattle.ledger_spec.specs.Decimals.{signed, integer}
+use Rattle.ledger_spec.specs.Fields.{upto, after, cut}
+use Rattle.ledger_spec.specs.Bytes.{bytes}
+use Rattle.ledger_table.specs.Talk.{Desk, fresh, Turn, turn}
+
+abbrev pub orZero : Option ℤ → ℤ
+orZero none = pos 0
+orZero (some z) = z
+
+abbrev pub letterOf : List (List ℕ) → ℕ
+letterOf [] = 0
+letterOf ([] ∷ fs) = 0
+letterOf ((c ∷ f) ∷ fs) = c
+
+-- numbers with one space between
+unfoldable pub texts : List ℤ → List ℕ
+texts [] = []
+texts (z ∷ []) = signed z
+texts (z ∷ w ∷ zs) = signed z ++ (32 ∷ texts (w ∷ zs))
+
+unfoldable pub sameBytes : List ℕ → List ℕ → Bool
+sameBytes [] [] = true
+sameBytes [] (d ∷ t) = false
+sameBytes (c ∷ s) [] = false
+sameBytes (c ∷ s) (d ∷ t) = eqb c d && sameBytes s t
+
+unfoldable pub answered : Desk → List ℕ → Turn
+answered k s = turn k (letterOf (cut 32 s)) (map (λ (f : List ℕ). orZero (integer f)) (after 32 s))
+
+abbrev pub plus : Bool → ℕ × ℕ → ℕ × ℕ
+plus true t = (suc (t .0), t .1)
+plus false t = (suc (t .0), suc (t .1))
+
+-- along the lines: the desk, and the last answer's text
+unfoldable pub along : Desk → List ℕ → List (List ℕ) → ℕ × ℕ
+along k last [] = (0, 0)
+along k last ([] ∷ ls) = along k last ls
+along k last ((c ∷ s) ∷ ls) = elim (eqb c 35) [
+  | true ↦ along k last ls
+  | false ↦ elim (eqb c 61) [
+    | true ↦ plus (sameBytes last (drop 1 s)) (along k last ls)
+    | false ↦ let t : Turn = answered k (c ∷ s) in along (t .desk) (texts (t .says)) ls
+  ]
+]
+
+-- answers compared, and how many of them differ
+unfoldable pub replay : String → ℕ × ℕ
+replay s = along (fresh (setUp 1)) [] (cut 10 (bytes s))
