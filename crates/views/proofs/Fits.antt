@@ -31,6 +31,7 @@ facts b W = says (view b) (W .sound)
 pub fit-of : (b : List ℕ) → SoundWords b → Fit b
 fit-of b W = record {
   canon = W .canon;
+  facts = S;
   frame = S .frame;
   sewn = S .sewn;
   within = value-bound (view b) S;

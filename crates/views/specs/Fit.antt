@@ -13,6 +13,7 @@ use Rattle.ledger_spec.specs.Look.{interface, slotOf}
 use Rattle.ledger_spec.specs.Sound.{sound}
 use Rattle.ledger_spec.specs.Frame.{Frame}
 use Rattle.ledger_spec.specs.Knit.{Sewn}
+use Rattle.ledger_spec.specs.Facts.{Sound}
 use Rattle.views.specs.View.{view}
 use Rattle.views.specs.Canon.{Canon, Within}
 
@@ -29,6 +30,7 @@ pub record Done (b : List ℕ) (after : Bench) : Type 0 where
 -- what the work of a call needs of sound words, spelled out
 pub record Fit (b : List ℕ) : Type 0 where
   pub canon : Canon b
+  pub facts : Sound (view b)
   pub frame : Frame (view b)
   pub sewn : Sewn (view b)
   pub within : Within (view b)

@@ -1,0 +1,2 @@
+pub mod Circling
+pub mod Named
