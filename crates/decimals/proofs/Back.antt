@@ -2,7 +2,7 @@
 use Prim.Native.Nat.{ℕ, zero, suc, _+_, _-_, _*_, _/_, _%_, _≤_, _<_}
 use native.Mathlib.Omega.{arith}
 use native.Mathlib.Decide.{decLt, ℕ-discrete}
-use mathlib.Core.Path.{_≡_, refl, sym, _∙_, ap}
+use mathlib.Core.Path.{_≡_, refl, sym, _∙_, ap, subst}
 use mathlib.Core.Option.{Option, none, some, Option·some-ne-none, Option·some-injective}
 use mathlib.Core.List.{List, [], _∷_, _++_, append-assoc, append-nil}
 use lib.ListN.{length, getD, length-append, List·getD-append}
@@ -13,6 +13,7 @@ use Rattle.ledger_spec.specs.Decimals.{decimal, signed, value, natural, between
 use Rattle.decimals.proofs.Values.{Byte, low, digit, high, byte, value-digit, value-low, value-high, value-none, between-some, between-said}
 use Rattle.decimals.proofs.Fields.{natural-empty, natural-one, natural-zero, natural-more, integer-empty, integer-minus, integer-plus}
 use Rattle.decimals.proofs.Digits.{decimal-small, decimal-more}
+use Rattle.decimals.proofs.Signs.{fits-plus, fits-minus}
 
 -- ---- reading a number's decimal gives the number
 
@@ -174,3 +175,18 @@ only-signed (c ∷ f) z e = go (ℕ-discrete c 45)
     go (no p) =
         let w = plus-from (number 0 9223372036854775807 (c ∷ f)) z (sym (integer-plus (c ∷ f) (λ h. omega arith) p) ∙ e) in
         only-number 0 9223372036854775807 (c ∷ f) (w .0) (w .1) ∙ sym (signed-plus (w .0)) ∙ ap signed (w .2)
+
+-- what a field says as a signed number fits 64 bits
+pub integer-fits : (f : List ℕ) (z : ℤ) → integer f ≡ some z → SFits w64 z
+integer-fits [] z e = absurd (Option·some-ne-none z (sym e ∙ integer-empty [] refl))
+integer-fits (c ∷ f) z e = go (ℕ-discrete c 45)
+  where
+    go : Dec (c ≡ 45) → SFits w64 z
+    go (yes p) =
+        let w = minus-from (number 1 9223372036854775808 f) z (sym (integer-minus (c ∷ f) (λ h. omega arith) p) ∙ e) in
+        let r = between-said 1 9223372036854775808 (w .0) (natural f) (w .1) in
+        subst (λ (x : ℤ). SFits w64 x) (w .2) (fits-minus (w .0) (omega (arith, r .1), r .2))
+    go (no p) =
+        let w = plus-from (number 0 9223372036854775807 (c ∷ f)) z (sym (integer-plus (c ∷ f) (λ h. omega arith) p) ∙ e) in
+        let r = between-said 0 9223372036854775807 (w .0) (natural (c ∷ f)) (w .1) in
+        subst (λ (x : ℤ). SFits w64 x) (w .2) (fits-plus (w .0) (omega (arith, r .2)))

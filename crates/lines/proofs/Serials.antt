@@ -24,19 +24,19 @@ use Rattle.lines.proofs.Follow.{got-further}
 
 -- ---- one serial, and those after it
 
-abbrev before : ℕ → Option (List ℕ) → Option (List ℕ)
+abbrev pub before : ℕ → Option (List ℕ) → Option (List ℕ)
 before n none = none
 before n (some ns) = some (n ∷ ns)
 
-serials-none : serials [] ≡ some []
+pub serials-none : serials [] ≡ some []
 unfolding serials
 serials-none = refl
 
-serials-bad : (f : List ℕ) (fs : Fields) → serial f ≡ none → serials (f ∷ fs) ≡ none
+pub serials-bad : (f : List ℕ) (fs : Fields) → serial f ≡ none → serials (f ∷ fs) ≡ none
 unfolding serials
 serials-bad f fs e = rw (e, serials)
 
-serials-cons : (f : List ℕ) (fs : Fields) (n : ℕ) → serial f ≡ some n → serials (f ∷ fs) ≡ before n (serials fs)
+pub serials-cons : (f : List ℕ) (fs : Fields) (n : ℕ) → serial f ≡ some n → serials (f ∷ fs) ≡ before n (serials fs)
 unfolding serials
 serials-cons f fs n e = rw (e, serials) (go (serials fs))
   where
@@ -128,7 +128,7 @@ pub record Storing (s out₀ : List ℕ) (start e n : ℕ) (out : List ℕ) : Ty
 pub store-start : (s out : List ℕ) (e : ℕ) → Storing s out e e 0 out
 store-start s out e = record { long = refl; few = omega arith; to-come = λ ns h. (ns, h, refl) }
 
-before-some : (v : ℕ) (o : Option (List ℕ)) (ms : List ℕ) → before v o ≡ some ms → (ks : List ℕ) × (o ≡ some ks) × (ms ≡ v ∷ ks)
+pub before-some : (v : ℕ) (o : Option (List ℕ)) (ms : List ℕ) → before v o ≡ some ms → (ks : List ℕ) × (o ≡ some ks) × (ms ≡ v ∷ ks)
 before-some v none ms h = absurd (Option·some-ne-none ms (sym h))
 before-some v (some ks) ms h = (ks, refl, sym (Option·some-injective (v ∷ ks) ms h))
 
