@@ -1,3 +1,4 @@
 pub mod Chunks
 pub mod Feeding
 pub mod Answering
+pub mod Circles
