@@ -2,3 +2,4 @@ pub mod Chunks
 pub mod Feeding
 pub mod Answering
 pub mod Circles
+pub mod Going
