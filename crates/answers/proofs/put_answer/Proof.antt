@@ -8,51 +8,72 @@ use Rattle.answers.proofs.put_answer.Tie as tie
 put-number-requires : tie.Need-put-number-requires
 put-number-requires c κs =
     let a = c .before .before .args in
-    room-number (a .number) (a .serial) (a .speed) (a .sum) (a .out .now) (a .at) (c .before .before .pre)
+    let pre = c .before .before .pre in
+    room-number (a .number) (a .serial) (a .speed) (a .sum) (a .out .now) (a .at) pre
 
 spaced-requires : tie.Need-spaced-requires
 spaced-requires c κs =
     let a = c .before .before .before .before .before .before .args in
-    room-serial (a .number) (a .serial) (a .speed) (a .sum) (a .out .now) (a .at) (c .before .before .before .before .before .before .pre) _ _ (c .before .before .before .put-number .ensures)
+    let pre = c .before .before .before .before .before .before .pre in
+    let p = c .before .before .before .put-number .ensures in
+    room-serial (a .number) (a .serial) (a .speed) (a .sum) (a .out .now) (a .at) pre _ _ p
 
 spaced-signed-requires : tie.Need-spaced-signed-requires
 spaced-signed-requires c κs =
     let a = c .before .before .before .before .before .before .before .before .before .before .args in
-    rw (toZ-ofZ (c .before .before .before .before .before .before .before .before .before .before .fits .speed)) (room-speed (a .number) (a .serial) (a .speed) (a .sum) (a .out .now) (a .at) (c .before .before .before .before .before .before .before .before .before .before .pre) _ _ (c .before .before .before .before .before .before .before .put-number .ensures) _ _ (c .before .before .before .spaced .ensures))
+    let pre = c .before .before .before .before .before .before .before .before .before .before .pre in
+    let p = c .before .before .before .before .before .before .before .put-number .ensures in
+    let s = c .before .before .before .spaced .ensures in
+    rw (toZ-ofZ (c .before .before .before .before .before .before .before .before .before .before .fits .speed)) (room-speed (a .number) (a .serial) (a .speed) (a .sum) (a .out .now) (a .at) pre _ _ p _ _ s)
 
 spaced-signed-requires-2 : tie.Need-spaced-signed-requires-2
 spaced-signed-requires-2 c κs =
     let a = c .before .before .before .before .before .before .before .before .before .before .before .before .before .before .args in
+    let pre = c .before .before .before .before .before .before .before .before .before .before .before .before .before .before .pre in
+    let p = c .before .before .before .before .before .before .before .before .before .before .before .put-number .ensures in
+    let s = c .before .before .before .before .before .before .before .spaced .ensures in
     let v = rw (toZ-ofZ (c .before .before .before .before .before .before .before .before .before .before .before .before .before .before .fits .speed)) at (c .before .before .before .spaced-signed .ensures) in
-    rw (toZ-ofZ (c .before .before .before .before .before .before .before .before .before .before .before .before .before .before .fits .sum)) (room-sum (a .number) (a .serial) (a .speed) (a .sum) (a .out .now) (a .at) (c .before .before .before .before .before .before .before .before .before .before .before .before .before .before .pre) _ _ (c .before .before .before .before .before .before .before .before .before .before .before .put-number .ensures) _ _ (c .before .before .before .before .before .before .before .spaced .ensures) _ _ v)
+    rw (toZ-ofZ (c .before .before .before .before .before .before .before .before .before .before .before .before .before .before .fits .sum)) (room-sum (a .number) (a .serial) (a .speed) (a .sum) (a .out .now) (a .at) pre _ _ p _ _ s _ _ v)
 
 slice-write-out : tie.Need-slice-write-out
 slice-write-out c =
     let a = c .before .before .before .before .before .before .before .before .before .before .before .before .before .before .before .before .before .args in
+    let pre = c .before .before .before .before .before .before .before .before .before .before .before .before .before .before .before .before .before .pre in
+    let p = c .before .before .before .before .before .before .before .before .before .before .before .before .before .before .put-number .ensures in
+    let s = c .before .before .before .before .before .before .before .before .before .before .spaced .ensures in
     let v = rw (toZ-ofZ (c .before .before .before .before .before .before .before .before .before .before .before .before .before .before .before .before .before .fits .speed)) at (c .before .before .before .before .before .before .spaced-signed .ensures) in
     let w = rw (toZ-ofZ (c .before .before .before .before .before .before .before .before .before .before .before .before .before .before .before .before .before .fits .sum)) at (c .before .before .spaced-signed2 .ensures) in
-    room-end (a .number) (a .serial) (a .speed) (a .sum) (a .out .now) (a .at) (c .before .before .before .before .before .before .before .before .before .before .before .before .before .before .before .before .before .pre) _ _ (c .before .before .before .before .before .before .before .before .before .before .before .before .before .before .put-number .ensures) _ _ (c .before .before .before .before .before .before .before .before .before .before .spaced .ensures) _ _ v _ _ w
+    room-end (a .number) (a .serial) (a .speed) (a .sum) (a .out .now) (a .at) pre _ _ p _ _ s _ _ v _ _ w
 
 add-result : tie.Need-add-result
 add-result c =
     let a = c .before .before .before .before .before .before .before .before .before .before .before .before .before .before .before .before .before .args in
+    let pre = c .before .before .before .before .before .before .before .before .before .before .before .before .before .before .before .before .before .pre in
+    let p = c .before .before .before .before .before .before .before .before .before .before .before .before .before .before .put-number .ensures in
+    let s = c .before .before .before .before .before .before .before .before .before .before .spaced .ensures in
     let v = rw (toZ-ofZ (c .before .before .before .before .before .before .before .before .before .before .before .before .before .before .before .before .before .fits .speed)) at (c .before .before .before .before .before .before .spaced-signed .ensures) in
     let w = rw (toZ-ofZ (c .before .before .before .before .before .before .before .before .before .before .before .before .before .before .before .before .before .fits .sum)) at (c .before .before .spaced-signed2 .ensures) in
-    omega (arith, whole-answer (a .number) (a .serial) (a .speed) (a .sum) (a .out .now) (a .at) (c .before .before .before .before .before .before .before .before .before .before .before .before .before .before .before .before .before .pre) _ _ (c .before .before .before .before .before .before .before .before .before .before .before .before .before .before .put-number .ensures) _ _ (c .before .before .before .before .before .before .before .before .before .before .spaced .ensures) _ _ v _ _ w .next, c .before .before .before .before .before .before .before .before .before .before .before .before .before .before .before .before .before .pre, c .before .before .before .before .before .before .before .before .before .before .before .before .before .before .before .before .before .good)
+    omega (arith, whole-answer (a .number) (a .serial) (a .speed) (a .sum) (a .out .now) (a .at) pre _ _ p _ _ s _ _ v _ _ w .next, pre, c .before .before .before .before .before .before .before .before .before .before .before .before .before .before .before .before .before .good)
 
 same-length : tie.Need-same-length
 same-length c =
     let a = c .before .before .before .before .before .before .before .before .before .before .before .before .before .before .before .before .before .args in
+    let pre = c .before .before .before .before .before .before .before .before .before .before .before .before .before .before .before .before .before .pre in
+    let p = c .before .before .before .before .before .before .before .before .before .before .before .before .before .before .put-number .ensures in
+    let s = c .before .before .before .before .before .before .before .before .before .before .spaced .ensures in
     let v = rw (toZ-ofZ (c .before .before .before .before .before .before .before .before .before .before .before .before .before .before .before .before .before .fits .speed)) at (c .before .before .before .before .before .before .spaced-signed .ensures) in
     let w = rw (toZ-ofZ (c .before .before .before .before .before .before .before .before .before .before .before .before .before .before .before .before .before .fits .sum)) at (c .before .before .spaced-signed2 .ensures) in
-    long (a .number) (a .serial) (a .speed) (a .sum) (a .out .now) (a .at) (c .before .before .before .before .before .before .before .before .before .before .before .before .before .before .before .before .before .pre) _ _ (c .before .before .before .before .before .before .before .before .before .before .before .before .before .before .put-number .ensures) _ _ (c .before .before .before .before .before .before .before .before .before .before .spaced .ensures) _ _ v _ _ w
+    long (a .number) (a .serial) (a .speed) (a .sum) (a .out .now) (a .at) pre _ _ p _ _ s _ _ v _ _ w
 
 returns : tie.Need-returns
 returns c =
     let a = c .before .before .before .before .before .before .before .before .before .before .before .before .before .before .before .before .before .args in
+    let pre = c .before .before .before .before .before .before .before .before .before .before .before .before .before .before .before .before .before .pre in
+    let p = c .before .before .before .before .before .before .before .before .before .before .before .before .before .before .put-number .ensures in
+    let s = c .before .before .before .before .before .before .before .before .before .before .spaced .ensures in
     let v = rw (toZ-ofZ (c .before .before .before .before .before .before .before .before .before .before .before .before .before .before .before .before .before .fits .speed)) at (c .before .before .before .before .before .before .spaced-signed .ensures) in
     let w = rw (toZ-ofZ (c .before .before .before .before .before .before .before .before .before .before .before .before .before .before .before .before .before .fits .sum)) at (c .before .before .spaced-signed2 .ensures) in
-    whole-answer (a .number) (a .serial) (a .speed) (a .sum) (a .out .now) (a .at) (c .before .before .before .before .before .before .before .before .before .before .before .before .before .before .before .before .before .pre) _ _ (c .before .before .before .before .before .before .before .before .before .before .before .before .before .before .put-number .ensures) _ _ (c .before .before .before .before .before .before .before .before .before .before .spaced .ensures) _ _ v _ _ w
+    whole-answer (a .number) (a .serial) (a .speed) (a .sum) (a .out .now) (a .at) pre _ _ p _ _ s _ _ v _ _ w
 
 pub put-answer-spec : {M : Type 1} → statement M
 put-answer-spec =

@@ -47,25 +47,28 @@ enum-told-2 c = search needs
 
 returns : tie.Need-returns
 returns c =
+    let a = c .before .before .before .before .before .before .before .before .before .before .args in
     let f = c .before .before .before .before .before .before .before .before .next-field in
     let m = c .before .before .before .number-in in
     let q : f .result ≡ At (c .before .before .before .before .before .before .a .given .0 .0) (c .before .before .before .before .before .before .a .given .0 .1 .0) = cc in
     let v : m .result ≡ Number (c .before .n .given .0 .0) = cc in
-    number-some (c .before .before .before .before .before .before .before .before .before .before .args .s .now) (c .before .before .before .before .before .before .before .before .before .before .args .place) (f .result) (f .ensures) (c .before .before .before .before .before .before .before .before .before .before .args .least) (c .before .before .before .before .before .before .before .before .before .before .args .most) _ _ q (m .result) (m .ensures) _ v
+    number-some (a .s .now) (a .place) (f .result) (f .ensures) (a .least) (a .most) _ _ q (m .result) (m .ensures) _ v
 
 returns-2 : tie.Need-returns-2
 returns-2 c =
+    let a = c .before .before .before .before .before .before .before .before .before .args in
     let f = c .before .before .before .before .before .before .before .next-field in
     let m = c .before .before .number-in in
     let q : f .result ≡ At (c .before .before .before .before .before .a .given .0 .0) (c .before .before .before .before .before .a .given .0 .1 .0) = cc in
     let v : m .result ≡ NoNumber = cc in
-    number-bad (c .before .before .before .before .before .before .before .before .before .args .s .now) (c .before .before .before .before .before .before .before .before .before .args .place) (f .result) (f .ensures) (c .before .before .before .before .before .before .before .before .before .args .least) (c .before .before .before .before .before .before .before .before .before .args .most) _ _ q (m .result) (m .ensures) v
+    number-bad (a .s .now) (a .place) (f .result) (f .ensures) (a .least) (a .most) _ _ q (m .result) (m .ensures) v
 
 returns-3 : tie.Need-returns-3
 returns-3 c =
+    let a = c .before .before .before .before .args in
     let f = c .before .before .next-field in
     let q : f .result ≡ NoField = cc in
-    number-none (c .before .before .before .before .args .s .now) (c .before .before .before .before .args .place) (f .result) (f .ensures) (c .before .before .before .before .args .least) (c .before .before .before .before .args .most) q
+    number-none (a .s .now) (a .place) (f .result) (f .ensures) (a .least) (a .most) q
 
 pub next-number-spec : {M : Type 1} → statement M
 next-number-spec =

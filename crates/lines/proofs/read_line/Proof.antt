@@ -53,11 +53,12 @@ same-length c = search needs
 returns-3 : tie.Need-returns-3
 returns-3 c =
     let a = c .before .before .before .before .before .before .before .before .before .before .before .before .before .before .args in
+    let z = c .before .before .before .before .before .before .before .before .before .before .field-end in
     let s = a .s .now in
     let n = c .before .before .before .before .before .before .before .next-number in
     let q : n .result ≡ Got (c .before .before .before .before .before .n .given .0 .0) (c .before .before .before .before .before .n .given .0 .1 .0) = cc in
     read-as (rest (getD s 0 0) (c .before .before .before .before .before .n .given .0 .0) (from s (c .before .before .before .before .before .n .given .0 .1 .0))) (lineOf s) (a .serials .now) _ (c .before .before .rest-of .result)
-    (line-good s (c .before .before .before .before .before .before .before .before .before .before .field-end .result) (c .before .before .before .before .before .before .before .before .before .before .before .if1 .left) (c .before .before .before .before .before .before .before .before .before .before .field-end .ensures) (c .before .before .before .before .before .before .before .before .before .if2 .taken) ∙ got s 1 0 255 (n .result) (n .ensures) _ _ q (rest (getD s 0 0)))
+    (line-good s (z .result) (c .before .before .before .before .before .before .before .before .before .before .before .if1 .left) (z .ensures) (c .before .before .before .before .before .before .before .before .before .if2 .taken) ∙ got s 1 0 255 (n .result) (n .ensures) _ _ q (rest (getD s 0 0)))
     (c .before .before .rest-of .ensures)
 
 returns-4 : tie.Need-returns-4

@@ -57,7 +57,8 @@ loop-again c =
     let l = c .before .before .before .before .before .before .before .before .before .loop in
     let n = c .before .before .before .before .before .before .before .next-number in
     let q : n .result ≡ Got (c .before .before .before .before .before .v .given .0 .0) (c .before .before .before .before .before .v .given .0 .1 .0) = cc in
-    store-turn (c .before .before .before .before .before .before .before .before .before .before .before .before .args .s .now) (c .before .before .before .before .before .before .before .before .before .before .before .before .args .out .now) (c .before .before .before .before .before .before .before .before .before .before .before .before .args .place) (l .e) (l .n) (l .out) (l .inv) (n .result) (n .ensures) _ _ q _ (c .before .before .put .ensures)
+    let a = c .before .before .before .before .before .before .before .before .before .before .before .before .args in
+    store-turn (a .s .now) (a .out .now) (a .place) (l .e) (l .n) (l .out) (l .inv) (n .result) (n .ensures) _ _ q _ (c .before .before .put .ensures)
 
 same-length-2 : tie.Need-same-length-2 Inv-loop μ-loop
 same-length-2 c = c .before .loop .inv .long
