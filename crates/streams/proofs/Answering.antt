@@ -1,14 +1,16 @@
 -- A line answered moves its text from what is to come to what was written, so a chunk's answers are those of its lines; and the chunks' answers,
 -- one after the other, are the program's. Assumes nothing.
-use Prim.Native.Nat.{ℕ}
+use Prim.Native.Nat.{ℕ, _<_}
+use native.Mathlib.Omega.{arith}
 use mathlib.Core.Path.{_≡_, refl, sym, _∙_, ap}
 use mathlib.Core.List.{List, [], _∷_, _++_, append-assoc, append-nil}
-use lib.IntN.{ℤ}
+use lib.ListN.{length}
+use lib.IntN.{ℤ, pos}
 use Rattle.ledger_spec.specs.Bench.{Bench, setUp}
-use Rattle.ledger_spec.specs.Grammar.{Line}
+use Rattle.ledger_spec.specs.Grammar.{Line, wrong}
 use Rattle.ledger_spec.specs.Lines.{says}
 use Rattle.ledger_spec.specs.Program.{answers, afterLines, textOf, texts, program}
-use Rattle.streams.specs.Chunks.{lines, left, joined, linesIn}
+use Rattle.streams.specs.Chunks.{lines, left, last, joined, linesIn}
 use Rattle.streams.specs.Answering.{Answering, Answered, replies}
 use Rattle.streams.proofs.Chunks.{lines-none, left-none, cut-anyhow}
 
@@ -88,6 +90,22 @@ used-up b₀ p₀ t₀ b p text g = record {
   bench = sym (g .bench ∙ ap (afterLines b) (lines-none p) ∙ after-none b);
   held = sym (g .held ∙ left-none p);
 }
+
+-- ---- the input's end
+
+-- nothing is held: nothing is said
+pub end-none : (b : Bench) (p : List ℕ) → length p ≡ 0 → texts (answers b (last p)) ≡ []
+end-none b [] h = ap texts (answers-none b) ∙ texts-none
+end-none b (c ∷ p) h = absurd (omega arith)
+
+-- a last line without newline is LINE
+pub end-some : (b : Bench) (p : List ℕ) → 0 < length p → texts (answers b (last p)) ≡ textOf (1, 0, pos 0, pos 0)
+unfolding says
+end-some b [] h = absurd (omega arith)
+end-some b (c ∷ p) h =
+    ap texts (answers-more b wrong []) ∙ texts-more (1, 0, pos 0, pos 0) (answers b [])
+    ∙ ap (λ (r : List ℕ). textOf (1, 0, pos 0, pos 0) ++ r) (ap texts (answers-none b) ∙ texts-none)
+    ∙ append-nil (textOf (1, 0, pos 0, pos 0))
 
 -- ---- the program
 
