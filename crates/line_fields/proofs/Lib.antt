@@ -1,0 +1,4 @@
+pub mod Cuts
+pub mod Ends
+pub mod Steps
+pub mod States

@@ -1,0 +1,5 @@
+pub mod Chunks
+pub mod Feeding
+pub mod Answering
+pub mod Circles
+pub mod Going
