@@ -3,9 +3,9 @@ use Prim.Native.Nat.{_-_}
 use native.Mathlib.Omega.{arith}
 use borrow.Author.Needs.{needs}
 use Rattle.views.specs.View.{view}
-use Rattle.members.proofs.Naming.{Passed, passed-none, passed-one, passed-all}
-use Rattle.members.proofs.name.Statement.{statement}
-use Rattle.members.proofs.name.Tie as tie
+use Rattle.line_members.proofs.Naming.{Passed, passed-none, passed-one, passed-all}
+use Rattle.line_members.proofs.name.Statement.{statement}
+use Rattle.line_members.proofs.name.Tie as tie
 
 abbrev Inv-loop : tie.InvT-loop
 Inv-loop b serials₀ n hints₀ i₀ serials hints i = Passed (view b) serials₀ serials n i

@@ -8,7 +8,7 @@ ghost use Prim.Native.Nat.{_≤_};
 ghost use lib.ListN.{length};
 ghost use Rattle.views.specs.Fit.{SoundWords};
 ghost use Rattle.views.specs.View.{view};
-ghost use Rattle.members.specs.Names.{Names, AllNamed};
+ghost use Rattle.line_members.specs.Names.{Names, AllNamed};
 
 // A word that is no packed handle.
 pub const NOBODY: u64 = 2199023255552;

@@ -5,9 +5,9 @@ use borrow.Author.Needs.{needs}
 use Rattle.links.specs.declared.Found.the-variants.{At, Stale}
 use Rattle.views.proofs.Fits.{fit-of}
 use Rattle.serials.proofs.Scanning.{seek-at, seek-none}
-use Rattle.members.proofs.Naming.{names-late, names-none, names-at}
-use Rattle.members.proofs.member.Statement.{statement}
-use Rattle.members.proofs.member.Tie as tie
+use Rattle.line_members.proofs.Naming.{names-late, names-none, names-at}
+use Rattle.line_members.proofs.member.Statement.{statement}
+use Rattle.line_members.proofs.member.Tie as tie
 
 cast-if1 : tie.Need-cast-if1
 cast-if1 c = search needs

@@ -24,7 +24,7 @@ use Rattle.rings.specs.Given.{nowhere, handGiven}
 use Rattle.rings.proofs.Givens.{given-fine}
 use Rattle.serials.specs.Seek.{handle, Seeks}
 use Rattle.serials.proofs.Scanning.{not-yet, seeks-none}
-use Rattle.members.specs.Names.{Names, AllNamed}
+use Rattle.line_members.specs.Names.{Names, AllNamed}
 
 nobody-given : handGiven 2199023255552 ≡ nowhere
 unfolding handGiven

@@ -18,7 +18,7 @@ use Rattle.ledger_spec.specs.Refuse.{blossomTests}
 use Rattle.ledger_spec.specs.Calls.{Reply, nobody, settle, Blossom, blossomCall, perform}
 use Rattle.ledger_spec.specs.Lines.{named}
 use Rattle.rings.specs.Given.{handGiven, handsGiven}
-use Rattle.members.specs.Names.{Names, AllNamed}
+use Rattle.line_members.specs.Names.{Names, AllNamed}
 
 -- ---- a stale member: UNIT, CHILD, CIRCLE or STALE, whatever the members are
 
