@@ -1,0 +1,5 @@
+mod Lowest
+mod Marking
+mod Twice
+mod Shape
+mod Touching
