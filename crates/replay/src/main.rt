@@ -1,5 +1,6 @@
 // Replays recordings of the Rust: each line's call is made on the bench, and what it answers is compared with the line's recorded answer.
 mod nodes;
+mod says;
 
 fn main() {
     let b: [u64; words::WORDS] = [0; words::WORDS];

@@ -96,7 +96,7 @@ fn pending(out: &mut [i64; ROOM], n: usize, g: Group, i: usize) -> usize {
 }
 
 // A count of at most 128, as a number.
-fn few(n: usize) -> i64 {
+pub fn few(n: usize) -> i64 {
     if n <= 128 {
         return n as i64;
     }

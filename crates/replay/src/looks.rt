@@ -1,0 +1,118 @@
+// The lines that read: of an interface, of a node.
+use kinds::Handle;
+use kinds::MaybeNode;
+use kinds::NodeIndex;
+use tapes::ROOM;
+use words::WORDS;
+ghost use Prim.Native.Nat.{_≤_};
+
+const VERTICES: usize = 1024;
+
+pub fn strict(b: &[u64; WORDS], out: &mut [i64; ROOM], unit: u8) -> usize {
+    let r = verdicts::strict_check(b, unit);
+    let n = tapes::say(out, 0, r.number as i64);
+    let m = tapes::say(out, n, r.verdict as i64);
+    tapes::say(out, m, r.index as i64)
+}
+
+pub fn sum(b: &[u64; WORDS], out: &mut [i64; ROOM], unit: u8) -> usize {
+    let r = asks::sum_dual_variables(b, unit);
+    let n = tapes::say(out, 0, r.number as i64);
+    tapes::say(out, n, r.weight)
+}
+
+pub fn speed(b: &[u64; WORDS], out: &mut [i64; ROOM], unit: u8) -> usize {
+    let r = asks::sum_grow_speed(b, unit);
+    let n = tapes::say(out, 0, r.number as i64);
+    tapes::say(out, n, r.weight)
+}
+
+pub fn count(b: &[u64; WORDS], out: &mut [i64; ROOM], unit: u8) -> usize {
+    let r = asks::nodes_count(b, unit);
+    let n = tapes::say(out, 0, r.number as i64);
+    tapes::say(out, n, nodes::small(r.count))
+}
+
+fn found(out: &mut [i64; ROOM], n: usize, h: Handle) -> usize {
+    let a = says::handle(out, n, h);
+    let c = tapes::say(out, a, h.unit as i64);
+    tapes::say(out, c, h.slot as i64)
+}
+
+pub fn index(b: &[u64; WORDS], out: &mut [i64; ROOM], unit: u8, i: u32) -> usize {
+    let r = asks::get_node(b, unit, NodeIndex(i));
+    let n = tapes::say(out, 0, r.number as i64);
+    let node = r.node;
+    match node {
+        MaybeNode::NoNode => found(out, n, Handle::nobody()),
+        MaybeNode::Node(h) => found(out, n, h),
+    }
+}
+
+pub fn belonging(b: &[u64; WORDS], out: &mut [i64; ROOM], unit: u8, h: Handle) -> usize {
+    let r = asks::check_ptr_belonging(b, unit, h);
+    let n = tapes::say(out, 0, r.number as i64);
+    tapes::say(out, n, says::bit(r.inside))
+}
+
+pub fn value(b: &[u64; WORDS], out: &mut [i64; ROOM], h: Handle) -> usize {
+    let r = asks::get_dual_variable(b, h);
+    let n = tapes::say(out, 0, r.number as i64);
+    tapes::say(out, n, r.weight)
+}
+
+pub fn outermost(b: &[u64; WORDS], out: &mut [i64; ROOM], h: Handle) -> usize {
+    let r = asks::get_ancestor_blossom(b, h);
+    let node = r.node;
+    let n = tapes::say(out, 0, r.number as i64);
+    let m = says::handle(out, n, node);
+    tapes::say(out, m, nodes::small(r.links))
+}
+
+pub fn below(b: &[u64; WORDS], out: &mut [i64; ROOM], h: Handle) -> usize {
+    let r = asks::get_secondary_ancestor_blossom(b, h);
+    let node = r.node;
+    let n = tapes::say(out, 0, r.number as i64);
+    says::handle(out, n, node)
+}
+
+pub fn first(b: &[u64; WORDS], out: &mut [i64; ROOM], h: Handle) -> usize {
+    let r = asks::get_representative_vertex(b, h);
+    let v = r.vertex;
+    let n = tapes::say(out, 0, r.number as i64);
+    tapes::say(out, n, v.0 as i64)
+}
+
+fn room(z: i64) -> usize
+    ensures { λ r. ⌜ r ≤ 1024 ⌝ }
+{
+    if z < 0 {
+        return 0;
+    }
+    if 1024 < z {
+        return 1024;
+    }
+    z as usize
+}
+
+fn vertex(vs: &[u32; VERTICES], i: usize) -> i64 {
+    if i < 1024 {
+        return vs[i] as i64;
+    }
+    -1
+}
+
+// All vertices into a slice of `z` entries that are 77 before; every entry is shown, those past the vertices too.
+pub fn vertices(b: &[u64; WORDS], out: &mut [i64; ROOM], h: Handle, z: i64) -> usize {
+    let most = room(z);
+    let mut vs = [77u32; VERTICES];
+    let r = asks::get_all_vertices(b, h, &mut vs[..most]);
+    let m = tapes::say(out, 0, r.number as i64);
+    let mut n = tapes::say(out, m, nodes::small(r.count));
+    let mut i: usize = 0;
+    while i < most {
+        n = tapes::say(out, n, vertex(&vs, i));
+        i += 1;
+    }
+    n
+}
