@@ -2,6 +2,10 @@
 
 pub mod driver;
 pub mod line;
+pub mod model;
 pub mod panics;
+pub mod recording;
+pub mod replay;
 pub mod show;
 pub mod stub;
+pub mod text;
