@@ -1,5 +1,6 @@
 //! The text program of document 01: its grammar, its lines out of bytes, and its four numbers.
-use crate::driver::{Driver, Trouble};
+use crate::bare::watched;
+use crate::driver::Driver;
 use crate::line::Line;
 use crate::replay::Replay;
 
@@ -74,17 +75,19 @@ pub fn run(input: &[u8]) -> Result<String, String> {
     Ok(out)
 }
 
-/// The original alone on accepted lines; on any other what it does, after `! `.
-pub fn raw(input: &[u8]) -> String {
-    let mut driver = Driver::new(1, false);
-    let answer = |driver: &mut Driver, text: &[u8], can_be: bool| -> Result<String, String> {
-        let line = read(text).filter(|_| can_be).ok_or("not of the grammar")?;
-        driver.answer(&line).map(|numbers| four(&numbers)).map_err(|trouble: Trouble| trouble.to_string())
-    };
-    let mut out = String::new();
-    for (text, can_be) in lines(input) {
-        out.push_str(&answer(&mut driver, text, can_be).unwrap_or_else(|why| format!("! {why}")));
-        out.push('\n');
-    }
-    out
+/// The original alone on accepted lines; on any other what it does, after `! `. Nothing after a line that hangs.
+pub fn raw(input: Vec<u8>) -> Vec<String> {
+    watched("! hangs".to_string(), move |sender| {
+        let mut driver = Driver::new(1, false);
+        for (text, can_be) in lines(&input) {
+            let answer = match read(text).filter(|_| can_be).map(|line| driver.answer(&line)) {
+                None => "! not of the grammar".to_string(),
+                Some(Ok(numbers)) => four(&numbers),
+                Some(Err(trouble)) => format!("! {trouble}"),
+            };
+            if sender.send(answer).is_err() {
+                return;
+            }
+        }
+    })
 }
