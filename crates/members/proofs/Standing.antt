@@ -31,7 +31,6 @@ module _ (b : List ℕ) (F : Fit b) (k : ℕ) (P : Placed b k) (n : Node) (e : n
   abbrev own : Node → Handle
   own x = record { unit = k / 64; slot = k % 64; serial = x .serial .0 }
 
-
   pub stands-defect : (v : Vertex) → n .class ≡ Defect v → ownBy s (own n) (handleNamed (n .left)) (handleNamed (n .right)) ≡ memberBy s (view b) (memberAt (nodeAt b) k)
   stands-defect v c = ap (λ (x : Node). ownBy s (own x) (handleNamed (x .left)) (handleNamed (x .right))) e
       ∙ member-own (view b) (memberAt (nodeAt b) k) (ap isDefect (shown b F k P) ∙ defect-seen (nodeAt b k) (sumUp 8 (interfaceAt b) (k / 64)) (circleOf (nodeAt b) k) v (sym (ap (λ (x : Node). x .class) e) ∙ c)) s

@@ -8,12 +8,6 @@ use Rattle.members.specs.Found.{larger}
 use Rattle.members.proofs.Standing.{stands-defect, stands-ring}
 use Rattle.members.proofs.member_verdict.Statement.{statement}
 use Rattle.members.proofs.member_verdict.Tie as tie
-use Rattle.members.proofs.member_verdict.Reads as reads
-use Rattle.members.proofs.member_verdict.Lts as lts
-use Rattle.members.proofs.larger_of.Reads as larger-of-reads
-use Rattle.members.proofs.own_verdict.Reads as own-verdict-reads
-use Rattle.members.proofs.touch.Reads as touch-reads
-use Rattle.words.proofs.load_node.Reads as load-node-reads
 
 load-node-requires : tie.Need-load-node-requires
 load-node-requires c κs = search needs

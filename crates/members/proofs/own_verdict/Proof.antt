@@ -5,9 +5,6 @@ use Rattle.ledger_spec.specs.Named.{handleNamed}
 use Rattle.members.proofs.Touching.{same-named, own-strict, own-first, own-second, own-both}
 use Rattle.members.proofs.own_verdict.Statement.{statement}
 use Rattle.members.proofs.own_verdict.Tie as tie
-use Rattle.members.proofs.own_verdict.Reads as reads
-use Rattle.members.proofs.own_verdict.Lts as lts
-use Rattle.kinds.proofs.Handle.same.Reads as same-reads
 
 returns : tie.Need-returns
 returns c = own-strict (handleNamed (c .before .args .own)) (handleNamed (c .before .args .left)) (handleNamed (c .before .args .right)) (c .before .args .strict) (c .if1 .taken)

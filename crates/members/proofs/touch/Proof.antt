@@ -6,10 +6,6 @@ use Rattle.views.specs.View.{view}
 use Rattle.members.proofs.Touching.{by-strict, by-plain}
 use Rattle.members.proofs.touch.Statement.{statement}
 use Rattle.members.proofs.touch.Tie as tie
-use Rattle.members.proofs.touch.Reads as reads
-use Rattle.members.proofs.touch.Lts as lts
-use Rattle.members.proofs.touch_verdict.Reads as touch-verdict-reads
-use Rattle.members.proofs.under_verdict.Reads as under-verdict-reads
 
 under-verdict-requires : tie.Need-under-verdict-requires
 under-verdict-requires c κs = search needs

@@ -11,11 +11,6 @@ use Rattle.views.specs.View.{view}
 use Rattle.members.proofs.Touching.{same-named, touch-gone, touch-near, touch-far}
 use Rattle.members.proofs.touch_verdict.Statement.{statement}
 use Rattle.members.proofs.touch_verdict.Tie as tie
-use Rattle.members.proofs.touch_verdict.Reads as reads
-use Rattle.members.proofs.touch_verdict.Lts as lts
-use Rattle.kinds.proofs.Handle.same.Reads as same-reads
-use Rattle.links.proofs.find.Reads as find-reads
-use Rattle.links.proofs.outermost.Reads as outermost-reads
 
 find-requires : tie.Need-find-requires
 find-requires c κs = search needs

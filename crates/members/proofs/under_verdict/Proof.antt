@@ -8,10 +8,6 @@ use native.Mathlib.Omega.{arith}
 use Rattle.members.proofs.Touching.{same-named, under-self, under-newer, under-by}
 use Rattle.members.proofs.under_verdict.Statement.{statement}
 use Rattle.members.proofs.under_verdict.Tie as tie
-use Rattle.members.proofs.under_verdict.Reads as reads
-use Rattle.members.proofs.under_verdict.Lts as lts
-use Rattle.kinds.proofs.Handle.same.Reads as same-reads
-use Rattle.members.proofs.touch_verdict.Reads as touch-verdict-reads
 
 same-requires : tie.Need-same-requires
 same-requires c κs = search needs
