@@ -107,7 +107,8 @@ module _ (g : Code) where
     unfolding after
     pops-conflicts o t n m eo et en em = (
       (λ j. (0, (maybe (eo j), groupOf (is j)))) ∙ ap (λ (q : Group). (0, (maybe top, q))) (view-laid (popped (listOf g) (stopsOf g)) g) ∙ sym pop-conflicts,
-      is ∙ sym (ap leaves pop-conflicts))
+      is ∙ sym (ap leaves pop-conflicts),
+    )
       where
         is : bytes t n m ≡ laid (popped (listOf g) (stopsOf g)) g
         is = (λ j. bytes (et j) (en j) m) ∙ (λ j. bytes (shifted (em j) (g .stops)) (g .listed - 1) (em j)) ∙ bytes-left
