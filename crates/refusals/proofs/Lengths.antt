@@ -27,5 +27,8 @@ once : (z : ℤ) → SFits w64 z → ltZ z (pos 0) ≡ false → Forward z z
 once (pos n) f e = let h : n < 9223372036854775808 = f .sfits in record { sign = e; whole = (tt, record { fits = omega arith }); is = refl; small = h }
 once (negsuc n) f e = absurd (true≢false e)
 
+pub forward-of : (z : ℤ) → SFits w64 z → ltZ z (pos 0) ≡ false → Forward z (again z)
+forward-of z f e = let t = once z f e in rw (toZ-ofZ f) t
+
 pub forward : (z : ℤ) → SFits w64 z → ltZ (again z) (pos 0) ≡ false → Forward z (again z)
-forward z f e = let t = once z f (rw (toZ-ofZ f) at e) in rw (toZ-ofZ f) t
+forward z f e = forward-of z f (rw (toZ-ofZ f) at e)

@@ -86,8 +86,8 @@ pub fn state_number(b: &[u64; WORDS], unit: u8, h: Handle) -> u8
     if number != 0 {
         return number;
     }
-    let n = words::load_node(b, (h.unit as usize) * 64 + (h.slot as usize));
-    let parent = n.parent;
+    let node = words::load_node(b, (h.unit as usize) * 64 + (h.slot as usize));
+    let parent = node.parent;
     match parent {
         Parent::Outermost => 0,
         Parent::Inside(_) => 11,
