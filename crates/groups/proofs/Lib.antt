@@ -1,0 +1,5 @@
+pub mod Lists
+pub mod Loops
+pub mod View
+pub mod Asking
+pub mod Only
