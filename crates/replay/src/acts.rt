@@ -1,4 +1,6 @@
 // The lines that change the bench: what the public call answers, with its notices.
+use crate::nodes;
+use crate::says;
 use calls::Answer;
 use kinds::Handle;
 use kinds::Notice;
@@ -9,23 +11,19 @@ use tapes::ROOM;
 use words::WORDS;
 
 pub fn unit_of(z: i64) -> u8 {
-    if z < 0 {
+    let n = tapes::natural(z);
+    if 255 < n {
         return 255;
     }
-    if 255 < z {
-        return 255;
-    }
-    z as u8
+    n as u8
 }
 
 pub fn word_of(z: i64) -> u32 {
-    if z < 0 {
+    let n = tapes::natural(z);
+    if 4294967295 < n {
         return 0;
     }
-    if 4294967295 < z {
-        return 0;
-    }
-    z as u32
+    n as u32
 }
 
 fn state_of(z: i64) -> GrowState {

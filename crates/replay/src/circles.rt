@@ -1,13 +1,15 @@
 // The lines that make a blossom: by serials alone, by serials with their touching pairs, and with lists of any two lengths.
+use crate::acts;
+use crate::nodes;
 use tapes::ROOM;
 use words::WORDS;
 ghost use Prim.Native.Nat.{_≤_};
 
 // Members and touching handles of one line, at most: more than any circle holds.
-pub const LIST: usize = 1280;
+const LIST: usize = 1280;
 
-fn keep(list: &mut [u64; LIST], n: usize, w: u64) {
-    if n < 1280 {
+fn keep(list: &mut [u64], n: usize, w: u64) {
+    if n < list.len() {
         list[n] = w;
     }
 }
@@ -19,15 +21,7 @@ fn packed(b: &[u64; WORDS], row: &[i64; ROOM], n: usize, i: usize) -> u64 {
 }
 
 // The serials of a row from one place up to another, as packed handles; how many there are.
-fn gather(
-    b: &[u64; WORDS],
-    row: &[i64; ROOM],
-    from: usize,
-    to: usize,
-    list: &mut [u64; LIST],
-) -> usize
-    ensures { λ r. ⌜ r ≤ 1280 ⌝ }
-{
+fn gather(b: &[u64; WORDS], row: &[i64; ROOM], from: usize, to: usize, list: &mut [u64]) -> usize {
     let mut n: usize = 0;
     let mut i = from;
     while n < 1280 {
@@ -42,13 +36,7 @@ fn gather(
 }
 
 // The members of a row of triples, and their touching handles, two for each; how many members there are.
-fn triples(
-    b: &[u64; WORDS],
-    row: &[i64; ROOM],
-    n: usize,
-    members: &mut [u64; LIST],
-    touching: &mut [u64; LIST],
-) -> usize
+fn triples(b: &[u64; WORDS], row: &[i64; ROOM], n: usize, members: &mut [u64], touching: &mut [u64]) -> usize
     ensures { λ r. ⌜ r ≤ 640 ⌝ }
 {
     let mut k: usize = 0;
@@ -65,43 +53,50 @@ fn triples(
     k
 }
 
-pub fn plain(b: &mut [u64; WORDS], out: &mut [i64; ROOM], row: &[i64; ROOM], n: usize) -> usize {
-    let unit = acts::unit_of(tapes::number(row, n, 0));
-    let mut members = [0u64; LIST];
-    let none = [0u64; LIST];
-    let m = gather(b, row, 1, n, &mut members);
-    let r = calls::create_blossom(b, unit, &members[..m], &none[..0]);
+// A blossom of the first m members, with the first t touching handles.
+fn made(b: &mut [u64; WORDS], out: &mut [i64; ROOM], unit: u8, members: &[u64], m: usize, touching: &[u64], t: usize) -> usize {
+    let i = tapes::within(m, members);
+    let j = tapes::within(t, touching);
+    let r = calls::create_blossom(b, unit, &members[..i], &touching[..j]);
     acts::answer(b, out, r, unit)
 }
 
-pub fn paired(b: &mut [u64; WORDS], out: &mut [i64; ROOM], row: &[i64; ROOM], n: usize) -> usize {
+fn plain_in(b: &mut [u64; WORDS], out: &mut [i64; ROOM], row: &[i64; ROOM], n: usize, members: &mut [u64], touching: &mut [u64]) -> usize {
     let unit = acts::unit_of(tapes::number(row, n, 0));
-    let mut members = [0u64; LIST];
-    let mut touching = [0u64; LIST];
-    let m = triples(b, row, n, &mut members, &mut touching);
-    let t = m * 2;
-    let r = calls::create_blossom(b, unit, &members[..m], &touching[..t]);
-    acts::answer(b, out, r, unit)
+    let m = gather(b, row, 1, n, members);
+    made(b, out, unit, members, m, touching, 0)
+}
+
+fn paired_in(b: &mut [u64; WORDS], out: &mut [i64; ROOM], row: &[i64; ROOM], n: usize, members: &mut [u64], touching: &mut [u64]) -> usize {
+    let unit = acts::unit_of(tapes::number(row, n, 0));
+    let m = triples(b, row, n, members, touching);
+    made(b, out, unit, members, m, touching, m * 2)
 }
 
 // The place where a row's touching handles begin, after so many members.
 fn turning(n: usize, z: i64) -> usize {
-    if z < 0 {
+    let m = tapes::natural(z);
+    if 1280 < m {
         return n;
     }
-    if 1280 < z {
-        return n;
-    }
-    (z as usize) + 2
+    (m as usize) + 2
 }
 
-pub fn listed(b: &mut [u64; WORDS], out: &mut [i64; ROOM], row: &[i64; ROOM], n: usize) -> usize {
+fn listed_in(b: &mut [u64; WORDS], out: &mut [i64; ROOM], row: &[i64; ROOM], n: usize, members: &mut [u64], touching: &mut [u64]) -> usize {
     let unit = acts::unit_of(tapes::number(row, n, 0));
     let at = turning(n, tapes::number(row, n, 1));
+    let m = gather(b, row, 2, at, members);
+    let t = gather(b, row, at, n, touching);
+    made(b, out, unit, members, m, touching, t)
+}
+
+// The line's blossom, by its letter: `B` has serials alone, `b` triples, `t` lists of any two lengths.
+pub fn blossom(b: &mut [u64; WORDS], out: &mut [i64; ROOM], letter: u8, row: &[i64; ROOM], n: usize) -> usize {
     let mut members = [0u64; LIST];
     let mut touching = [0u64; LIST];
-    let m = gather(b, row, 2, at, &mut members);
-    let t = gather(b, row, at, n, &mut touching);
-    let r = calls::create_blossom(b, unit, &members[..m], &touching[..t]);
-    acts::answer(b, out, r, unit)
+    match letter {
+        b'B' => plain_in(b, out, row, n, &mut members, &mut touching),
+        b'b' => paired_in(b, out, row, n, &mut members, &mut touching),
+        _ => listed_in(b, out, row, n, &mut members, &mut touching),
+    }
 }

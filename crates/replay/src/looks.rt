@@ -1,10 +1,11 @@
 // The lines that read: of an interface, of a node.
+use crate::nodes;
+use crate::says;
 use kinds::Handle;
 use kinds::MaybeNode;
 use kinds::NodeIndex;
 use tapes::ROOM;
 use words::WORDS;
-ghost use Prim.Native.Nat.{_≤_};
 
 const VERTICES: usize = 1024;
 
@@ -83,36 +84,33 @@ pub fn first(b: &[u64; WORDS], out: &mut [i64; ROOM], h: Handle) -> usize {
     tapes::say(out, n, v.0 as i64)
 }
 
-fn room(z: i64) -> usize
-    ensures { λ r. ⌜ r ≤ 1024 ⌝ }
-{
-    if z < 0 {
-        return 0;
-    }
-    if 1024 < z {
-        return 1024;
-    }
-    z as usize
+fn wide(v: u32) -> i64 {
+    v as i64
 }
 
-fn vertex(vs: &[u32; VERTICES], i: usize) -> i64 {
-    if i < 1024 {
-        return vs[i] as i64;
+fn vertex(vs: &[u32], i: usize) -> i64 {
+    if i < vs.len() {
+        return wide(vs[i]);
     }
     -1
 }
 
-// All vertices into a slice of `z` entries that are 77 before; every entry is shown, those past the vertices too.
-pub fn vertices(b: &[u64; WORDS], out: &mut [i64; ROOM], h: Handle, z: i64) -> usize {
-    let most = room(z);
-    let mut vs = [77u32; VERTICES];
+// All vertices into the first entries of a slice; each of those is shown, those past the vertices too.
+fn vertices_in(b: &[u64; WORDS], out: &mut [i64; ROOM], h: Handle, room: usize, vs: &mut [u32]) -> usize {
+    let most = tapes::vertices_within(room, vs);
     let r = asks::get_all_vertices(b, h, &mut vs[..most]);
     let m = tapes::say(out, 0, r.number as i64);
     let mut n = tapes::say(out, m, nodes::small(r.count));
     let mut i: usize = 0;
     while i < most {
-        n = tapes::say(out, n, vertex(&vs, i));
+        n = tapes::say(out, n, vertex(vs, i));
         i += 1;
     }
     n
+}
+
+// All vertices into a slice of so many entries, which are 77 before.
+pub fn vertices(b: &[u64; WORDS], out: &mut [i64; ROOM], h: Handle, z: i64) -> usize {
+    let mut vs = [77u32; VERTICES];
+    vertices_in(b, out, h, tapes::natural(z) as usize, &mut vs)
 }

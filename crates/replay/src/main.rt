@@ -1,11 +1,180 @@
-// Replays recordings of the Rust: each line's call is made on the bench, and what it answers is compared with the line's recorded answer.
+// Replays recordings of the Rust (oracle/README.md has their language): each line's call is made on the bench, and what it answers is compared
+// with the recorded answer. Writes the lines that differ, by their number, and at the end how many answers were compared and how many differ.
+mod acts;
+mod circles;
+mod looks;
 mod nodes;
+mod packs;
 mod says;
+mod turns;
+use crate::packs::Four;
+use tapes::ROOM;
+use words::WORDS;
+
+const LINE: usize = 4096;
+
+const CHUNK: usize = 4096;
+
+// Lines read, answers compared, answers that differ; numbers said by the last call.
+struct Count {
+    lines: u64,
+    answers: u64,
+    wrong: u64,
+    said: usize,
+}
+
+struct After {
+    count: Count,
+    four: Four,
+}
+
+// One more, and never more than fits.
+fn more(n: u64) -> u64 {
+    if n < 4294967296 {
+        return n + 1;
+    }
+    n
+}
+
+fn differs(line: u64) {
+    io::write_all(1, b"line ");
+    io::print_decimal(1, line);
+    io::write_all(1, b" differs\n");
+}
+
+fn compared(c: Count, out: &[i64; ROOM], row: &[i64; ROOM], n: usize) -> Count {
+    let lines = more(c.lines);
+    let answers = more(c.answers);
+    if tapes::same(out, c.said, row, n) {
+        return Count {
+            lines,
+            answers,
+            wrong: c.wrong,
+            said: 0,
+        };
+    }
+    differs(lines);
+    Count {
+        lines,
+        answers,
+        wrong: more(c.wrong),
+        said: 0,
+    }
+}
+
+// A whole line: a comment, a recorded answer, or a call.
+fn line_done(
+    b: &mut [u64; WORDS],
+    four: Four,
+    c: Count,
+    line: &[u8],
+    held: usize,
+    row: &mut [i64; ROOM],
+    out: &mut [i64; ROOM],
+) -> After {
+    let most = tapes::bytes_within(held, line);
+    let text = &line[..most];
+    let letter = first(text);
+    if letter == b'#' {
+        let count = Count {
+            lines: more(c.lines),
+            answers: c.answers,
+            wrong: c.wrong,
+            said: c.said,
+        };
+        return After { count, four };
+    }
+    let n = tapes::numbers(text, row);
+    if letter == b'=' {
+        let count = compared(c, out, row, n);
+        return After { count, four };
+    }
+    let t = turns::turn(b, four, letter, row, n, out);
+    let after = t.four;
+    let count = Count {
+        lines: more(c.lines),
+        answers: c.answers,
+        wrong: c.wrong,
+        said: t.said,
+    };
+    After { count, four: after }
+}
+
+fn first(s: &[u8]) -> u8 {
+    if s.len() == 0 {
+        return b'#';
+    }
+    s[0]
+}
+
+fn keep(line: &mut [u8; LINE], held: usize, c: u8) -> usize {
+    if held < 4096 {
+        line[held] = c;
+        return held + 1;
+    }
+    held
+}
+
+fn byte(chunk: &[u8; CHUNK], i: usize) -> u8 {
+    if i < 4096 {
+        return chunk[i];
+    }
+    b'\n'
+}
+
+fn ended(c: Count) {
+    io::print_decimal(1, c.answers);
+    io::write_all(1, b" answers compared, ");
+    io::print_decimal(1, c.wrong);
+    io::write_all(1, b" differ\n");
+}
+
+// The next bytes of standard input; how many there are.
+fn fill(chunk: &mut [u8]) -> usize {
+    let got = libc::read(0, chunk);
+    io::count(got, chunk)
+}
+
+// Reads standard input to its end.
+fn run(b: &mut [u64; WORDS], line: &mut [u8; LINE], row: &mut [i64; ROOM], out: &mut [i64; ROOM], chunk: &mut [u8; CHUNK]) {
+    let mut four = packs::empty();
+    let mut count = Count {
+        lines: 0,
+        answers: 0,
+        wrong: 0,
+        said: 0,
+    };
+    let mut held: usize = 0;
+    let mut budget: u64 = 4294967296;
+    while 0 < budget {
+        let n = fill(chunk);
+        if n == 0 {
+            break;
+        }
+        let mut i: usize = 0;
+        while i < n {
+            let c = byte(chunk, i);
+            if c == b'\n' {
+                let a = line_done(b, four, count, line, held, row, out);
+                four = a.four;
+                count = a.count;
+                held = 0;
+            } else {
+                held = keep(line, held, c);
+            }
+            i += 1;
+        }
+        budget -= 1;
+    }
+    ended(count);
+}
 
 fn main() {
-    let b: [u64; words::WORDS] = [0; words::WORDS];
-    let h = nodes::named(&b, 3);
-    let row = [0i64; tapes::ROOM];
-    let mut list = [0u64; nodes::LIST];
-    nodes::gather(&b, &row, 1, 3, &mut list);
+    let mut b = [0u64; WORDS];
+    let mut row = [0i64; ROOM];
+    let mut out = [0i64; ROOM];
+    let mut line = [0u8; LINE];
+    let mut chunk = [0u8; CHUNK];
+    calls::set_up(&mut b, 1);
+    run(&mut b, &mut line, &mut row, &mut out, &mut chunk);
 }

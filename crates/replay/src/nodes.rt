@@ -1,16 +1,14 @@
 // Nodes by their serials, which is how a recording names them, and the dump of a tree, slot by slot.
+use crate::says;
 use kinds::Class;
-use kinds::GrowState;
 use kinds::Handle;
+use kinds::MaybeNode;
+use kinds::NodeIndex;
 
 use kinds::Parent;
 use tapes::ROOM;
 use words::Node;
 use words::WORDS;
-ghost use Prim.Native.Nat.{_≤_};
-
-// Members and touching handles of one line, at most: more than any circle holds.
-pub const LIST: usize = 1280;
 
 // Whether slot k holds a node of this serial.
 fn holds(b: &[u64; WORDS], k: usize, serial: i64) -> bool {
@@ -52,30 +50,6 @@ pub fn named(b: &[u64; WORDS], serial: i64) -> Handle {
     Handle::nobody()
 }
 
-fn keep(list: &mut [u64; LIST], n: usize, w: u64) {
-    if n < 1280 {
-        list[n] = w;
-    }
-}
-
-// The serials of a row from place `from` up to `to`, as packed handles; how many there are.
-pub fn gather(b: &[u64; WORDS], row: &[i64; ROOM], from: usize, to: usize, list: &mut [u64; LIST]) -> usize
-    ensures { λ r. ⌜ r ≤ 1280 ⌝ }
-{
-    let mut n: usize = 0;
-    let mut i = from;
-    while n < 1280 {
-        if to <= i {
-            return n;
-        }
-        let h = named(b, tapes::number(row, to, i));
-        keep(list, n, words::handle_word(h));
-        n += 1;
-        i += 1;
-    }
-    n
-}
-
 fn parent(out: &mut [i64; ROOM], n: usize, p: Parent) -> usize {
     match p {
         Parent::Outermost => tapes::say(out, n, 0),
@@ -84,7 +58,7 @@ fn parent(out: &mut [i64; ROOM], n: usize, p: Parent) -> usize {
 }
 
 // A count or a size of a sound bench, as a number.
-fn small(n: u64) -> i64 {
+pub fn small(n: u64) -> i64 {
     if n <= 4096 {
         return n as i64;
     }

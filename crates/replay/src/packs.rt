@@ -1,4 +1,7 @@
 // The lines about obstacle groups: four of them, by number.
+use crate::acts;
+use crate::nodes;
+use crate::says;
 use group_takes::MaybeObstacle;
 use groups::Group;
 use kinds::MaybeLength;
@@ -101,7 +104,7 @@ pub fn extend(b: &[u64; WORDS], f: Four, out: &mut [i64; ROOM], i: i64, j: i64) 
 fn taken(out: &mut [i64; ROOM], n: usize, o: MaybeObstacle) -> usize {
     match o {
         MaybeObstacle::NoObstacle => tapes::say(out, n, 0),
-        MaybeObstacle::Obstacle(x) => says::obstacle(out, n, x),
+        MaybeObstacle::WithObstacle(x) => says::obstacle(out, n, x),
     }
 }
 
@@ -129,7 +132,7 @@ pub fn asked(f: Four, out: &mut [i64; ROOM], i: i64) -> usize {
     let g = nth(f, i);
     let e = groups::is_empty(g);
     let a = groups::is_active(g);
-    let r = groups::growth(g);
+    let r = groups::get_none_zero_growth(g);
     let n = tapes::say(out, 0, 0);
     let m = tapes::say(out, n, says::bit(e.yes));
     let k = tapes::say(out, m, says::bit(a.yes));

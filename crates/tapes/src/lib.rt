@@ -1,6 +1,7 @@
 // A recording's lines: a letter and numbers in, numbers out. A row has room for what any recorded line holds; what is past it is left out, and
 // then does not compare. Assumes nothing.
 use line_fields::NextLength;
+ghost use Rattle.tapes.specs.Counts.{Counts};
 
 pub const ROOM: usize = 8192;
 
@@ -55,4 +56,40 @@ pub fn same(a: &[i64; ROOM], m: usize, b: &[i64; ROOM], n: usize) -> bool {
         i += 1;
     }
     true
+}
+
+// A number that is not negative; 0 for one that is.
+pub fn natural(z: i64) -> u64 {
+    if z < 0 {
+        return 0;
+    }
+    z as u64
+}
+
+// n, or the list's length where that is less: a number of elements that the list can lend.
+pub fn within(n: usize, list: &[u64]) -> usize
+    ensures { λ r. ⌜ Counts r (now (list .entry)) ⌝ }
+{
+    if list.len() < n {
+        return list.len();
+    }
+    n
+}
+
+pub fn vertices_within(n: usize, list: &[u32]) -> usize
+    ensures { λ r. ⌜ Counts r (now (list .entry)) ⌝ }
+{
+    if list.len() < n {
+        return list.len();
+    }
+    n
+}
+
+pub fn bytes_within(n: usize, text: &[u8]) -> usize
+    ensures { λ r. ⌜ Counts r (now (text .entry)) ⌝ }
+{
+    if text.len() < n {
+        return text.len();
+    }
+    n
 }
