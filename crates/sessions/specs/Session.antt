@@ -1,5 +1,5 @@
 -- What a session owes for a line, for a chunk and for the input's end, on words. Assumes nothing.
-use Prim.Native.Nat.{ℕ}
+use Prim.Native.Nat.{ℕ, _*_, _≤_}
 use mathlib.Core.Path.{_≡_}
 use mathlib.Core.List.{List}
 use lib.ListN.{length}
@@ -24,6 +24,7 @@ pub record LineDone (b line b′ out : List ℕ) (at : ℕ) (out′ : List ℕ) 
 pub record ChunkDone (b chunk p out b′ buf′ out′ : List ℕ) (held wrote : ℕ) : Type 0 where
   pub words : SoundWords b′
   pub answered : ChunkAnswered (view b) chunk p out (view b′) buf′ out′ held wrote
+  pub few : wrote ≤ 57 * length chunk
 
 -- whatever the bench is, and whatever the bytes are that are held
 abbrev pub Finished : ℕ → List ℕ → ℕ → List ℕ → ℕ → Type 0

@@ -16,6 +16,7 @@ use Rattle.ledger_spec.specs.Grammar.{Line, K, wrong}
 use Rattle.ledger_spec.specs.Lines.{Said, shown, calls, checks, says}
 use Rattle.ledger_spec.specs.Named.{handleNamed}
 use Rattle.ledger_laws.proofs.Answered.{answer-true}
+use Rattle.ledger_laws.proofs.Asked.{ask-true}
 use Rattle.views.specs.View.{view}
 use Rattle.views.specs.Fit.{SoundWords}
 use Rattle.made.specs.Answered.{Answered}
@@ -30,10 +31,6 @@ toldOf u d = record { numbers = shown (d .number) (d .node .serial) (d .bench) u
 sound-calls : (b : Bench) → sound b ≡ true → (u : ℕ) (c : Call) → calls b u c ≡ toldOf u (perform b c)
 unfolding calls whole
 sound-calls b s u c = ap (λ (a : Answer). record { numbers = shown (a .number) (a .node .serial) (a .bench) u; bench = a .bench }) (answer-true b c s)
-
-sound-asks : {A : Type 0} (b : Bench) → sound b ≡ true → (z : A) (r : ℕ × A) → ask b z r ≡ r
-unfolding ask
-sound-asks b s z r = rw (s, ask)
 
 module _ (b : List ℕ) (W : SoundWords b) where
   -- a line that is a call, answered by the code's call of the same reply
@@ -53,7 +50,7 @@ module _ (b : List ℕ) (W : SoundWords b) where
   pub turned-check : (u n v : ℕ) (i : ℕ) → (n, (v, i)) ≡ checkOf (view b) u → (r : Reply) → numbersOf r ≡ shown n v (view b) u → Turned b (K u) r b
   unfolding says checks
   turned-check u n v i e r t =
-      let p : (n, (v, i)) ≡ ask (view b) (0, 0) (checkOf (view b) u) = e ∙ sym (sound-asks (view b) (W .sound) (0, 0) (checkOf (view b) u)) in
+      let p : (n, (v, i)) ≡ ask (view b) (0, 0) (checkOf (view b) u) = e ∙ sym (ask-true (view b) (0, 0) (checkOf (view b) u) (W .sound)) in
       record { numbers = t ∙ ap (λ (x : ℕ × (ℕ × ℕ)). shown (x .0) (x .1 .0) (view b) u) p; words = W; seen = refl }
 
   -- a line that is not of the grammar
