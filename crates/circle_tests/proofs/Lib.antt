@@ -3,3 +3,4 @@ mod Marking
 mod Twice
 mod Shape
 mod Touching
+pub mod Sure

@@ -1,21 +1,19 @@
 -- Touching handles are their words two by two; where one is left over, the handle that it goes with is stale. What members and touching handles are
 -- refused by is the lower of each list's number, without "inside a blossom" for the touching ones. Assumes nothing.
-use Prim.Native.Nat.{ℕ, zero, suc, _%_, _<_}
+use Prim.Native.Nat.{ℕ, _%_}
 use mathlib.Core.Path.{_≡_, refl, sym, _∙_, ap, ap₂}
-use mathlib.Core.Bool.{Bool, true, false, _||_, not, true≢false}
+use mathlib.Core.Bool.{Bool, true, false, _||_, not}
 use mathlib.Core.Option.{Option}
 use mathlib.Core.List.{List, [], _∷_, _++_}
-use native.Mathlib.Decide.{decLt}
 use native.Mathlib.Omega.{arith}
-use lib.ListN.{length, getD}
+use lib.ListN.{length}
 use Rattle.ledger_spec.specs.Bench.{Handle, Bench, Node}
 use Rattle.ledger_spec.specs.Look.{nodeAt}
 use Rattle.ledger_spec.specs.Tests.{first, any, given, stale, foreign, hasParent, both}
-use Rattle.ledger_spec.proofs.Lists.{or-false}
 use Rattle.views.specs.View.{view}
-use Rattle.links.proofs.Finding.{out-unit, no-handle}
+use Rattle.links.proofs.Finding.{out-unit}
 use Rattle.rings.specs.Given.{nowhere, handGiven, handsGiven, pairsGiven}
-use Rattle.circle_tests.specs.Marks.{marks, listMark, touchMark, lower, Sure}
+use Rattle.circle_tests.specs.Marks.{marks, listMark, touchMark, lower}
 use Rattle.circle_tests.specs.Parts.{nodesTests}
 use Rattle.circle_tests.proofs.Lowest.{lower-marks}
 
@@ -93,18 +91,3 @@ pub both-lists : (b : Bench) (u : ℕ) (hs : List Handle) (ts : List (Handle × 
 unfolding marks
 both-lists b u hs ts = rw (any-append (stale b) hs (both ts), any-append (foreign b u) hs (both ts))
     (bare-marks (any (stale b) hs) (any (foreign b u) hs) (any (inside b) hs) (any (stale b) (both ts)) (any (foreign b u) (both ts)))
-
--- ---- words that name nodes are packed handles
-sure-word : (b : List ℕ) (w : ℕ) → stale (view b) (handGiven w) ≡ false → w < 2199023255552
-unfolding handGiven
-sure-word b w e = go (decLt w 2199023255552)
-  where
-    go : Dec (w < 2199023255552) → w < 2199023255552
-    go (yes l) = l
-    go (no q) = absurd (true≢false (sym (ap (λ (o : Option Node). not (given o)) (no-handle b w (omega arith))) ∙ e))
-
-pub sure-of : (b ws : List ℕ) → any (stale (view b)) (handsGiven ws) ≡ false → Sure ws
-unfolding any
-sure-of b [] e i l = absurd (omega arith)
-sure-of b (w ∷ ws) e zero l = sure-word b w (or-false (stale (view b) (handGiven w)) (any (stale (view b)) (handsGiven ws)) e .0)
-sure-of b (w ∷ ws) e (suc i) l = sure-of b ws (or-false (stale (view b) (handGiven w)) (any (stale (view b)) (handsGiven ws)) e .1) i (omega arith)
