@@ -25,5 +25,5 @@ all-done b S s buf out b′ buf′ out′ held wrote C out″ r F =
     let a = C .answered in
     let l : length (take held buf′) ≡ held = length-take-le held buf′ (omega (arith, a .short, a .long)) in
     let x : Wrote out 0 (texts (answers (setUp 1) (lines [] s))) out′ wrote = same-text out 0 _ _ out′ wrote (ap (λ (c : Bench). texts (answers c (lines [] s))) (S .seen)) (a .text) in
-    let y = same-text out′ wrote _ _ out″ r (ap (λ (p : List ℕ). texts (answers (afterLines (setUp 1) (lines [] s)) (last p))) (a .kept)) (F (afterLines (setUp 1) (lines [] s)) (take held buf′) l) in
+    let y = same-text out′ wrote _ _ out″ r (ap (λ (p : List ℕ). texts (answers (afterLines (setUp 1) (lines [] s)) (last p))) (a .kept)) (F .text (afterLines (setUp 1) (lines [] s)) (take held buf′) l) in
     same-text out 0 _ _ out″ r (one-chunk s) (chain out 0 _ out′ wrote _ out″ r x y)

@@ -3,6 +3,7 @@ use Prim.Native.Nat.{ℕ, _+_, _≤_, _<_}
 use mathlib.Core.Path.{_≡_, refl, sym, _∙_, ap, subst}
 use mathlib.Core.List.{List, []}
 use native.Mathlib.Omega.{arith}
+use lib.Dec.{lit<}
 use lib.ListN.{length}
 use lib.IntN.{ℤ, pos}
 use mir.Syntax.{w64}
@@ -49,7 +50,16 @@ pub record Working (b₀ chunk p₀ out₀ serials₀ b buf out serials : List �
 -- ---- the input's end
 
 pub finished-none : (held : ℕ) (out : List ℕ) (at : ℕ) → held ≡ 0 → Finished held out at out at
-finished-none held out at z b p e = same-text out at [] _ out at (sym (end-none b p (e ∙ z))) (record { next = omega arith; stands = refl })
+finished-none held out at z = record {
+  text = λ b p e. same-text out at [] _ out at (sym (end-none b p (e ∙ z))) (record { next = omega arith; stands = refl });
+  few = omega arith;
+}
 
 pub finished-some : (held : ℕ) (out : List ℕ) (at : ℕ) → (held ≡ 0 → ⊥) → (out′ : List ℕ) (r : ℕ) → Wrote out at (textOf (1, 0, pos 0, pos 0)) out′ r → Finished held out at out′ r
-finished-some held out at z out′ r w b p e = same-text out at _ _ out′ r (sym (end-some b p (omega arith))) w
+finished-some held out at z out′ r w = record {
+  text = λ b p e. same-text out at _ _ out′ r (sym (end-some b p (omega arith))) w;
+  few = omega (arith, w .next, answer-short 1 0 (pos 0) (pos 0) (omega arith) (omega arith) none none);
+}
+  where
+    none : SFits w64 (pos 0)
+    none = record { sfits = lit< tt }

@@ -1,5 +1,5 @@
 -- What a session owes for a line, for a chunk and for the input's end, on words. Assumes nothing.
-use Prim.Native.Nat.{ℕ, _*_, _≤_}
+use Prim.Native.Nat.{ℕ, _+_, _*_, _≤_}
 use mathlib.Core.Path.{_≡_}
 use mathlib.Core.List.{List}
 use lib.ListN.{length}
@@ -27,5 +27,6 @@ pub record ChunkDone (b chunk p out b′ buf′ out′ : List ℕ) (held wrote :
   pub few : wrote ≤ 57 * length chunk
 
 -- whatever the bench is, and whatever the bytes are that are held
-abbrev pub Finished : ℕ → List ℕ → ℕ → List ℕ → ℕ → Type 0
-Finished held out at out′ r = (b : Bench) (p : List ℕ) → length p ≡ held → Wrote out at (texts (answers b (last p))) out′ r
+pub record Finished (held : ℕ) (out : List ℕ) (at : ℕ) (out′ : List ℕ) (r : ℕ) : Type 0 where
+  pub text : (b : Bench) (p : List ℕ) → length p ≡ held → Wrote out at (texts (answers b (last p))) out′ r
+  pub few : r ≤ at + 57

@@ -1,11 +1,12 @@
 -- The check changes nothing, and its verdict stands where another line has the serial. Assumes nothing.
 use borrow.Author.Needs.{needs}
+use Rattle.views.proofs.Fits.{fit-of}
 use Rattle.turns.proofs.Turning.{turned-check}
 use Rattle.turns.proofs.check.Statement.{statement}
 use Rattle.turns.proofs.check.Tie as tie
 
 sanity-check-requires : tie.Need-sanity-check-requires
-sanity-check-requires c κs = search needs
+sanity-check-requires c κs = fit-of (c .before .args .b .now) (c .before .pre)
 
 cast-show : tie.Need-cast-show
 cast-show c = search needs
