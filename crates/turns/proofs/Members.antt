@@ -44,7 +44,7 @@ unfolding says
 turned-blossom b W u stored count long n f ws a m h b′ A r t ks c front =
     let e : take n stored ≡ take n ks = front n (f .most) (few-low count n f) in
     turned b W (B u ks) u (Blossom u (map (named (view b)) (take n stored)) [])
-        (front-says (view b) u ks n (rw c f) ∙ ap (λ (js : List ℕ). says (view b) (B u js)) (sym e))
-        (Blossom u (handsGiven (take n ws)) (pairsGiven []))
-        (rw no-pairs (same-blossom (view b) u n stored ws (omega (arith, f .most)) a))
-        m h b′ A r t
+    (front-says (view b) u ks n (rw c f) ∙ ap (λ (js : List ℕ). says (view b) (B u js)) (sym e))
+    (Blossom u (handsGiven (take n ws)) (pairsGiven []))
+    (rw no-pairs (same-blossom (view b) u n stored ws (omega (arith, f .most)) a))
+    m h b′ A r t

@@ -21,4 +21,4 @@ module _ (b : List ℕ) (r : Reply) (b′ : List ℕ) (l : Said) (before after :
   turned-serials u count e room same t =
       let k : countIn line ≡ count = ap countIn e in
       turned-as (Blossom u count) e
-          (t (serialsIn l) (sym (told-count l before after line is) ∙ k) (λ n m q. told-front l before after line is n (omega (arith, same)) (omega (arith, k))))
+      (t (serialsIn l) (sym (told-count l before after line is) ∙ k) (λ n m q. told-front l before after line is n (omega (arith, same)) (omega (arith, k))))

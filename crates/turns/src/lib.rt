@@ -37,7 +37,11 @@ fn tell(b: &[u64; WORDS], unit: u8, made: Made) -> Reply
 fn keep(made: Made, hints: &mut [u16; HINTS]) {
     let node = made.node;
     let serial = node.serial;
-    serials::remember(hints, serial, (node.unit as usize) * 64 + (node.slot as usize));
+    serials::remember(
+        hints,
+        serial,
+        (node.unit as usize) * 64 + (node.slot as usize),
+    );
 }
 
 fn defect(b: &mut [u64; WORDS], unit: u8, vertex: Vertex, hints: &mut [u16; HINTS]) -> Reply
@@ -133,7 +137,12 @@ fn check(b: &mut [u64; WORDS], unit: u8) -> Reply
 }
 
 // Does what a line says. A blossom's serials stand in the slice, as many as it has room for; what they are afterwards says nothing.
-pub fn turn(b: &mut [u64; WORDS], line: Line, serials: &mut [u64], hints: &mut [u16; HINTS]) -> Reply
+pub fn turn(
+    b: &mut [u64; WORDS],
+    line: Line,
+    serials: &mut [u64],
+    hints: &mut [u16; HINTS],
+) -> Reply
     requires { ⌜ SoundWords (now b) × (65 ≤ length (now serials)) ⌝ }
     ensures { λ r. ⌜ ((l : Said) (before : List ℕ) → length before ≡ length (now (serials .entry)) → ReadAs l before (now (serials .entry)) line → Turned (now (b .entry)) l r (now (b .exit))) ⌝ }
 {

@@ -28,7 +28,7 @@ returns c =
     let a = c .before .before .before .before .before .before .before .before .before .before .before .before .before .before .before .before .before .before .before .before .before .before .args in
     let t = c .before .before .before .before .before .before .before .before .before .before .answer-chunk in
     all-done (c .before .before .before .before .before .before .before .before .before .before .before .before .before .before .before .before .start .last .0) (c .before .before .before .before .before .before .before .before .before .before .before .before .before .before .before .before .start .ensures) (a .input .now) (a .buf .now) (a .out .now) (t .last .0) (t .last .1 .1 .0) (t .last .1 .1 .1 .1 .1 .1 .0)
-        (t .result .held) (t .result .wrote) (t .ensures) (c .before .before .finish .last .1 .0) (c .before .before .finish .result) (c .before .before .finish .ensures)
+    (t .result .held) (t .result .wrote) (t .ensures) (c .before .before .finish .last .1 .0) (c .before .before .finish .result) (c .before .before .finish .ensures)
 
 pub answer-all-spec : {M : Type 1} → statement M
 answer-all-spec =

@@ -39,8 +39,7 @@ answer-line-requires : tie.Need-answer-line-requires Inv-loop μ-loop
 answer-line-requires c κs =
     let s = c .before .before .before .before .before .before .before .before .before .before .before .before .before .before .before .before in
     let a = s .args in
-    let l = c .before .before .before .before .before .before .before .before .before .before .before .loop in
-    (
+    let l = c .before .before .before .before .before .before .before .before .before .before .before .loop in (
       l .inv .words,
       omega (arith, l .inv .same, s .pre .1),
       going-room (view (a .b .now)) (a .chunk .now) (take (a .start) (a .buf .now)) (a .out .now) (view (l .b)) (l .buf) (l .out) (l .held) (l .wrote) (l .at) (l .inv .going) (s .pre .4) (c .before .before .before .before .before .before .before .before .before .before .loop-test .taken),

@@ -35,10 +35,10 @@ returns c =
     let n : r .number < 256 = t .0 .1 in
     let k : r .serial < 4294967296 = t .1 .0 .1 in
     line-done (a .b .now) (a .line .now) r (c .before .before .before .before .before .before .before .before .turn .last .0)
-        (c .before .before .before .before .before .before .before .before .turn .ensures (lineOf (a .line .now)) (a .serials .now) (sym (c .before .before .before .before .before .before .before .before .before .before .before .before .before .before .read-line .kept .1 .0)) (c .before .before .before .before .before .before .before .before .before .before .before .before .before .before .read-line .ensures))
-        n k v w
-        (a .out .now) (a .at) (c .before .before .write-answer .last .0) (c .before .before .write-answer .result)
-        (rw (toZ-ofZ v, toZ-ofZ w) at (c .before .before .write-answer .ensures))
+    (c .before .before .before .before .before .before .before .before .turn .ensures (lineOf (a .line .now)) (a .serials .now) (sym (c .before .before .before .before .before .before .before .before .before .before .before .before .before .before .read-line .kept .1 .0)) (c .before .before .before .before .before .before .before .before .before .before .before .before .before .before .read-line .ensures))
+    n k v w
+    (a .out .now) (a .at) (c .before .before .write-answer .last .0) (c .before .before .write-answer .result)
+    (rw (toZ-ofZ v, toZ-ofZ w) at (c .before .before .write-answer .ensures))
 
 pub answer-line-spec : {M : Type 1} → statement M
 answer-line-spec =

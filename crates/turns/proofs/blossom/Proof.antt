@@ -42,7 +42,7 @@ returns c =
     let s = c .before .before .before .before .before .before .before .before .before .before .before .before .before .before .before .before in
     let a = s .args in
     turned-blossom (a .b .now) (s .pre .0) (a .unit) (a .serials .now) (a .count) (s .pre .1) (c .before .before .before .before .before .before .before .before .before .before .before .before .before .before .few .result) (c .before .before .before .before .before .before .before .before .before .before .before .before .before .before .few .ensures) _ (c .before .before .before .before .before .before .before .before .before .before .name .ensures)
-        _ _ _ (c .before .before .before .before .create-blossom .ensures) (c .tell .result) (c .tell .ensures)
+    _ _ _ (c .before .before .before .before .create-blossom .ensures) (c .tell .result) (c .tell .ensures)
 
 pub blossom-spec : {M : Type 1} → statement M
 blossom-spec =

@@ -30,7 +30,7 @@ returns c =
     let b = s .args .b .now in
     let h = c .before .before .before .before .named .result in
     turned b (s .pre) (E u k) u (Expand u (named (view b) k)) refl (Expand u (handleNamed h)) (ap (λ (x : Handle). perform (view b) (Expand u x)) (c .before .before .before .before .named .ensures)) _ _ _
-        (c .before .before .expand-blossom .ensures) (c .tell .result) (c .tell .ensures)
+    (c .before .before .expand-blossom .ensures) (c .tell .result) (c .tell .ensures)
 
 pub expand-spec : {M : Type 1} → statement M
 expand-spec = tie.close (tie.spec named-requires expand-blossom-requires tell-requires returns)

@@ -31,7 +31,7 @@ returns c =
     let b = s .args .b .now in
     let h = c .before .before .before .before .named .result in
     turned b (s .pre) (S u k g) u (SetState u (named (view b) k) g) refl (SetState u (handleNamed h) g) (ap (λ (x : Handle). perform (view b) (SetState u x g)) (c .before .before .before .before .named .ensures)) _ _ _
-        (c .before .before .set-grow-state .ensures) (c .tell .result) (c .tell .ensures)
+    (c .before .before .set-grow-state .ensures) (c .tell .result) (c .tell .ensures)
 
 pub set-state-spec : {M : Type 1} → statement M
 set-state-spec = tie.close (tie.spec named-requires set-grow-state-requires tell-requires returns)

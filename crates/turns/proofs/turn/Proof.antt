@@ -103,7 +103,7 @@ returns-5 c l before same is =
     let q : s .line ≡ Grow u z = cc in
     let ok : SFits w64 z = record { sfits = c .before .before .known-told5 .given .1 .0 .1 } in
     turned-as (s .b .now) (c .grow .result) (c .grow .last .0) l before (s .serials .now) (s .line) is (Grow u z) q
-        (subst (λ (y : ℤ). Turned (s .b .now) (G u y) (c .grow .result) (c .grow .last .0)) (toZ-ofZ ok) (c .grow .ensures))
+    (subst (λ (y : ℤ). Turned (s .b .now) (G u y) (c .grow .result) (c .grow .last .0)) (toZ-ofZ ok) (c .grow .ensures))
 
 returns-6 : tie.Need-returns-6
 returns-6 c l before same is =
