@@ -78,45 +78,45 @@ module _ (U : ℕ → Interface) (u : ℕ) where
       either (inl x) = ap (λ (c : Bool). c || eqb (U n .right) (u + 1)) (eq-eqb (U n .left) (u + 1) x)
       either (inr x) = ap (λ (c : Bool). eqb (U n .left) (u + 1) || c) (eq-eqb (U n .right) (u + 1) x) ∙ or-true (eqb (U n .left) (u + 1))
 
-  abbrev l : ℕ
-  l = U u .left
+  abbrev lo : ℕ
+  lo = U u .left
 
-  abbrev r : ℕ
-  r = U u .right
+  abbrev hi : ℕ
+  hi = U u .right
 
-  none-says : downTest U l r u ≡ true → l ≡ 0 → r ≡ 0
-  none-says e z = eqb-true r 0 (sym (ap (λ (c : Bool). pick c (eqb r 0) (leb l u && (leb r u && (not (eqb r 0) && (not (eqb l r) && (isUnder (U (l - 1) .parent) u && isUnder (U (r - 1) .parent) u)))))) (eq-eqb l 0 z)) ∙ e)
+  none-says : downTest U lo hi u ≡ true → lo ≡ 0 → hi ≡ 0
+  none-says e z = eqb-true hi 0 (sym (ap (λ (c : Bool). pick c (eqb hi 0) (leb lo u && (leb hi u && (not (eqb hi 0) && (not (eqb lo hi) && (isUnder (U (lo - 1) .parent) u && isUnder (U (hi - 1) .parent) u)))))) (eq-eqb lo 0 z)) ∙ e)
 
-  both-says : downTest U l r u ≡ true → (l ≡ 0 → ⊥) → Halves U u
+  both-says : downTest U lo hi u ≡ true → (lo ≡ 0 → ⊥) → Halves U u
   both-says e ne =
-      let a = and-true (leb l u) _ (sym (ap (λ (c : Bool). pick c (eqb r 0) (leb l u && (leb r u && (not (eqb r 0) && (not (eqb l r) && (isUnder (U (l - 1) .parent) u && isUnder (U (r - 1) .parent) u)))))) (ne-eqb l 0 ne)) ∙ e) in
-      let b = and-true (leb r u) _ (a .1) in
-      let c = and-true (not (eqb r 0)) _ (b .1) in
-      let d = and-true (not (eqb l r)) _ (c .1) in
-      let f = and-true (isUnder (U (l - 1) .parent) u) _ (d .1) in
-      let z = eqb-false r 0 (not-true (eqb r 0) (c .0)) in
+      let a = and-true (leb lo u) _ (sym (ap (λ (c : Bool). pick c (eqb hi 0) (leb lo u && (leb hi u && (not (eqb hi 0) && (not (eqb lo hi) && (isUnder (U (lo - 1) .parent) u && isUnder (U (hi - 1) .parent) u)))))) (ne-eqb lo 0 ne)) ∙ e) in
+      let b = and-true (leb hi u) _ (a .1) in
+      let c = and-true (not (eqb hi 0)) _ (b .1) in
+      let d = and-true (not (eqb lo hi)) _ (c .1) in
+      let f = and-true (isUnder (U (lo - 1) .parent) u) _ (d .1) in
+      let z = eqb-false hi 0 (not-true (eqb hi 0) (c .0)) in
       record {
-        left = leb-true l u (a .0);
-        right = leb-true r u (b .0);
-        some = go (ℕ-discrete r 0) z;
-        apart = eqb-false l r (not-true (eqb l r) (d .0));
-        left-up = under-is (U (l - 1) .parent) u (f .0);
-        right-up = under-is (U (r - 1) .parent) u (f .1);
+        left = leb-true lo u (a .0);
+        right = leb-true hi u (b .0);
+        some = go (ℕ-discrete hi 0) z;
+        apart = eqb-false lo hi (not-true (eqb lo hi) (d .0));
+        left-up = under-is (U (lo - 1) .parent) u (f .0);
+        right-up = under-is (U (hi - 1) .parent) u (f .1);
       }
     where
-      go : Dec (r ≡ 0) → (r ≡ 0 → ⊥) → 0 < r
+      go : Dec (hi ≡ 0) → (hi ≡ 0 → ⊥) → 0 < hi
       go (yes q) z = absurd (z q)
       go (no q) z = omega (arith, q)
 
-  down-holds : (l ≡ 0 → r ≡ 0) → ((l ≡ 0 → ⊥) → Halves U u) → downTest U l r u ≡ true
-  down-holds h k = go (ℕ-discrete l 0)
+  down-holds : (lo ≡ 0 → hi ≡ 0) → ((lo ≡ 0 → ⊥) → Halves U u) → downTest U lo hi u ≡ true
+  down-holds h k = go (ℕ-discrete lo 0)
     where
-      go : Dec (l ≡ 0) → downTest U l r u ≡ true
-      go (yes q) = rw (eq-eqb l 0 q) (eq-eqb r 0 (h q))
+      go : Dec (lo ≡ 0) → downTest U lo hi u ≡ true
+      go (yes q) = rw (eq-eqb lo 0 q) (eq-eqb hi 0 (h q))
       go (no q) = let H = k q in
-          rw (ne-eqb l 0 q)
-          (both-true (le-leb l u (H .left)) (both-true (le-leb r u (H .right)) (both-true (ap not (ne-eqb r 0 (λ e. omega (arith, e, H .some))))
-          (both-true (ap not (ne-eqb l r (H .apart))) (both-true (is-under (U (l - 1) .parent) u (H .left-up)) (is-under (U (r - 1) .parent) u (H .right-up)))))))
+          rw (ne-eqb lo 0 q)
+          (both-true (le-leb lo u (H .left)) (both-true (le-leb hi u (H .right)) (both-true (ap not (ne-eqb hi 0 (λ e. omega (arith, e, H .some))))
+          (both-true (ap not (ne-eqb lo hi (H .apart))) (both-true (is-under (U (lo - 1) .parent) u (H .left-up)) (is-under (U (hi - 1) .parent) u (H .right-up)))))))
 
 -- ---- the test and the facts of one interface
 module _ (b : List ℕ) (u : ℕ) where
@@ -169,6 +169,12 @@ module _ (b : List ℕ) where
   parent-in : (v : ℕ) → v < 8 → interface B v .parent ≡ upSeen (I v .parent)
   parent-in v l = view-parent (getD b 0 0) (interfaceAt b) (nodeAt b) v l
 
+  some-halves : (v : ℕ) → v < 8 → (I v .left ≡ 0 → ⊥) → interface B v .halves ≡ some (I v .left - 1, I v .right - 1)
+  some-halves v l z = halves-in v l ∙ rw (ne-eqb (I v .left) 0 z)
+
+  no-halves : (v : ℕ) → v < 8 → I v .left ≡ 0 → interface B v .halves ≡ none
+  no-halves v l z = halves-in v l ∙ rw (eq-eqb (I v .left) 0 z)
+
   -- what is seen of a parent and of halves is held by one of eight
   parent-held : (v p : ℕ) → interface B v .parent ≡ some p → (v < 8) × (I v .parent ≡ Under p)
   parent-held v p e = go (decLt v 8)
@@ -187,26 +193,23 @@ module _ (b : List ℕ) where
   halves-held v x y e = go (decLt v 8)
     where
       two : v < 8 → Dec (I v .left ≡ 0) → Held v x y
-      two q (yes z) = absurd (none-some (halves-in v q ∙ rw (eq-eqb (I v .left) 0 z)) e)
+      two q (yes z) = absurd (none-some (no-halves v q z) e)
       two q (no z) =
-          let w : _≡_ {A = ℕ × ℕ} (I v .left - 1, I v .right - 1) (x, y) = some-eq (halves-in v q ∙ rw (ne-eqb (I v .left) 0 z)) e in
+          let w : _≡_ {A = ℕ × ℕ} (I v .left - 1, I v .right - 1) (x, y) = some-eq (some-halves v q z) e in
           record { low = q; some = z; left = sym (ap (λ (t : ℕ × ℕ). t .0) w); right = sym (ap (λ (t : ℕ × ℕ). t .1) w) }
 
       go : Dec (v < 8) → Held v x y
       go (yes q) = two q (ℕ-discrete (I v .left) 0)
       go (no q) = absurd (none-some (ap (λ (f : plain.Interface). f .halves) (out v (omega arith))) e)
 
-  some-halves : (v : ℕ) → v < 8 → (I v .left ≡ 0 → ⊥) → interface B v .halves ≡ some (I v .left - 1, I v .right - 1)
-  some-halves v l z = halves-in v l ∙ rw (ne-eqb (I v .left) 0 z)
-
   -- ---- from the tests
   module _ (L : (u : ℕ) → u < 8 → Linked (interfaceAt b) u) where
     pub linked-frame : Frame (view b)
     linked-frame = record {
       eight = view-eight (getD b 0 0) (interfaceAt b) (nodeAt b);
-      rising = λ u p e. let h = parent-held u p e in (L u (h .0) .above p (h .1) .0, good p (h .1));
+      rising = λ u p e. let h = parent-held u p e in (L u (h .0) .above p (h .1) .0, good u p (h .1));
       linked = λ u p e. let h = parent-held u p e in
-          ap given (some-halves p (good p (h .1)) (λ z. not-none u p (L u (h .0) .above p (h .1) .1) (good p (h .1)) z));
+          ap given (some-halves p (good u p (h .1)) (λ z. not-none u p (L u (h .0) .above p (h .1) .1) (good u p (h .1)) z));
       up = λ w u x y e f. let h = parent-held w u e in let g = halves-held u x y f in which w u x y g (L w (h .0) .above u (h .1) .1) (L u (g .low) .both (g .some));
       left = λ u x y f. let g = halves-held u x y f in let H = L u (g .low) .both (g .some) in let s = H .left in
           ap (λ (v : ℕ). interface B v .parent) (g .left) ∙ parent-in (I u .left - 1) (omega (arith, g .low, H .left)) ∙ ap upSeen (H .left-up);
@@ -215,8 +218,8 @@ module _ (b : List ℕ) where
       apart = λ u x y f k. let g = halves-held u x y f in let H = L u (g .low) .both (g .some) in differ u x y g H k;
     }
       where
-        good : {u : ℕ} (p : ℕ) → I u .parent ≡ Under p → p < 8
-        good {u} p e = subst GoodUp e (good-interface b u)
+        good : (u p : ℕ) → I u .parent ≡ Under p → p < 8
+        good u p e = subst GoodUp e (good-interface b u)
 
         not-none : (u p : ℕ) → (I p .left ≡ u + 1) ⊎ (I p .right ≡ u + 1) → p < 8 → I p .left ≡ 0 → ⊥
         not-none u p (inl x) l z = omega (arith, x, z)
@@ -259,7 +262,7 @@ module _ (b : List ℕ) where
             which z (inr x) = inr (omega (arith, x, both p low z))
 
             go : Dec (I p .left ≡ 0) → (I p .left ≡ u + 1) ⊎ (I p .right ≡ u + 1)
-            go (yes z) = absurd (true≢false (sym (F .linked u p seen) ∙ ap given (halves-in p low ∙ rw (eq-eqb (I p .left) 0 z))))
+            go (yes z) = absurd (true≢false (sym (F .linked u p seen) ∙ ap given (no-halves p low z)))
             go (no z) = which z (F .up u p (I p .left - 1) (I p .right - 1) seen (some-halves p low z))
 
         halves : (I u .left ≡ 0 → ⊥) → Halves (interfaceAt b) u
