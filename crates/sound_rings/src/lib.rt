@@ -67,6 +67,6 @@ pub fn is_class(b: &[u64; WORDS], h: Handle, n: Node, next: u64) -> bool
     match class {
         Class::Absent => false,
         Class::Blossom => is_ring(b, h, n, next),
-        Class::Defect(_) => (n.size == 1) & ((n.first == 0) & (n.count == 0)),
+        Class::Defect(_v) => (n.size == 1) & ((n.first == 0) & (n.count == 0)),
     }
 }

@@ -1,63 +1,54 @@
+-- Each turn follows one link of the circle; each way out is a test that fails, or all of them. Assumes nothing.
+use native.Mathlib.Omega.{arith}
+use borrow.Author.Needs.{needs}
+use Prim.Native.Nat.{_-_}
+use borrow.Author.Tests.{not-true, not-false}
+use Rattle.words.specs.Store.{nodeAt}
+use Rattle.sound_rings.proofs.Walking.{Going, ring-none, ring-many, going-starts, going-out, going-fails, little, going-on, going-ends}
 use Rattle.sound_rings.proofs.is_ring.Statement.{statement}
 use Rattle.sound_rings.proofs.is_ring.Tie as tie
-use Rattle.sound_rings.proofs.is_ring.Reads as reads
-use Rattle.sound_rings.proofs.is_ring.Lts as lts
-use Rattle.sound_rings.proofs.is_member.Reads as is-member-reads
-use Rattle.words.proofs.load_node.Reads as load-node-reads
 
 abbrev Inv-loop : tie.InvT-loop
-Inv-loop b h n next p₀ total₀ i₀ p total i = ?
+Inv-loop b h n next p₀ total₀ i₀ p total i = Going (nodeAt b) next h n p total i
 
 abbrev μ-loop : tie.MeasureT-loop
-μ-loop b h n next p₀ total₀ i₀ p total i = ?
+μ-loop b h n next p₀ total₀ i₀ p total i = n .count - i
 
--- src/lib.rt:39:9
 returns : tie.Need-returns Inv-loop μ-loop
-returns c = ?
+returns c = ring-none (nodeAt (c .before .before .args .b .now)) (c .before .before .args .next) (c .before .before .args .h) (c .before .before .args .n) (c .if1 .taken)
 
--- src/lib.rt:42:9
 returns-2 : tie.Need-returns-2 Inv-loop μ-loop
-returns-2 c = ?
+returns-2 c = ring-many (nodeAt (c .before .before .before .before .args .b .now)) (c .before .before .before .before .args .next) (c .before .before .before .before .args .h) (c .before .before .before .before .args .n) (c .before .before .if1 .left) (c .if2 .taken)
 
--- src/lib.rt:47:5
 loop-holds : tie.Need-loop-holds Inv-loop μ-loop
-loop-holds c = ?
+loop-holds c = going-starts (nodeAt (c .before .before .before .before .args .b .now)) (c .before .before .before .before .args .next) (c .before .before .before .before .args .h) (c .before .before .before .before .args .n) (c .before .before .if1 .left) (c .if2 .left)
 
--- src/lib.rt:49:13
 returns-3 : tie.Need-returns-3 Inv-loop μ-loop
-returns-3 c = ?
+returns-3 c = going-out (nodeAt (c .before .before .before .before .before .before .before .before .args .b .now)) (c .before .before .before .before .before .before .before .before .args .next) (c .before .before .before .before .before .before .before .before .args .h) (c .before .before .before .before .before .before .before .before .args .n) (c .before .before .before .loop .p) (c .before .before .before .loop .total) (c .before .before .before .loop .i) (c .before .before .before .loop .inv) (c .before .if3 .taken) (c .if4 .taken)
 
--- src/lib.rt:51:13
 load-node-requires : tie.Need-load-node-requires Inv-loop μ-loop
-load-node-requires c κs = ?
+load-node-requires c κs = search needs
 
--- src/lib.rt:52:13
 is-member-requires : tie.Need-is-member-requires Inv-loop μ-loop
-is-member-requires c κs = ?
+is-member-requires c κs = search needs
 
--- src/lib.rt:53:13
 returns-4 : tie.Need-returns-4 Inv-loop μ-loop
-returns-4 c = ?
+returns-4 c = going-fails (nodeAt (c .before .before .before .before .before .before .before .before .before .before .before .args .b .now)) (c .before .before .before .before .before .before .before .before .before .before .before .args .next) (c .before .before .before .before .before .before .before .before .before .before .before .args .h) (c .before .before .before .before .before .before .before .before .before .before .before .args .n) (c .before .before .before .before .before .before .loop .p) (c .before .before .before .before .before .before .loop .total) (c .before .before .before .before .before .before .loop .i) (c .before .before .before .before .before .before .loop .inv) (c .before .before .before .before .if3 .taken) (c .before .before .before .if4 .left) (c .before .before .load-node .result) (c .before .before .load-node .ensures) (c .before .is-member .result) (c .before .is-member .ensures) (not-true (c .before .is-member .result) (c .if5 .taken))
 
--- src/lib.rt:55:17
 add-total : tie.Need-add-total Inv-loop μ-loop
-add-total c = ?
+add-total c = let m = little (nodeAt (c .before .before .before .before .before .before .before .before .before .before .before .before .args .b .now)) (c .before .before .before .before .before .before .before .before .before .before .before .before .args .next) (c .before .before .before .before .before .before .before .before .before .before .before .before .args .h) (c .before .before .before .before .before .before .before .before .before .before .before .before .args .n) (c .before .before .before .before .before .before .before .loop .p) (c .before .before .before .before .before .before .before .loop .total) (c .before .before .before .before .before .before .before .loop .i) (c .before .before .before .before .before .before .before .loop .inv) (c .before .before .before .before .before .if3 .taken) (c .before .before .before .before .if4 .left) (c .before .before .before .load-node .result) (c .before .before .before .load-node .ensures) (c .before .before .is-member .result) (c .before .before .is-member .ensures) (not-false (c .before .before .is-member .result) (c .before .if5 .left)) in record { fits = omega (arith, c .before .before .before .before .before .before .before .loop .inv .small, c .before .before .before .before .before .before .before .loop .inv .low, c .before .before .before .before .before .before .before .loop .inv .few) }
 
--- src/lib.rt:57:13
 add-i : tie.Need-add-i Inv-loop μ-loop
-add-i c = ?
+add-i c = record { fits = omega (arith, c .before .before .before .before .before .if3 .taken, c .before .before .before .before .before .before .before .loop .inv .few) }
 
--- src/lib.rt:47:5
 loop-less : tie.Need-loop-less Inv-loop μ-loop
-loop-less c = ?
+loop-less c = omega (arith, c .before .before .before .before .before .if3 .taken)
 
--- src/lib.rt:47:5
 loop-again : tie.Need-loop-again Inv-loop μ-loop
-loop-again c = ?
+loop-again c = going-on (nodeAt (c .before .before .before .before .before .before .before .before .before .before .before .before .args .b .now)) (c .before .before .before .before .before .before .before .before .before .before .before .before .args .next) (c .before .before .before .before .before .before .before .before .before .before .before .before .args .h) (c .before .before .before .before .before .before .before .before .before .before .before .before .args .n) (c .before .before .before .before .before .before .before .loop .p) (c .before .before .before .before .before .before .before .loop .total) (c .before .before .before .before .before .before .before .loop .i) (c .before .before .before .before .before .before .before .loop .inv) (c .before .before .before .before .before .if3 .taken) (c .before .before .before .before .if4 .left) (c .before .before .before .load-node .result) (c .before .before .before .load-node .ensures) (c .before .before .is-member .result) (c .before .before .is-member .ensures) (not-false (c .before .before .is-member .result) (c .before .if5 .left))
 
--- src/lib.rt:35:1
 returns-5 : tie.Need-returns-5 Inv-loop μ-loop
-returns-5 c = ?
+returns-5 c = going-ends (nodeAt (c .before .before .before .before .before .before .before .before .args .b .now)) (c .before .before .before .before .before .before .before .before .args .next) (c .before .before .before .before .before .before .before .before .args .h) (c .before .before .before .before .before .before .before .before .args .n) (c .before .before .before .loop .p) (c .before .before .before .loop .total) (c .before .before .before .loop .i) (c .before .before .before .loop .inv) (c .before .if3 .left)
 
 pub is-ring-spec : {M : Type 1} → statement M
 is-ring-spec =
