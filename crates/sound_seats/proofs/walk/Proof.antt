@@ -1,38 +1,35 @@
+-- Each turn is one step of the definition. Assumes nothing.
+use native.Mathlib.Omega.{arith}
+use borrow.Author.Needs.{needs}
+use Prim.Native.Nat.{_-_}
+use Rattle.words.specs.Store.{nodeAt}
+use Rattle.sound_seats.proofs.Seating.{Going, going-starts, going-on, going-ends}
 use Rattle.sound_seats.proofs.walk.Statement.{statement}
 use Rattle.sound_seats.proofs.walk.Tie as tie
-use Rattle.sound_seats.proofs.walk.Reads as reads
-use Rattle.sound_seats.proofs.walk.Lts as lts
-use Rattle.sound_seats.proofs.next_of.Reads as next-of-reads
 
 abbrev Inv-loop : tie.InvT-loop
-Inv-loop b first steps p₀ i₀ p i = ?
+Inv-loop b first steps p₀ i₀ p i = Going (nodeAt b) first steps p i
 
 abbrev μ-loop : tie.MeasureT-loop
-μ-loop b first steps p₀ i₀ p i = ?
+μ-loop b first steps p₀ i₀ p i = steps - i
 
--- src/lib.rt:45:5
 loop-holds : tie.Need-loop-holds Inv-loop μ-loop
-loop-holds c = ?
+loop-holds c = going-starts (nodeAt (c .args .b .now)) (c .args .first) (c .args .steps)
 
--- src/lib.rt:46:9
 next-of-requires : tie.Need-next-of-requires Inv-loop μ-loop
-next-of-requires c κs = ?
+next-of-requires c κs = search needs
 
--- src/lib.rt:47:13
 add-i : tie.Need-add-i Inv-loop μ-loop
-add-i c = ?
+add-i c = record { fits = omega (arith, c .before .loop-test .taken, c .before .before .before .fits .steps .fits) }
 
--- src/lib.rt:45:5
 loop-less : tie.Need-loop-less Inv-loop μ-loop
-loop-less c = ?
+loop-less c = search needs
 
--- src/lib.rt:45:5
 loop-again : tie.Need-loop-again Inv-loop μ-loop
-loop-again c = ?
+loop-again c = going-on (nodeAt (c .before .before .before .args .b .now)) (c .before .before .before .args .first) (c .before .before .before .args .steps) (c .before .before .loop .p) (c .before .before .loop .i) (c .next-of .result) (c .before .before .loop .inv) (c .before .loop-test .taken) (c .next-of .ensures)
 
--- src/lib.rt:39:1
 returns : tie.Need-returns Inv-loop μ-loop
-returns c = ?
+returns c = going-ends (nodeAt (c .before .before .args .b .now)) (c .before .before .args .first) (c .before .before .args .steps) (c .before .loop .p) (c .before .loop .i) (c .before .loop .inv) (c .loop-test .left)
 
 pub walk-spec : {M : Type 1} → statement M
 walk-spec =
