@@ -16,7 +16,7 @@ pub struct Ground {
     pub width: u64,
 }
 
-fn ground(b: &[u64; WORDS], u: usize) -> Ground
+fn ground_of(b: &[u64; WORDS], u: usize) -> Ground
     requires { ⌜ Steady (now b) ⌝ }
     requires { ⌜ u < 8 ⌝ }
     ensures { λ r. ⌜ Grounds (now (b .entry)) u r ⌝ }
@@ -97,7 +97,7 @@ fn are_slots(b: &[u64; WORDS], u: usize) -> bool
 {
     let f = words::load_interface(b, u);
     let used = f.used;
-    let g = ground(b, u);
+    let g = ground_of(b, u);
     let mut s: usize = 0;
     while s < 64 {
         if !is_slot(b, u, s, used, g) {
