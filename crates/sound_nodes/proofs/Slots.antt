@@ -15,14 +15,13 @@ use Rattle.words.proofs.Laws.{GoodParent, good-node}
 use Rattle.ledger_spec.specs.Look.{climb}
 use Rattle.views.specs.View.{valueOf, sumUp, view}
 use Rattle.trees.specs.Climb.{Climbs}
-use Rattle.sound_words.specs.Below.{allTo}
+use Rattle.sound_words.specs.Below.{allTo, between}
 use Rattle.sound_words.specs.Coding.{blankAt, codedAt}
-use Rattle.sound_words.proofs.Belows.{all-none, all-more, all-not, all-done}
 use Rattle.sound_trees.specs.Width.{widthOf}
 use Rattle.sound_rings.specs.Rings.{classTest}
 use Rattle.sound_seats.specs.Seats.{parentTest}
 use Rattle.sound_nodes.specs.declared.Ground.{Ground}
-use Rattle.sound_nodes.specs.Nodes.{Grounds, between, nearTest, handleIn, nodeIn, nodeTest, slotTest, slotsTest}
+use Rattle.sound_nodes.specs.Nodes.{Grounds, nearTest, handleIn, nodeIn, nodeTest, slotTest, slotsTest}
 
 pub grounded : (b : List ℕ) (u i t w : ℕ) → Climbs b u i t → (w ≡ widthOf b i) × (w ≤ 8796093022208) → Grounds b u (record { top = i; total = t; width = w })
 grounded b u i t w C e = record { top = C .top; total = C .total; width = e .0 ∙ ap (widthOf b) (C .top); small = C .small; narrow = e .1 }
@@ -39,9 +38,6 @@ module _ (g : GrowState) (bias t w : ℕ) where
   pub near-row : 576460752303423488 ≤ bias → bias ≤ 2305843009213693952 → (v : ℕ) → v ≡ valueOf g bias t → (leb (1152921504606846976 - w) v && leb v (1152921504606846976 + w)) ≡ nearTest g bias t w
   unfolding nearTest
   near-row k l v e = ap (between 1152921504606846976 w) e ∙ sym (ap₂ (λ (x y : Bool). x && (y && between 1152921504606846976 w (valueOf g bias t))) (le-leb 576460752303423488 bias k) (le-leb bias 2305843009213693952 l))
-
-  pub value-room : (v : ℕ) → t ≤ 8796093022208 → w ≤ 8796093022208 → 1152921504606846976 + w < 18446744073709551616
-  value-room v a c = omega arith
 
 pub good-parent : (b : List ℕ) (k : ℕ) (n : Node) → n ≡ nodeAt b k → GoodParent (n .parent)
 good-parent b k n e = subst (λ (x : Node). GoodParent (x .parent)) (sym e) (good-node b k .parent)

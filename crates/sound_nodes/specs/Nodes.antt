@@ -1,5 +1,5 @@
 -- The tests of a slot: blank, or used and with a node that keeps every rule. Assumes nothing.
-use Prim.Native.Nat.{ℕ, _+_, _-_, _*_, _≤_}
+use Prim.Native.Nat.{ℕ, _+_, _*_, _≤_}
 use mathlib.Core.Path.{_≡_}
 use mathlib.Core.Bool.{Bool, _&&_, _||_}
 use mathlib.Core.List.{List}
@@ -11,7 +11,7 @@ use Rattle.words.specs.Store.{nodeAt, interfaceAt}
 use Rattle.words.specs.declared.Node.{Node}
 use Rattle.ledger_spec.specs.Look.{climb}
 use Rattle.views.specs.View.{valueOf, sumUp, view}
-use Rattle.sound_words.specs.Below.{allTo}
+use Rattle.sound_words.specs.Below.{allTo, between}
 use Rattle.sound_words.specs.Coding.{blankAt, codedAt}
 use Rattle.sound_trees.specs.Width.{widthOf}
 use Rattle.sound_rings.specs.Rings.{classTest}
@@ -25,10 +25,6 @@ pub record Grounds (b : List ℕ) (u : ℕ) (g : Ground) : Type 0 where
   pub width : g .width ≡ widthOf b (climb 8 (view b) u)
   pub small : g .total ≤ 8796093022208
   pub narrow : g .width ≤ 8796093022208
-
--- x is at most w away from c
-abbrev pub between : ℕ → ℕ → ℕ → Bool
-between c w x = leb (c - w) x && leb x (c + w)
 
 unfoldable pub nearTest : GrowState → ℕ → ℕ → ℕ → Bool
 nearTest g bias t w = leb 576460752303423488 bias && (leb bias 2305843009213693952 && between 1152921504606846976 w (valueOf g bias t))

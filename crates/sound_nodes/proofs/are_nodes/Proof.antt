@@ -1,42 +1,42 @@
+-- Those before u pass, and the first that does not ends it. Assumes nothing.
+use native.Mathlib.Omega.{arith}
+use borrow.Author.Needs.{needs}
+use Prim.Native.Nat.{_-_, _≤_}
+use mathlib.Core.Path.{_≡_, sym, _∙_}
+use mathlib.Core.Bool.{true}
+use borrow.Author.Tests.{not-true, not-false}
+use Rattle.sound_words.specs.Below.{allTo}
+use Rattle.sound_words.proofs.Belows.{all-none, all-more, all-not, all-done}
+use Rattle.sound_nodes.specs.Nodes.{slotsTest}
 use Rattle.sound_nodes.proofs.are_nodes.Statement.{statement}
 use Rattle.sound_nodes.proofs.are_nodes.Tie as tie
-use Rattle.sound_nodes.proofs.are_nodes.Reads as reads
-use Rattle.sound_nodes.proofs.are_nodes.Lts as lts
-use Rattle.sound_nodes.proofs.are_slots.Reads as are-slots-reads
 
 abbrev Inv-loop : tie.InvT-loop
-Inv-loop b u₀ u = ?
+Inv-loop b u₀ u = (allTo (slotsTest b) u ≡ true) × (u ≤ 8)
 
 abbrev μ-loop : tie.MeasureT-loop
-μ-loop b u₀ u = ?
+μ-loop b u₀ u = 8 - u
 
--- src/lib.rt:117:5
 loop-holds : tie.Need-loop-holds Inv-loop μ-loop
-loop-holds c = ?
+loop-holds c = (sym (all-none (slotsTest (c .args .b .now))), omega arith)
 
--- src/lib.rt:118:13
 are-slots-requires : tie.Need-are-slots-requires Inv-loop μ-loop
-are-slots-requires c κs = ?
+are-slots-requires c κs = search needs
 
--- src/lib.rt:119:13
 returns : tie.Need-returns Inv-loop μ-loop
-returns c = ?
+returns c = all-not (slotsTest (c .before .before .before .before .args .b .now)) 8 (c .before .before .before .loop .u) (c .before .before .loop-test .taken) (sym (c .before .are-slots .ensures) ∙ not-true (c .before .are-slots .result) (c .if1 .taken))
 
--- src/lib.rt:121:13
 add-u : tie.Need-add-u Inv-loop μ-loop
-add-u c = ?
+add-u c = search needs
 
--- src/lib.rt:117:5
 loop-less : tie.Need-loop-less Inv-loop μ-loop
-loop-less c = ?
+loop-less c = search needs
 
--- src/lib.rt:117:5
 loop-again : tie.Need-loop-again Inv-loop μ-loop
-loop-again c = ?
+loop-again c = (all-more (slotsTest (c .before .before .before .before .args .b .now)) (c .before .before .before .loop .u) (c .before .before .before .loop .inv .0) (sym (c .before .are-slots .ensures) ∙ not-false (c .before .are-slots .result) (c .if1 .left)), omega arith)
 
--- src/lib.rt:112:1
 returns-2 : tie.Need-returns-2 Inv-loop μ-loop
-returns-2 c = ?
+returns-2 c = all-done (slotsTest (c .before .before .args .b .now)) 8 (c .before .loop .u) (c .before .loop .inv .0) (omega arith)
 
 pub are-nodes-spec : {M : Type 1} → statement M
 are-nodes-spec =
