@@ -1,42 +1,42 @@
+-- The slots before j have other serials. Assumes nothing.
+use native.Mathlib.Omega.{arith}
+use borrow.Author.Needs.{needs}
+use Prim.Native.Nat.{_-_, _≤_}
+use mathlib.Core.Path.{_≡_, sym}
+use mathlib.Core.Bool.{true}
+use Rattle.sound_words.specs.Below.{allTo}
+use Rattle.sound_words.proofs.Belows.{all-none, all-more, all-not, all-done}
+use Rattle.sound_serials.specs.Different.{unlike}
+use Rattle.sound_serials.proofs.Differing.{like-no, unlike-yes}
 use Rattle.sound_serials.proofs.is_new.Statement.{statement}
 use Rattle.sound_serials.proofs.is_new.Tie as tie
-use Rattle.sound_serials.proofs.is_new.Reads as reads
-use Rattle.sound_serials.proofs.is_new.Lts as lts
-use Rattle.sound_serials.proofs.serial_at.Reads as serial-at-reads
 
 abbrev Inv-loop : tie.InvT-loop
-Inv-loop b k serial j₀ j = ?
+Inv-loop b k serial j₀ j = (allTo (unlike b serial) j ≡ true) × (j ≤ k)
 
 abbrev μ-loop : tie.MeasureT-loop
-μ-loop b k serial j₀ j = ?
+μ-loop b k serial j₀ j = k - j
 
--- src/lib.rt:23:5
 loop-holds : tie.Need-loop-holds Inv-loop μ-loop
-loop-holds c = ?
+loop-holds c = (sym (all-none (unlike (c .args .b .now) (c .args .serial))), omega arith)
 
--- src/lib.rt:24:12
 serial-at-requires : tie.Need-serial-at-requires Inv-loop μ-loop
-serial-at-requires c κs = ?
+serial-at-requires c κs = search needs
 
--- src/lib.rt:25:13
 returns : tie.Need-returns Inv-loop μ-loop
-returns c = ?
+returns c = all-not (unlike (c .before .before .before .before .args .b .now) (c .before .before .before .before .args .serial)) (c .before .before .before .before .args .k) (c .before .before .before .loop .j) (c .before .before .loop-test .taken) (like-no (c .before .before .before .before .args .b .now) (c .before .before .before .before .args .serial) (c .before .before .before .loop .j) (c .before .serial-at .result) (c .before .serial-at .ensures) (c .if1 .taken))
 
--- src/lib.rt:27:13
 add-j : tie.Need-add-j Inv-loop μ-loop
-add-j c = ?
+add-j c = search needs
 
--- src/lib.rt:23:5
 loop-less : tie.Need-loop-less Inv-loop μ-loop
-loop-less c = ?
+loop-less c = search needs
 
--- src/lib.rt:23:5
 loop-again : tie.Need-loop-again Inv-loop μ-loop
-loop-again c = ?
+loop-again c = (all-more (unlike (c .before .before .before .before .args .b .now) (c .before .before .before .before .args .serial)) (c .before .before .before .loop .j) (c .before .before .before .loop .inv .0) (unlike-yes (c .before .before .before .before .args .b .now) (c .before .before .before .before .args .serial) (c .before .before .before .loop .j) (c .before .serial-at .result) (c .before .serial-at .ensures) (c .if1 .left)), omega arith)
 
--- src/lib.rt:18:1
 returns-2 : tie.Need-returns-2 Inv-loop μ-loop
-returns-2 c = ?
+returns-2 c = all-done (unlike (c .before .before .args .b .now) (c .before .before .args .serial)) (c .before .before .args .k) (c .before .loop .j) (c .before .loop .inv .0) (omega arith)
 
 pub is-new-spec : {M : Type 1} → statement M
 is-new-spec =

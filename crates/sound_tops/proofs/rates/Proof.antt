@@ -1,55 +1,47 @@
+-- The shares of the slots before s are added up. Assumes nothing.
+use native.Mathlib.Omega.{arith}
+use borrow.Author.Needs.{needs}
+use Prim.Native.Nat.{_-_}
+use Rattle.sound_tops.specs.Tops.{rateIn}
+use Rattle.sound_tops.proofs.Pacing.{Adding, adding-none, adding-more, adding-done, rate-known}
 use Rattle.sound_tops.proofs.rates.Statement.{statement}
 use Rattle.sound_tops.proofs.rates.Tie as tie
-use Rattle.sound_tops.proofs.rates.Reads as reads
-use Rattle.sound_tops.proofs.rates.Lts as lts
-use Rattle.trees.proofs.rate_of.Reads as rate-of-reads
-use Rattle.words.proofs.load_node.Reads as load-node-reads
 
 abbrev Inv-loop : tie.InvT-loop
-Inv-loop b u used total₀ s₀ total s = ?
+Inv-loop b u used total₀ s₀ total s = Adding (rateIn b u) 2 used total s
 
 abbrev μ-loop : tie.MeasureT-loop
-μ-loop b u used total₀ s₀ total s = ?
+μ-loop b u used total₀ s₀ total s = used - s
 
--- src/lib.rt:19:5
 loop-holds : tie.Need-loop-holds Inv-loop μ-loop
-loop-holds c = ?
+loop-holds c = adding-none (rateIn (c .args .b .now) (c .args .u)) 2 (c .args .used)
 
--- src/lib.rt:20:37
 mul-load-node : tie.Need-mul-load-node Inv-loop μ-loop
-mul-load-node c = ?
+mul-load-node c = search needs
 
--- src/lib.rt:20:37
 add-load-node : tie.Need-add-load-node Inv-loop μ-loop
-add-load-node c = ?
+add-load-node c = search needs
 
--- src/lib.rt:20:13
 load-node-requires : tie.Need-load-node-requires Inv-loop μ-loop
-load-node-requires c κs = ?
+load-node-requires c κs = search needs
 
--- src/lib.rt:22:25
 rate-of-requires : tie.Need-rate-of-requires Inv-loop μ-loop
-rate-of-requires c κs = ?
+rate-of-requires c κs = search needs
 
--- src/lib.rt:22:17
 add-total : tie.Need-add-total Inv-loop μ-loop
-add-total c = ?
+add-total c = omega (arith, c .rate-of .ensures .1, c .before .before .before .loop .inv .small, c .before .before .before .loop .inv .low, c .before .before .before .before .pre .1)
 
--- src/lib.rt:23:13
 add-s : tie.Need-add-s Inv-loop μ-loop
-add-s c = ?
+add-s c = search needs
 
--- src/lib.rt:19:5
 loop-less : tie.Need-loop-less Inv-loop μ-loop
-loop-less c = ?
+loop-less c = search needs
 
--- src/lib.rt:19:5
 loop-again : tie.Need-loop-again Inv-loop μ-loop
-loop-again c = ?
+loop-again c = adding-more (rateIn (c .before .before .before .before .args .b .now) (c .before .before .before .before .args .u)) 2 (c .before .before .before .before .args .used) (c .before .before .before .loop .total) (c .before .before .before .loop .s) (c .rate-of .result) (c .before .before .before .loop .inv) (c .before .before .loop-test .taken) (rate-known (c .before .before .before .before .args .b .now) (c .before .before .before .before .args .u) (c .before .before .before .loop .s) (c .before .load-node .result) (c .rate-of .result) (c .before .load-node .ensures) (c .rate-of .ensures .0)) (c .rate-of .ensures .1) (omega arith)
 
--- src/lib.rt:12:1
 returns : tie.Need-returns Inv-loop μ-loop
-returns c = ?
+returns c = let d = adding-done (rateIn (c .before .before .args .b .now) (c .before .before .args .u)) 2 (c .before .before .args .used) (c .before .loop .total) (c .before .loop .s) (c .before .loop .inv) (c .loop-test .left) in (d .0, omega (arith, d .1, c .before .loop .inv .low, c .before .before .pre .1))
 
 pub rates-spec : {M : Type 1} → statement M
 rates-spec =
