@@ -1,1 +1,3 @@
 mod Rows
+mod Circles
+mod Speeds
