@@ -1,3 +1,4 @@
 mod Rows
 mod Circles
 mod Speeds
+mod Seeing
