@@ -2,3 +2,6 @@ mod Rows
 mod Circles
 mod Speeds
 mod Seeing
+mod Nodes
+mod Parts
+mod Canonical
