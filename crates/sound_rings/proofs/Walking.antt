@@ -1,20 +1,19 @@
 -- The walk along a circle: one turn is one step of the definition, and every way out is a test that holds or fails. Assumes nothing.
-use Prim.Native.Nat.{ℕ, suc, _+_, _*_, _<_, _≤_}
+use Prim.Native.Nat.{ℕ, _+_, _*_, _<_, _≤_}
 use mathlib.Core.Path.{_≡_, refl, sym, _∙_, ap, ap₂}
-use mathlib.Core.Bool.{Bool, true, false, not, _&&_}
+use mathlib.Core.Bool.{Bool, true, false, _&&_}
 use native.Mathlib.Numerals.{add-one}
 use native.Mathlib.Omega.{arith}
 use lib.Dec.{eqb, leb, ltb}
 use borrow.Author.Tests.{eq-eqb, ne-eqb, le-leb, lt-leb, lt-ltb, le-ltb, leb-true}
 use Rattle.kinds.specs.Names.{sameHandle}
-use Rattle.kinds.specs.declared.Class.{Class}
 use Rattle.kinds.specs.declared.Class.the-variants.{Absent, Blossom, Defect}
 use Rattle.kinds.specs.declared.Handle.{Handle}
 use Rattle.kinds.specs.declared.Parent.{Parent}
 use Rattle.kinds.specs.declared.Parent.the-variants.{Inside}
 use Rattle.kinds.specs.declared.Vertex.{Vertex}
 use Rattle.words.specs.declared.Node.{Node}
-use Rattle.ledger_spec.proofs.Lists.{and-true, both-true}
+use Rattle.ledger_spec.proofs.Lists.{and-true}
 use Rattle.views.specs.Canon.{walk}
 use Rattle.sound_words.specs.Below.{allTo, sumTo}
 use Rattle.sound_words.proofs.Belows.{all-none, all-more, all-not, sum-none, sum-more}

@@ -6,7 +6,6 @@ use kinds::Parent;
 use words::Node;
 use words::WORDS;
 ghost use mathlib.Core.Path.{_≡_};
-ghost use Prim.Native.Nat.{_≤_};
 ghost use Rattle.words.specs.Store.{nodeAt};
 ghost use Rattle.sound_rings.specs.Rings.{isInside, memberOf, ringTest, classTest};
 

@@ -1,18 +1,17 @@
 -- The code's steps and tests, put together as the definitions have them. Past the last slot every word is 0, so a walk may come to any number.
 -- Assumes nothing.
-use Prim.Native.Nat.{ℕ, suc, _+_, _*_, _<_, _≤_}
+use Prim.Native.Nat.{ℕ, _+_, _*_, _<_, _≤_}
 use mathlib.Core.Path.{_≡_, refl, sym, _∙_, ap, ap₂, subst}
-use mathlib.Core.Bool.{Bool, true, false, _&&_}
+use mathlib.Core.Bool.{Bool, false, _&&_}
 use mathlib.Core.List.{List}
 use native.Mathlib.Numerals.{add-one}
 use native.Mathlib.Omega.{arith}
-use lib.Dec.{eqb, leb, ltb}
-use lib.ListN.{length, getD, List·getD-eq-default}
+use lib.Dec.{eqb, ltb}
+use lib.ListN.{length, List·getD-eq-default}
 use borrow.Author.Tests.{le-leb, lt-leb, lt-ltb, le-ltb}
 use Rattle.kinds.specs.Names.{sameHandle, nobody}
 use Rattle.kinds.specs.States.{blossomOf}
 use Rattle.kinds.specs.declared.Handle.{Handle}
-use Rattle.kinds.specs.declared.Parent.{Parent}
 use Rattle.kinds.specs.declared.Parent.the-variants.{Outermost, Inside}
 use Rattle.words.specs.Store.{nodeAt, base}
 use Rattle.words.specs.declared.Node.{Node}
@@ -21,7 +20,7 @@ use Rattle.ledger_spec.specs.Look.{climb}
 use Rattle.views.specs.View.{view}
 use Rattle.views.specs.Canon.{walk}
 use Rattle.trees.specs.Climb.{Climbs}
-use Rattle.sound_seats.specs.Seats.{isStay, aloneTest, seatIn, seatTest, byParent, parentTest}
+use Rattle.sound_seats.specs.Seats.{isStay, aloneTest, seatIn, seatTest, parentTest}
 
 pub past-last : (b : List ℕ) (p : ℕ) → length b ≡ 6273 → 512 ≤ p → 0 ≡ nodeAt b p .next
 unfolding nodeAt

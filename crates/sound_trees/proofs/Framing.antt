@@ -4,15 +4,15 @@ use Prim.Native.Nat.{ℕ, zero, suc, _+_, _-_, _<_, _≤_}
 use mathlib.Core.Path.{_≡_, refl, sym, _∙_, ap, subst}
 use mathlib.Core.Logic.{_≢_, _⊎_, inl, inr}
 use mathlib.Core.Bool.{Bool, true, false, not, _&&_, _||_, true≢false, or-true}
-use mathlib.Core.Option.{Option, none, some}
+use mathlib.Core.Option.{none, some}
 use mathlib.Core.List.{List}
 use native.Mathlib.Decide.{ℕ-discrete, decLt}
 use native.Mathlib.Omega.{arith}
 use lib.Dec.{eqb, leb, ltb}
 use lib.ListN.{length, getD, List·getD-eq-default}
 use borrow.Author.Tests.{eqb-true, eqb-false, eq-eqb, ne-eqb, leb-true, le-leb, ltb-true, lt-ltb, not-true}
-use Rattle.words.specs.Codec.{pick, upWord}
-use Rattle.words.specs.Store.{nodeAt, interfaceAt, ibase, interfaceWords}
+use Rattle.words.specs.Codec.{pick}
+use Rattle.words.specs.Store.{nodeAt, interfaceAt}
 use Rattle.words.specs.declared.Interface.{Interface}
 use Rattle.words.specs.declared.Up.{Up}
 use Rattle.words.specs.declared.Up.the-variants.{Top, Under}
@@ -27,10 +27,7 @@ use Rattle.ledger_spec.proofs.Knit.{some-eq, none-some}
 use Rattle.views.specs.Records.{Steady}
 use Rattle.views.specs.View.{upSeen, halvesSeen, view}
 use Rattle.views.proofs.Views.{interface-in, view-eight, view-parent}
-use Rattle.sound_words.specs.Below.{allTo}
 use Rattle.sound_words.specs.Coding.{spareAt, linkAt}
-use Rattle.sound_words.proofs.Belows.{all-each, all-of}
-use Rattle.sound_words.proofs.Codings.{link-words, words-link, spare-words, words-spare}
 use Rattle.sound_trees.specs.Links.{isUnder, upTest, downTest, interfaceTest}
 
 -- ---- the facts of one interface

@@ -1,16 +1,15 @@
 -- The code's tests of an interface, put together as the definitions have them. Assumes nothing.
 use Prim.Native.Nat.{ℕ, _+_, _-_, _*_, _<_, _≤_}
-use mathlib.Core.Path.{_≡_, refl, sym, _∙_, ap, ap₂, subst}
-use mathlib.Core.Bool.{Bool, true, false, not, _&&_, _||_}
+use mathlib.Core.Path.{_≡_, sym, _∙_, ap, ap₂, subst}
+use mathlib.Core.Bool.{Bool, false, not, _&&_, _||_}
 use mathlib.Core.List.{List}
 use native.Mathlib.Omega.{arith}
 use lib.Dec.{eqb, leb, ltb}
 use borrow.Author.Tests.{eq-eqb, ne-eqb, le-leb, lt-leb}
-use Rattle.words.specs.Codec.{pick}
 use Rattle.words.specs.Store.{interfaceAt}
 use Rattle.words.specs.declared.Interface.{Interface}
 use Rattle.words.specs.declared.Up.{Up}
-use Rattle.words.specs.declared.Up.the-variants.{Top, Under}
+use Rattle.words.specs.declared.Up.the-variants.{Under}
 use Rattle.words.proofs.Laws.{GoodUp, good-interface}
 use Rattle.ledger_spec.specs.Look.{top}
 use Rattle.views.specs.Records.{Steady}

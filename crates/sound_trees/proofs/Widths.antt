@@ -4,7 +4,6 @@ use mathlib.Core.Path.{_≡_, refl, sym, _∙_, ap, ap₂}
 use mathlib.Core.Bool.{Bool, true, false}
 use mathlib.Core.Option.{none}
 use mathlib.Core.List.{List}
-use native.Mathlib.Omega.{arith}
 use lib.Dec.{eqb}
 use lib.ListN.{getD}
 use lib.IntN.{ℤ, pos, natAbs, _+ℤ_}
@@ -20,7 +19,7 @@ use Rattle.ledger_spec.proofs.Bounds.{progressIn, W-under}
 use Rattle.views.specs.View.{view}
 use Rattle.views.proofs.Views.{interface-in}
 use Rattle.sound_words.specs.Below.{sumTo}
-use Rattle.sound_trees.specs.Width.{progressUnder, widthOf}
+use Rattle.sound_trees.specs.Width.{widthOf}
 
 gate-pos : (c : Bool) (n : ℕ) → gate c (pos n) ≡ pos (pick c n 0)
 unfolding gate

@@ -33,7 +33,8 @@ pub fn is_coded(b: &[u64; WORDS], k: usize) -> bool
     (b[at + 1] < 4294967296)
         & ((b[at + 2] < 4294967298)
             & ((b[at + 3] <= 2)
-                & ((b[at + 4] <= 2199023255552) & ((b[at + 7] < 2199023255552) & (b[at + 8] < 2199023255552)))))
+                & ((b[at + 4] <= 2199023255552)
+                    & ((b[at + 7] < 2199023255552) & (b[at + 8] < 2199023255552)))))
 }
 
 // The words that no interface has yet are zero.
@@ -47,7 +48,8 @@ pub fn is_spare(b: &[u64; WORDS], u: usize) -> bool
             & ((b[at + 10] == 0)
                 & ((b[at + 11] == 0)
                     & ((b[at + 12] == 0)
-                        & ((b[at + 13] == 0) & ((b[at + 14] == 0) & ((b[at + 15] == 0) & (b[at + 16] == 0))))))))
+                        & ((b[at + 13] == 0)
+                            & ((b[at + 14] == 0) & ((b[at + 15] == 0) & (b[at + 16] == 0))))))))
 }
 
 // The word of an interface's parent names one of eight.

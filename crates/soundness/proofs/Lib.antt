@@ -5,3 +5,6 @@ mod Seeing
 mod Nodes
 mod Parts
 mod Canonical
+mod Tested
+mod Passing
+pub mod Theorem

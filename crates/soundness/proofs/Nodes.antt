@@ -1,10 +1,9 @@
 -- The tests of a node and the facts that they say, both ways: its class and circle, its parent and place, its value. Assumes nothing.
 use Prim.Native.Nat.{ℕ, _+_, _-_, _*_, _<_, _≤_}
 use mathlib.Core.Path.{_≡_, refl, sym, _∙_, ap}
-use mathlib.Core.Bool.{Bool, true, false, not, _&&_, true≢false}
+use mathlib.Core.Bool.{true, false, not, _&&_, true≢false}
 use mathlib.Core.List.{List}
 use lib.Dec.{eqb, leb, ltb}
-use lib.ListN.{getD}
 use borrow.Author.Tests.{eqb-true, eqb-false, eq-eqb, ne-eqb, leb-true, le-leb, ltb-true, lt-ltb, not-true}
 use Rattle.kinds.specs.Names.{sameHandle, nobody}
 use Rattle.kinds.specs.States.{blossomOf}
@@ -25,7 +24,7 @@ use Rattle.views.specs.Canon.{walk, Alone}
 use Rattle.sound_words.specs.Below.{allTo, sumTo}
 use Rattle.sound_words.proofs.Belows.{all-each, all-of}
 use Rattle.sound_rings.specs.Rings.{isInside, memberOf, memberTest, sizeIn, ringTest, classTest}
-use Rattle.sound_seats.specs.Seats.{isStay, aloneTest, seatIn, seatTest, parentTest}
+use Rattle.sound_seats.specs.Seats.{isStay, aloneTest, seatIn, parentTest}
 use Rattle.sound_nodes.specs.Nodes.{nearTest}
 
 same-packed : (g h : Handle) → sameHandle g h ≡ true → g ≡ h

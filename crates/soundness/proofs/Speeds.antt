@@ -8,7 +8,7 @@ use native.Mathlib.Omega.{arith}
 use lib.Dec.{eqb, ltb}
 use borrow.Author.Tests.{ltb-true, ltb-false}
 use lib.ListN.{getD}
-use lib.IntN.{ℤ, pos, negsuc, natAbs, negℤ, _+ℤ_, _-ℤ_, +ℤ-idl, +ℤ-idr, -ℤ-+ℤ-cancel}
+use lib.IntN.{ℤ, pos, negsuc, natAbs, negℤ, _+ℤ_, +ℤ-idl, +ℤ-idr, -ℤ-+ℤ-cancel}
 use Rattle.kinds.specs.declared.GrowState.{GrowState}
 use Rattle.kinds.specs.declared.GrowState.the-variants.{Grow, Stay, Shrink}
 use Rattle.kinds.specs.declared.Class.{Class}
@@ -18,7 +18,7 @@ use Rattle.words.specs.Store.{nodeAt, interfaceAt}
 use Rattle.words.specs.declared.Node.{Node}
 use Rattle.ledger_spec.specs.Bench.{Member, rate}
 use Rattle.ledger_spec.specs.Bench as plain
-use Rattle.ledger_spec.specs.Look.{interface, climb}
+use Rattle.ledger_spec.specs.Look.{climb}
 use Rattle.ledger_spec.specs.Change.{share}
 use Rattle.ledger_spec.specs.Account.{Σ, gate, over, Under, ratesIn}
 use Rattle.ledger_spec.specs.Named.{stateNamed}
