@@ -1,0 +1,4 @@
+pub mod Steps
+pub mod Rings
+pub mod Walked
+pub mod Clean

@@ -1,0 +1,6 @@
+mod Lowest
+mod Marking
+mod Twice
+mod Shape
+mod Touching
+pub mod Sure

@@ -1,0 +1,93 @@
+-- What one word's node is refused by, at what was found of it: stale where none stands, and else foreign by its tree's top, and inside a blossom by
+-- its record. Assumes nothing.
+use Prim.Native.Nat.{ℕ, _+_, _*_, _/_, _<_}
+use mathlib.Core.Path.{_≡_, refl, sym, _∙_, ap, subst}
+use mathlib.Core.Bool.{Bool, true, false, not}
+use mathlib.Core.Option.{Option, none, some}
+use mathlib.Core.List.{List, []}
+use native.Mathlib.Omega.{arith}
+use borrow.Author.Tests.{eq-eqb, ne-eqb}
+use lib.Dec.{eqb}
+use Rattle.kinds.specs.declared.Handle.{Handle as Packed}
+use Rattle.kinds.specs.declared.Parent.{Parent}
+use Rattle.kinds.specs.declared.Parent.the-variants.{Outermost, Inside}
+use Rattle.words.specs.Store.{nodeAt, interfaceAt}
+use Rattle.words.specs.declared.Node.{Node}
+use Rattle.ledger_spec.specs.Bench.{Handle}
+use Rattle.ledger_spec.specs.Bench as plain
+use Rattle.ledger_spec.specs.Look.{top, nodeAt as nodeNamed}
+use Rattle.ledger_spec.specs.Named.{parentNamed}
+use Rattle.ledger_spec.specs.Tests.{first, given, stale, foreign, hasParent}
+use Rattle.views.specs.View.{view, slotSeen, sumUp, circleOf, nodeSeen}
+use Rattle.views.proofs.Rings.{slot-held}
+use Rattle.links.specs.declared.Found.{Found}
+use Rattle.links.specs.declared.Found.the-variants.{At, Stale}
+use Rattle.links.proofs.Finding.{found-at, found-none}
+use Rattle.links.specs.Find.{spot, Stands, Held, Finds}
+use Rattle.links.specs.Given.{given as wordGiven}
+use Rattle.rings.specs.Given.{handGiven}
+use Rattle.circle_tests.specs.Marks.{marks, nodeMark}
+
+-- ---- what a word was found to name
+module _ (b : List ℕ) (w : ℕ) (r : Found) (f : Finds b (wordGiven w) r) where
+  pub word-at : (k : ℕ) → r ≡ At k → Held b (handGiven w) k
+  unfolding handGiven
+  word-at k e = found-at b (wordGiven w) f k e
+
+  pub word-none : r ≡ Stale → nodeNamed (view b) (handGiven w) ≡ none
+  unfolding handGiven
+  word-none e = found-none b (wordGiven w) f e
+
+-- ---- its number
+marks-8 : (s f p : Bool) → s ≡ true → marks s f p ≡ 8
+unfolding marks first
+marks-8 s f p e = rw e
+
+marks-9 : (s f p : Bool) → s ≡ false → f ≡ true → marks s f p ≡ 9
+unfolding marks first
+marks-9 s f p e g = rw (e, g)
+
+marks-11 : (s f p : Bool) → s ≡ false → f ≡ false → p ≡ true → marks s f p ≡ 11
+unfolding marks first
+marks-11 s f p e g h = rw (e, g, h)
+
+marks-0 : (s f p : Bool) → s ≡ false → f ≡ false → p ≡ false → marks s f p ≡ 0
+unfolding marks first
+marks-0 s f p e g h = rw (e, g, h)
+
+module _ (b : List ℕ) (u : ℕ) (h : Handle) where
+  pub mark-stale : nodeNamed (view b) h ≡ none → 8 ≡ nodeMark (view b) u h
+  mark-stale e = sym (marks-8 (stale (view b) h) (foreign (view b) u h) (hasParent (nodeNamed (view b) h)) (ap (λ (o : Option plain.Node). not (given o)) e))
+
+  module _ (k : ℕ) (H : Held b h k) where
+    pub held-unit : h .unit ≡ k / 64
+    held-unit = let S = H .stands in omega (arith, H .place, S .low)
+
+    held-node : nodeNamed (view b) h ≡ some (nodeSeen (nodeAt b (spot h)) (sumUp 8 (interfaceAt b) (h .unit)) (slot-held (nodeAt b (spot h)) (sumUp 8 (interfaceAt b) (h .unit)) (circleOf (nodeAt b) (spot h)) (H .stands .present) .0))
+    held-node = H .stands .seen ∙ slot-held (nodeAt b (spot h)) (sumUp 8 (interfaceAt b) (h .unit)) (circleOf (nodeAt b) (spot h)) (H .stands .present) .1
+
+    held-fresh : stale (view b) h ≡ false
+    held-fresh = ap (λ (o : Option plain.Node). not (given o)) held-node
+
+    held-parent : hasParent (nodeNamed (view b) h) ≡ given (parentNamed (nodeAt b k .parent))
+    held-parent = ap hasParent held-node ∙ ap (λ (j : ℕ). given (parentNamed (nodeAt b j .parent))) (sym (H .place))
+
+    module _ (t : ℕ) (e : t ≡ top (view b) (k / 64)) where
+      held-top : t ≡ top (view b) (h .unit)
+      held-top = e ∙ ap (top (view b)) (sym held-unit)
+
+      pub mark-foreign : (t ≡ u → ⊥) → 9 ≡ nodeMark (view b) u h
+      mark-foreign ne = sym (marks-9 (stale (view b) h) (foreign (view b) u h) (hasParent (nodeNamed (view b) h)) held-fresh (ap not (ne-eqb (top (view b) (h .unit)) u (λ q. ne (held-top ∙ q)))))
+
+      module _ (n : Node) (f : n ≡ nodeAt b k) (same : t ≡ u) where
+        held-near : foreign (view b) u h ≡ false
+        held-near = ap not (eq-eqb (top (view b) (h .unit)) u (sym held-top ∙ same))
+
+        held-given : hasParent (nodeNamed (view b) h) ≡ given (parentNamed (n .parent))
+        held-given = held-parent ∙ ap (λ (x : Node). given (parentNamed (x .parent))) (sym f)
+
+        pub mark-inside : (q : Packed) → n .parent ≡ Inside q → 11 ≡ nodeMark (view b) u h
+        mark-inside q g = sym (marks-11 (stale (view b) h) (foreign (view b) u h) (hasParent (nodeNamed (view b) h)) held-fresh held-near (held-given ∙ ap (λ (p : Parent). given (parentNamed p)) g))
+
+        pub mark-free : n .parent ≡ Outermost → 0 ≡ nodeMark (view b) u h
+        mark-free g = sym (marks-0 (stale (view b) h) (foreign (view b) u h) (hasParent (nodeNamed (view b) h)) held-fresh held-near (held-given ∙ ap (λ (p : Parent). given (parentNamed p)) g))
