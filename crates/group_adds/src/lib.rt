@@ -29,16 +29,16 @@ fn add_listed(g: Group, e: Entry) -> Changed
     requires { ⌜ (g .kind ≡ Kind.Conflicts) × ((g .listed ≤ 128) × (g .stopped ≤ 128)) ⌝ }
     ensures { λ r. ⌜ r ≡ changed (grouped (roomFor (listOf g ++ e ∷ []) (stopsOf g))) g ⌝ }
 {
-    let n = g.listed;
-    if Group::MOST <= n {
+    let at = g.listed;
+    if Group::MOST <= at {
         return Changed {
             number: 20,
             group: g,
         };
     }
     let mut r = g;
-    r.list[n] = e;
-    r.listed = n + 1;
+    r.list[at] = e;
+    r.listed = at + 1;
     Changed {
         number: 0,
         group: r,
@@ -99,20 +99,20 @@ fn add_stop(g: Group, x: Stop) -> Changed
     ensures { λ r. ⌜ r ≡ changed (grouped (addStop x (listOf g) (stopsOf g))) g ⌝ }
 {
     let v = x.vertex;
-    let n = g.stopped;
+    let count = g.stopped;
     let all = g.stops;
-    let spot = group_stops::spot_of(all, n, v);
+    let spot = group_stops::spot_of(all, count, v);
     match spot {
         Spot::Held(p, y) => met(g, p, x, y),
         Spot::Free(p) => {
-            if Group::MOST <= n {
+            if Group::MOST <= count {
                 return Changed {
                     number: 20,
                     group: g,
                 };
             }
             let list = g.list;
-            let stops = group_stops::put_in(all, n, p, x);
+            let stops = group_stops::put_in(all, count, p, x);
             Changed {
                 number: 0,
                 group: Group {
@@ -120,7 +120,7 @@ fn add_stop(g: Group, x: Stop) -> Changed
                     list,
                     stops,
                     listed: g.listed,
-                    stopped: n + 1,
+                    stopped: count + 1,
                 },
             }
         }
@@ -195,10 +195,7 @@ fn add_to_growth(g: Group, length: i64, flag: bool, o: Obstacle, first: Vertex) 
             let least = smaller_of(length, other);
             let joined = either(flag, on);
             let group = grown(g, least, joined);
-            Changed {
-                number: 0,
-                group,
-            }
+            Changed { number: 0, group }
         }
         Obstacle::VertexShrinkStop(_, _) => {
             let s = Stop {
@@ -206,31 +203,19 @@ fn add_to_growth(g: Group, length: i64, flag: bool, o: Obstacle, first: Vertex) 
                 obstacle: o,
             };
             let group = one_stop(g, s);
-            Changed {
-                number: 0,
-                group,
-            }
+            Changed { number: 0, group }
         }
         Obstacle::Conflicting(_, _) => {
             let group = one_listed(g, Entry { obstacle: o });
-            Changed {
-                number: 0,
-                group,
-            }
+            Changed { number: 0, group }
         }
         Obstacle::TouchingVirtual(_, _, _) => {
             let group = one_listed(g, Entry { obstacle: o });
-            Changed {
-                number: 0,
-                group,
-            }
+            Changed { number: 0, group }
         }
         Obstacle::BlossomNeedExpand(_) => {
             let group = one_listed(g, Entry { obstacle: o });
-            Changed {
-                number: 0,
-                group,
-            }
+            Changed { number: 0, group }
         }
     }
 }

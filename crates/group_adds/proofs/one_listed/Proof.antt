@@ -1,16 +1,26 @@
+-- `one_listed` writes the one entry. Assumes nothing.
+use mathlib.Core.Path.{_≡_}
+use native.Mathlib.Omega.{arith}
 use borrow.Author.Needs.{needs}
+use lib.ListN.{length, length-map}
+use Rattle.group_adds.proofs.Bytes.{lone-entry}
 use Rattle.group_adds.proofs.one_listed.Statement.{statement}
 use Rattle.group_adds.proofs.one_listed.Tie as tie
-use Rattle.group_adds.proofs.one_listed.Reads as reads
-use Rattle.group_adds.proofs.one_listed.Lts as lts
 
--- src/lib.rt:223:5
+long : (c : tie.Start) → length (c .args .g .list) ≡ 128
+long c = simp length-map at (c .good .0 .1 .1 .1 .0 .1 .0 .1)
+
 array-set-from-list : tie.Need-array-set-from-list
 array-set-from-list c = search needs
 
--- src/lib.rt:219:1
 returns : tie.Need-returns
-returns c = ?
+returns c =
+    let l = long (c .before .before) in
+    lone-entry (c .before .before .args .e) (c .before .before .args .g) (omega (arith, l))
 
 pub one-listed-spec : {M : Type 1} → statement M
-one-listed-spec = tie.close (tie.spec array-set-from-list returns)
+one-listed-spec =
+    tie.close
+    (tie.spec
+    array-set-from-list
+    returns)

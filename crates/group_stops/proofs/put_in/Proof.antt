@@ -51,9 +51,12 @@ loop-again c =
     let l = long start in
     let s = start .args .stops in
     let p = start .args .p in
-    let x = start .args .x in
-    (omega arith, omega arith, in-step s p noStop x (at .loop .r) (at .loop .j) (at .loop .inv .2) (at .loop .inv .0) (omega arith) (at .loop .carried) (at .loop .inv .3),
-    in-next s p noStop x (at .loop .r) (at .loop .j) (at .loop .inv .2) (at .loop .inv .0) (omega arith))
+    let x = start .args .x in (
+      omega arith,
+      omega arith,
+      in-step s p noStop x (at .loop .r) (at .loop .j) (at .loop .inv .2) (at .loop .inv .0) (omega arith) (at .loop .carried) (at .loop .inv .3),
+      in-next s p noStop x (at .loop .r) (at .loop .j) (at .loop .inv .2) (at .loop .inv .0) (omega arith),
+    )
 
 mul-r-2 : tie.Need-mul-r-2 Inv-loop μ-loop
 mul-r-2 c = omega arith
