@@ -1,4 +1,5 @@
 pub mod Lists
+pub mod Lay
 pub mod Loops
 pub mod View
 pub mod Asking

@@ -1,4 +1,4 @@
--- Runs of oracle/recordings/edges.txt, replayed by the definitions: 190 answers, of which none differs. Written by oracle/table.
+-- Runs of oracle/recordings/edges.txt, replayed by the definitions: 321 answers, of which none differs. Written by oracle/table.
 -- Assumes nothing.
 use Prim.Native.Nat.{ℕ}
 use mathlib.Core.Path.{_≡_, refl}
@@ -79,3 +79,47 @@ run18 = refl
 pub run19 : replayed "N 1\n= 0\nD 0 1\n= 0 1 1 0 1 1 1\nD 8 2\n= 3 0 0 0 0\nB 8 1\n= 3 0 0 0 0\nE 8 1\n= 3 0 0 0 0\nS 8 1 0\n= 3 0 0 0 0\nG 8 1\n= 3 0 0 0 0\nF 8 0 1\n= 3 0 0 0 0\nF 2 8 1\n= 3 0 0 0 0\nF 2 0 8\n= 3 0 0 0 0\nC 8\n= 3 0 0 0 0\nK 8\n= 3 0 0 0 0\nk 8\n= 3 0 0\ns 8\n= 3 0\np 8\n= 3 0\nn 8\n= 3 0\nh 8 0\n= 3 0 0 0\ni 8 1\n= 3 0\nd 8\n= 3 0\n" ≡ (19, 0)
 unfolding replayed
 run19 = refl
+
+pub run20 : replayed "N 1\n= 0\nD 0 3\n= 0 1 1 0 1 1 1\nx 0 1\n= 0\nz 0\n= 0 4 1\ny 0\n= 0 0 1 0 0 0\nz 0\n= 0 0\nl 0\n= 0 0\ng 0 5 0\n= 0\nm 0\n= 0 2 0 0\nj 1 0\n= 0\ny 1\n= 0 0 1 0 0 0\nm 1\n= 0 2 0 0\n" ≡ (12, 0)
+unfolding replayed
+run20 = refl
+
+pub run21 : replayed "N 1\n= 0\nD 0 3\n= 0 1 1 0 1 1 1\nD 0 4\n= 0 2 2 0 1 1 2\nr 0 1 1 2\n= 0\nr 0 1 1 1\n= 0\nm 0\n= 0 2 0 1 3 6 1 1 2\nr 0 1 2 1\n= 0\nm 0\n= 0 2 1 2 2 1 1 2 0\nq 0 1\n= 0\nl 0\n= 0 2 2 1 1 2\nr 0 1 2 2\n= 0\nl 0\n= 0 2 2 1 1 2\nz 0\n= 0 2 2 1 1 2\n" ≡ (13, 0)
+unfolding replayed
+run21 = refl
+
+pub run22 : replayed "N 1\n= 0\ng 0 -7 0\n= 0\ny 0\n= 0 0 1 0 1 -7\ng 0 0 1\n= 0\nm 0\n= 0 1 -7 1\ng 1 9223372036854775807 1\n= 0\ng 1 5 0\n= 0\nm 1\n= 0 1 5 1\nj 1 0\n= 0\nm 1\n= 0 1 -7 1\n" ≡ (10, 0)
+unfolding replayed
+run22 = refl
+
+pub run23 : replayed "N 1\n= 0\nD 0 1\n= 0 1 1 0 1 1 1\nD 0 2\n= 0 2 2 0 1 1 2\nB 0 1\n= 0 3 2 0 3 2 1 0 3 1 1 4 3\nB 0 2\n= 0 4 2 0 3 2 2 0 3 1 2 4 4\nb 0 3 2 4\n= 0 5 2 0 3 2 3 0 3 1 3 4 5\nK 0\n= 0 3 2 0 2\nE 0 4\n= 0 4 2 0 2 5 4 2 2 1\nK 0\n= 0 4 2 0 2\nk 0\n= 0 4 2\nD 0 3\n= 0 6 3 0 1 1 6\nB 0 7\n= 8 0 3 0 0\nD 0 4\n= 0 7 4 0 1 1 7\nB 0 9\n= 8 0 4 0 0\nB 0 8\n= 8 0 4 0 0\nb 0 11 10 10\n= 8 0 4 0 0\nK 0\n= 0 4 4 0 2\n" ≡ (17, 0)
+unfolding replayed
+run23 = refl
+
+pub run24 : replayed "N 1\n= 0\nD 0 1\n= 0 1 1 0 1 1 1\nB 0 1\n= 0 2 1 0 3 2 1 0 3 1 1 4 2\nD 0 2\n= 0 3 2 0 1 1 3\nb 0 3 2 2\n= 0 4 2 0 3 2 3 0 3 1 3 4 4\nE 0 2\n= 0 2 2 0 2 5 2 2 1 1\nK 0\n= 0 2 2 0 2\nk 0\n= 0 2 2\n" ≡ (8, 0)
+unfolding replayed
+run24 = refl
+
+pub run25 : replayed "N 1\n= 0\nD 0 1\n= 0 1 1 0 1 1 1\nD 0 2\n= 0 2 2 0 1 1 2\nB 0 1\n= 0 3 2 0 3 2 1 0 3 1 1 4 3\nb 0 3 2 2\n= 0 4 2 0 3 2 3 0 3 1 3 4 4\nK 0\n= 0 3 2 0 2\nB 0 4 2\n= 0 5 1 0 4 2 4 0 2 2 0 3 2 4 2 4 5\nK 0\n= 0 0 1 0 0\nk 0\n= 0 0 0\nE 0 5\n= 0 5 2 0 3 5 5 2 4 1 2 2 1\nK 0\n= 0 3 2 0 2\n" ≡ (11, 0)
+unfolding replayed
+run25 = refl
+
+pub run26 : replayed "N 1\n= 0\nD 0 1\n= 0 1 1 0 1 1 1\nB 0 1\n= 0 2 1 0 3 2 1 0 3 1 1 4 2\nG 0 3\n= 0 0 1 3 1 6 3\nE 0 2\n= 0 2 1 3 2 5 2 2 1 1\nK 0\n= 0 5 1 3 0\nB 0 1\n= 0 3 1 3 3 2 1 0 3 1 1 4 3\nS 0 3 -1\n= 0 3 -1 3 1 2 3 -1\nG 0 3\n= 0 0 -1 0 1 6 3\nE 0 3\n= 0 3 1 0 2 5 3 2 1 1\nK 0\n= 0 0 1 0 0\nk 0\n= 0 0 0\n" ≡ (12, 0)
+unfolding replayed
+run26 = refl
+
+pub run27 : replayed "N 1\n= 0\nD 0 1\n= 0 1 1 0 1 1 1\nD 0 2\n= 0 2 2 0 1 1 2\nb 0 1 2 2\n= 0 3 2 0 3 2 1 0 3 1 1 4 3\nD 1 2\n= 0 4 1 0 1 1 4\nF 2 0 1\n= 0 0 3 0 0\nK 2\n= 0 2 3 0 0\n" ≡ (7, 0)
+unfolding replayed
+run27 = refl
+
+pub run28 : replayed "N 1\n= 0\nD 1 1\n= 0 1 1 0 1 1 1\nD 1 2\n= 0 2 2 0 1 1 2\nb 1 1 2 2\n= 0 3 2 0 3 2 1 0 3 1 1 4 3\nD 0 2\n= 0 4 1 0 1 1 4\nF 2 0 1\n= 0 0 3 0 0\nK 2\n= 0 1 3 0 2\n" ≡ (7, 0)
+unfolding replayed
+run28 = refl
+
+pub run29 : replayed "N 1\n= 0\nF 2 0 1\n= 0 0 0 0 0\nn 2\n= 0 0\nh 2 0\n= 18 0 0 0\nD 2 5\n= 0 1 1 0 1 1 1\nB 2 1\n= 0 2 1 0 3 2 1 0 3 1 1 4 2\nS 2 2 1\n= 0 2 1 0 1 2 2 1\nG 2 0\n= 0 0 1 0 1 6 0\nS 2 2 -1\n= 0 2 -1 0 1 2 2 -1\nG 2 4\n= 0 0 -1 -4 1 6 4\ns 2\n= 0 -4\np 2\n= 0 -1\nv 2\n= 0 -4\nK 2\n= 0 0 -1 -4 0\n" ≡ (14, 0)
+unfolding replayed
+run29 = refl
+
+pub run30 : replayed "N 1\n= 0\nD 0 1\n= 0 1 1 0 1 1 1\nD 1 2\n= 0 2 1 0 1 1 2\nB 0 2 9\n= 8 0 1 0 0\nB 0 2\n= 9 0 1 0 0\nB 0 1\n= 0 3 1 0 3 2 1 0 3 1 1 4 3\nE 0 1\n= 10 0 1 0 0\nS 0 1 0\n= 11 0 1 0 0\nE 0 2\n= 9 0 1 0 0\nF 2 0 1\n= 0 0 2 0 0\nF 3 0 0\n= 4 0 0 0 0\nF 3 3 3\n= 16 0 0 0 0\nt 2 2 3 3 1 1\n= 7 0 2 0 0\nt 2 2 9 9 9 9 9 9\n= 8 0 2 0 0\nh 0 99\n= 4 0 0 0\nh 2 3\n= 18 0 0 0\na 3 0\n= 19 0\na 9 0\n= 8 0\nu 3\n= 12 0\nu 1\n= 0 1\n" ≡ (20, 0)
+unfolding replayed
+run30 = refl

@@ -1,0 +1,4 @@
+pub mod Down
+pub mod Tops
+pub mod Taking
+pub mod Only

@@ -1,0 +1,5 @@
+pub mod Firsts
+pub mod Lengths
+pub mod Units
+pub mod Named
+pub mod Fuses

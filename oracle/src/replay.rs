@@ -1,0 +1,113 @@
+//! The original and the model side by side: the model says what is accepted, the original answers it, and both must agree but for the
+//! differences that document 01 names. Refused lines are the model's alone: the original cannot say their numbers.
+use crate::driver::{Answer, Driver};
+use crate::line::{Line, GROUPS};
+use crate::model::Model;
+
+/// Why an answer is document 01's and not the original's.
+#[derive(Clone, Copy, Debug, PartialEq, Eq)]
+pub enum Mark {
+    /// a group holds a node of before a clear: the original uses its object for the next node
+    ClearedInGroup,
+    /// a group holds an expanded node: the original's check finds it and says 3 in place of 4
+    GoneInGroup,
+}
+
+impl std::fmt::Display for Mark {
+    fn fmt(&self, f: &mut std::fmt::Formatter) -> std::fmt::Result {
+        f.write_str(match self {
+            Mark::ClearedInGroup => "document 01's answer: cleared node in a group",
+            Mark::GoneInGroup => "document 01's answer: a group holds the gone node",
+        })
+    }
+}
+
+/// One line answered.
+pub struct Turn {
+    /// document 01's answer
+    pub answer: Vec<i64>,
+    /// the original's, where the line is accepted
+    pub original: Option<Answer>,
+    pub mark: Option<Mark>,
+}
+
+impl Turn {
+    pub fn is_accepted(&self) -> bool {
+        self.answer[0] == 0
+    }
+
+    /// Both agree, or differ in a way that document 01 names.
+    pub fn agrees(&self) -> bool {
+        self.mark.is_some() || self.original.as_ref().map_or(true, |original| original.as_ref() == Ok(&self.answer))
+    }
+}
+
+pub struct Replay {
+    pub model: Model,
+    driver: Driver,
+    /// groups that a clear reached, until they are made new
+    cleared: [bool; GROUPS],
+}
+
+impl Default for Replay {
+    fn default() -> Self {
+        Replay { model: Model::new(1), driver: Driver::new(1, false), cleared: [false; GROUPS] }
+    }
+}
+
+impl Replay {
+    pub fn turn(&mut self, line: &Line) -> Turn {
+        self.note(line);
+        let answer = self.model.answer(line);
+        if answer[0] != 0 {
+            return self.refused(line, answer);
+        }
+        let original = self.driver.answer(line);
+        let mark = if original.as_ref() == Ok(&answer) { None } else { self.excuse(line, &answer, &original) };
+        Turn { answer, original: Some(original), mark }
+    }
+
+    /// A refused set-up still hands out a bench, as from serial 1.
+    fn refused(&mut self, line: &Line, answer: Vec<i64>) -> Turn {
+        if let Line::SetUp(_) = line {
+            self.driver = Driver::new(1, false);
+        }
+        Turn { answer, original: None, mark: None }
+    }
+
+    /// Which groups the line leaves with nodes of before a clear, or with what such nodes led to.
+    fn note(&mut self, line: &Line) {
+        match line {
+            Line::SetUp(_) => self.cleared = [false; GROUPS],
+            Line::NewGroup(g) => self.cleared[*g] = false,
+            Line::Extend(g, other) => self.cleared[*g] |= self.cleared[*other],
+            Line::Clear(unit) if self.model.is_top(*unit as usize) => {
+                let tree = self.model.bench.tree(*unit as usize);
+                for (group, cleared) in self.model.groups.iter().zip(&mut self.cleared) {
+                    *cleared |= group.handles().iter().any(|h| tree.contains(&(h.unit as usize)));
+                }
+            }
+            _ => {}
+        }
+    }
+
+    fn excuse(&self, line: &Line, answer: &[i64], original: &Answer) -> Option<Mark> {
+        match line {
+            Line::Add(g, _) | Line::Extend(g, _) | Line::Asked(g) | Line::Pop(g) | Line::Peek(g) | Line::Content(g) => {
+                Some(Mark::ClearedInGroup).filter(|_| self.cleared[*g])
+            }
+            Line::Check(_) => self.held(answer, original, 1, 4),
+            Line::Strict(_) => self.held(answer, original, 1, 2),
+            _ => None,
+        }
+    }
+
+    /// 4 by document 01 and 3 by the original, same index, and a group that can hold a gone node.
+    fn held(&self, answer: &[i64], original: &Answer, verdict: usize, index: usize) -> Option<Mark> {
+        let original = original.as_ref().ok()?;
+        let holds = |group: &crate::model::groups::Group| group.handles().iter().any(|h| self.model.bench.node(*h).is_none());
+        let can_hold = self.cleared.contains(&true) || self.model.groups.iter().any(holds);
+        let is_it = answer[verdict] == 4 && original[verdict] == 3 && answer[index] == original[index] && can_hold;
+        Some(Mark::GoneInGroup).filter(|_| is_it)
+    }
+}
