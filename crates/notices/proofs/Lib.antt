@@ -1,0 +1,4 @@
+pub mod Pads
+pub mod Telling
+pub mod Reaching
+pub mod Back
