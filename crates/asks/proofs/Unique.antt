@@ -22,7 +22,7 @@ use Rattle.reads.specs.declared.Indexed.{Indexed}
 use Rattle.reads.specs.declared.Ancestor.{Ancestor}
 use Rattle.reads.specs.declared.Second.{Second}
 use Rattle.reads.specs.declared.Represented.{Represented}
-use Rattle.verdicts.specs.Verdict.{asked}
+use Rattle.lent.specs.Verdict.{asked}
 
 -- ---- what is shown of an answer determines it
 abbrev packed : Handle → Packed

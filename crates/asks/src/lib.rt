@@ -22,12 +22,12 @@ ghost use Rattle.ledger_spec.specs.Reads.{sumOf, speedOf, countOf, handleOf, va
 ghost use Rattle.ledger_spec.specs.Walk.{outerOf, underOf, firstVertex, verticesInto};
 ghost use Rattle.views.specs.View.{view};
 ghost use Rattle.reads.specs.Shown.{shownWeight, shownCount, shownBelongs, shownNode, shownAncestor, shownSecond, shownVertex, shownVertices};
-ghost use Rattle.verdicts.specs.Verdict.{asked};
+ghost use Rattle.lent.specs.Verdict.{asked};
 
 pub fn sum_dual_variables(b: &[u64; WORDS], unit: u8) -> Weighed
     ensures { λ r. ⌜ shownWeight r ≡ asked (now (b .entry)) (pos 0) (sumOf (view (now (b .entry))) unit) ⌝ }
 {
-    if !verdicts::is_bench(b) {
+    if !lent::is_bench(b) {
         return Weighed {
             number: 2,
             weight: 0,
@@ -39,7 +39,7 @@ pub fn sum_dual_variables(b: &[u64; WORDS], unit: u8) -> Weighed
 pub fn sum_grow_speed(b: &[u64; WORDS], unit: u8) -> Weighed
     ensures { λ r. ⌜ shownWeight r ≡ asked (now (b .entry)) (pos 0) (speedOf (view (now (b .entry))) unit) ⌝ }
 {
-    if !verdicts::is_bench(b) {
+    if !lent::is_bench(b) {
         return Weighed {
             number: 2,
             weight: 0,
@@ -52,7 +52,7 @@ pub fn sum_grow_speed(b: &[u64; WORDS], unit: u8) -> Weighed
 pub fn nodes_count(b: &[u64; WORDS], unit: u8) -> Counted
     ensures { λ r. ⌜ shownCount r ≡ asked (now (b .entry)) 0 (countOf (view (now (b .entry))) unit) ⌝ }
 {
-    if !verdicts::is_bench(b) {
+    if !lent::is_bench(b) {
         return Counted {
             number: 2,
             count: 0,
@@ -65,7 +65,7 @@ pub fn nodes_count(b: &[u64; WORDS], unit: u8) -> Counted
 pub fn get_node(b: &[u64; WORDS], unit: u8, index: NodeIndex) -> Indexed
     ensures { λ r. ⌜ shownNode r ≡ asked (now (b .entry)) none (handleOf (view (now (b .entry))) unit (index .0)) ⌝ }
 {
-    if !verdicts::is_bench(b) {
+    if !lent::is_bench(b) {
         return Indexed {
             number: 2,
             node: MaybeNode::NoNode,
@@ -78,7 +78,7 @@ pub fn get_node(b: &[u64; WORDS], unit: u8, index: NodeIndex) -> Indexed
 pub fn check_ptr_belonging(b: &[u64; WORDS], unit: u8, h: Handle) -> Belongs
     ensures { λ r. ⌜ shownBelongs r ≡ asked (now (b .entry)) false (belongs (view (now (b .entry))) unit (handleNamed h)) ⌝ }
 {
-    if !verdicts::is_bench(b) {
+    if !lent::is_bench(b) {
         return Belongs {
             number: 2,
             inside: false,
@@ -90,7 +90,7 @@ pub fn check_ptr_belonging(b: &[u64; WORDS], unit: u8, h: Handle) -> Belongs
 pub fn get_dual_variable(b: &[u64; WORDS], h: Handle) -> Weighed
     ensures { λ r. ⌜ shownWeight r ≡ asked (now (b .entry)) (pos 0) (valueOf (view (now (b .entry))) (handleNamed h)) ⌝ }
 {
-    if !verdicts::is_bench(b) {
+    if !lent::is_bench(b) {
         return Weighed {
             number: 2,
             weight: 0,
@@ -103,7 +103,7 @@ pub fn get_dual_variable(b: &[u64; WORDS], h: Handle) -> Weighed
 pub fn get_ancestor_blossom(b: &[u64; WORDS], h: Handle) -> Ancestor
     ensures { λ r. ⌜ shownAncestor r ≡ asked (now (b .entry)) (nobody, 0) (outerOf (view (now (b .entry))) (handleNamed h)) ⌝ }
 {
-    if !verdicts::is_bench(b) {
+    if !lent::is_bench(b) {
         return Ancestor {
             number: 2,
             node: Handle::nobody(),
@@ -117,7 +117,7 @@ pub fn get_ancestor_blossom(b: &[u64; WORDS], h: Handle) -> Ancestor
 pub fn get_secondary_ancestor_blossom(b: &[u64; WORDS], h: Handle) -> Second
     ensures { λ r. ⌜ shownSecond r ≡ asked (now (b .entry)) nobody (underOf (view (now (b .entry))) (handleNamed h)) ⌝ }
 {
-    if !verdicts::is_bench(b) {
+    if !lent::is_bench(b) {
         return Second {
             number: 2,
             node: Handle::nobody(),
@@ -130,7 +130,7 @@ pub fn get_secondary_ancestor_blossom(b: &[u64; WORDS], h: Handle) -> Second
 pub fn get_representative_vertex(b: &[u64; WORDS], h: Handle) -> Represented
     ensures { λ r. ⌜ shownVertex r ≡ asked (now (b .entry)) 0 (firstVertex (view (now (b .entry))) (handleNamed h)) ⌝ }
 {
-    if !verdicts::is_bench(b) {
+    if !lent::is_bench(b) {
         return Represented {
             number: 2,
             vertex: Vertex(0),
@@ -144,7 +144,7 @@ pub fn get_representative_vertex(b: &[u64; WORDS], h: Handle) -> Represented
 pub fn get_all_vertices(b: &[u64; WORDS], h: Handle, out: &mut [u32]) -> Counted
     ensures { λ r. ⌜ shownVertices r (now (out .exit)) ≡ asked (now (b .entry)) (0, now (out .entry)) (verticesInto (view (now (b .entry))) (handleNamed h) (now (out .entry))) ⌝ }
 {
-    if !verdicts::is_bench(b) {
+    if !lent::is_bench(b) {
         return Counted {
             number: 2,
             count: 0,

@@ -3,7 +3,7 @@ use mathlib.Core.Path.{ap, _∙_}
 use borrow.Author.Needs.{needs}
 use Rattle.kinds.specs.declared.Handle.{Handle}
 use Rattle.ledger_spec.specs.Named.{handleNamed}
-use Rattle.verdicts.proofs.Asking.{no-bench, a-bench, fits}
+use Rattle.lent.proofs.Asking.{no-bench, a-bench, fits}
 use Rattle.asks.proofs.get_secondary_ancestor_blossom.Statement.{statement}
 use Rattle.asks.proofs.get_secondary_ancestor_blossom.Tie as tie
 

@@ -9,8 +9,8 @@ use Rattle.views.specs.View.{view}
 use Rattle.views.specs.Fit.{SoundWords}
 use Rattle.soundness.specs.Sound.{soundWords}
 use Rattle.soundness.proofs.Theorem.{sound-says, sound-holds}
-use Rattle.verdicts.specs.Verdict.{asked}
-use Rattle.verdicts.proofs.Asking.{asked-by}
+use Rattle.lent.specs.Verdict.{asked}
+use Rattle.lent.proofs.Asking.{asked-by}
 
 module _ {A : Type 0} (b : List ℕ) (z : A) (r : ℕ × A) where
   pub asked-ask : SoundWords b → asked b z r ≡ ask (view b) z r

@@ -2,8 +2,8 @@
 use mathlib.Core.Path.{sym, _∙_}
 use borrow.Author.Needs.{needs}
 use Rattle.soundness.proofs.Theorem.{sound-says}
-use Rattle.verdicts.proofs.is_bench.Statement.{statement}
-use Rattle.verdicts.proofs.is_bench.Tie as tie
+use Rattle.lent.proofs.is_bench.Statement.{statement}
+use Rattle.lent.proofs.is_bench.Tie as tie
 
 full-requires : tie.Need-full-requires
 full-requires c κs = search needs

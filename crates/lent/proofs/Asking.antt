@@ -8,7 +8,7 @@ use Rattle.words.specs.Codec.{pick}
 use Rattle.views.specs.Fit.{Fit}
 use Rattle.views.proofs.Fits.{fit-of}
 use Rattle.soundness.specs.Sound.{soundWords}
-use Rattle.verdicts.specs.Verdict.{Verdict, asked}
+use Rattle.lent.specs.Verdict.{Verdict, asked}
 
 module _ {A : Type 0} (b : List ℕ) (z : A) (r : ℕ × A) where
   pub asked-by : (s : Bool) → soundWords b ≡ s → asked b z r ≡ pick s r (2, z)
