@@ -16,7 +16,13 @@ ghost use Rattle.group_adds.specs.Adds.{changed};
 
 // The first m of `other` are added to the stops of g and to the first `listed` of `list`, which past them is that of g. The pass writes `out` up to k;
 // what is left of g's own stops, from i on, follows at the end.
-pub fn merged(g: Group, list: [Entry; Group::MOST], listed: usize, other: [Stop; Group::MOST], m: usize) -> Changed
+pub fn merged(
+    g: Group,
+    list: [Entry; Group::MOST],
+    listed: usize,
+    other: [Stop; Group::MOST],
+    m: usize,
+) -> Changed
     requires { ⌜ g .stopped ≤ 128 ⌝ }
     requires { ⌜ (listed ≤ 128) × (drop listed list ≡ drop listed (g .list)) ⌝ }
     requires { ⌜ (m ≤ 128) × (rising 0 (take m other) ≡ true) ⌝ }

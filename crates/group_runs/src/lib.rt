@@ -7,7 +7,13 @@ ghost use mathlib.Core.Path.{_≡_};
 ghost use Prim.Native.Nat.{_+_, _-_, _≤_};
 ghost use Rattle.group_runs.specs.Runs.{laidAt};
 
-pub fn entries_laid(list: [Entry; Group::MOST], at: usize, more: [Entry; Group::MOST], from: usize, n: usize) -> [Entry; Group::MOST]
+pub fn entries_laid(
+    list: [Entry; Group::MOST],
+    at: usize,
+    more: [Entry; Group::MOST],
+    from: usize,
+    n: usize,
+) -> [Entry; Group::MOST]
     requires { ⌜ (from ≤ n) × ((n ≤ 128) × (at + (n - from) ≤ 128)) ⌝ }
     ensures { λ r. ⌜ r ≡ laidAt at list from n more ⌝ }
 {
@@ -23,7 +29,13 @@ pub fn entries_laid(list: [Entry; Group::MOST], at: usize, more: [Entry; Group::
     r
 }
 
-pub fn stops_laid(stops: [Stop; Group::MOST], at: usize, more: [Stop; Group::MOST], from: usize, n: usize) -> [Stop; Group::MOST]
+pub fn stops_laid(
+    stops: [Stop; Group::MOST],
+    at: usize,
+    more: [Stop; Group::MOST],
+    from: usize,
+    n: usize,
+) -> [Stop; Group::MOST]
     requires { ⌜ (from ≤ n) × ((n ≤ 128) × (at + (n - from) ≤ 128)) ⌝ }
     ensures { λ r. ⌜ r ≡ laidAt at stops from n more ⌝ }
 {
@@ -31,8 +43,8 @@ pub fn stops_laid(stops: [Stop; Group::MOST], at: usize, more: [Stop; Group::MOS
     let mut a = from;
     let mut q = at;
     while a < n {
-        let e = more[a];
-        r[q] = e;
+        let s = more[a];
+        r[q] = s;
         a = a + 1;
         q = q + 1;
     }

@@ -29,11 +29,11 @@ loop-holds start =
     let w = wide start in
     (search needs, start .pre .0, omega arith, run-start (start .args .stops) (start .args .t3) (start .args .at) (start .args .from) (start .args .n) (start .pre .0) (omega (arith, w, start .pre .1 .0)) (omega (arith, l, start .pre .1 .1)) noStop)
 
-mul-e : tie.Need-mul-e Inv-loop μ-loop
-mul-e c = omega (arith, c .before .loop .inv .0, c .before .loop .inv .1, c .before .loop .inv .2, c .before .before .pre .0, c .before .before .pre .1 .0, c .before .before .pre .1 .1)
+mul-s : tie.Need-mul-s Inv-loop μ-loop
+mul-s c = omega (arith, c .before .loop .inv .0, c .before .loop .inv .1, c .before .loop .inv .2, c .before .before .pre .0, c .before .before .pre .1 .0, c .before .before .pre .1 .1)
 
-array-copy-out-e : tie.Need-array-copy-out-e Inv-loop μ-loop
-array-copy-out-e c = omega (arith, c .before .loop .inv .0, c .before .loop .inv .1, c .before .loop .inv .2, c .before .before .pre .0, c .before .before .pre .1 .0, c .before .before .pre .1 .1)
+array-copy-out-s : tie.Need-array-copy-out-s Inv-loop μ-loop
+array-copy-out-s c = omega (arith, c .before .loop .inv .0, c .before .loop .inv .1, c .before .loop .inv .2, c .before .before .pre .0, c .before .before .pre .1 .0, c .before .before .pre .1 .1)
 
 mul-r : tie.Need-mul-r Inv-loop μ-loop
 mul-r c = omega (arith, c .before .before .loop .inv .0, c .before .before .loop .inv .1, c .before .before .loop .inv .2, c .before .before .before .pre .0, c .before .before .before .pre .1 .0, c .before .before .before .pre .1 .1)
@@ -75,8 +75,8 @@ stops-laid-spec =
     Inv-loop
     μ-loop
     loop-holds
-    mul-e
-    array-copy-out-e
+    mul-s
+    array-copy-out-s
     mul-r
     array-set-from-r
     add-a
