@@ -68,9 +68,9 @@ returns c =
     let f = c .before .before .before .before .before .before .before .kind .given .0 .1 .0 in
     let b = c .before .before .before .before .other .given .0 .0 in
     let i = c .before .before .before .before .other .given .0 .1 .0 in
-    let fa : SFits w64 (c .before .before .before .before .before .before .before .kind .given .0 .0) = search needs in
-    let fb : SFits w64 (c .before .before .before .before .other .given .0 .0) = search needs in
-    let fr : SFits w64 (c .before .before .smaller-pair .result .length) = search needs in
+    let fa : SFits w64 (c .before .before .before .before .before .before .before .kind .given .0 .0) = search (needs, c .before .before .before .before .before .before .known-told .given) in
+    let fb : SFits w64 (c .before .before .before .before .other .given .0 .0) = search (needs, c .before .before .before .known-told2 .given) in
+    let fr : SFits w64 (c .before .before .smaller-pair .result .length) = search (needs, c .before .struct-told .given) in
     two-growths (s .args .g) (s .args .h) a f b i (k .given .1) (o .given .1) _ (p .result .flag) (c .grown .result)
     (ap (λ (z : ℤ). growth z (p .result .flag)) (toZ-ofZ fr) ∙ p .ensures ∙ ap₂ (λ (x y : ℤ). leastOf x f y i) (toZ-ofZ fa) (toZ-ofZ fb)) (c .grown .ensures)
 
