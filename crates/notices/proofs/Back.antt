@@ -1,11 +1,10 @@
 -- The value of a list of notices stands for that list: nothing that a call tells is lost. And a list has one value. Assumes nothing.
-use Prim.Native.Nat.{ℕ, _-_}
+use Prim.Native.Nat.{_-_}
 use mathlib.Core.Path.{_≡_, refl, ap, ap₂, sym, _∙_, subst}
-use mathlib.Core.List.{List, [], _∷_, _++_, map, map-map, append-nil}
-use lib.ListN.{length, take, replicate}
+use mathlib.Core.List.{List, [], _∷_, _++_, map, append-nil}
+use lib.ListN.{length, replicate}
 use lib.Seq.{take-append-seam}
 use Rattle.kinds.specs.Names.{nobody}
-use Rattle.kinds.specs.declared.Handle.{Handle as Packed}
 use Rattle.kinds.specs.declared.GrowState.{GrowState}
 use Rattle.kinds.specs.declared.GrowState.the-variants.{Grow, Stay, Shrink}
 use Rattle.ledger_spec.specs.Bench.{Handle, State, grows, stays, shrinks, Bench}

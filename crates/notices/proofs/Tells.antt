@@ -6,7 +6,7 @@ use lib.IntN.{ℤ}
 use Rattle.ledger_spec.specs.Bench.{Handle, State, Bench}
 use Rattle.ledger_spec.specs.Deeds.{newHandle}
 use Rattle.ledger_spec.specs.Calls.{Defect, Blossom, Expand, SetState, Grow, Fuse, Clear}
-use Rattle.ledger_spec.specs.Notices.{Notice, defectAdded, stateSet, grown, tells}
+use Rattle.ledger_spec.specs.Notices.{defectAdded, stateSet, grown, tells}
 use Rattle.notices.specs.Lists.{blossomMade, blossomGone}
 
 module _ (b : Bench) (u : ℕ) where
