@@ -16,30 +16,30 @@ impl Shots {
         self.lines.push(line);
     }
 
-    /// Defects of one interface: so many from 8 to 24, shared out among the leaves.
-    fn load(&mut self, units: usize) {
-        let count = 8 + self.player.rng.below(17);
-        for at in 0..count {
-            let vertex = 100 * at + self.player.rng.below(100);
-            self.say(format!("D {} {vertex}", at % units));
+    /// Defects of one interface, so many from least to most.
+    fn load(&mut self, unit: usize, least: i64, most: i64) {
+        for at in 0..self.player.rng.between(least, most) as usize {
+            let vertex = 10_000 * unit + 100 * at + self.player.rng.below(100);
+            self.say(format!("D {unit} {vertex}"));
         }
     }
 
-    /// A shot in a tree: defects, fuses, rounds, a clear.
+    /// A shot: defects, fuses, rounds, a clear. Of ten shots seven are on one interface, two on two halves, one on four quarters fused twice.
     fn shot(&mut self) {
-        let (leaves, fuses, top): (usize, &[&str], usize) = match self.player.rng.below(10) {
-            0..=6 => (1, &[], 0),
-            7 | 8 => (2, &["F 2 0 1"], 2),
-            _ => (4, &["F 4 0 1", "F 5 2 3", "F 6 4 5"], 6),
+        let (leaves, most, fuses, top): (usize, i64, &[&str], usize) = match self.player.rng.below(10) {
+            0..=6 => (1, 24, &[], 0),
+            7 | 8 => (2, 20, &["F 2 0 1"], 2),
+            _ => (4, 8, &["F 4 0 1", "F 5 2 3", "F 6 4 5"], 6),
         };
-        self.load(leaves);
+        (0..leaves).for_each(|unit| self.load(unit, 8, most));
         fuses.iter().for_each(|fuse| self.say(fuse.to_string()));
-        for _ in 0..20 + self.player.rng.below(40) {
+        for _ in 0..2 * (20 + self.player.rng.below(40)) {
             self.round(top);
         }
         self.say(format!("C {top}"));
     }
 
+    /// Growth 35 in a hundred, a blossom of 3 to 9 members 12, an expansion 10, else, or where there is none to make, a state set.
     fn round(&mut self, top: usize) {
         let free = self.player.free(top);
         let blossoms: Vec<Handle> = free.iter().copied().filter(|h| !self.player.model.bench.at(*h).is_defect()).collect();

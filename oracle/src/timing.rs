@@ -1,5 +1,5 @@
-//! Timing of the original over a list of accepted text lines: nanoseconds by kind, in three measures. Meant for the release build, where
-//! debug assertions and overflow checks are off.
+//! Timing of the original over a list of accepted text lines, in three measures, and by kind. Meant for the release build, where debug
+//! assertions and overflow checks are off. Whole passes are measured in processor time, so that other work on the machine does not count.
 use crate::driver::state_of;
 use crate::line::Line;
 use crate::text;
@@ -77,43 +77,52 @@ impl Bench {
     }
 
     fn call(&mut self, line: &Line) {
-        match line {
+        let unit = match line {
             Line::Defect(unit, vertex) => {
                 let node = self.faces[*unit as usize].create_defect_node(*vertex as usize, &mut self.stub);
                 self.nodes.push(Some(node));
-                self.read(*unit)
+                unit
             }
             Line::Blossom(unit, members, _) => {
                 let circle = members.iter().map(|serial| self.node(*serial)).collect();
                 let node = self.faces[*unit as usize].create_blossom(circle, vec![], &mut self.stub);
                 self.nodes.push(Some(node));
-                self.read(*unit)
+                unit
             }
             Line::Expand(unit, serial) => {
                 let node = self.node(*serial);
                 self.nodes[*serial as usize] = None;
                 self.faces[*unit as usize].expand_blossom(node, &mut self.stub);
-                self.read(*unit)
+                unit
             }
             Line::SetState(unit, serial, state) => {
                 let node = self.node(*serial);
                 self.faces[*unit as usize].set_grow_state(&node, state_of(*state), &mut self.stub);
-                self.read(*unit)
+                unit
             }
             Line::Grow(unit, length) => {
                 self.faces[*unit as usize].grow(*length as isize, &mut self.stub);
-                self.read(*unit)
+                unit
             }
+            other => self.whole_tree(other),
+        };
+        self.read(*unit)
+    }
+
+    /// Calls on interfaces alone.
+    fn whole_tree<'a>(&self, line: &'a Line) -> &'a u32 {
+        match line {
             Line::Fuse(parent, left, right) => {
                 self.faces[*parent as usize].fuse(&self.faces[*left as usize], &self.faces[*right as usize]);
-                self.read(*parent)
+                parent
             }
             Line::Clear(unit) => {
                 clear(&self.faces[*unit as usize]);
-                self.read(*unit)
+                unit
             }
             Line::Check(unit) => {
                 keep(self.faces[*unit as usize].sanity_check().is_ok());
+                unit
             }
             _ => unreachable!("no text line"),
         }
@@ -138,7 +147,7 @@ fn clear(face: &DualModuleInterfacePtr) {
     face.clear();
 }
 
-/// A kind's operations: how many, and nanoseconds in all.
+/// A kind's operations: how many were measured, and nanoseconds in all.
 #[derive(Clone, Copy, Default)]
 struct Spent {
     count: usize,
@@ -158,14 +167,25 @@ fn kind(line: &Line) -> usize {
     }
 }
 
-/// What an empty measurement takes.
-fn clock() -> f64 {
-    let begin = Instant::now();
-    (0..1_000_000).for_each(|_| keep(Instant::now()));
-    begin.elapsed().as_nanos() as f64 / 1_000_000.0
+/// Longer than any operation takes: the thread was put aside meanwhile.
+const PUT_ASIDE: f64 = 50_000.0;
+
+/// The thread's processor time in nanoseconds.
+fn processor() -> f64 {
+    let mut time = libc::timespec { tv_sec: 0, tv_nsec: 0 };
+    let done = unsafe { libc::clock_gettime(libc::CLOCK_THREAD_CPUTIME_ID, &mut time) };
+    assert_eq!(done, 0, "no processor clock");
+    time.tv_sec as f64 * 1e9 + time.tv_nsec as f64
 }
 
-/// One pass with a clock around each operation, its own time taken off.
+/// What an empty measurement takes.
+fn clock() -> f64 {
+    let begin = processor();
+    (0..1_000_000).for_each(|_| keep(Instant::now()));
+    (processor() - begin) / 1_000_000.0
+}
+
+/// One pass with a clock around each operation, its own time taken off; what was put aside is left out.
 fn by_kind(lines: &[Line], updates: bool, numbers: bool) -> [Spent; 8] {
     let clock = clock();
     let mut bench = Bench::new(lines.len(), updates, numbers);
@@ -175,9 +195,11 @@ fn by_kind(lines: &[Line], updates: bool, numbers: bool) -> [Spent; 8] {
         let begin = Instant::now();
         bench.call(line);
         let taken = begin.elapsed().as_nanos() as f64 - clock;
-        let at = &mut spent[kind(line)];
-        at.count += 1;
-        at.nanoseconds += taken;
+        if taken < PUT_ASIDE {
+            let at = &mut spent[kind(line)];
+            at.count += 1;
+            at.nanoseconds += taken;
+        }
     }
     spent
 }
@@ -186,9 +208,9 @@ fn by_kind(lines: &[Line], updates: bool, numbers: bool) -> [Spent; 8] {
 fn whole(lines: &[Line], updates: bool, numbers: bool) -> f64 {
     let mut bench = Bench::new(lines.len(), updates, numbers);
     bench.nodes.push(None);
-    let begin = Instant::now();
+    let begin = processor();
     lines.iter().for_each(|line| bench.call(line));
-    let taken = begin.elapsed().as_nanos() as f64;
+    let taken = processor() - begin;
     keep(bench.stub.calls);
     taken / lines.len() as f64
 }
@@ -209,9 +231,9 @@ pub fn report(list: &str) -> Result<String, String> {
         move |at: usize| passes.iter().map(|pass| pass[at].nanoseconds / pass[at].count as f64).fold(f64::MAX, f64::min)
     };
     let (bare, with) = (best(false), best(true));
-    let counts = by_kind(&lines, false, false);
-    for (at, letter) in KINDS.chars().enumerate().filter(|(at, _)| counts[*at].count > 0) {
-        out += &format!("{letter}     {:10}  {:7.0}  {:16.0}\n", counts[at].count, bare(at), with(at));
+    let count = |at| lines.iter().filter(|line| kind(line) == at).count();
+    for (at, letter) in KINDS.chars().enumerate().filter(|(at, _)| count(*at) > 0) {
+        out += &format!("{letter}     {:10}  {:7.0}  {:16.0}\n", count(at), bare(at), with(at));
     }
     Ok(out)
 }

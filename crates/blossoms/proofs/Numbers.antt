@@ -14,7 +14,7 @@ use Rattle.ledger_spec.specs.Bench.{Handle, Bench}
 use Rattle.ledger_spec.specs.Look.{interface}
 use Rattle.ledger_spec.specs.Tests.{first, twice}
 use Rattle.ledger_spec.specs.Refuse.{unitTests, blossomTests}
-use Rattle.ledger_spec.proofs.Passed.{Failed, passed}
+use Rattle.ledger_spec.proofs.Passed.{Failed, passed, Open}
 use Rattle.ledger_spec.proofs.Accepted.{clear-passed}
 use Rattle.views.specs.View.{view}
 use Rattle.views.proofs.Views.{view-count, view-next}
@@ -65,8 +65,8 @@ module _ (b : Bench) (u : ℕ) (hs : List Handle) (ts : List (Handle × Handle))
       unfolding unitTests
       to-lists = ap first in-parts ∙ on (unitTests b u) listed (passed (unitTests b u) tt (sym e ∙ z))
 
-      pub low : u < 8
-      low = clear-passed b u (sym e ∙ z) .low
+      pub named : Open b u
+      named = clear-passed b u (sym e ∙ z)
 
       module _ (m : ℕ) (f : m ≡ first (shapeTests hs ts)) where
         pub by-shape : m ≢ 0 → m ≡ whole

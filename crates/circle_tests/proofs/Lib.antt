@@ -1,6 +1,8 @@
+mod Any
 mod Lowest
 mod Marking
-mod Twice
 mod Shape
 mod Touching
-pub mod Sure
+mod Twice
+mod Seen
+pub mod Places

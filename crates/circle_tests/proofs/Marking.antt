@@ -1,12 +1,12 @@
 -- What one word's node is refused by, at what was found of it: stale where none stands, and else foreign by its tree's top, and inside a blossom by
 -- its record. Assumes nothing.
-use Prim.Native.Nat.{ℕ, _+_, _*_, _/_, _<_}
-use mathlib.Core.Path.{_≡_, refl, sym, _∙_, ap, subst}
+use Prim.Native.Nat.{ℕ, _/_}
+use mathlib.Core.Path.{_≡_, sym, _∙_, ap}
 use mathlib.Core.Bool.{Bool, true, false, not}
 use mathlib.Core.Option.{Option, none, some}
-use mathlib.Core.List.{List, []}
+use mathlib.Core.List.{List}
 use native.Mathlib.Omega.{arith}
-use borrow.Author.Tests.{eq-eqb, ne-eqb}
+use borrow.Author.Tests.{eq-eqb}
 use lib.Dec.{eqb}
 use Rattle.kinds.specs.declared.Handle.{Handle as Packed}
 use Rattle.kinds.specs.declared.Parent.{Parent}
@@ -15,15 +15,16 @@ use Rattle.words.specs.Store.{nodeAt, interfaceAt}
 use Rattle.words.specs.declared.Node.{Node}
 use Rattle.ledger_spec.specs.Bench.{Handle}
 use Rattle.ledger_spec.specs.Bench as plain
-use Rattle.ledger_spec.specs.Look.{top, nodeAt as nodeNamed}
+use Rattle.ledger_spec.specs.Look.{interface, top, nodeAt as nodeNamed}
 use Rattle.ledger_spec.specs.Named.{parentNamed}
 use Rattle.ledger_spec.specs.Tests.{first, given, stale, foreign, hasParent}
-use Rattle.views.specs.View.{view, slotSeen, sumUp, circleOf, nodeSeen}
+use Rattle.ledger_spec.proofs.Tops.{climb-none}
+use Rattle.views.specs.View.{view, sumUp, circleOf, nodeSeen}
 use Rattle.views.proofs.Rings.{slot-held}
 use Rattle.links.specs.declared.Found.{Found}
 use Rattle.links.specs.declared.Found.the-variants.{At, Stale}
 use Rattle.links.proofs.Finding.{found-at, found-none}
-use Rattle.links.specs.Find.{spot, Stands, Held, Finds}
+use Rattle.links.specs.Find.{spot, Held, Finds}
 use Rattle.links.specs.Given.{given as wordGiven}
 use Rattle.rings.specs.Given.{handGiven}
 use Rattle.circle_tests.specs.Marks.{marks, nodeMark}
@@ -72,22 +73,24 @@ module _ (b : List ℕ) (u : ℕ) (h : Handle) where
     held-parent : hasParent (nodeNamed (view b) h) ≡ given (parentNamed (nodeAt b k .parent))
     held-parent = ap hasParent held-node ∙ ap (λ (j : ℕ). given (parentNamed (nodeAt b j .parent))) (sym (H .place))
 
-    module _ (t : ℕ) (e : t ≡ top (view b) (k / 64)) where
-      held-top : t ≡ top (view b) (h .unit)
-      held-top = e ∙ ap (top (view b)) (sym held-unit)
+    module _ (far : Bool) (e : far ≡ not (eqb (top (view b) (k / 64)) u)) where
+      held-far : foreign (view b) u h ≡ far
+      held-far = ap (λ (v : ℕ). not (eqb (top (view b) v) u)) held-unit ∙ sym e
 
-      pub mark-foreign : (t ≡ u → ⊥) → 9 ≡ nodeMark (view b) u h
-      mark-foreign ne = sym (marks-9 (stale (view b) h) (foreign (view b) u h) (hasParent (nodeNamed (view b) h)) held-fresh (ap not (ne-eqb (top (view b) (h .unit)) u (λ q. ne (held-top ∙ q)))))
+      pub mark-foreign : far ≡ true → 9 ≡ nodeMark (view b) u h
+      mark-foreign t = sym (marks-9 (stale (view b) h) (foreign (view b) u h) (hasParent (nodeNamed (view b) h)) held-fresh (held-far ∙ t))
 
-      module _ (n : Node) (f : n ≡ nodeAt b k) (same : t ≡ u) where
-        held-near : foreign (view b) u h ≡ false
-        held-near = ap not (eq-eqb (top (view b) (h .unit)) u (sym held-top ∙ same))
-
+      module _ (near : far ≡ false) (n : Node) (f : n ≡ nodeAt b k) where
         held-given : hasParent (nodeNamed (view b) h) ≡ given (parentNamed (n .parent))
         held-given = held-parent ∙ ap (λ (x : Node). given (parentNamed (x .parent))) (sym f)
 
         pub mark-inside : (q : Packed) → n .parent ≡ Inside q → 11 ≡ nodeMark (view b) u h
-        mark-inside q g = sym (marks-11 (stale (view b) h) (foreign (view b) u h) (hasParent (nodeNamed (view b) h)) held-fresh held-near (held-given ∙ ap (λ (p : Parent). given (parentNamed p)) g))
+        mark-inside q g = sym (marks-11 (stale (view b) h) (foreign (view b) u h) (hasParent (nodeNamed (view b) h)) held-fresh (held-far ∙ near) (held-given ∙ ap (λ (p : Parent). given (parentNamed p)) g))
 
         pub mark-free : n .parent ≡ Outermost → 0 ≡ nodeMark (view b) u h
-        mark-free g = sym (marks-0 (stale (view b) h) (foreign (view b) u h) (hasParent (nodeNamed (view b) h)) held-fresh held-near (held-given ∙ ap (λ (p : Parent). given (parentNamed p)) g))
+        mark-free g = sym (marks-0 (stale (view b) h) (foreign (view b) u h) (hasParent (nodeNamed (view b) h)) held-fresh (held-far ∙ near) (held-given ∙ ap (λ (p : Parent). given (parentNamed p)) g))
+
+-- ---- an interface's tree
+module _ (b : plain.Bench) (u : ℕ) (free : interface b u .parent ≡ none) where
+  pub near-own : (v : ℕ) → v ≡ u → false ≡ not (eqb (top b v) u)
+  near-own v e = sym (ap not (eq-eqb (top b v) u (ap (top b) e ∙ climb-none 8 b u free)))

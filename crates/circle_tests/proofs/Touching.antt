@@ -1,10 +1,10 @@
 -- Touching handles are their words two by two; where one is left over, the handle that it goes with is stale. What members and touching handles are
 -- refused by is the lower of each list's number, without "inside a blossom" for the touching ones. Assumes nothing.
 use Prim.Native.Nat.{ℕ, _%_}
-use mathlib.Core.Path.{_≡_, refl, sym, _∙_, ap, ap₂}
+use mathlib.Core.Path.{_≡_, refl, sym, _∙_, ap}
 use mathlib.Core.Bool.{Bool, true, false, _||_, not}
 use mathlib.Core.Option.{Option}
-use mathlib.Core.List.{List, [], _∷_, _++_}
+use mathlib.Core.List.{List, [], _∷_}
 use native.Mathlib.Omega.{arith}
 use lib.ListN.{length}
 use Rattle.ledger_spec.specs.Bench.{Handle, Bench, Node}
@@ -15,6 +15,7 @@ use Rattle.links.proofs.Finding.{out-unit}
 use Rattle.rings.specs.Given.{nowhere, handGiven, handsGiven, pairsGiven}
 use Rattle.circle_tests.specs.Marks.{marks, listMark, touchMark, lower}
 use Rattle.circle_tests.specs.Parts.{nodesTests}
+use Rattle.circle_tests.proofs.Any.{or-any, or-none, any-append}
 use Rattle.circle_tests.proofs.Lowest.{lower-marks}
 
 -- ---- two by two
@@ -23,10 +24,6 @@ unfolding both pairsGiven
 both-even [] e = refl
 both-even (x ∷ []) e = absurd (e refl)
 both-even (x ∷ (y ∷ ts)) e = ap (λ (hs : List Handle). handGiven x ∷ (handGiven y ∷ hs)) (both-even ts (λ z. e (omega arith)))
-
-or-any : (a b : Bool) → b ≡ true → (a || b) ≡ true
-or-any true b e = refl
-or-any false b e = e
 
 both-odd : (p : Handle → Bool) → p nowhere ≡ true → (ts : List ℕ) → length ts % 2 ≡ 1 → any p (both (pairsGiven ts)) ≡ true
 unfolding both pairsGiven any
@@ -71,19 +68,6 @@ module _ (b : List ℕ) (u : ℕ) (ts : List ℕ) where
     touch-else q = rw (both-even ts even) (e ∙ keep-less _ _ (any (inside (view b)) (handsGiven ts)) (λ z. q (e ∙ z)))
 
 -- ---- members and touching handles together
-or-of : (a b c : Bool) → ((a || b) || c) ≡ (a || (b || c))
-or-of true b c = refl
-or-of false b c = refl
-
-or-none : (a : Bool) → (a || false) ≡ a
-or-none true = refl
-or-none false = refl
-
-pub any-append : {A : Type 0} (p : A → Bool) (xs ys : List A) → any p (xs ++ ys) ≡ (any p xs || any p ys)
-unfolding any
-any-append p [] ys = refl
-any-append p (x ∷ xs) ys = ap (λ (c : Bool). p x || c) (any-append p xs ys) ∙ sym (or-of (p x) (any p xs) (any p ys))
-
 bare-marks : (a c e a′ c′ : Bool) → marks (a || a′) (c || c′) e ≡ lower (marks a c e) (marks a′ c′ false)
 bare-marks a c e a′ c′ = ap (marks (a || a′) (c || c′)) (sym (or-none e)) ∙ lower-marks a c e a′ c′ false
 

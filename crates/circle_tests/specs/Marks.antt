@@ -1,9 +1,8 @@
 -- What the nodes that a list names are refused by, and the lower of two numbers, where 0 is none. Assumes nothing.
-use Prim.Native.Nat.{ℕ, _<_}
+use Prim.Native.Nat.{ℕ}
 use mathlib.Core.Bool.{Bool, false}
 use mathlib.Core.List.{List, [], _∷_}
 use lib.Dec.{eqb, ltb}
-use lib.ListN.{length, getD}
 use Rattle.words.specs.Codec.{pick}
 use Rattle.ledger_spec.specs.Bench.{Handle, Bench}
 use Rattle.ledger_spec.specs.Look.{nodeAt}
@@ -27,7 +26,3 @@ touchMark b u hs = marks (any (stale b) hs) (any (foreign b u) hs) false
 -- 0 is no number
 unfoldable pub lower : ℕ → ℕ → ℕ
 lower x y = pick (eqb x 0) y (pick (eqb y 0) x (pick (ltb y x) y x))
-
--- words that are packed handles
-abbrev pub Sure : List ℕ → Type 0
-Sure ws = (i : ℕ) → i < length ws → getD ws i 0 < 2199023255552

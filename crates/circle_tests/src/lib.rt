@@ -4,19 +4,25 @@ use kinds::Parent;
 use links::Found;
 use words::WORDS;
 ghost use mathlib.Core.Path.{_≡_};
+ghost use mathlib.Core.Bool.{not};
+ghost use mathlib.Core.Option.{none};
 ghost use Prim.Native.Nat.{_<_};
+ghost use lib.Dec.{eqb};
 ghost use lib.ListN.{drop};
-ghost use Rattle.ledger_spec.specs.Look.{sameHandle};
+ghost use Rattle.ledger_spec.specs.Look.{interface, top, sameHandle};
 ghost use Rattle.ledger_spec.specs.Tests.{first, any, twice, both};
+ghost use Rattle.ledger_spec.specs.Knit.{In};
 ghost use Rattle.views.specs.Canon.{Canon};
+ghost use Rattle.views.specs.Records.{Steady};
 ghost use Rattle.views.specs.View.{view};
 ghost use Rattle.rings.specs.Given.{handGiven, handsGiven, pairsGiven};
-ghost use Rattle.circle_tests.specs.Marks.{nodeMark, listMark, touchMark, Sure};
+ghost use Rattle.circle_tests.specs.Marks.{nodeMark, listMark, touchMark};
+ghost use Rattle.circle_tests.specs.Placed.{Placed, Blank};
 ghost use Rattle.circle_tests.specs.Parts.{shapeTests, nodesTests};
 ghost use Rattle.circle_tests.specs.Marks as marks;
 
 // The lower of two numbers, where 0 is none.
-pub fn lower(x: u8, y: u8) -> u8
+fn lower(x: u8, y: u8) -> u8
     ensures { λ r. ⌜ r ≡ marks.lower x y ⌝ }
 {
     if x == 0 {
@@ -31,17 +37,28 @@ pub fn lower(x: u8, y: u8) -> u8
     x
 }
 
+// Whether an interface stands in another tree than that of one without a parent.
+fn is_far(b: &[u64; WORDS], unit: u8, home: usize) -> bool
+    requires { ⌜ Steady (now b) × (home < 8) × (interface (view (now b)) unit .parent ≡ none) ⌝ }
+    ensures { λ r. ⌜ r ≡ not (eqb (top (view (now (b .entry))) home) unit) ⌝ }
+{
+    if home == (unit as usize) {
+        return false;
+    }
+    let c = trees::climb(b, home);
+    c.top != (unit as usize)
+}
+
 // What one node is refused by: STALE (8), FOREIGN (9), inside a blossom (11), or 0.
 fn word_number(b: &[u64; WORDS], unit: u8, w: u64) -> u8
-    requires { ⌜ Canon (now b) ⌝ }
+    requires { ⌜ Canon (now b) × (interface (view (now b)) unit .parent ≡ none) ⌝ }
     ensures { λ r. ⌜ r ≡ nodeMark (view (now (b .entry))) unit (handGiven w) ⌝ }
 {
     let found = links::find_word(b, w);
     match found {
         Found::Stale => 8,
         Found::At(k) => {
-            let c = trees::climb(b, k / 64);
-            if c.top != (unit as usize) {
+            if is_far(b, unit, k / 64) {
                 return 9;
             }
             let n = words::load_node(b, k);
@@ -55,8 +72,8 @@ fn word_number(b: &[u64; WORDS], unit: u8, w: u64) -> u8
 }
 
 // The lowest number that any of the words is refused by.
-pub fn list_number(b: &[u64; WORDS], unit: u8, ws: &[u64]) -> u8
-    requires { ⌜ Canon (now b) ⌝ }
+fn list_number(b: &[u64; WORDS], unit: u8, ws: &[u64]) -> u8
+    requires { ⌜ Canon (now b) × (interface (view (now b)) unit .parent ≡ none) ⌝ }
     ensures { λ r. ⌜ r ≡ listMark (view (now (b .entry))) unit (handsGiven (now (ws .entry))) ⌝ }
 {
     let mut number: u8 = 0;
@@ -70,7 +87,7 @@ pub fn list_number(b: &[u64; WORDS], unit: u8, ws: &[u64]) -> u8
 
 // Whether a word is among those from a place on.
 fn again(ws: &[u64], from: usize, w: u64) -> bool
-    requires { ⌜ Sure (now ws) × (w < 2199023255552) ⌝ }
+    requires { ⌜ Placed (now ws) × In w (now ws) ⌝ }
     ensures { λ r. ⌜ r ≡ any (sameHandle (handGiven w)) (handsGiven (drop from (now (ws .entry)))) ⌝ }
 {
     let mut i = from;
@@ -83,9 +100,9 @@ fn again(ws: &[u64], from: usize, w: u64) -> bool
     false
 }
 
-// Whether any of the words is given twice.
-pub fn given_twice(ws: &[u64]) -> bool
-    requires { ⌜ Sure (now ws) ⌝ }
+// Whether any of the words is given twice, each compared with those after it: for few.
+fn compared_twice(ws: &[u64]) -> bool
+    requires { ⌜ Placed (now ws) ⌝ }
     ensures { λ r. ⌜ r ≡ twice (handsGiven (now (ws .entry))) ⌝ }
 {
     let mut i: usize = 0;
@@ -96,6 +113,35 @@ pub fn given_twice(ws: &[u64]) -> bool
         i = i + 1;
     }
     false
+}
+
+// The same by a mark at each word's position, which no two words share: for many.
+fn marked_twice(ws: &[u64], seen: &mut [u8; 512]) -> bool
+    requires { ⌜ Placed (now ws) × Blank (now seen) ⌝ }
+    ensures { λ r. ⌜ r ≡ twice (handsGiven (now (ws .entry))) ⌝ }
+{
+    let mut i: usize = 0;
+    while i < ws.len() {
+        let k = rings::spot(ws[i]);
+        if seen[k] == 1 {
+            return true;
+        }
+        seen[k] = 1;
+        i = i + 1;
+    }
+    false
+}
+
+// Whether any of the words is given twice.
+pub fn given_twice(ws: &[u64]) -> bool
+    requires { ⌜ Placed (now ws) ⌝ }
+    ensures { λ r. ⌜ r ≡ twice (handsGiven (now (ws .entry))) ⌝ }
+{
+    if ws.len() < 6 {
+        return compared_twice(ws);
+    }
+    let mut seen: [u8; 512] = [0; 512];
+    marked_twice(ws, &mut seen)
 }
 
 // A circle of none or of more than 64 (6), touching handles that are not two a member (7), or 0. One left over counts as a pair.
@@ -121,7 +167,7 @@ pub fn shape_number(members: &[u64], touching: &[u64]) -> u8
 
 // What touching handles are refused by: STALE (8), FOREIGN (9), or 0. They may be inside a blossom. One left over goes with a stale one.
 fn touching_number(b: &[u64; WORDS], unit: u8, touching: &[u64]) -> u8
-    requires { ⌜ Canon (now b) ⌝ }
+    requires { ⌜ Canon (now b) × (interface (view (now b)) unit .parent ≡ none) ⌝ }
     ensures { λ r. ⌜ r ≡ touchMark (view (now (b .entry))) unit (both (pairsGiven (now (touching .entry)))) ⌝ }
 {
     if touching.len() % 2 == 1 {
@@ -136,7 +182,7 @@ fn touching_number(b: &[u64; WORDS], unit: u8, touching: &[u64]) -> u8
 
 // What members and touching handles are refused by: STALE (8) and FOREIGN (9) of all, inside a blossom (11) of a member, or 0.
 pub fn nodes_number(b: &[u64; WORDS], unit: u8, members: &[u64], touching: &[u64]) -> u8
-    requires { ⌜ Canon (now b) ⌝ }
+    requires { ⌜ Canon (now b) × (interface (view (now b)) unit .parent ≡ none) ⌝ }
     ensures { λ r. ⌜ r ≡ first (nodesTests (view (now (b .entry))) unit (handsGiven (now (members .entry))) (pairsGiven (now (touching .entry)))) ⌝ }
 {
     let number = list_number(b, unit, members);

@@ -1,4 +1,4 @@
--- Runs of oracle/recordings/edges.txt, replayed by the definitions: 321 answers, of which none differs. Written by oracle/table.
+-- Runs of oracle/recordings/edges.txt, replayed by the definitions: 341 answers, of which none differs. Written by oracle/table.
 -- Assumes nothing.
 use Prim.Native.Nat.{ℕ}
 use mathlib.Core.Path.{_≡_, refl}
@@ -123,3 +123,11 @@ run29 = refl
 pub run30 : replayed "N 1\n= 0\nD 0 1\n= 0 1 1 0 1 1 1\nD 1 2\n= 0 2 1 0 1 1 2\nB 0 2 9\n= 8 0 1 0 0\nB 0 2\n= 9 0 1 0 0\nB 0 1\n= 0 3 1 0 3 2 1 0 3 1 1 4 3\nE 0 1\n= 10 0 1 0 0\nS 0 1 0\n= 11 0 1 0 0\nE 0 2\n= 9 0 1 0 0\nF 2 0 1\n= 0 0 2 0 0\nF 3 0 0\n= 4 0 0 0 0\nF 3 3 3\n= 16 0 0 0 0\nt 2 2 3 3 1 1\n= 7 0 2 0 0\nt 2 2 9 9 9 9 9 9\n= 8 0 2 0 0\nh 0 99\n= 4 0 0 0\nh 2 3\n= 18 0 0 0\na 3 0\n= 19 0\na 9 0\n= 8 0\nu 3\n= 12 0\nu 1\n= 0 1\n" ≡ (20, 0)
 unfolding replayed
 run30 = refl
+
+pub run31 : replayed "N 1\n= 0\nD 2 1\n= 0 1 1 0 1 1 1\nF 2 0 1\n= 17 0 1 0 0\nC 2\n= 0 0 0 0 0\nF 2 0 1\n= 0 0 0 0 0\nC 2\n= 0 0 0 0 0\nG 3 5\n= 0 0 0 0 1 6 5\nF 3 0 1\n= 17 0 0 0 0\nG 2 0\n= 0 0 0 0 1 6 0\nF 2 0 1\n= 0 0 0 0 0\nF 4 2 3\n= 0 0 0 0 0\nF 4 5 3\n= 4 0 0 0 0\nF 5 4 3\n= 4 0 0 0 0\nF 6 4 5\n= 0 0 0 0 0\n" ≡ (14, 0)
+unfolding replayed
+run31 = refl
+
+pub run32 : replayed "N 1\n= 0\ny 0\n= 0 1 0 21 0 0\ng 0 9223372036854775807 0\n= 0\ny 0\n= 0 1 0 21 0 0\ng 0 9223372036854775806 0\n= 0\ny 0\n= 0 0 1 0 1 9223372036854775806\n" ≡ (6, 0)
+unfolding replayed
+run32 = refl

@@ -30,7 +30,7 @@ struct Share {
 }
 
 // The position that a packed handle names.
-fn spot(w: u64) -> usize
+pub fn spot(w: u64) -> usize
     ensures { λ r. ⌜ (r ≡ spotOf w) × (r < 512) ⌝ }
 {
     (w % 8 * 64 + w / 8 % 64) as usize

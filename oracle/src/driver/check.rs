@@ -15,6 +15,7 @@ impl Driver {
         match caught(|| face.sanity_check().map(|_| ())) {
             Ok(Ok(())) => Ok((0, 0)),
             Ok(Err(words)) => self.verdict(unit, &words),
+            Err(panic) if self.bare => Err(Trouble::Panic(panic)),
             Err(panic) => self.first_gone(unit)?.map(|index| (4, index)).ok_or(Trouble::Panic(panic)),
         }
     }

@@ -62,9 +62,10 @@ impl Driver {
         heard(o).named(|node| Some(self.nodes.serial_of(node))).expect("each node has a name")
     }
 
-    /// Whether it is empty, whether active, and its growth: a panic there stands for NOTHING.
+    /// Whether it is empty, whether active, and its growth: a panic there stands for NOTHING, unless the driver is bare.
     fn asked(&self, group: &GroupMaxUpdateLength) -> Vec<i64> {
-        let growth = match caught(|| group.get_none_zero_growth()) {
+        let ask = || group.get_none_zero_growth();
+        let growth = match if self.bare { Ok(ask()) } else { caught(ask) } {
             Err(_) => [21, 0, 0],
             Ok(None) => [0, 0, 0],
             Ok(Some(length)) => [0, 1, length as i64],

@@ -45,6 +45,7 @@ pub struct Driver {
     stub: Stub,
     nodes: Nodes,
     groups: Vec<GroupMaxUpdateLength>,
+    bare: bool,
 }
 
 pub fn rate(state: DualNodeGrowState) -> i64 {
@@ -64,8 +65,9 @@ pub fn state_of(rate: i64) -> DualNodeGrowState {
 }
 
 impl Driver {
-    /// `keeps_cleared`: nodes of before a clear can still be named, by whatever object is left of them.
-    pub fn new(first: u32, keeps_cleared: bool) -> Self {
+    /// `bare`: nothing is read into what the original does. Its panic at a gone touching node is no verdict 4, that at an empty growth no NOTHING,
+    /// and nodes of before a clear can still be named, by whatever object is left of them.
+    pub fn new(first: u32, bare: bool) -> Self {
         let face = |unit| {
             let face = DualModuleInterfacePtr::new_empty();
             face.write().unit_index = unit;
@@ -74,8 +76,9 @@ impl Driver {
         Driver {
             faces: (0..8).map(face).collect(),
             stub: Stub::default(),
-            nodes: Nodes::new(first, keeps_cleared),
+            nodes: Nodes::new(first, bare),
             groups: vec![GroupMaxUpdateLength::new(); GROUPS],
+            bare,
         }
     }
 
@@ -124,7 +127,7 @@ impl Driver {
     fn turn(&mut self, line: &Line) -> Answer {
         match line {
             Line::SetUp(first) => {
-                *self = Driver::new(*first, self.nodes.keeps_cleared());
+                *self = Driver::new(*first, self.bare);
                 Ok(vec![0])
             }
             Line::Defect(unit, vertex) => {

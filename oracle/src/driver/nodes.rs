@@ -22,10 +22,6 @@ impl Nodes {
         Nodes { next: first as u64, present: HashMap::new(), stale: vec![], serials: HashMap::new(), keeps_cleared }
     }
 
-    pub fn keeps_cleared(&self) -> bool {
-        self.keeps_cleared
-    }
-
     /// Gives a new node the next serial. An object used again after a clear gets the new one.
     pub fn made(&mut self, node: &DualNodePtr) -> u32 {
         let serial = self.next as u32;

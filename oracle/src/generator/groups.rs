@@ -1,10 +1,19 @@
 //! Moves on obstacle groups.
 use super::Player;
 use crate::line::GROUPS;
+use crate::model::groups::Group;
 
 impl Player {
     fn group(&mut self) -> usize {
         self.rng.below(GROUPS)
+    }
+
+    /// Now and then one that is a growth, if there is one; else any.
+    fn growing(&mut self, percent: usize) -> usize {
+        let growths: Vec<usize> = (0..GROUPS).filter(|g| matches!(self.model.groups[*g], Group::Growth(..))).collect();
+        let picked = self.rng.pick(&growths);
+        let any = self.group();
+        picked.filter(|_| self.rng.chance(percent)).unwrap_or(any)
     }
 
     pub fn new_group(&mut self) -> Option<String> {
@@ -18,7 +27,7 @@ impl Player {
             3 => self.rng.pick(&[i64::MIN, i64::MAX - 1, -1])?,
             _ => self.rng.between(1, 12),
         };
-        Some(format!("g {} {length} {}", self.group(), self.rng.below(2)))
+        Some(format!("g {} {length} {}", self.growing(60), self.rng.below(2)))
     }
 
     pub fn add_conflict(&mut self) -> Option<String> {
@@ -40,7 +49,8 @@ impl Player {
     }
 
     pub fn extend(&mut self) -> Option<String> {
-        Some(format!("j {} {}", self.group(), self.group()))
+        let percent = self.rng.pick(&[0, 90])?;
+        Some(format!("j {} {}", self.growing(percent), self.growing(percent)))
     }
 
     pub fn take(&mut self) -> Option<String> {
@@ -50,6 +60,6 @@ impl Player {
 
     pub fn of_group(&mut self) -> Option<String> {
         let letter = self.rng.pick(&["y", "m"])?;
-        Some(format!("{letter} {}", self.group()))
+        Some(format!("{letter} {}", self.growing(40)))
     }
 }

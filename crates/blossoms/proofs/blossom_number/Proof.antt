@@ -2,8 +2,8 @@
 use borrow.Author.Needs.{needs}
 use Rattle.rings.specs.Given.{handsGiven, pairsGiven}
 use Rattle.views.specs.View.{view}
-use Rattle.circle_tests.proofs.Sure.{sure}
-use Rattle.blossoms.proofs.Numbers.{by-unit, low, by-shape, by-nodes, by-twice, by-room}
+use Rattle.circle_tests.proofs.Places.{placed}
+use Rattle.blossoms.proofs.Numbers.{by-unit, named, by-shape, by-nodes, by-twice, by-room}
 use Rattle.blossoms.proofs.blossom_number.Statement.{statement}
 use Rattle.blossoms.proofs.blossom_number.Tie as tie
 
@@ -23,7 +23,8 @@ returns-2 c = let a = c .before .before .before .before .before .before .args in
     (c .before .shape-number .result) (c .before .shape-number .ensures) (c .if2 .taken)
 
 nodes-number-requires : tie.Need-nodes-number-requires
-nodes-number-requires c κs = search needs
+nodes-number-requires c κs = let a = c .before .before .before .before .before .before .args in
+    (c .before .before .before .before .before .before .pre, named (view (a .b .now)) (a .unit) (handsGiven (a .members .now)) (pairsGiven (a .touching .now)) (c .before .before .before .unit-number .result) (c .before .before .before .unit-number .ensures) (c .before .before .if1 .left) .free)
 
 returns-3 : tie.Need-returns-3
 returns-3 c = let a = c .before .before .before .before .before .before .before .before .args in
@@ -32,7 +33,7 @@ returns-3 c = let a = c .before .before .before .before .before .before .before 
 
 given-twice-requires : tie.Need-given-twice-requires
 given-twice-requires c κs = let a = c .before .before .before .before .before .before .before .before .args in
-    sure (a .b .now) (a .members .now) (a .unit) (pairsGiven (a .touching .now)) (c .before .nodes-number .result) (c .before .nodes-number .ensures) (c .if3 .left)
+    placed (a .b .now) (c .before .before .before .before .before .before .before .before .pre) (a .members .now) (a .unit) (pairsGiven (a .touching .now)) (c .before .nodes-number .result) (c .before .nodes-number .ensures) (c .if3 .left)
 
 returns-4 : tie.Need-returns-4
 returns-4 c = let a = c .before .before .before .before .before .before .before .before .before .before .args in
@@ -42,7 +43,7 @@ returns-4 c = let a = c .before .before .before .before .before .before .before 
 
 room-number-requires : tie.Need-room-number-requires
 room-number-requires c κs = let a = c .before .before .before .before .before .before .before .before .before .before .args in
-    low (view (a .b .now)) (a .unit) (handsGiven (a .members .now)) (pairsGiven (a .touching .now)) (c .before .before .before .before .before .before .before .unit-number .result) (c .before .before .before .before .before .before .before .unit-number .ensures) (c .before .before .before .before .before .before .if1 .left)
+    named (view (a .b .now)) (a .unit) (handsGiven (a .members .now)) (pairsGiven (a .touching .now)) (c .before .before .before .before .before .before .before .unit-number .result) (c .before .before .before .before .before .before .before .unit-number .ensures) (c .before .before .before .before .before .before .if1 .left) .low
 
 returns-5 : tie.Need-returns-5
 returns-5 c = let a = c .before .before .before .before .before .before .before .before .before .before .before .args in

@@ -1,62 +1,22 @@
--- A word passed does not come again, so what is left of the list decides. Assumes nothing.
-use Prim.Native.Nat.{_-_}
-use mathlib.Core.Path.{_≡_, refl, sym, _∙_}
-use native.Mathlib.Omega.{arith}
+-- Either way of looking gives it; the marks start blank. Assumes nothing.
+use mathlib.Core.Path.{refl}
 use borrow.Author.Needs.{needs}
-use lib.ListN.{length}
-use Rattle.circle_tests.proofs.Twice.{still, still-here, still-on, still-end}
+use Rattle.circle_tests.proofs.Seen.{blank}
 use Rattle.circle_tests.proofs.given_twice.Statement.{statement}
 use Rattle.circle_tests.proofs.given_twice.Tie as tie
 
-abbrev Inv-loop : tie.InvT-loop
-Inv-loop ws i₀ i = still ws 0 ≡ still ws i
+compared-twice-requires : tie.Need-compared-twice-requires
+compared-twice-requires c κs = search needs
 
-abbrev μ-loop : tie.MeasureT-loop
-μ-loop ws i₀ i = length ws - i
+returns : tie.Need-returns
+returns c = search needs
 
-loop-holds : tie.Need-loop-holds Inv-loop μ-loop
-loop-holds c = refl
+marked-twice-requires : tie.Need-marked-twice-requires
+marked-twice-requires c κs = (c .before .before .before .pre, blank 512 refl)
 
-add-again : tie.Need-add-again Inv-loop μ-loop
-add-again c = search needs
-
-mul-again : tie.Need-mul-again Inv-loop μ-loop
-mul-again c = search needs
-
-shared-slice-read-again : tie.Need-shared-slice-read-again Inv-loop μ-loop
-shared-slice-read-again c = search needs
-
-again-requires : tie.Need-again-requires Inv-loop μ-loop
-again-requires c κs = (c .before .before .before .before .pre, c .before .before .before .before .pre (c .before .before .loop .i) (c .before .loop-test .taken))
-
-returns : tie.Need-returns Inv-loop μ-loop
-returns c = sym (c .before .before .before .before .loop .inv ∙ still-here (c .before .before .before .before .before .before .args .ws .now) (c .before .before .before .before .loop .i) (c .before .before .before .loop-test .taken) (sym (c .before .again .ensures) ∙ c .if1 .taken))
-
-add-i : tie.Need-add-i Inv-loop μ-loop
-add-i c = search needs
-
-loop-less : tie.Need-loop-less Inv-loop μ-loop
-loop-less c = search needs
-
-loop-again : tie.Need-loop-again Inv-loop μ-loop
-loop-again c = c .before .before .before .before .loop .inv ∙ still-on (c .before .before .before .before .before .before .args .ws .now) (c .before .before .before .before .loop .i) (c .before .before .before .loop-test .taken) (sym (c .before .again .ensures) ∙ c .if1 .left)
-
-returns-2 : tie.Need-returns-2 Inv-loop μ-loop
-returns-2 c = sym (c .before .loop .inv ∙ still-end (c .before .before .before .args .ws .now) (c .before .loop .i) (omega arith))
+returns-2 : tie.Need-returns-2
+returns-2 c = search needs
 
 pub given-twice-spec : {M : Type 1} → statement M
 given-twice-spec =
-    tie.close
-    (tie.spec
-    Inv-loop
-    μ-loop
-    loop-holds
-    add-again
-    mul-again
-    shared-slice-read-again
-    again-requires
-    returns
-    add-i
-    loop-less
-    loop-again
-    returns-2)
+    tie.close (tie.spec compared-twice-requires returns marked-twice-requires returns-2)

@@ -1,5 +1,5 @@
 -- The number so far with that of the words left is the whole list's. Assumes nothing.
-use Prim.Native.Nat.{_-_, _≤_}
+use Prim.Native.Nat.{_-_}
 use mathlib.Core.Path.{_≡_, sym}
 use native.Mathlib.Omega.{arith}
 use borrow.Author.Needs.{needs}
@@ -10,10 +10,6 @@ use Rattle.circle_tests.specs.Marks.{listMark, lower}
 use Rattle.circle_tests.proofs.Lowest.{none-lower, rest, turn, ends}
 use Rattle.circle_tests.proofs.list_number.Statement.{statement}
 use Rattle.circle_tests.proofs.list_number.Tie as tie
-use Rattle.circle_tests.proofs.list_number.Reads as reads
-use Rattle.circle_tests.proofs.list_number.Lts as lts
-use Rattle.circle_tests.proofs.lower.Reads as lower-reads
-use Rattle.circle_tests.proofs.word_number.Reads as word-number-reads
 
 abbrev Inv-loop : tie.InvT-loop
 Inv-loop b unit ws number₀ i₀ number i = listMark (view b) unit (handsGiven ws) ≡ lower number (rest (view b) unit ws i)

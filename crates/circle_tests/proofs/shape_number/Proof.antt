@@ -1,10 +1,7 @@
 -- Each way out is one of the laws of the shape, by the lists' lengths. Assumes nothing.
-use Prim.Native.Nat.{ℕ, _+_, _/_, _%_}
-use mathlib.Core.Path.{_≡_}
-use mathlib.Core.List.{List}
 use native.Mathlib.Omega.{arith}
 use borrow.Author.Needs.{needs}
-use lib.ListN.{length, length-map}
+use lib.ListN.{length-map}
 use Rattle.rings.specs.Given.{handGiven, handsGiven, pairsGiven}
 use Rattle.circle_tests.proofs.Shape.{pairs-length, shape-none, shape-many, shape-bare, shape-unpaired, shape-paired}
 use Rattle.circle_tests.proofs.shape_number.Statement.{statement}
