@@ -1,12 +1,12 @@
 // The lines that change the bench: what the public call answers, with its notices.
 use crate::nodes;
 use crate::says;
-use calls::Answer;
 use kinds::Handle;
 use kinds::Notice;
 use kinds::GrowState;
 use kinds::Vertex;
 use notices::Notices;
+use telling::Answer;
 use tapes::ROOM;
 use words::WORDS;
 
@@ -173,5 +173,5 @@ pub fn check(b: &[u64; WORDS], out: &mut [i64; ROOM], row: &[i64; ROOM], n: usiz
     let unit = unit_of(tapes::number(row, n, 0));
     let r = verdicts::sanity_check(b, unit);
     let m = four(b, out, r.number, r.verdict as i64, unit);
-    tapes::say(out, m, r.index as i64)
+    tapes::say(out, m, r.index.0 as i64)
 }

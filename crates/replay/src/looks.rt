@@ -13,7 +13,7 @@ pub fn strict(b: &[u64; WORDS], out: &mut [i64; ROOM], unit: u8) -> usize {
     let r = verdicts::strict_check(b, unit);
     let n = tapes::say(out, 0, r.number as i64);
     let m = tapes::say(out, n, r.verdict as i64);
-    tapes::say(out, m, r.index as i64)
+    tapes::say(out, m, r.index.0 as i64)
 }
 
 pub fn sum(b: &[u64; WORDS], out: &mut [i64; ROOM], unit: u8) -> usize {

@@ -4,10 +4,8 @@ mod acts;
 mod circles;
 mod looks;
 mod nodes;
-mod packs;
 mod says;
 mod turns;
-use crate::packs::Four;
 use tapes::ROOM;
 use words::WORDS;
 
@@ -21,11 +19,6 @@ struct Count {
     answers: u64,
     wrong: u64,
     said: usize,
-}
-
-struct After {
-    count: Count,
-    four: Four,
 }
 
 // One more, and never more than fits.
@@ -65,39 +58,34 @@ fn compared(c: Count, out: &[i64; ROOM], row: &[i64; ROOM], n: usize) -> Count {
 // A whole line: a comment, a recorded answer, or a call.
 fn line_done(
     b: &mut [u64; WORDS],
-    four: Four,
     c: Count,
     line: &[u8],
     held: usize,
     row: &mut [i64; ROOM],
     out: &mut [i64; ROOM],
-) -> After {
+) -> Count {
     let most = tapes::bytes_within(held, line);
     let text = &line[..most];
     let letter = first(text);
     if letter == b'#' {
-        let count = Count {
+        return Count {
             lines: more(c.lines),
             answers: c.answers,
             wrong: c.wrong,
             said: c.said,
         };
-        return After { count, four };
     }
     let n = tapes::numbers(text, row);
     if letter == b'=' {
-        let count = compared(c, out, row, n);
-        return After { count, four };
+        return compared(c, out, row, n);
     }
-    let t = turns::turn(b, four, letter, row, n, out);
-    let after = t.four;
-    let count = Count {
+    let said = turns::turn(b, letter, row, n, out);
+    Count {
         lines: more(c.lines),
         answers: c.answers,
         wrong: c.wrong,
-        said: t.said,
-    };
-    After { count, four: after }
+        said,
+    }
 }
 
 fn first(s: &[u8]) -> u8 {
@@ -137,7 +125,6 @@ fn fill(chunk: &mut [u8]) -> usize {
 
 // Reads standard input to its end.
 fn run(b: &mut [u64; WORDS], line: &mut [u8; LINE], row: &mut [i64; ROOM], out: &mut [i64; ROOM], chunk: &mut [u8; CHUNK]) {
-    let mut four = packs::empty();
     let mut count = Count {
         lines: 0,
         answers: 0,
@@ -155,9 +142,7 @@ fn run(b: &mut [u64; WORDS], line: &mut [u8; LINE], row: &mut [i64; ROOM], out: 
         while i < n {
             let c = byte(chunk, i);
             if c == b'\n' {
-                let a = line_done(b, four, count, line, held, row, out);
-                four = a.four;
-                count = a.count;
+                count = line_done(b, count, line, held, row, out);
                 held = 0;
             } else {
                 held = keep(line, held, c);
@@ -175,6 +160,6 @@ fn main() {
     let mut out = [0i64; ROOM];
     let mut line = [0u8; LINE];
     let mut chunk = [0u8; CHUNK];
-    calls::set_up(&mut b, 1);
+    openings::set_up(&mut b, 1);
     run(&mut b, &mut line, &mut row, &mut out, &mut chunk);
 }
