@@ -163,7 +163,17 @@ pub fn read(text: &str) -> Result<Line, String> {
             return Err(format!("`{letter}` takes {count} numbers"));
         }
     }
-    Ok(match letter {
+    for reader in [call, look, group] {
+        if let Some(line) = reader(letter, &f)? {
+            return Ok(line);
+        }
+    }
+    Err(format!("no call begins with `{letter}`"))
+}
+
+/// Calls that change the bench.
+fn call(letter: &str, f: &Fields) -> Result<Option<Line>, String> {
+    Ok(Some(match letter {
         "N" => Line::SetUp(f.word(0)?),
         "D" => Line::Defect(f.word(0)?, f.word(1)?),
         "B" => Line::Blossom(f.word(0)?, f.words(1)?, vec![]),
@@ -181,6 +191,13 @@ pub fn read(text: &str) -> Result<Line, String> {
         "G" => Line::Grow(f.word(0)?, f.signed(1)?),
         "F" => Line::Fuse(f.word(0)?, f.word(1)?, f.word(2)?),
         "C" => Line::Clear(f.word(0)?),
+        _ => return Ok(None),
+    }))
+}
+
+/// Checks and reads.
+fn look(letter: &str, f: &Fields) -> Result<Option<Line>, String> {
+    Ok(Some(match letter {
         "K" => Line::Check(f.word(0)?),
         "k" => Line::Strict(f.word(0)?),
         "s" => Line::Sum(f.word(0)?),
@@ -194,20 +211,31 @@ pub fn read(text: &str) -> Result<Line, String> {
         "u" => Line::Under(f.word(0)?),
         "f" => Line::First(f.word(0)?),
         "a" => Line::Vertices(f.word(0)?, f.word(1)?),
+        _ => return Ok(None),
+    }))
+}
+
+/// Calls on groups.
+fn group(letter: &str, f: &Fields) -> Result<Option<Line>, String> {
+    let add = |o| Ok(Some(Line::Add(f.group(0)?, o)));
+    match letter {
+        "g" => return add(Obstacle::Growth(f.signed(1)?, f.flag(2)?)),
+        "c" => return add(Obstacle::Conflicting(f.pair(1)?, f.pair(3)?)),
+        "w" => return add(Obstacle::Virtual(f.pair(1)?, f.word(3)?, f.flag(4)?)),
+        "x" => return add(Obstacle::NeedExpand(f.word(1)?)),
+        "q" => return add(Obstacle::Stop(f.word(1)?, None)),
+        "r" => return add(Obstacle::Stop(f.word(1)?, Some(f.pair(2)?))),
+        _ => {}
+    }
+    Ok(Some(match letter {
         "e" => Line::NewGroup(f.group(0)?),
-        "g" => Line::Add(f.group(0)?, Obstacle::Growth(f.signed(1)?, f.flag(2)?)),
-        "c" => Line::Add(f.group(0)?, Obstacle::Conflicting(f.pair(1)?, f.pair(3)?)),
-        "w" => Line::Add(f.group(0)?, Obstacle::Virtual(f.pair(1)?, f.word(3)?, f.flag(4)?)),
-        "x" => Line::Add(f.group(0)?, Obstacle::NeedExpand(f.word(1)?)),
-        "q" => Line::Add(f.group(0)?, Obstacle::Stop(f.word(1)?, None)),
-        "r" => Line::Add(f.group(0)?, Obstacle::Stop(f.word(1)?, Some(f.pair(2)?))),
         "j" => Line::Extend(f.group(0)?, f.group(1)?),
         "y" => Line::Asked(f.group(0)?),
         "z" => Line::Pop(f.group(0)?),
         "l" => Line::Peek(f.group(0)?),
         "m" => Line::Content(f.group(0)?),
-        _ => return Err(format!("no call begins with `{letter}`")),
-    })
+        _ => return Ok(None),
+    }))
 }
 
 /// Numbers with one space between.

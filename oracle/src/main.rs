@@ -8,6 +8,8 @@ use std::io::{stdin, stdout, Read, Write};
 use std::process::exit;
 
 const HELP: &str = "\
+build         installs what is needed and builds; every command does so where something is missing
+test          the same, then all tests
 record        makes recordings/ again, byte for byte, and prints what they cover
 cover FILE    what a recording covers
 compare FILE  the answers of the original and of the model to each call, and of the recording if it has them

@@ -77,43 +77,52 @@ impl Bench {
     }
 
     fn call(&mut self, line: &Line) {
-        match line {
+        let unit = match line {
             Line::Defect(unit, vertex) => {
                 let node = self.faces[*unit as usize].create_defect_node(*vertex as usize, &mut self.stub);
                 self.nodes.push(Some(node));
-                self.read(*unit)
+                unit
             }
             Line::Blossom(unit, members, _) => {
                 let circle = members.iter().map(|serial| self.node(*serial)).collect();
                 let node = self.faces[*unit as usize].create_blossom(circle, vec![], &mut self.stub);
                 self.nodes.push(Some(node));
-                self.read(*unit)
+                unit
             }
             Line::Expand(unit, serial) => {
                 let node = self.node(*serial);
                 self.nodes[*serial as usize] = None;
                 self.faces[*unit as usize].expand_blossom(node, &mut self.stub);
-                self.read(*unit)
+                unit
             }
             Line::SetState(unit, serial, state) => {
                 let node = self.node(*serial);
                 self.faces[*unit as usize].set_grow_state(&node, state_of(*state), &mut self.stub);
-                self.read(*unit)
+                unit
             }
             Line::Grow(unit, length) => {
                 self.faces[*unit as usize].grow(*length as isize, &mut self.stub);
-                self.read(*unit)
+                unit
             }
+            other => self.whole_tree(other),
+        };
+        self.read(*unit)
+    }
+
+    /// Calls on interfaces alone.
+    fn whole_tree<'a>(&self, line: &'a Line) -> &'a u32 {
+        match line {
             Line::Fuse(parent, left, right) => {
                 self.faces[*parent as usize].fuse(&self.faces[*left as usize], &self.faces[*right as usize]);
-                self.read(*parent)
+                parent
             }
             Line::Clear(unit) => {
                 clear(&self.faces[*unit as usize]);
-                self.read(*unit)
+                unit
             }
             Line::Check(unit) => {
                 keep(self.faces[*unit as usize].sanity_check().is_ok());
+                unit
             }
             _ => unreachable!("no text line"),
         }

@@ -8,8 +8,7 @@ use mathlib.Core.List.{List, [], _∷_}
 use native.Mathlib.Omega.{arith}
 use borrow.Author.Tests.{eq-eqb, eqb-true}
 use lib.Dec.{eqb}
-use lib.ListN.{getD}
-use Rattle.ledger_spec.specs.Bench.{Handle, Member, Class, defect, blossom, Node, Bench}
+use Rattle.ledger_spec.specs.Bench.{Member, Class, defect, blossom, Node, Bench}
 use Rattle.ledger_spec.specs.Tests.{any}
 use Rattle.ledger_spec.specs.Check.{circleVerdict, walk}
 use Rattle.ledger_spec.specs.Knit.{In, here, there}

@@ -1,11 +1,9 @@
 -- The verdict by its parts: what the walk finds, else what the sum says, else what the strict walk finds. Assumes nothing.
 use Prim.Native.Nat.{ℕ, zero, suc, _+_}
 use mathlib.Core.Path.{_≡_, refl, ap, sym, _∙_}
-use mathlib.Core.Bool.{Bool, true, false, true≢false}
+use mathlib.Core.Bool.{Bool, true, false}
 use mathlib.Core.List.{List, []}
-use native.Mathlib.Omega.{arith}
 use lib.IntN.{ℤ, pos, natAbs, _+ℤ_, _-ℤ_, -ℤ-+ℤ-cancel}
-use Rattle.words.specs.Store.{nodeAt, interfaceAt}
 use Rattle.words.specs.declared.Interface.{Interface}
 use Rattle.ledger_spec.specs.Bench.{Bench}
 use Rattle.ledger_spec.specs.Look.{interface}
@@ -13,8 +11,7 @@ use Rattle.ledger_spec.specs.Reads.{slotsOf}
 use Rattle.ledger_spec.specs.Check.{walk, strictWalk, totalOf, verdict, strictVerdict, checkOf, strictOf}
 use Rattle.ledger_laws.proofs.Five.{found, verdict-found, verdict-zero, verdict-five}
 use Rattle.views.specs.View.{off, view}
-use Rattle.walks.specs.declared.Judged.{Judged}
-use Rattle.walks.specs.Walks.{walkBy, Walks}
+use Rattle.walks.specs.Walks.{walkBy}
 use Rattle.checks.specs.Judged.{verdictBy, judgedBy}
 
 -- ---- numbers that stand c higher

@@ -22,7 +22,7 @@ ghost use Rattle.circle_tests.specs.Parts.{shapeTests, nodesTests};
 ghost use Rattle.circle_tests.specs.Marks as marks;
 
 // The lower of two numbers, where 0 is none.
-pub fn lower(x: u8, y: u8) -> u8
+fn lower(x: u8, y: u8) -> u8
     ensures { λ r. ⌜ r ≡ marks.lower x y ⌝ }
 {
     if x == 0 {
@@ -72,7 +72,7 @@ fn word_number(b: &[u64; WORDS], unit: u8, w: u64) -> u8
 }
 
 // The lowest number that any of the words is refused by.
-pub fn list_number(b: &[u64; WORDS], unit: u8, ws: &[u64]) -> u8
+fn list_number(b: &[u64; WORDS], unit: u8, ws: &[u64]) -> u8
     requires { ⌜ Canon (now b) × (interface (view (now b)) unit .parent ≡ none) ⌝ }
     ensures { λ r. ⌜ r ≡ listMark (view (now (b .entry))) unit (handsGiven (now (ws .entry))) ⌝ }
 {
@@ -137,7 +137,7 @@ pub fn given_twice(ws: &[u64]) -> bool
     requires { ⌜ Placed (now ws) ⌝ }
     ensures { λ r. ⌜ r ≡ twice (handsGiven (now (ws .entry))) ⌝ }
 {
-    if ws.len() < 9 {
+    if ws.len() < 6 {
         return compared_twice(ws);
     }
     let mut seen: [u8; 512] = [0; 512];

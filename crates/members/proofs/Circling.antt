@@ -1,9 +1,8 @@
 -- Along a circle: a member without a finding leaves the rest of the circle, and the first one with a finding ends it. All members have the outermost
 -- blossom of the circle's own. Assumes nothing.
-use Prim.Native.Nat.{ℕ, zero, suc, _+_, _-_, _/_, _%_, _<_}
+use Prim.Native.Nat.{ℕ, zero, suc, _-_, _/_, _<_}
 use mathlib.Core.Path.{_≡_, refl, ap, sym, _∙_, subst}
 use mathlib.Core.Bool.{Bool}
-use mathlib.Core.Option.{some}
 use mathlib.Core.List.{List, [], _∷_}
 use native.Mathlib.Omega.{arith}
 use Rattle.words.specs.Store.{nodeAt, interfaceAt}
@@ -12,17 +11,15 @@ use Rattle.kinds.specs.Names.{nobody}
 use Rattle.kinds.specs.declared.Class.the-variants.{Blossom}
 use Rattle.kinds.specs.declared.Handle.{Handle as Code}
 use Rattle.ledger_spec.specs.Bench.{Handle, Member, Bench, blossom}
-use Rattle.ledger_spec.specs.Look.{nodeAt as nodeNamed}
 use Rattle.ledger_spec.specs.Named.{handleNamed}
-use Rattle.ledger_spec.specs.Walk.{parentOf, outerFrom, outermost}
+use Rattle.ledger_spec.specs.Walk.{parentOf, outermost}
 use Rattle.ledger_spec.specs.Knit.{In, here, there, nodes}
 use Rattle.ledger_spec.proofs.Lists.{map-in}
 use Rattle.ledger_spec.proofs.Walks.{Inner, inner}
 use Rattle.ledger_spec.proofs.Chains.{outer-some, outer-more}
-use Rattle.views.specs.View.{view, handleAt, memberAt, follow, circleOf, slotSeen, sumUp}
+use Rattle.views.specs.View.{view, handleAt, memberAt, follow, circleOf, sumUp}
 use Rattle.views.specs.Fit.{Fit}
 use Rattle.views.proofs.Rings.{slot-blossom}
-use Rattle.links.specs.Find.{Stands}
 use Rattle.vertices.specs.Under.{Placed}
 use Rattle.vertices.proofs.Circling.{standing, shown, member-placed}
 use Rattle.members.specs.declared.Finding.{Finding}

@@ -1,6 +1,6 @@
 -- A member in words is the ledger's: a defect by its own handle, a blossom by the larger verdict of its two handles. Assumes nothing.
 use Prim.Native.Nat.{ℕ, _/_, _%_}
-use mathlib.Core.Path.{_≡_, refl, ap, sym, _∙_}
+use mathlib.Core.Path.{_≡_, ap, sym, _∙_}
 use mathlib.Core.Bool.{Bool, true, false}
 use mathlib.Core.List.{List}
 use Rattle.words.specs.Store.{nodeAt, interfaceAt}
@@ -8,7 +8,6 @@ use Rattle.words.specs.declared.Node.{Node}
 use Rattle.kinds.specs.declared.Class.the-variants.{Blossom, Defect}
 use Rattle.kinds.specs.declared.Vertex.{Vertex}
 use Rattle.ledger_spec.specs.Bench.{Handle, Member}
-use Rattle.ledger_spec.specs.Look.{nodeAt as nodeNamed}
 use Rattle.ledger_spec.specs.Named.{handleNamed}
 use Rattle.ledger_spec.specs.Tests.{isDefect}
 use Rattle.ledger_spec.specs.Walk.{outermost}

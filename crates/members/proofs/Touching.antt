@@ -1,11 +1,11 @@
 -- A member's verdict is the larger of its two handles'. Assumes nothing.
-use Prim.Native.Nat.{ℕ, zero, suc, _<_, _≤_}
-use mathlib.Core.Path.{_≡_, refl, ap, ap₂, sym, _∙_}
+use Prim.Native.Nat.{ℕ, _<_, _≤_}
+use mathlib.Core.Path.{_≡_, refl, ap, sym, _∙_}
 use mathlib.Core.Bool.{Bool, true, false, not, _&&_, _||_, true≢false}
 use mathlib.Core.Option.{Option, none, some}
 use native.Mathlib.Omega.{arith}
 use borrow.Author.Tests.{le-ltb, lt-ltb}
-use lib.Dec.{ltb, eqb}
+use lib.Dec.{eqb}
 use Rattle.kinds.specs.declared.Handle.{Handle as Code}
 use Rattle.kinds.specs.Names.{sameHandle as sameCode}
 use Rattle.ledger_spec.specs.Bench.{Handle, Member, Node, Bench}
@@ -13,7 +13,7 @@ use Rattle.ledger_spec.specs.Look.{nodeAt, sameHandle}
 use Rattle.ledger_spec.specs.Named.{handleNamed}
 use Rattle.ledger_spec.specs.Tests.{stale, given, isDefect}
 use Rattle.ledger_spec.specs.Walk.{parentOf, outermost}
-use Rattle.ledger_spec.specs.Check.{memberVerdict, strictMember, isUnder}
+use Rattle.ledger_spec.specs.Check.{memberVerdict, isUnder}
 use Rattle.ledger_spec.proofs.Knit.{none-some, same-handle}
 use Rattle.ledger_spec.proofs.Chains.{outer-none}
 use Rattle.check_laws.proofs.Steps.{member-defect, member-two, strict-defect, strict-blossom}

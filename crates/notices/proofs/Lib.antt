@@ -2,3 +2,4 @@ pub mod Pads
 pub mod Telling
 pub mod Reaching
 pub mod Back
+pub mod Tells

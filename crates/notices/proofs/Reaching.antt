@@ -1,6 +1,6 @@
 -- What a handle that names a blossom reaches on words that fit: its slot, its circle and the members in it. Assumes nothing.
-use Prim.Native.Nat.{ℕ, zero, suc, _+_, _*_, _/_, _%_, _<_, _≤_}
-use mathlib.Core.Path.{_≡_, refl, ap, sym, _∙_}
+use Prim.Native.Nat.{ℕ, zero, suc, _+_, _*_, _<_, _≤_}
+use mathlib.Core.Path.{_≡_, refl, ap, _∙_}
 use mathlib.Core.Bool.{not}
 use mathlib.Core.Option.{Option}
 use mathlib.Core.List.{List}
@@ -9,14 +9,14 @@ use lib.ListN.{length, getD}
 use Rattle.kinds.specs.declared.Class.the-variants.{Blossom}
 use Rattle.words.specs.Store.{nodeAt, interfaceAt}
 use Rattle.words.specs.declared.Node.{Node}
-use Rattle.ledger_spec.specs.Bench.{Handle, Member, Bench}
+use Rattle.ledger_spec.specs.Bench.{Handle, Bench}
 use Rattle.ledger_spec.specs.Bench as plain
 use Rattle.ledger_spec.specs.Look as look
 use Rattle.ledger_spec.specs.Tests.{first, given}
 use Rattle.ledger_spec.specs.Refuse.{expandTests}
 use Rattle.ledger_spec.specs.Deeds.{members}
 use Rattle.ledger_spec.specs.Knit.{nodes}
-use Rattle.ledger_spec.proofs.Knit.{some-eq, blossom-eq}
+use Rattle.ledger_spec.proofs.Knit.{some-eq}
 use Rattle.ledger_spec.proofs.Passed.{has-of}
 use Rattle.ledger_spec.proofs.Accepted.{Named, expand-passed, members-of}
 use Rattle.views.specs.View.{view, sumUp, circleOf, follow}

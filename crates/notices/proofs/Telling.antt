@@ -11,11 +11,11 @@ use Rattle.kinds.specs.declared.Handle.{Handle as Packed}
 use Rattle.kinds.specs.declared.GrowState.the-variants.{Grow, Stay}
 use Rattle.kinds.specs.declared.Notice.the-variants.{StateSet, ShrinkPrepared, BlossomAdded, BlossomRemoved}
 use Rattle.words.specs.declared.Node.{Node}
-use Rattle.ledger_spec.specs.Bench.{Handle, Member, grows, stays}
+use Rattle.ledger_spec.specs.Bench.{Handle, grows, stays}
 use Rattle.ledger_spec.specs.Named.{handleNamed}
 use Rattle.ledger_spec.specs.Notices.{Notice, stateSet, shrinkPrepared, blossomAdded, blossomRemoved}
 use Rattle.ledger_spec.specs.Knit.{nodes}
-use Rattle.views.specs.View.{follow, handleAt, memberAt}
+use Rattle.views.specs.View.{follow, handleAt}
 use Rattle.views.specs.Canon.{walk}
 use Rattle.rings.specs.Given.{handGiven}
 use Rattle.notices.specs.Laid.{packed, entry, blank, circleIn, pad, filled, laid}
@@ -28,8 +28,8 @@ use Rattle.notices.proofs.Pads.{pad-set, map-more}
 abbrev pub halfway : List Told → List Packed → Notices
 halfway ts hs = record { told = pad blank 66 ts; count = 0; circle = pad nobody 64 hs; members = 0 }
 
-abbrev pub told : Notices → List Told → List Packed → ℕ → ℕ → Notices
-told r ts hs n m = record { told = ts; count = n; circle = hs; members = m }
+abbrev pub told : List Told → List Packed → ℕ → ℕ → Notices
+told ts hs n m = record { told = ts; count = n; circle = hs; members = m }
 
 pub begun : (r : Notices) → r ≡ laid [] → r ≡ halfway [] []
 unfolding laid circleIn
@@ -46,10 +46,10 @@ long : {B : Type 0} (f : ℕ → B) (ms : List ℕ) (i : ℕ) → i ≤ length m
 long f ms i l = length-map (take i ms) f ∙ length-take-le i ms l
 
 pub stay-more : (ms : List ℕ) (i : ℕ) (r : Notices) (h : Packed) → i < length ms → i < 64 → r ≡ halfway (map stay (take i ms)) (map handOf (take i ms)) → h ≡ handOf (getD ms i 0)
-    → told r (set (r .told) i (record { notice = StateSet h Stay })) (set (r .circle) i h) (r .count) (r .members) ≡ halfway (map stay (take (i + 1) ms)) (map handOf (take (i + 1) ms))
+    → told (set (r .told) i (record { notice = StateSet h Stay })) (set (r .circle) i h) (r .count) (r .members) ≡ halfway (map stay (take (i + 1) ms)) (map handOf (take (i + 1) ms))
 stay-more ms i r h l k e q =
-    ap₂ (λ (x : Notices) (g : Packed). told x (set (x .told) i (record { notice = StateSet g Stay })) (set (x .circle) i g) (x .count) (x .members)) e q
-    ∙ ap₂ (λ (ts : List Told) (hs : List Packed). told r ts hs 0 0)
+    ap₂ (λ (x : Notices) (g : Packed). told (set (x .told) i (record { notice = StateSet g Stay })) (set (x .circle) i g) (x .count) (x .members)) e q
+    ∙ ap₂ (λ (ts : List Told) (hs : List Packed). told ts hs 0 0)
     (pad-set blank 66 i (map stay (take i ms)) (stay (getD ms i 0)) (omega arith) (long stay ms i (omega arith)) ∙ ap (pad blank 66) (sym (map-more stay ms i 0 l)))
     (pad-set nobody 64 i (map handOf (take i ms)) (handOf (getD ms i 0)) k (long handOf ms i (omega arith)) ∙ ap (pad nobody 64) (sym (map-more handOf ms i 0 l)))
 
@@ -70,8 +70,8 @@ laid-made ms q =
     (ap (map packed) (circle-made hs hs (blossomAdded (handleNamed q) ∷ [])) ∙ map-map packed handGiven ms)
 
 pub stay-ends : (ms : List ℕ) (q : Packed) (i : ℕ) (r : Notices) → length ms ≤ 64 → i ≡ length ms → r ≡ halfway (map stay (take i ms)) (map handOf (take i ms))
-    → told r (set (set (r .told) (length ms) (record { notice = ShrinkPrepared })) (length ms + 1) (record { notice = BlossomAdded q })) (r .circle) (length ms + 2) (length ms) ≡ laid (blossomMade (map handGiven ms) (handleNamed q))
-stay-ends ms q i r k n e = ap (λ (x : Notices). told x (set (set (x .told) (length ms) s) (length ms + 1) a) (x .circle) (length ms + 2) (length ms)) (e ∙ whole) ∙ ends ∙ sym (laid-made ms q)
+    → told (set (set (r .told) (length ms) (record { notice = ShrinkPrepared })) (length ms + 1) (record { notice = BlossomAdded q })) (r .circle) (length ms + 2) (length ms) ≡ laid (blossomMade (map handGiven ms) (handleNamed q))
+stay-ends ms q i r k n e = ap (λ (x : Notices). told (set (set (x .told) (length ms) s) (length ms + 1) a) (x .circle) (length ms + 2) (length ms)) (e ∙ whole) ∙ ends ∙ sym (laid-made ms q)
   where
     s : Told
     s = record { notice = ShrinkPrepared }
@@ -91,7 +91,7 @@ stay-ends ms q i r k n e = ap (λ (x : Notices). told x (set (set (x .told) (len
     next : length (map stay ms ++ (s ∷ [])) ≡ length ms + 1
     next = length-append (map stay ms) (s ∷ []) ∙ ap (λ (x : ℕ). x + 1) here
 
-    ends : told r (set (set (pad blank 66 (map stay ms)) (length ms) s) (length ms + 1) a) (pad nobody 64 (map handOf ms)) (length ms + 2) (length ms) ≡ filled (map stay ms ++ (s ∷ a ∷ [])) (map handOf ms)
+    ends : told (set (set (pad blank 66 (map stay ms)) (length ms) s) (length ms + 1) a) (pad nobody 64 (map handOf ms)) (length ms + 2) (length ms) ≡ filled (map stay ms ++ (s ∷ a ∷ [])) (map handOf ms)
     ends = λ j. record { told = all j; count = counted j; circle = pad nobody 64 (map handOf ms); members = sym (length-map ms handOf) j }
       where
         all : set (set (pad blank 66 (map stay ms)) (length ms) s) (length ms + 1) a ≡ pad blank 66 (map stay ms ++ (s ∷ a ∷ []))
@@ -141,21 +141,21 @@ past-suc A (suc i) k =
 abbrev pub head : Notices → Told
 head r = getD (r .told) 0 blank
 
-pub grow-head : (r : Notices) (h : Packed) → r ≡ laid [] → head (told r (set (r .told) 0 (removed h)) (r .circle) (r .count) (r .members)) ≡ removed h
+pub grow-head : (r : Notices) (h : Packed) → r ≡ laid [] → head (told (set (r .told) 0 (removed h)) (r .circle) (r .count) (r .members)) ≡ removed h
 unfolding laid circleIn
 grow-head r h e = ap (λ (x : Notices). getD (set (x .told) 0 (removed h)) 0 blank) e
 
 pub grow-begins : (r : Notices) (h : Packed) (A : ℕ → Node) (k : ℕ) → r ≡ laid []
-    → told r (set (r .told) 0 (removed h)) (r .circle) (r .count) (r .members) ≡ halfway (head (told r (set (r .told) 0 (removed h)) (r .circle) (r .count) (r .members)) ∷ past A k 0) []
+    → told (set (r .told) 0 (removed h)) (r .circle) (r .count) (r .members) ≡ halfway (head (told (set (r .told) 0 (removed h)) (r .circle) (r .count) (r .members)) ∷ past A k 0) []
 unfolding laid circleIn follow
 grow-begins r h A k e =
-    ap (λ (x : Notices). told x (set (x .told) 0 (removed h)) (x .circle) (x .count) (x .members)) e ∙ ap (λ (t : Told). halfway (t ∷ []) []) (sym (grow-head r h e))
+    ap (λ (x : Notices). told (set (x .told) 0 (removed h)) (x .circle) (x .count) (x .members)) e ∙ ap (λ (t : Told). halfway (t ∷ []) []) (sym (grow-head r h e))
 
 pub grow-more : (r : Notices) (t : Told) (A : ℕ → Node) (k i p : ℕ) (m : Node) → i < 64 → r ≡ halfway (t ∷ past A k i) [] → p ≡ walk i A k → m ≡ A p
-    → told r (set (r .told) (i + 1) (record { notice = StateSet (record { unit = p / 64; slot = p % 64; serial = m .serial }) Grow })) (r .circle) (r .count) (r .members) ≡ halfway (t ∷ past A k (i + 1)) []
+    → told (set (r .told) (i + 1) (record { notice = StateSet (record { unit = p / 64; slot = p % 64; serial = m .serial }) Grow })) (r .circle) (r .count) (r .members) ≡ halfway (t ∷ past A k (i + 1)) []
 grow-more r t A k i p m l e at load =
-    ap₂ (λ (x : Notices) (n : Node). told x (set (x .told) (i + 1) (record { notice = StateSet (record { unit = p / 64; slot = p % 64; serial = n .serial }) Grow })) (x .circle) (x .count) (x .members)) e load
-    ∙ ap (λ (ts : List Told). told r ts (pad nobody 64 []) 0 0)
+    ap₂ (λ (x : Notices) (n : Node). told (set (x .told) (i + 1) (record { notice = StateSet (record { unit = p / 64; slot = p % 64; serial = n .serial }) Grow })) (x .circle) (x .count) (x .members)) e load
+    ∙ ap (λ (ts : List Told). told ts (pad nobody 64 []) 0 0)
     (pad-set blank 66 (i + 1) (t ∷ past A k i) (grow (handleAt A p)) (omega arith) (ap suc (past-long A i k) ∙ sym (add-one i))
     ∙ ap (λ (q : ℕ). pad blank 66 (t ∷ (past A k i ++ (grow (handleAt A q) ∷ [])))) at
     ∙ ap (λ (ts : List Told). pad blank 66 (t ∷ ts)) (sym (past-suc A i k) ∙ ap (past A k) (sym (add-one i))))
@@ -170,9 +170,9 @@ unfolding laid circleIn
 laid-gone h gs = ap₂ (λ (ts : List Told) (hs : List Handle). filled (removed h ∷ ts) (map packed hs)) (map-map entry (λ (g : Handle). stateSet g grows) gs) (circle-none gs)
 
 pub grow-ends : (r : Notices) (t : Told) (h : Packed) (A : ℕ → Node) (k i n : ℕ) (gs : List Handle) → r ≡ halfway (t ∷ past A k i) [] → t ≡ removed h → i ≡ n → gs ≡ nodes (follow n A k)
-    → told r (r .told) (r .circle) (n + 1) (r .members) ≡ laid (blossomRemoved (handleNamed h) ∷ map (λ (g : Handle). stateSet g grows) gs)
+    → told (r .told) (r .circle) (n + 1) (r .members) ≡ laid (blossomRemoved (handleNamed h) ∷ map (λ (g : Handle). stateSet g grows) gs)
 grow-ends r t h A k i n gs e f q c =
-    ap (λ (x : Notices). told x (x .told) (x .circle) (n + 1) (x .members)) (e ∙ ap₂ (λ (x : Told) (j : ℕ). halfway (x ∷ past A k j) []) f q)
-    ∙ ap (λ (m : ℕ). told r (pad blank 66 (removed h ∷ past A k n)) (pad nobody 64 []) m 0) (add-one n ∙ sym (ap suc (past-long A n k)))
+    ap (λ (x : Notices). told (x .told) (x .circle) (n + 1) (x .members)) (e ∙ ap₂ (λ (x : Told) (j : ℕ). halfway (x ∷ past A k j) []) f q)
+    ∙ ap (λ (m : ℕ). told (pad blank 66 (removed h ∷ past A k n)) (pad nobody 64 []) m 0) (add-one n ∙ sym (ap suc (past-long A n k)))
     ∙ ap (λ (l : List Handle). filled (removed h ∷ map grow l) []) (sym c)
     ∙ sym (laid-gone h gs)

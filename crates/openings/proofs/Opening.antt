@@ -11,7 +11,6 @@ use Rattle.ledger_spec.specs.Calls.{Reply, nobody, settle, setUpCall}
 use Rattle.ledger_spec.specs.Sound.{sound}
 use Rattle.ledger_spec.proofs.Holds.{holds}
 use Rattle.ledger_laws.proofs.Always.{begun-sound}
-use Rattle.views.specs.View.{view}
 use Rattle.views.specs.Fit.{Done}
 use Rattle.views.proofs.Fits.{fit-of}
 use Rattle.views.proofs.Unique.{words-same}

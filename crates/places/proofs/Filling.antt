@@ -1,8 +1,8 @@
 -- Numbers written one after the other, and interfaces' slots one after the other: what stands so far is right. Assumes nothing.
-use Prim.Native.Nat.{ℕ, _+_, _-_, _*_, _/_, _%_, _<_, _≤_}
+use Prim.Native.Nat.{ℕ, _+_, _-_, _*_, _<_, _≤_}
 use mathlib.Core.Path.{_≡_, refl, ap, sym, _∙_, subst}
 use mathlib.Core.Logic.{by-cases}
-use mathlib.Core.Option.{Option, none}
+use mathlib.Core.Option.{none}
 use mathlib.Core.List.{List}
 use native.Mathlib.Decide.{ℕ-discrete, decLt}
 use native.Mathlib.Omega.{arith}
@@ -10,11 +10,10 @@ use lib.ListN.{length, getD, set, length-set}
 use lib.Seq.{getD-set-same, getD-set-other}
 use Rattle.words.specs.Store.{interfaceAt}
 use Rattle.words.specs.declared.Interface.{Interface}
-use Rattle.ledger_spec.specs.Bench.{Node}
 use Rattle.views.specs.Fit.{Fit}
 use Rattle.orders.specs.declared.Order.{Order}
 use Rattle.orders.specs.Order.{Lists, AtIndex}
-use Rattle.orders.proofs.Counting.{slotsLeft, Counted, Sought, unit-low, used-small, at-more, count-on, count-ends, seek-ends}
+use Rattle.orders.proofs.Counting.{slotsLeft, Counted, unit-low, used-small, at-more, count-on, count-ends, seek-ends}
 use Rattle.places.specs.Places.{Filled, Places}
 
 -- ---- one number more

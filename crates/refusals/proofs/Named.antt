@@ -1,9 +1,9 @@
 -- The numbers of set state and expand: the handle's tests, then what stands in its slot. Assumes nothing.
 use Prim.Native.Nat.{ℕ, _+_, _*_, _<_}
-use mathlib.Core.Path.{_≡_, refl, ap, sym, _∙_, subst}
+use mathlib.Core.Path.{_≡_, refl, ap, sym, _∙_}
 use mathlib.Core.Logic.{_≢_}
 use mathlib.Core.Bool.{Bool, true, false, not}
-use mathlib.Core.Option.{Option, none, some}
+use mathlib.Core.Option.{none}
 use mathlib.Core.List.{List, [], _∷_}
 use native.Mathlib.Omega.{arith}
 use Rattle.words.specs.Store.{nodeAt, interfaceAt}
@@ -15,7 +15,6 @@ use Rattle.kinds.specs.declared.Handle.{Handle as Code}
 use Rattle.kinds.specs.declared.Parent.{Parent}
 use Rattle.kinds.specs.declared.Parent.the-variants.{Outermost, Inside}
 use Rattle.ledger_spec.specs.Bench.{Handle, Member}
-use Rattle.ledger_spec.specs.Bench as plain
 use Rattle.ledger_spec.specs.Look as look
 use Rattle.ledger_spec.specs.Named.{parentNamed}
 use Rattle.ledger_spec.specs.Tests.{first, given, stale, foreign, hasParent, isDefect}

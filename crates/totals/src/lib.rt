@@ -1,10 +1,8 @@
 // The total of the values of a tree's present nodes, 2^62 higher than it is, as a stored sum stands. Everything here only reads. Assumes nothing.
 use words::WORDS;
 ghost use mathlib.Core.Path.{_≡_};
-ghost use mathlib.Core.Option.{none};
 ghost use Prim.Native.Nat.{_/_, _%_, _<_, _≤_};
 ghost use Rattle.words.specs.Store.{interfaceAt};
-ghost use Rattle.ledger_spec.specs.Look.{interface};
 ghost use Rattle.ledger_spec.specs.Reads.{slotsOf};
 ghost use Rattle.ledger_spec.specs.Check.{totalOf};
 ghost use Rattle.views.specs.Fit.{Fit};

@@ -1,8 +1,8 @@
 -- One slot of the walk, by what its words hold: nothing, a vertex met or new, a circle with a finding or without. Assumes nothing.
-use Prim.Native.Nat.{ℕ, zero, suc, _+_, _/_, _%_, _*_, _<_, _≤_}
-use mathlib.Core.Path.{_≡_, refl, ap, ap₂, sym, _∙_, subst}
+use Prim.Native.Nat.{ℕ, zero, suc, _+_, _/_, _%_, _*_, _<_}
+use mathlib.Core.Path.{_≡_, refl, ap, sym, _∙_}
 use mathlib.Core.Bool.{Bool, true, false, true≢false}
-use mathlib.Core.Option.{Option, none, some}
+use mathlib.Core.Option.{none, some}
 use mathlib.Core.List.{List, [], _∷_}
 use native.Mathlib.Omega.{arith}
 use lib.Dec.{eqb}
@@ -13,13 +13,12 @@ use Rattle.kinds.specs.declared.Class.the-variants.{Absent, Blossom, Defect}
 use Rattle.kinds.specs.declared.Vertex.{Vertex}
 use Rattle.ledger_spec.specs.Bench.{Handle, Member, defect, blossom, Bench}
 use Rattle.ledger_spec.specs.Bench as plain
-use Rattle.ledger_spec.specs.Look.{slotOf}
 use Rattle.ledger_spec.specs.Named.{handleNamed}
 use Rattle.ledger_spec.specs.Tests.{any}
 use Rattle.ledger_spec.specs.Reads.{slotsOf}
-use Rattle.ledger_spec.specs.Check.{indexIn, memberVerdict, strictMember, circleVerdict, strictCircle, walk, strictWalk}
+use Rattle.ledger_spec.specs.Check.{indexIn, memberVerdict, strictMember, circleVerdict, strictCircle, walk}
 use Rattle.check_laws.specs.Clean.{Entry}
-use Rattle.check_laws.proofs.Steps.{circle-on, circle-bad, strict-on, strict-bad, walk-empty, walk-again, walk-new, walk-ring, walk-bad, strict-empty, strict-vertex, strict-ring, strict-six}
+use Rattle.check_laws.proofs.Steps.{strict-on, strict-bad, walk-empty, walk-again, walk-new, walk-ring, walk-bad, strict-empty, strict-vertex, strict-ring, strict-six}
 use Rattle.views.specs.View.{view, nodeSeen, slotSeen, sumUp, circleOf}
 use Rattle.views.proofs.Views.{view-slot}
 use Rattle.orders.specs.Order.{AtIndex}

@@ -1,12 +1,12 @@
 -- At each turn the walk along the slots left, from the vertices met, is the whole walk. Assumes nothing.
 use Prim.Native.Nat.{ℕ, suc, _+_, _<_, _≤_}
-use mathlib.Core.Path.{_≡_, refl, ap, ap₂, sym, _∙_, subst}
+use mathlib.Core.Path.{_≡_, refl, ap, sym, _∙_}
 use mathlib.Core.Bool.{Bool, true, false}
 use mathlib.Core.Option.{none}
 use mathlib.Core.List.{List, [], _∷_}
 use native.Mathlib.Numerals.{add-one}
 use native.Mathlib.Omega.{arith}
-use lib.ListN.{length, drop, getD, replicate, drop-of-length-le}
+use lib.ListN.{drop, getD, replicate, drop-of-length-le}
 use lib.Seq.{drop-cons}
 use Rattle.ledger_spec.specs.Bench.{Bench}
 use Rattle.ledger_spec.specs.Reads.{slotsOf}
@@ -16,9 +16,8 @@ use Rattle.views.specs.View.{view}
 use Rattle.places.specs.Places.{Places}
 use Rattle.met.specs.Met.{known, Keeps}
 use Rattle.met.proofs.Looking.{fresh}
-use Rattle.walks.specs.declared.Judged.{Judged}
 use Rattle.walks.specs.declared.Step.{Step}
-use Rattle.walks.specs.Walks.{walkBy, Steps, Walks}
+use Rattle.walks.specs.Walks.{walkBy, Steps}
 
 by-none : (s : Bool) (b : Bench) (whole : List Entry) (seen : List ℕ) (k : ℕ) → walkBy s b whole [] seen k ≡ (0, 0)
 unfolding walkBy

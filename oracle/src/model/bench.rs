@@ -119,15 +119,14 @@ impl Bench {
 
     /// A tree's slots by index, each with its place.
     pub fn slots(&self, unit: usize) -> Vec<(Handle, Option<&Node>)> {
-        let in_face = |unit: usize| {
-            let place = move |(slot, node): (usize, &'_ Option<Node>)| Handle {
-                unit: unit as u32,
-                slot: slot as u32,
-                serial: node.as_ref().map_or(0, |node| node.serial),
-            };
-            self.faces[unit].slots.iter().enumerate().map(move |(slot, node)| (place((slot, node)), node.as_ref()))
-        };
-        self.tree(unit).into_iter().flat_map(in_face).collect()
+        let mut found = vec![];
+        for unit in self.tree(unit) {
+            for (slot, node) in self.faces[unit].slots.iter().enumerate() {
+                let serial = node.as_ref().map_or(0, |node| node.serial);
+                found.push((Handle { unit: unit as u32, slot: slot as u32, serial }, node.as_ref()));
+            }
+        }
+        found
     }
 
     /// A tree's present nodes.

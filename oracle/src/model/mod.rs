@@ -30,45 +30,29 @@ impl Model {
 
     /// The answer of a line: its first number is 0 where the call is accepted.
     pub fn answer(&mut self, line: &Line) -> Vec<i64> {
-        let named = |bench: &Bench, s: &u32| bench.named(*s);
-        match line {
+        let (unit, reply) = match line {
             Line::SetUp(serial) => {
                 *self = Model::new((*serial).max(1));
-                vec![given(*serial == 0, NO_SERIAL)]
+                return vec![given(*serial == 0, NO_SERIAL)];
             }
-            Line::Defect(unit, vertex) => {
-                let reply = self.bench.defect(*unit, *vertex);
-                self.told(*unit, reply)
-            }
-            Line::Blossom(unit, members, touching) => {
-                let members: Vec<Handle> = members.iter().map(|s| named(&self.bench, s)).collect();
-                let touching: Vec<[Handle; 2]> = touching.iter().map(|(a, b)| [named(&self.bench, a), named(&self.bench, b)]).collect();
-                let reply = self.bench.blossom(*unit, &members, &touching);
-                self.told(*unit, reply)
-            }
-            Line::Expand(unit, serial) => {
-                let reply = self.bench.expand(*unit, self.bench.named(*serial));
-                self.told(*unit, reply)
-            }
-            Line::SetState(unit, serial, state) => {
-                let reply = self.bench.set_state(*unit, self.bench.named(*serial), *state);
-                self.told(*unit, reply)
-            }
-            Line::Grow(unit, length) => {
-                let reply = self.bench.grow(*unit, *length);
-                self.told(*unit, reply)
-            }
-            Line::Fuse(parent, left, right) => {
-                let reply = self.bench.fuse(*parent, *left, *right);
-                self.told(*parent, reply)
-            }
-            Line::Clear(unit) => {
-                let reply = self.bench.clear(*unit);
-                self.told(*unit, reply)
-            }
-            Line::Add(..) | Line::Extend(..) | Line::NewGroup(_) | Line::Pop(_) => self.regroup(line),
-            other => self.look(other),
-        }
+            Line::Defect(unit, vertex) => (unit, self.bench.defect(*unit, *vertex)),
+            Line::Blossom(unit, members, touching) => (unit, self.blossom(*unit, members, touching)),
+            Line::Expand(unit, serial) => (unit, self.bench.expand(*unit, self.bench.named(*serial))),
+            Line::SetState(unit, serial, state) => (unit, self.bench.set_state(*unit, self.bench.named(*serial), *state)),
+            Line::Grow(unit, length) => (unit, self.bench.grow(*unit, *length)),
+            Line::Fuse(parent, left, right) => (parent, self.bench.fuse(*parent, *left, *right)),
+            Line::Clear(unit) => (unit, self.bench.clear(*unit)),
+            Line::Add(..) | Line::Extend(..) | Line::NewGroup(_) | Line::Pop(_) => return self.regroup(line),
+            other => return self.look(other),
+        };
+        self.told(*unit, reply)
+    }
+
+    fn blossom(&mut self, unit: u32, members: &[u32], touching: &[(u32, u32)]) -> Reply {
+        let named = |serial: &u32| self.bench.named(*serial);
+        let members: Vec<Handle> = members.iter().map(named).collect();
+        let touching: Vec<[Handle; 2]> = touching.iter().map(|(a, b)| [named(a), named(b)]).collect();
+        self.bench.blossom(unit, &members, &touching)
     }
 
     fn told(&self, unit: u32, reply: Reply) -> Vec<i64> {

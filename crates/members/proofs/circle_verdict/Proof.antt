@@ -1,5 +1,5 @@
 -- The circle's own outermost blossom is every member's; the members are checked one after the other. Assumes nothing.
-use mathlib.Core.Path.{refl, sym, ap, _∙_}
+use mathlib.Core.Path.{refl, ap, _∙_}
 use native.Mathlib.Omega.{arith}
 use borrow.Author.Needs.{needs}
 use Rattle.words.specs.declared.Node.{Node}

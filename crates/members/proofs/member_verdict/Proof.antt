@@ -1,5 +1,5 @@
 -- A member is present: a defect by its own handle, a blossom by both touching ones. Assumes nothing.
-use mathlib.Core.Path.{_≡_, ap, ap₂, sym, _∙_}
+use mathlib.Core.Path.{_≡_, ap₂, _∙_}
 use borrow.Author.Needs.{needs}
 use Rattle.kinds.specs.declared.Class.the-variants.{Absent, Blossom, Defect}
 use Rattle.ledger_spec.specs.Named.{handleNamed}

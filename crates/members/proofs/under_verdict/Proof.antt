@@ -1,5 +1,5 @@
 -- Itself is under it, a newer node is not, and an older one by its outermost blossom. Assumes nothing.
-use mathlib.Core.Path.{_≡_, sym, _∙_}
+use mathlib.Core.Path.{sym, _∙_}
 use borrow.Author.Needs.{needs}
 use Rattle.ledger_spec.specs.Named.{handleNamed}
 use Rattle.links.proofs.Rising.{seen-some}

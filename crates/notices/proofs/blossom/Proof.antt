@@ -4,7 +4,7 @@ use mathlib.Core.Path.{_≡_}
 use mathlib.Core.List.{map}
 use native.Mathlib.Omega.{arith}
 use borrow.Author.Needs.{needs}
-use lib.ListN.{length, take}
+use lib.ListN.{take}
 use Rattle.notices.proofs.Telling.{halfway, stay, handOf, begun, stay-more, stay-ends}
 use Rattle.notices.proofs.blossom.Statement.{statement}
 use Rattle.notices.proofs.blossom.Tie as tie

@@ -1,6 +1,5 @@
 -- `none` fills the arrays with the blank and with nobody. Assumes nothing.
 use mathlib.Core.Path.{ap}
-use mathlib.Core.List.{[]}
 use borrow.Author.Needs.{needs}
 use lib.ListN.{replicate}
 use Rattle.kinds.specs.declared.Handle.{Handle as Packed}

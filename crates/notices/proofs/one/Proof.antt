@@ -1,6 +1,5 @@
 -- `one` puts one entry before the blanks. Assumes nothing.
 use mathlib.Core.Path.{ap}
-use mathlib.Core.List.{[]}
 use borrow.Author.Needs.{needs}
 use lib.ListN.{set}
 use Rattle.notices.specs.Laid.{circleIn, laid}
@@ -17,7 +16,7 @@ element-set-from-e c = search needs
 
 returns : tie.Need-returns
 unfolding laid circleIn
-returns c = ap (λ (r : Notices). told r (set (r .told) 0 (c .before .args .e)) (r .circle) 1 (r .members)) (c .none .ensures)
+returns c = ap (λ (r : Notices). told (set (r .told) 0 (c .before .args .e)) (r .circle) 1 (r .members)) (c .none .ensures)
 
 pub one-spec : {M : Type 1} → statement M
 one-spec = tie.close (tie.spec none-requires element-set-from-e returns)

@@ -3,7 +3,7 @@ use borrow.Author.Needs.{needs}
 use native.Mathlib.Omega.{arith}
 use mathlib.Core.Path.{ap}
 use Rattle.words.specs.declared.Interface.{Interface}
-use Rattle.refusals.proofs.Lengths.{again, back, forward}
+use Rattle.refusals.proofs.Lengths.{back, forward}
 use Rattle.refusals.proofs.Units.{unit-low, grow-no, grow-back, grow-far, grow-fine}
 use Rattle.refusals.proofs.grow_number.Statement.{statement}
 use Rattle.refusals.proofs.grow_number.Tie as tie

@@ -1,9 +1,8 @@
 -- An empty slot adds nothing; else the value lies near 2^60, so the sum stays in range. Assumes nothing.
-use mathlib.Core.Path.{ap, sym, _∙_, subst}
-use Prim.Native.Nat.{ℕ, _+_, _-_, _≤_}
+use mathlib.Core.Path.{sym, subst}
+use Prim.Native.Nat.{ℕ, _+_, _-_}
 use native.Mathlib.Omega.{arith}
 use borrow.Author.Needs.{needs}
-use Rattle.views.specs.View.{valueOf}
 use Rattle.totals.specs.Total.{Added}
 use Rattle.totals.proofs.Adding.{added-none, bias-room, value-near, added-value}
 use Rattle.totals.proofs.add.Statement.{statement}

@@ -1,6 +1,5 @@
 -- Each return is one case of what the slot's words hold. Assumes nothing.
 use mathlib.Core.Path.{_≡_}
-use native.Mathlib.Omega.{arith}
 use borrow.Author.Needs.{needs}
 use Rattle.kinds.specs.declared.Class.the-variants.{Absent, Blossom, Defect}
 use Rattle.walks.proofs.Looking.{look-absent, look-strict, look-again, look-new, ring-placed, ring-is, look-ring, look-bad}

@@ -1,0 +1,4 @@
+pub mod Pairs
+pub mod Appends
+pub mod Extending
+pub mod Only
