@@ -1,1 +1,2 @@
 pub mod Differing
+pub mod Marking

@@ -1,30 +1,34 @@
--- Those before k pass, and the first that does not ends it. Assumes nothing.
-use native.Mathlib.Omega.{arith}
+-- The remainders of the slots before k are marked; where two meet, all are compared. Assumes nothing.
 use borrow.Author.Needs.{needs}
-use Prim.Native.Nat.{_-_, _≤_}
-use mathlib.Core.Path.{_≡_, sym, _∙_}
-use mathlib.Core.Bool.{true}
-use borrow.Author.Tests.{not-true, not-false}
-use Rattle.sound_words.specs.Below.{allTo}
-use Rattle.sound_words.proofs.Belows.{all-none, all-more, all-not, all-done}
-use Rattle.sound_serials.specs.Different.{onceTest}
+use Prim.Native.Nat.{_-_}
+use borrow.Author.Tests.{not-false}
+use Rattle.sound_serials.proofs.Marking.{Going, going-none, going-more, going-ends}
 use Rattle.sound_serials.proofs.are_different.Statement.{statement}
 use Rattle.sound_serials.proofs.are_different.Tie as tie
 
 abbrev Inv-loop : tie.InvT-loop
-Inv-loop b k₀ k = (allTo (onceTest b) k ≡ true) × (k ≤ 512)
+Inv-loop b t₀ k₀ t k = Going b t k
 
 abbrev μ-loop : tie.MeasureT-loop
-μ-loop b k₀ k = 512 - k
+μ-loop b t₀ k₀ t k = 512 - k
+
+all-marks-requires : tie.Need-all-marks-requires Inv-loop μ-loop
+all-marks-requires c κs = search needs
 
 loop-holds : tie.Need-loop-holds Inv-loop μ-loop
-loop-holds c = (sym (all-none (onceTest (c .args .b .now))), omega arith)
+loop-holds c = going-none (c .before .before .args .b .now) _ (c .all-marks .ensures)
 
-is-once-requires : tie.Need-is-once-requires Inv-loop μ-loop
-is-once-requires c κs = search needs
+serial-at-requires : tie.Need-serial-at-requires Inv-loop μ-loop
+serial-at-requires c κs = search needs
+
+mark-requires : tie.Need-mark-requires Inv-loop μ-loop
+mark-requires c κs = c .before .before .before .loop .inv .long
+
+are-compared-requires : tie.Need-are-compared-requires Inv-loop μ-loop
+are-compared-requires c κs = search needs
 
 returns : tie.Need-returns Inv-loop μ-loop
-returns c = all-not (onceTest (c .before .before .before .before .args .b .now)) 512 (c .before .before .before .loop .k) (c .before .before .loop-test .taken) (sym (c .before .is-once .ensures) ∙ not-true (c .before .is-once .result) (c .if1 .taken))
+returns c = c .are-compared .ensures
 
 add-k : tie.Need-add-k Inv-loop μ-loop
 add-k c = search needs
@@ -33,10 +37,10 @@ loop-less : tie.Need-loop-less Inv-loop μ-loop
 loop-less c = search needs
 
 loop-again : tie.Need-loop-again Inv-loop μ-loop
-loop-again c = (all-more (onceTest (c .before .before .before .before .args .b .now)) (c .before .before .before .loop .k) (c .before .before .before .loop .inv .0) (sym (c .before .is-once .ensures) ∙ not-false (c .before .is-once .result) (c .if1 .left)), omega arith)
+loop-again c = going-more (c .before .before .before .before .before .before .before .before .args .b .now) (c .before .before .before .before .before .loop .t) (c .before .mark .last .0) (c .before .before .before .before .before .loop .k) (c .before .before .before .serial-at .result) (c .before .mark .result) (c .before .before .before .before .before .loop .inv) (c .before .before .before .before .loop-test .taken) (c .before .before .before .serial-at .ensures) (c .before .mark .ensures) (not-false (c .before .mark .result) (c .if1 .left))
 
 returns-2 : tie.Need-returns-2 Inv-loop μ-loop
-returns-2 c = all-done (onceTest (c .before .before .args .b .now)) 512 (c .before .loop .k) (c .before .loop .inv .0) (omega arith)
+returns-2 c = going-ends (c .before .before .before .before .args .b .now) (c .before .loop .t) (c .before .loop .k) (c .before .loop .inv) (c .loop-test .left)
 
 pub are-different-spec : {M : Type 1} → statement M
 are-different-spec =
@@ -44,8 +48,11 @@ are-different-spec =
     (tie.spec
     Inv-loop
     μ-loop
+    all-marks-requires
     loop-holds
-    is-once-requires
+    serial-at-requires
+    mark-requires
+    are-compared-requires
     returns
     add-k
     loop-less

@@ -1,0 +1,3 @@
+pub mod Running
+pub mod Fused
+pub mod Once
