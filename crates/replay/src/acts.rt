@@ -1,13 +1,13 @@
 // The lines that change the bench: what the public call answers, with its notices.
 use crate::nodes;
 use crate::says;
+use kinds::GrowState;
 use kinds::Handle;
 use kinds::Notice;
-use kinds::GrowState;
 use kinds::Vertex;
 use notices::Notices;
-use telling::Answer;
 use tapes::ROOM;
+use telling::Answer;
 use words::WORDS;
 
 pub fn unit_of(z: i64) -> u8 {
@@ -142,7 +142,12 @@ pub fn expand(b: &mut [u64; WORDS], out: &mut [i64; ROOM], row: &[i64; ROOM], n:
     answer(b, out, r, unit)
 }
 
-pub fn set_state(b: &mut [u64; WORDS], out: &mut [i64; ROOM], row: &[i64; ROOM], n: usize) -> usize {
+pub fn set_state(
+    b: &mut [u64; WORDS],
+    out: &mut [i64; ROOM],
+    row: &[i64; ROOM],
+    n: usize,
+) -> usize {
     let unit = unit_of(tapes::number(row, n, 0));
     let h = nodes::named(b, tapes::number(row, n, 1));
     let r = calls::set_grow_state(b, unit, h, state_of(tapes::number(row, n, 2)));

@@ -36,7 +36,13 @@ fn gather(b: &[u64; WORDS], row: &[i64; ROOM], from: usize, to: usize, list: &mu
 }
 
 // The members of a row of triples, and their touching handles, two for each; how many members there are.
-fn triples(b: &[u64; WORDS], row: &[i64; ROOM], n: usize, members: &mut [u64], touching: &mut [u64]) -> usize
+fn triples(
+    b: &[u64; WORDS],
+    row: &[i64; ROOM],
+    n: usize,
+    members: &mut [u64],
+    touching: &mut [u64],
+) -> usize
     ensures { λ r. ⌜ r ≤ 640 ⌝ }
 {
     let mut k: usize = 0;
@@ -54,20 +60,42 @@ fn triples(b: &[u64; WORDS], row: &[i64; ROOM], n: usize, members: &mut [u64], t
 }
 
 // A blossom of the first m members, with the first t touching handles.
-fn made(b: &mut [u64; WORDS], out: &mut [i64; ROOM], unit: u8, members: &[u64], m: usize, touching: &[u64], t: usize) -> usize {
+fn made(
+    b: &mut [u64; WORDS],
+    out: &mut [i64; ROOM],
+    unit: u8,
+    members: &[u64],
+    m: usize,
+    touching: &[u64],
+    t: usize,
+) -> usize {
     let i = tapes::within(m, members);
     let j = tapes::within(t, touching);
     let r = calls::create_blossom(b, unit, &members[..i], &touching[..j]);
     acts::answer(b, out, r, unit)
 }
 
-fn plain_in(b: &mut [u64; WORDS], out: &mut [i64; ROOM], row: &[i64; ROOM], n: usize, members: &mut [u64], touching: &mut [u64]) -> usize {
+fn plain_in(
+    b: &mut [u64; WORDS],
+    out: &mut [i64; ROOM],
+    row: &[i64; ROOM],
+    n: usize,
+    members: &mut [u64],
+    touching: &mut [u64],
+) -> usize {
     let unit = acts::unit_of(tapes::number(row, n, 0));
     let m = gather(b, row, 1, n, members);
     made(b, out, unit, members, m, touching, 0)
 }
 
-fn paired_in(b: &mut [u64; WORDS], out: &mut [i64; ROOM], row: &[i64; ROOM], n: usize, members: &mut [u64], touching: &mut [u64]) -> usize {
+fn paired_in(
+    b: &mut [u64; WORDS],
+    out: &mut [i64; ROOM],
+    row: &[i64; ROOM],
+    n: usize,
+    members: &mut [u64],
+    touching: &mut [u64],
+) -> usize {
     let unit = acts::unit_of(tapes::number(row, n, 0));
     let m = triples(b, row, n, members, touching);
     made(b, out, unit, members, m, touching, m * 2)
@@ -82,7 +110,14 @@ fn turning(n: usize, z: i64) -> usize {
     (m as usize) + 2
 }
 
-fn listed_in(b: &mut [u64; WORDS], out: &mut [i64; ROOM], row: &[i64; ROOM], n: usize, members: &mut [u64], touching: &mut [u64]) -> usize {
+fn listed_in(
+    b: &mut [u64; WORDS],
+    out: &mut [i64; ROOM],
+    row: &[i64; ROOM],
+    n: usize,
+    members: &mut [u64],
+    touching: &mut [u64],
+) -> usize {
     let unit = acts::unit_of(tapes::number(row, n, 0));
     let at = turning(n, tapes::number(row, n, 1));
     let m = gather(b, row, 2, at, members);
@@ -91,7 +126,13 @@ fn listed_in(b: &mut [u64; WORDS], out: &mut [i64; ROOM], row: &[i64; ROOM], n: 
 }
 
 // The line's blossom, by its letter: `B` has serials alone, `b` triples, `t` lists of any two lengths.
-pub fn blossom(b: &mut [u64; WORDS], out: &mut [i64; ROOM], letter: u8, row: &[i64; ROOM], n: usize) -> usize {
+pub fn blossom(
+    b: &mut [u64; WORDS],
+    out: &mut [i64; ROOM],
+    letter: u8,
+    row: &[i64; ROOM],
+    n: usize,
+) -> usize {
     let mut members = [0u64; LIST];
     let mut touching = [0u64; LIST];
     match letter {

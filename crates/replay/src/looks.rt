@@ -96,7 +96,13 @@ fn vertex(vs: &[u32], i: usize) -> i64 {
 }
 
 // All vertices into the first entries of a slice; each of those is shown, those past the vertices too.
-fn vertices_in(b: &[u64; WORDS], out: &mut [i64; ROOM], h: Handle, room: usize, vs: &mut [u32]) -> usize {
+fn vertices_in(
+    b: &[u64; WORDS],
+    out: &mut [i64; ROOM],
+    h: Handle,
+    room: usize,
+    vs: &mut [u32],
+) -> usize {
     let most = tapes::vertices_within(room, vs);
     let r = asks::get_all_vertices(b, h, &mut vs[..most]);
     let m = tapes::say(out, 0, r.number as i64);

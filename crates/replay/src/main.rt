@@ -6,6 +6,7 @@ mod looks;
 mod nodes;
 mod says;
 mod turns;
+
 use tapes::ROOM;
 use words::WORDS;
 
@@ -124,7 +125,13 @@ fn fill(chunk: &mut [u8]) -> usize {
 }
 
 // Reads standard input to its end.
-fn run(b: &mut [u64; WORDS], line: &mut [u8; LINE], row: &mut [i64; ROOM], out: &mut [i64; ROOM], chunk: &mut [u8; CHUNK]) {
+fn run(
+    b: &mut [u64; WORDS],
+    line: &mut [u8; LINE],
+    row: &mut [i64; ROOM],
+    out: &mut [i64; ROOM],
+    chunk: &mut [u8; CHUNK],
+) {
     let mut count = Count {
         lines: 0,
         answers: 0,

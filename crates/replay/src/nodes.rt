@@ -4,7 +4,6 @@ use kinds::Class;
 use kinds::Handle;
 use kinds::MaybeNode;
 use kinds::NodeIndex;
-
 use kinds::Parent;
 use tapes::ROOM;
 use words::Node;

@@ -7,7 +7,13 @@ use tapes::ROOM;
 use words::WORDS;
 
 // The lines that change the bench.
-fn changes(b: &mut [u64; WORDS], letter: u8, row: &[i64; ROOM], n: usize, out: &mut [i64; ROOM]) -> usize {
+fn changes(
+    b: &mut [u64; WORDS],
+    letter: u8,
+    row: &[i64; ROOM],
+    n: usize,
+    out: &mut [i64; ROOM],
+) -> usize {
     match letter {
         b'D' => acts::defect(b, out, row, n),
         b'B' | b'b' | b't' => circles::blossom(b, out, letter, row, n),
@@ -20,7 +26,13 @@ fn changes(b: &mut [u64; WORDS], letter: u8, row: &[i64; ROOM], n: usize, out: &
 }
 
 // The lines that read the bench.
-fn looks_at(b: &[u64; WORDS], letter: u8, row: &[i64; ROOM], n: usize, out: &mut [i64; ROOM]) -> usize {
+fn looks_at(
+    b: &[u64; WORDS],
+    letter: u8,
+    row: &[i64; ROOM],
+    n: usize,
+    out: &mut [i64; ROOM],
+) -> usize {
     let unit = acts::unit_of(tapes::number(row, n, 0));
     let h = nodes::named(b, tapes::number(row, n, 0));
     match letter {
@@ -41,13 +53,25 @@ fn looks_at(b: &[u64; WORDS], letter: u8, row: &[i64; ROOM], n: usize, out: &mut
 }
 
 // Makes a line's call on the bench; answers how many numbers are said.
-pub fn turn(b: &mut [u64; WORDS], letter: u8, row: &[i64; ROOM], n: usize, out: &mut [i64; ROOM]) -> usize {
+pub fn turn(
+    b: &mut [u64; WORDS],
+    letter: u8,
+    row: &[i64; ROOM],
+    n: usize,
+    out: &mut [i64; ROOM],
+) -> usize {
     match letter {
         b'N' => {
             let number = openings::set_up(b, acts::word_of(tapes::number(row, n, 0)));
             tapes::say(out, 0, number as i64)
         }
-        b'D' | b'B' | b'b' | b't' | b'E' | b'S' | b'G' | b'F' | b'C' => changes(b, letter, row, n, out),
+        b'D' | b'B' | b'b' | b't' | b'E' | b'S' | b'G' | b'F' | b'C' => changes(
+            b,
+            letter,
+            row,
+            n,
+            out,
+        ),
         _ => looks_at(b, letter, row, n, out),
     }
 }
