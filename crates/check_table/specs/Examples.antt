@@ -30,6 +30,10 @@ nested = Defect 0 1 ∷ Defect 0 2 ∷ ring (at 0 1) ∷ touch (at 2 3) (at 1 2)
 abbrev pub cousins : List Call
 cousins = Defect 0 1 ∷ Defect 0 2 ∷ ring (at 0 1) ∷ ring (at 1 2) ∷ Blossom 0 (at 2 3 ∷ at 3 4 ∷ []) ((at 3 4, at 3 4) ∷ (at 2 3, at 2 3) ∷ []) ∷ []
 
+abbrev pub elders : List Call
+elders = Defect 0 1 ∷ ring (at 0 1) ∷ Defect 0 2 ∷ ring (at 2 3) ∷ Defect 0 3 ∷ Defect 0 4 ∷ ring (at 5 6)
+    ∷ Blossom 0 (at 1 2 ∷ at 3 4 ∷ []) ((at 4 5, at 4 5) ∷ (at 6 7, at 6 7) ∷ []) ∷ Expand 0 (at 6 7) ∷ []
+
 abbrev pub left : List Call
 left = Defect 0 1 ∷ ring (at 0 1) ∷ Grow 0 (pos 3) ∷ Expand 0 (at 1 2) ∷ []
 
@@ -47,6 +51,8 @@ table =
     ∷ (Defect 0 1 ∷ ring (at 0 1) ∷ Defect 0 2 ∷ ring (at 2 3) ∷ touch (at 1 2) (at 3 4) ∷ Expand 0 (at 3 4) ∷ [], 0, (0, (4, 1)))
     -- of one member's two handles one is gone and the other elsewhere: 4
     ∷ (Defect 0 1 ∷ ring (at 0 1) ∷ Defect 0 2 ∷ ring (at 2 3) ∷ Blossom 0 (at 1 2 ∷ []) ((at 2 3, at 3 4) ∷ []) ∷ Expand 0 (at 3 4) ∷ [], 0, (0, (4, 1)))
+    -- an earlier member's 3 is before a later member's 4
+    ∷ (elders, 0, (0, (3, 1)))
     -- 3 comes and goes with the outer blossoms
     ∷ (nested, 0, (0, (3, 2)))
     ∷ (nested ++ (Blossom 0 (at 3 4 ∷ at 1 2 ∷ []) [] ∷ []), 0, (0, (0, 0)))
