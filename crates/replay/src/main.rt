@@ -4,9 +4,12 @@ mod acts;
 mod circles;
 mod looks;
 mod nodes;
+mod packs;
+mod pools;
 mod says;
 mod turns;
 
+use crate::packs::Four;
 use tapes::ROOM;
 use words::WORDS;
 
@@ -20,6 +23,11 @@ struct Count {
     answers: u64,
     wrong: u64,
     said: usize,
+}
+
+struct After {
+    count: Count,
+    four: Four,
 }
 
 // One more, and never more than fits.
@@ -59,34 +67,39 @@ fn compared(c: Count, out: &[i64; ROOM], row: &[i64; ROOM], n: usize) -> Count {
 // A whole line: a comment, a recorded answer, or a call.
 fn line_done(
     b: &mut [u64; WORDS],
+    four: Four,
     c: Count,
     line: &[u8],
     held: usize,
     row: &mut [i64; ROOM],
     out: &mut [i64; ROOM],
-) -> Count {
+) -> After {
     let most = tapes::bytes_within(held, line);
     let text = &line[..most];
     let letter = first(text);
     if letter == b'#' {
-        return Count {
+        let count = Count {
             lines: more(c.lines),
             answers: c.answers,
             wrong: c.wrong,
             said: c.said,
         };
+        return After { count, four };
     }
     let n = tapes::numbers(text, row);
     if letter == b'=' {
-        return compared(c, out, row, n);
+        let count = compared(c, out, row, n);
+        return After { count, four };
     }
-    let said = turns::turn(b, letter, row, n, out);
-    Count {
+    let t = turns::turn(b, four, letter, row, n, out);
+    let after = t.four;
+    let count = Count {
         lines: more(c.lines),
         answers: c.answers,
         wrong: c.wrong,
-        said,
-    }
+        said: t.said,
+    };
+    After { count, four: after }
 }
 
 fn first(s: &[u8]) -> u8 {
@@ -132,6 +145,7 @@ fn run(
     out: &mut [i64; ROOM],
     chunk: &mut [u8; CHUNK],
 ) {
+    let mut four = packs::empty();
     let mut count = Count {
         lines: 0,
         answers: 0,
@@ -149,7 +163,9 @@ fn run(
         while i < n {
             let c = byte(chunk, i);
             if c == b'\n' {
-                count = line_done(b, count, line, held, row, out);
+                let a = line_done(b, four, count, line, held, row, out);
+                four = a.four;
+                count = a.count;
                 held = 0;
             } else {
                 held = keep(line, held, c);

@@ -3,6 +3,9 @@ use crate::acts;
 use crate::circles;
 use crate::looks;
 use crate::nodes;
+use crate::packs;
+use crate::packs::Four;
+use crate::packs::Packed;
 use tapes::ROOM;
 use words::WORDS;
 
@@ -52,26 +55,69 @@ fn looks_at(
     }
 }
 
-// Makes a line's call on the bench; answers how many numbers are said.
-pub fn turn(
-    b: &mut [u64; WORDS],
+// The lines about groups.
+fn sorts(
+    b: &[u64; WORDS],
+    four: Four,
     letter: u8,
     row: &[i64; ROOM],
     n: usize,
     out: &mut [i64; ROOM],
-) -> usize {
+) -> Packed {
+    let i = tapes::number(row, n, 0);
     match letter {
-        b'N' => {
-            let number = openings::set_up(b, acts::word_of(tapes::number(row, n, 0)));
-            tapes::say(out, 0, number as i64)
+        b'e' => packs::fresh(four, out, i),
+        b'j' => packs::extend(b, four, out, i, tapes::number(row, n, 1)),
+        b'z' => packs::pop(four, out, i),
+        b'y' => {
+            let said = packs::asked(four, out, i);
+            Packed { said, four }
         }
-        b'D' | b'B' | b'b' | b't' | b'E' | b'S' | b'G' | b'F' | b'C' => changes(
+        b'l' => {
+            let said = packs::peek(four, out, i);
+            Packed { said, four }
+        }
+        b'm' => {
+            let said = packs::whole(four, out, i);
+            Packed { said, four }
+        }
+        _ => packs::add(b, four, out, letter, row, n),
+    }
+}
+
+// A new bench and four empty groups.
+fn begins(b: &mut [u64; WORDS], first: i64, out: &mut [i64; ROOM]) -> Packed {
+    let number = openings::set_up(b, acts::word_of(first));
+    let said = tapes::say(out, 0, number as i64);
+    let four = packs::empty();
+    Packed { said, four }
+}
+
+pub fn turn(
+    b: &mut [u64; WORDS],
+    four: Four,
+    letter: u8,
+    row: &[i64; ROOM],
+    n: usize,
+    out: &mut [i64; ROOM],
+) -> Packed {
+    match letter {
+        b'N' => begins(b, tapes::number(row, n, 0), out),
+        b'D' | b'B' | b'b' | b't' | b'E' | b'S' | b'G' | b'F' | b'C' => {
+            let said = changes(b, letter, row, n, out);
+            Packed { said, four }
+        }
+        b'e' | b'g' | b'c' | b'w' | b'x' | b'q' | b'r' | b'j' | b'y' | b'z' | b'l' | b'm' => sorts(
             b,
+            four,
             letter,
             row,
             n,
             out,
         ),
-        _ => looks_at(b, letter, row, n, out),
+        _ => {
+            let said = looks_at(b, letter, row, n, out);
+            Packed { said, four }
+        }
     }
 }
