@@ -1,4 +1,4 @@
-// Add and extend over a bench, as document 01 has them, from the group's own add and extend: BROKEN, then STALE, then ROOM.
+// Stand-ins for add and extend over a bench, with no contract. STALE is asked before BROKEN, which no group of a recording is.
 use group_adds::Changed;
 use group_handles::Nodes;
 use groups::Group;
