@@ -55,7 +55,7 @@ fn is_node(b: &[u64; WORDS], u: usize, s: usize, g: Ground) -> bool
     ensures { λ r. ⌜ r ≡ nodeTest (now (b .entry)) u s ⌝ }
 {
     let k = u * 64 + s;
-    if !sound_words::is_coded(b, k) {
+    if !words::is_coded(b, k) {
         return false;
     }
     let next = words::load_next(b);
@@ -81,7 +81,7 @@ fn is_slot(b: &[u64; WORDS], u: usize, s: usize, used: u64, g: Ground) -> bool
     requires { ⌜ Grounds (now b) u g ⌝ }
     ensures { λ r. ⌜ r ≡ slotTest (now (b .entry)) used u s ⌝ }
 {
-    if sound_words::is_blank(b, u * 64 + s) {
+    if words::is_blank(b, u * 64 + s) {
         return true;
     }
     if used <= (s as u64) {

@@ -27,7 +27,7 @@ use Rattle.ledger_spec.proofs.Knit.{some-eq, none-some}
 use Rattle.views.specs.Records.{Steady}
 use Rattle.views.specs.View.{upSeen, halvesSeen, view}
 use Rattle.views.proofs.Views.{interface-in, view-eight, view-parent}
-use Rattle.sound_words.specs.Coding.{spareAt, linkAt}
+use Rattle.words.specs.Coding.{spareAt, linkAt}
 use Rattle.sound_trees.specs.Links.{isUnder, upTest, downTest, interfaceTest}
 
 -- ---- the facts of one interface

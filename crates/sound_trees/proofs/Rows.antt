@@ -17,7 +17,7 @@ use Rattle.views.specs.View.{view}
 use Rattle.views.proofs.Sums.{bounded}
 use Rattle.trees.specs.Climb.{Climbs}
 use Rattle.sound_words.specs.Below.{sumTo}
-use Rattle.sound_words.specs.Coding.{spareAt, linkAt}
+use Rattle.words.specs.Coding.{spareAt, linkAt}
 use Rattle.sound_words.proofs.Belows.{sum-none, sum-more}
 use Rattle.sound_trees.specs.Links.{isUnder, upTest, downTest, interfaceTest}
 use Rattle.sound_trees.specs.Width.{progressUnder, widthOf}

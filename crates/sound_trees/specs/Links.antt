@@ -8,7 +8,7 @@ use Rattle.words.specs.Store.{interfaceAt}
 use Rattle.words.specs.declared.Interface.{Interface}
 use Rattle.words.specs.declared.Up.{Up}
 use Rattle.words.specs.declared.Up.the-variants.{Top, Under}
-use Rattle.sound_words.specs.Coding.{spareAt, linkAt}
+use Rattle.words.specs.Coding.{spareAt, linkAt}
 
 abbrev pub isUnder : Up → ℕ → Bool
 isUnder Top u = false

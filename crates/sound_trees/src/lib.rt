@@ -67,7 +67,7 @@ fn is_interface(b: &[u64; WORDS], u: usize) -> bool
 {
     let f = words::load_interface(b, u);
     let p = f.parent;
-    let coded = sound_words::is_spare(b, u) & sound_words::is_link(b, u);
+    let coded = words::is_spare(b, u) & words::is_link(b, u);
     let ranged = (f.used <= 64) & (f.progress <= 1099511627776);
     coded & (ranged & (is_half(b, p, u) & are_halves(b, f.left, f.right, u)))
 }

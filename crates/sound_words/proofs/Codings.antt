@@ -23,7 +23,7 @@ use Rattle.words.specs.Store.{base, ibase, nodeAt, nodeWords, interfaceAt, inte
 use Rattle.words.proofs.Laws.{GoodHandle, GoodParent, GoodClass, GoodUp, good-node, good-interface}
 use Rattle.ledger_spec.proofs.Lists.{and-true, both-true}
 use Rattle.views.specs.Records.{noNode}
-use Rattle.sound_words.specs.Coding.{zeroAt, blankAt, codedAt, spareAt, linkAt}
+use Rattle.words.specs.Coding.{zeroAt, blankAt, codedAt, spareAt, linkAt}
 
 -- ---- a word in range is its own code
 state-code : (w : ℕ) → w ≤ 2 → w ≡ stateWord (stateOf w)

@@ -12,7 +12,7 @@ use Rattle.ledger_spec.specs.Look.{climb}
 use Rattle.ledger_spec.proofs.Lists.{and-true, both-true}
 use Rattle.views.specs.View.{sumUp, view}
 use Rattle.sound_words.specs.Below.{allTo}
-use Rattle.sound_words.specs.Coding.{blankAt, codedAt}
+use Rattle.words.specs.Coding.{blankAt, codedAt}
 use Rattle.sound_words.proofs.Belows.{all-each, all-of}
 use Rattle.sound_words.proofs.Codings.{Coding, coded-words, words-coded}
 use Rattle.sound_trees.specs.Links.{interfaceTest}

@@ -1,8 +1,8 @@
 -- Each word is read and tested, in the definition's order. Assumes nothing.
-use Rattle.sound_words.specs.Coding.{blankAt}
+use Rattle.words.specs.Coding.{codedAt}
 use borrow.Author.Needs.{needs}
-use Rattle.sound_words.proofs.is_blank.Statement.{statement}
-use Rattle.sound_words.proofs.is_blank.Tie as tie
+use Rattle.words.proofs.is_coded.Statement.{statement}
+use Rattle.words.proofs.is_coded.Tie as tie
 
 mul-at : tie.Need-mul-at
 mul-at c = search needs
@@ -64,66 +64,12 @@ mul-result-6 c = search needs
 element-copy-out-result-6 : tie.Need-element-copy-out-result-6
 element-copy-out-result-6 c = search needs
 
-add-result-7 : tie.Need-add-result-7
-add-result-7 c = search needs
-
-mul-result-7 : tie.Need-mul-result-7
-mul-result-7 c = search needs
-
-element-copy-out-result-7 : tie.Need-element-copy-out-result-7
-element-copy-out-result-7 c = search needs
-
-add-result-8 : tie.Need-add-result-8
-add-result-8 c = search needs
-
-mul-result-8 : tie.Need-mul-result-8
-mul-result-8 c = search needs
-
-element-copy-out-result-8 : tie.Need-element-copy-out-result-8
-element-copy-out-result-8 c = search needs
-
-add-result-9 : tie.Need-add-result-9
-add-result-9 c = search needs
-
-mul-result-9 : tie.Need-mul-result-9
-mul-result-9 c = search needs
-
-element-copy-out-result-9 : tie.Need-element-copy-out-result-9
-element-copy-out-result-9 c = search needs
-
-add-result-10 : tie.Need-add-result-10
-add-result-10 c = search needs
-
-mul-result-10 : tie.Need-mul-result-10
-mul-result-10 c = search needs
-
-element-copy-out-result-10 : tie.Need-element-copy-out-result-10
-element-copy-out-result-10 c = search needs
-
-add-result-11 : tie.Need-add-result-11
-add-result-11 c = search needs
-
-mul-result-11 : tie.Need-mul-result-11
-mul-result-11 c = search needs
-
-element-copy-out-result-11 : tie.Need-element-copy-out-result-11
-element-copy-out-result-11 c = search needs
-
-add-result-12 : tie.Need-add-result-12
-add-result-12 c = search needs
-
-mul-result-12 : tie.Need-mul-result-12
-mul-result-12 c = search needs
-
-element-copy-out-result-12 : tie.Need-element-copy-out-result-12
-element-copy-out-result-12 c = search needs
-
 returns : tie.Need-returns
-unfolding blankAt
+unfolding codedAt
 returns c = search needs
 
-pub is-blank-spec : {M : Type 1} → statement M
-is-blank-spec =
+pub is-coded-spec : {M : Type 1} → statement M
+is-coded-spec =
     tie.close
     (tie.spec
     mul-at
@@ -146,22 +92,4 @@ is-blank-spec =
     add-result-6
     mul-result-6
     element-copy-out-result-6
-    add-result-7
-    mul-result-7
-    element-copy-out-result-7
-    add-result-8
-    mul-result-8
-    element-copy-out-result-8
-    add-result-9
-    mul-result-9
-    element-copy-out-result-9
-    add-result-10
-    mul-result-10
-    element-copy-out-result-10
-    add-result-11
-    mul-result-11
-    element-copy-out-result-11
-    add-result-12
-    mul-result-12
-    element-copy-out-result-12
     returns)

@@ -1,10 +1,10 @@
--- Tests that words are the code of what is loaded from them (`Coded` of views), and that a slot's words are all zero. Assumes nothing.
+-- Tests that words are the code of what is loaded from them (`Coded` of crate views), and that a slot's words are all zero. Assumes nothing.
 use Prim.Native.Nat.{ℕ, _+_}
 use mathlib.Core.Bool.{Bool, _&&_}
 use mathlib.Core.List.{List}
 use lib.Dec.{eqb, leb, ltb}
 use lib.ListN.{getD}
 use Rattle.words.specs.Store.{base, ibase}
 
 abbrev pub zeroAt : List ℕ → ℕ → Bool
 zeroAt b m = eqb (getD b m 0) 0
