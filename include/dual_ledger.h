@@ -1,0 +1,203 @@
+/* The proved dual ledger, for C. Link libdual_ledger.a, which `rt staticlib dual_ledger` makes.
+ *
+ * A bench is DUAL_LEDGER_WORDS words that the caller owns and lends; a group is DUAL_LEDGER_GROUP_WORDS. No function keeps a pointer, allocates,
+ * prints or stops the program. Pointers must be valid for what they are said to hold, and what is written must not overlap what else is lent.
+ *
+ * A call or read answers a number: 0 is accepted; any other is the reason of a refusal, the lowest that applies. Refused, everything that was lent
+ * stays as it was but for the answer, whose values are then 0 or none. (dual_ledger_set_up alone makes a bench although it answers WORN.)
+ *
+ * A handle is one word: (serial * 64 + slot) * 8 + interface, below DUAL_LEDGER_NO_NODE. A word that is no handle names no node.
+ *
+ * Three forms. dual_ledger_NAME takes any words at all and tests them first (BROKEN if they hold no sound bench). dual_ledger_trusted_NAME tests
+ * nothing about the words: lend it only words that dual_ledger_set_up and accepted or refused calls of this library alone have written, or that
+ * dual_ledger_is_sound has passed. dual_ledger_told_NAME is as trusted as that and tells the notices besides.
+ */
+#ifndef DUAL_LEDGER_H
+#define DUAL_LEDGER_H
+
+#include <stddef.h>
+#include <stdint.h>
+
+#ifdef __cplusplus
+extern "C" {
+#endif
+
+#define DUAL_LEDGER_WORDS 6273
+#define DUAL_LEDGER_ANSWER_WORDS 199
+#define DUAL_LEDGER_OBSTACLE_WORDS 5
+#define DUAL_LEDGER_GROUP_WORDS 1413
+#define DUAL_LEDGER_NO_NODE ((uint64_t)2199023255552u)
+
+/* The answer of a call that tells notices:
+ *   word 0              the node made or named, as a handle; 0 where there is none
+ *   word 1              how many notices follow, at most 66
+ *   word 2              how many members the circle of "shrink prepared" has, at most 64
+ *   words 3 + 2 i, + 4  notice i: its kind, and what it is of
+ *   words 135 + i       member i of the circle
+ * Words past those counts are 0. */
+#define DUAL_LEDGER_DEFECT_ADDED 1    /* the node */
+#define DUAL_LEDGER_STATE_STAY 2      /* the node, set to stay */
+#define DUAL_LEDGER_STATE_GROW 3      /* the node, set to grow */
+#define DUAL_LEDGER_STATE_SHRINK 4    /* the node, set to shrink */
+#define DUAL_LEDGER_SHRINK_PREPARED 5 /* 0; its circle stands beside the notices */
+#define DUAL_LEDGER_BLOSSOM_ADDED 6   /* the blossom */
+#define DUAL_LEDGER_BLOSSOM_REMOVED 7 /* the blossom */
+#define DUAL_LEDGER_GROWN 8           /* the length, as a signed word */
+
+/* An obstacle: its kind, then four words, 0 where nothing is said.
+ *   growth      length as a signed word, whether some boundary node is empty (1 or 0)
+ *   conflict    node, what touches there, node, what touches there
+ *   virtual     node, what touches there, the virtual vertex, whether it is a mirror (1 or 0)
+ *   expand      the blossom
+ *   stop        the node
+ *   stop, pair  the node, the pair's node, what touches there */
+#define DUAL_LEDGER_NO_OBSTACLE 0
+#define DUAL_LEDGER_NON_ZERO_GROW 1
+#define DUAL_LEDGER_CONFLICTING 2
+#define DUAL_LEDGER_TOUCHING_VIRTUAL 3
+#define DUAL_LEDGER_BLOSSOM_NEED_EXPAND 4
+#define DUAL_LEDGER_VERTEX_SHRINK_STOP 5
+#define DUAL_LEDGER_VERTEX_SHRINK_STOP_PAIR 6
+
+/* A group: words 0 to 2 are 1, the length as a signed word and a flag for a growth, or 2, 0, 0 for conflicts; words 3 and 4 are how many are listed and
+ * how many stops are pending; words 5 + 5 i are entry i of the list, an obstacle; words 645 + 6 i are stop i, its vertex and then an obstacle. */
+
+/* ---- set-up */
+
+/* Makes the words a bench of eight empty interfaces whose next serial is first. Answers 0, or WORN for first = 0: then it is as from serial 1. */
+uint8_t dual_ledger_set_up(uint64_t *bench, uint32_t first);
+
+/* 1 where the words are a sound bench, else 0. Any words may be lent. */
+uint8_t dual_ledger_is_sound(const uint64_t *bench);
+
+/* ---- calls, on any words */
+
+/* Adds the node of a vertex to interface unit, growing, with value 0. */
+uint8_t dual_ledger_create_defect_node(uint64_t *bench, uint8_t unit, uint32_t vertex, uint64_t *answer);
+/* Makes a blossom of the members, in circle order. touching has two handles for each member, or none: then each member touches by itself. */
+uint8_t dual_ledger_create_blossom(uint64_t *bench, uint8_t unit, const uint64_t *members, size_t members_len, const uint64_t *touching,
+                                   size_t touching_len, uint64_t *answer);
+/* Takes a blossom apart: its members are outermost again and grow, and its value stays in the sum. */
+uint8_t dual_ledger_expand_blossom(uint64_t *bench, uint8_t unit, uint64_t node, uint64_t *answer);
+/* Sets the state of an outermost node by the sign of state: above 0 it grows, at 0 it stays, below 0 it shrinks. */
+uint8_t dual_ledger_set_grow_state(uint64_t *bench, uint8_t unit, uint64_t node, int8_t state, uint64_t *answer);
+/* Grows interface unit, and what is fused into it, by length. */
+uint8_t dual_ledger_grow(uint64_t *bench, uint8_t unit, int64_t length, uint64_t *answer);
+/* Makes left and right the halves of parent. Tells nothing. */
+uint8_t dual_ledger_fuse(uint64_t *bench, uint8_t parent, uint8_t left, uint8_t right);
+/* Empties interface unit and what is fused into it; serials go on. Tells nothing. */
+uint8_t dual_ledger_clear(uint64_t *bench, uint8_t unit);
+
+/* ---- the same on sound words, with the notices */
+
+uint8_t dual_ledger_told_create_defect_node(uint64_t *bench, uint8_t unit, uint32_t vertex, uint64_t *answer);
+uint8_t dual_ledger_told_create_blossom(uint64_t *bench, uint8_t unit, const uint64_t *members, size_t members_len, const uint64_t *touching,
+                                        size_t touching_len, uint64_t *answer);
+uint8_t dual_ledger_told_expand_blossom(uint64_t *bench, uint8_t unit, uint64_t node, uint64_t *answer);
+uint8_t dual_ledger_told_set_grow_state(uint64_t *bench, uint8_t unit, uint64_t node, int8_t state, uint64_t *answer);
+uint8_t dual_ledger_told_grow(uint64_t *bench, uint8_t unit, int64_t length, uint64_t *answer);
+
+/* ---- the same on sound words, without notices: node is the handle made or named, 0 where there is none */
+
+uint8_t dual_ledger_trusted_create_defect_node(uint64_t *bench, uint8_t unit, uint32_t vertex, uint64_t *node);
+uint8_t dual_ledger_trusted_create_blossom(uint64_t *bench, uint8_t unit, const uint64_t *members, size_t members_len, const uint64_t *touching,
+                                           size_t touching_len, uint64_t *node);
+uint8_t dual_ledger_trusted_expand_blossom(uint64_t *bench, uint8_t unit, uint64_t node);
+uint8_t dual_ledger_trusted_set_grow_state(uint64_t *bench, uint8_t unit, uint64_t node, int8_t state);
+uint8_t dual_ledger_trusted_grow(uint64_t *bench, uint8_t unit, int64_t length);
+uint8_t dual_ledger_trusted_fuse(uint64_t *bench, uint8_t parent, uint8_t left, uint8_t right);
+uint8_t dual_ledger_trusted_clear(uint64_t *bench, uint8_t unit);
+
+/* ---- reads, on any words; dual_ledger_trusted_NAME with the same arguments on sound words */
+
+/* The stored sum of an interface without a parent, its halves counted in. */
+uint8_t dual_ledger_sum_dual_variables(const uint64_t *bench, uint8_t unit, int64_t *sum);
+/* Its speed: growing nodes less shrinking ones. */
+uint8_t dual_ledger_sum_grow_speed(const uint64_t *bench, uint8_t unit, int64_t *speed);
+/* How many slots its tree has, used or emptied. */
+uint8_t dual_ledger_nodes_count(const uint64_t *bench, uint8_t unit, uint64_t *count);
+/* The handle at an index of its tree, left half, right half, own; DUAL_LEDGER_NO_NODE for an emptied slot, and where refused. */
+uint8_t dual_ledger_get_node(const uint64_t *bench, uint8_t unit, uint32_t index, uint64_t *node);
+/* 1 where the node stands in the tree of interface unit, else 0. */
+uint8_t dual_ledger_check_ptr_belonging(const uint64_t *bench, uint8_t unit, uint64_t node, uint64_t *inside);
+/* The node's value now. */
+uint8_t dual_ledger_get_dual_variable(const uint64_t *bench, uint64_t node, int64_t *value);
+/* The outermost blossom around the node, itself if it is in none, and the parent links followed to it. */
+uint8_t dual_ledger_get_ancestor_blossom(const uint64_t *bench, uint64_t node, uint64_t *ancestor, uint64_t *links);
+/* The node below the outermost blossom on the way there. */
+uint8_t dual_ledger_get_secondary_ancestor_blossom(const uint64_t *bench, uint64_t node, uint64_t *second);
+/* The node's first vertex. */
+uint8_t dual_ledger_get_representative_vertex(const uint64_t *bench, uint64_t node, uint32_t *vertex);
+/* All the node's vertices into the first entries of out, if it has room; entries past them stay. */
+uint8_t dual_ledger_get_all_vertices(const uint64_t *bench, uint64_t node, uint32_t *out, size_t out_len, uint64_t *count);
+
+uint8_t dual_ledger_trusted_sum_dual_variables(const uint64_t *bench, uint8_t unit, int64_t *sum);
+uint8_t dual_ledger_trusted_sum_grow_speed(const uint64_t *bench, uint8_t unit, int64_t *speed);
+uint8_t dual_ledger_trusted_nodes_count(const uint64_t *bench, uint8_t unit, uint64_t *count);
+uint8_t dual_ledger_trusted_get_node(const uint64_t *bench, uint8_t unit, uint32_t index, uint64_t *node);
+uint8_t dual_ledger_trusted_check_ptr_belonging(const uint64_t *bench, uint8_t unit, uint64_t node, uint64_t *inside);
+uint8_t dual_ledger_trusted_get_dual_variable(const uint64_t *bench, uint64_t node, int64_t *value);
+uint8_t dual_ledger_trusted_get_ancestor_blossom(const uint64_t *bench, uint64_t node, uint64_t *ancestor, uint64_t *links);
+uint8_t dual_ledger_trusted_get_secondary_ancestor_blossom(const uint64_t *bench, uint64_t node, uint64_t *second);
+uint8_t dual_ledger_trusted_get_representative_vertex(const uint64_t *bench, uint64_t node, uint32_t *vertex);
+uint8_t dual_ledger_trusted_get_all_vertices(const uint64_t *bench, uint64_t node, uint32_t *out, size_t out_len, uint64_t *count);
+
+/* ---- the check */
+
+/* The Rust's check: verdict 0 to 5 and the index of the first finding. */
+uint8_t dual_ledger_sanity_check(const uint64_t *bench, uint8_t unit, uint64_t *verdict, uint64_t *index);
+/* The strict check: verdict 0 to 6 and the index. */
+uint8_t dual_ledger_strict_check(const uint64_t *bench, uint8_t unit, uint64_t *verdict, uint64_t *index);
+uint8_t dual_ledger_trusted_sanity_check(const uint64_t *bench, uint8_t unit, uint64_t *verdict, uint64_t *index);
+uint8_t dual_ledger_trusted_strict_check(const uint64_t *bench, uint8_t unit, uint64_t *verdict, uint64_t *index);
+
+/* ---- groups of obstacles. Group words that are not written as above, or hold no sound group, are refused as BROKEN. */
+
+/* Makes the words the empty group. */
+void dual_ledger_empty_group(uint64_t *group);
+/* 1 where the words are a sound group, else 0. */
+uint8_t dual_ledger_group_is_sound(const uint64_t *group);
+/* yes: 1 where no obstacle stands in the way, else 0. */
+uint8_t dual_ledger_group_is_empty(const uint64_t *group, uint64_t *yes);
+/* yes: 1 where growing makes sense as it stands, else 0. */
+uint8_t dual_ledger_group_is_active(const uint64_t *group, uint64_t *yes);
+/* asked: 1 and the length where the group is a growth, else 0 and 0. */
+uint8_t dual_ledger_group_get_none_zero_growth(const uint64_t *group, uint64_t *asked, int64_t *length);
+/* The obstacle that pop would take, left where it is. */
+uint8_t dual_ledger_group_peek(const uint64_t *group, uint64_t *obstacle);
+/* Takes the next obstacle out. */
+uint8_t dual_ledger_group_pop(uint64_t *group, uint64_t *obstacle);
+/* Adds an obstacle; every node that it names must be present in the bench. */
+uint8_t dual_ledger_group_add(const uint64_t *bench, uint64_t *group, const uint64_t *obstacle);
+/* Adds what another group holds. */
+uint8_t dual_ledger_group_extend(const uint64_t *bench, uint64_t *group, const uint64_t *other);
+
+/* ---- the numbers of document 01 */
+
+#define DUAL_LEDGER_LINE 1 /* text program: line not of the grammar */
+#define DUAL_LEDGER_BROKEN 2 /* bench or group words that are not sound */
+#define DUAL_LEDGER_UNIT 3 /* an interface the call names above 7 (inside a handle it is STALE) */
+#define DUAL_LEDGER_CHILD 4 /* an interface named has a parent */
+#define DUAL_LEDGER_LENGTH 5 /* growth negative, or progress would pass 2^40 */
+#define DUAL_LEDGER_CIRCLE 6 /* 0 or more than 64 members */
+#define DUAL_LEDGER_TOUCH 7 /* touching list neither empty nor as long as the circle */
+#define DUAL_LEDGER_STALE 8 /* a handle names no present node of that serial; for extend, any handle of the other group */
+#define DUAL_LEDGER_FOREIGN 9 /* a node, touching ones too, of another tree than the call's interface */
+#define DUAL_LEDGER_KIND 10 /* expanding a defect; pop or peek of a growth */
+#define DUAL_LEDGER_INSIDE 11 /* set state, expand, or circle member with a parent */
+#define DUAL_LEDGER_TOP 12 /* node below the outermost asked of a node without parent */
+#define DUAL_LEDGER_TWICE 13 /* a member twice */
+#define DUAL_LEDGER_FULL 14 /* all 64 slots of the interface used since its clear */
+#define DUAL_LEDGER_WORN 15 /* no serial left after 4,294,967,295; set-up from 0 */
+#define DUAL_LEDGER_PAIR 16 /* fuse: left is right, or parent's number not above both */
+#define DUAL_LEDGER_USED 17 /* fuse: parent has slots used, progress or children */
+#define DUAL_LEDGER_RANGE 18 /* index at or past the count */
+#define DUAL_LEDGER_SMALL 19 /* slice shorter than the defect size */
+#define DUAL_LEDGER_ROOM 20 /* list or stops would pass 128 at any step */
+#define DUAL_LEDGER_NOTHING 21 /* growth asked of (largest weight, any flag) */
+
+#ifdef __cplusplus
+}
+#endif
+
+#endif
