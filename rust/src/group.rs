@@ -149,6 +149,11 @@ impl Group {
         settled(group::group_extend(bench.words(), &mut self.0, &other.0), ())
     }
 
+    /// Length and flag of a growth, of the largest weight too; none of conflicts.
+    pub fn growth(&self) -> Option<(i64, bool)> {
+        (self.0[0] == 1).then_some((self.0[1] as i64, self.0[2] == 1))
+    }
+
     /// The obstacles listed, in the order of the list; none of a growth.
     pub fn list(&self) -> impl Iterator<Item = Obstacle> + '_ {
         self.0[5..].chunks(5).take(self.count(3)).filter_map(Obstacle::from_words)
@@ -171,9 +176,11 @@ impl Group {
 
 impl std::fmt::Debug for Group {
     fn fmt(&self, f: &mut std::fmt::Formatter) -> std::fmt::Result {
-        match self.0[0] {
-            1 => f.debug_struct("Group").field("growth", &(self.0[1] as i64)).field("empty_boundary", &(self.0[2] == 1)).finish(),
-            _ => f.debug_struct("Group").field("list", &self.list().collect::<Vec<_>>()).field("stops", &self.stops().collect::<Vec<_>>()).finish(),
+        match self.growth() {
+            Some((length, flag)) => f.debug_struct("Group").field("length", &length).field("flag", &flag).finish(),
+            None => {
+                f.debug_struct("Group").field("list", &self.list().collect::<Vec<_>>()).field("stops", &self.stops().collect::<Vec<_>>()).finish()
+            }
         }
     }
 }
