@@ -233,7 +233,10 @@ pub fn run(list_file: &str, numbers: &str) -> Result<(), String> {
     let text = std::fs::read_to_string(list_file).map_err(|why| format!("{list_file}: {why}"))?;
     let mut rows = list(&timing::read(&text)?);
     rows.extend([1, 8, 64, 448].into_iter().flat_map(singles));
-    let tabs: String = rows.iter().map(|r| format!("{}\t{}\t{:.1}\t{:.1}\t{}\t{}\n", r.what, r.nodes, r.original, r.trusted, shown(r.told), shown(r.public))).collect();
+    let tabs: String = rows
+        .iter()
+        .map(|r| format!("{}\t{}\t{:.1}\t{:.1}\t{}\t{}\n", r.what, r.nodes, r.original, r.trusted, shown(r.told), shown(r.public)))
+        .collect();
     std::fs::write(numbers, tabs).map_err(|why| format!("{numbers}: {why}"))?;
     print!("{}", table(&rows));
     println!("original: bare calls over a dual module that counts. trusted: a Bench's calls. told: with notices to a module that counts. public: on any words, tested first.");

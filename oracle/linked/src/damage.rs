@@ -169,7 +169,10 @@ fn call(rng: &mut Rng, was: &Plain) -> Line {
 
 /// The model's answer without what only the text program shows, speed and sum; its number alone where refused.
 fn short(line: &Line, answer: Vec<i64>) -> Vec<i64> {
-    let tells = matches!(line, Line::Defect(..) | Line::Blossom(..) | Line::Expand(..) | Line::SetState(..) | Line::Grow(..) | Line::Fuse(..) | Line::Clear(_));
+    let tells = matches!(
+        line,
+        Line::Defect(..) | Line::Blossom(..) | Line::Expand(..) | Line::SetState(..) | Line::Grow(..) | Line::Fuse(..) | Line::Clear(_)
+    );
     match answer[0] {
         0 if tells => [&answer[..2], &answer[4..]].concat(),
         0 => answer,

@@ -82,9 +82,7 @@ fn main() {
         ["small"] => scale(60_000, 6_000, 10_000, 1),
         ["scale"] => scale(10_000_000, 1_000_000, 1_000_000, 1),
         ["scale", accepted, refused, damaged] => scale(count(accepted) as usize, count(refused) as usize, count(damaged) as usize, 1),
-        ["scale", accepted, refused, damaged, seed] => {
-            scale(count(accepted) as usize, count(refused) as usize, count(damaged) as usize, count(seed))
-        }
+        ["scale", accepted, refused, damaged, seed] => scale(count(accepted) as usize, count(refused) as usize, count(damaged) as usize, count(seed)),
         ["play", path] => play(path),
         ["bench", list, numbers] => bench::run(list, numbers).unwrap_or_else(|why| fail(why)),
         _ => fail(HELP),
