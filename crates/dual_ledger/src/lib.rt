@@ -1,12 +1,28 @@
 // What Rust and C link: every public call, read and check under its C name, over words, numbers and slices (include/dual_ledger.h). Each is one call of
 // the crate that does it, its answer written out as words. Assumes nothing.
+mod open_reads; // the reads and checks on any words
+mod trusted_calls; // the calls on sound words, without notices
+mod trusted_reads; // the reads and checks on sound words
+
 use words::WORDS;
 ghost use mathlib.Core.Path.{_≡_};
 ghost use Rattle.openings.specs.Opened.{OpenedBy};
+ghost use Rattle.soundness.specs.Sound.{soundWords};
+ghost use Rattle.answer_words.specs.Forms.{flagWord};
 
 #[no_mangle]
 pub extern "C" fn dual_ledger_set_up(bench: &mut [u64; WORDS], first: u32) -> u8
     ensures { λ r. ⌜ OpenedBy first r (now (bench .exit)) ⌝ }
 {
     openings::set_up(bench, first)
+}
+
+#[no_mangle]
+pub extern "C" fn dual_ledger_is_sound(bench: &[u64; WORDS]) -> u8
+    ensures { λ r. ⌜ r ≡ flagWord (soundWords (now (bench .entry))) ⌝ }
+{
+    if lent::is_bench(bench) {
+        return 1;
+    }
+    0
 }

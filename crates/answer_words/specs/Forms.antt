@@ -1,0 +1,36 @@
+-- One value as one word, and a state by a number's sign, as include/dual_ledger.h has them. Assumes nothing.
+use Prim.Native.Nat.{ℕ, zero, suc, _+_, _-_, _*_}
+use mathlib.Core.Bool.{Bool, true, false}
+use mathlib.Core.Option.{Option, none, some}
+use lib.IntN.{ℤ, pos, negsuc}
+use Rattle.ledger_spec.specs.Bench.{Handle, State, grows, stays, shrinks}
+
+abbrev pub nodeWord : Handle → ℕ
+nodeWord h = (h .serial * 64 + h .slot) * 8 + h .unit
+
+-- an outermost blossom, and the links to it
+abbrev pub outerWords : Handle × ℕ → ℕ × ℕ
+outerWords r = (nodeWord (r .0), r .1)
+
+-- 2^41 where there is none: no handle of a bench is written so
+abbrev pub maybeWord : Option Handle → ℕ
+maybeWord none = 2199023255552
+maybeWord (some h) = nodeWord h
+
+abbrev pub flagWord : Bool → ℕ
+flagWord true = 1
+flagWord false = 0
+
+-- a number below 0 as 2^64 more
+abbrev pub signedWord : ℤ → ℕ
+signedWord (pos n) = n
+signedWord (negsuc n) = 18446744073709551615 - n
+
+abbrev pub stateGiven : ℤ → State
+stateGiven (pos zero) = stays
+stateGiven (pos (suc n)) = grows
+stateGiven (negsuc n) = shrinks
+
+-- a value in its word form, beside the number of an answer
+abbrev pub worded : {A B : Type 0} → (A → B) → ℕ × A → ℕ × B
+worded f r = (r .0, f (r .1))

@@ -1,0 +1,18 @@
+-- The call below answers; its number, its node as a word and the words are handed on. Assumes nothing.
+use borrow.Author.Needs.{needs}
+use mathlib.Core.Path.{refl}
+use Rattle.dual_ledger.proofs.Settling.{settled, node-of}
+use Rattle.dual_ledger.proofs.trusted_calls.dual_ledger_trusted_create_blossom.Statement.{statement}
+use Rattle.dual_ledger.proofs.trusted_calls.dual_ledger_trusted_create_blossom.Tie as tie
+
+create-blossom-requires : tie.Need-create-blossom-requires
+create-blossom-requires c κs = search needs
+
+node-word-requires : tie.Need-node-word-requires
+node-word-requires c κs = search needs
+
+returns : tie.Need-returns
+returns c = let A = c .before .create-blossom .ensures in (settled refl A, node-of A (c .node-word .ensures))
+
+pub dual-ledger-trusted-create-blossom-spec : {M : Type 1} → statement M
+dual-ledger-trusted-create-blossom-spec = tie.close (tie.spec create-blossom-requires node-word-requires returns)
