@@ -1,5 +1,6 @@
 //! The linked ledger beside the original and the plain model: comparison at scale, and the benchmark.
 mod bench;
+mod bend;
 mod damage;
 mod groups;
 mod ledger;

@@ -18,8 +18,8 @@ pub struct Table {
     pub reads: usize,
     /// shapes, of one run in sixteen
     shapes: Coverage,
-    /// damaged benches by kind of damage: sound ones, BROKEN ones
-    pub damaged: BTreeMap<&'static str, [usize; 2]>,
+    /// damaged benches by kind of damage: sound ones, those that break a rule, words that are no bench
+    pub damaged: BTreeMap<&'static str, [usize; 3]>,
 }
 
 impl Table {
@@ -67,7 +67,7 @@ impl fmt::Display for Table {
         writeln!(f, "verdicts: {}", verdicts.join(", "))?;
         let shapes: Vec<String> = self.shapes.shapes.iter().map(|(shape, count)| format!("{shape}: {count}")).collect();
         writeln!(f, "shapes, in one run of sixteen: {}, blossoms in one another up to {}", shapes.join(", "), self.shapes.deepest)?;
-        writeln!(f, "{} damaged benches (sound, BROKEN):", self.damages())?;
-        self.damaged.iter().try_for_each(|(kind, [sound, broken])| writeln!(f, "  {kind}: {sound}, {broken}"))
+        writeln!(f, "{} damaged benches (sound still, BROKEN by a rule, BROKEN as no bench's words):", self.damages())?;
+        self.damaged.iter().try_for_each(|(kind, [sound, rule, none])| writeln!(f, "  {kind}: {sound}, {rule}, {none}"))
     }
 }
