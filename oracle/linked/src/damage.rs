@@ -101,24 +101,19 @@ pub fn run(plan: Plan, seed: u64, count: usize, table: &mut Table) -> Result<(),
             (kind, damaged)
         };
         let found = check(&mut rng, &player.model.bench, &damaged).map_err(|why| format!("{kind}, plan {} seed {seed}: {why}", plan.name))?;
-        table.damaged.entry(kind).or_default()[found as usize] += 1;
+        *table.damaged.entry((kind, found)).or_default() += 1;
     }
     Ok(())
 }
 
-/// What words are.
-#[derive(Clone, Copy)]
-enum Found {
-    Sound,
-    BreaksARule,
-    NoBench,
-}
+/// What words are that are no bench's.
+const NO_BENCH: &str = "words of no bench";
 
-/// One bench: the verdict on it, then one public call.
-fn check(rng: &mut Rng, was: &Plain, words: &Words) -> Result<Found, String> {
+/// One bench: the verdict on it, then one public call. The rule that it breaks, if it is not sound.
+fn check(rng: &mut Rng, was: &Plain, words: &Words) -> Result<Option<&'static str>, String> {
     let encoded = decode(words);
-    let refused = if encoded.is_some() { Found::BreaksARule } else { Found::NoBench };
-    let plain = encoded.filter(Plain::is_sound);
+    let broken = encoded.as_ref().map_or(Some(NO_BENCH), Plain::broken_rule);
+    let plain = encoded.filter(|_| broken.is_none());
     let is_sound = lent::is_sound(words);
     if is_sound != plain.is_some() || Bench::from_words(words).is_ok() != is_sound {
         return Err(format!("sound by the model: {}, linked: {is_sound}; words {:?}", plain.is_some(), shown(words)));
@@ -140,7 +135,7 @@ fn check(rng: &mut Rng, was: &Plain, words: &Words) -> Result<Found, String> {
     if after != left {
         return Err(format!("{line:?}: other words left than the model's; words {:?}", shown(words)));
     }
-    Ok(if is_sound { Found::Sound } else { refused })
+    Ok(broken)
 }
 
 /// Whether the nodes of a line are in their places still, so that serials name what handles do.

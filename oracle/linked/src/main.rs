@@ -4,6 +4,7 @@ mod bend;
 mod damage;
 mod groups;
 mod ledger;
+mod openings;
 mod reads;
 mod runs;
 mod table;
