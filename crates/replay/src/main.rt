@@ -6,6 +6,7 @@ mod looks;
 mod nodes;
 mod packs;
 mod says;
+mod tries;
 mod turns;
 
 use crate::packs::Four;

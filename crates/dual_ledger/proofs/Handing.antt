@@ -1,0 +1,21 @@
+-- A read's answer, handed on: its number, and its value in its word form. Assumes nothing.
+use Prim.Native.Nat.{ℕ}
+use mathlib.Core.Path.{_≡_, ap, _∙_}
+use lib.IntN.{ℤ}
+use mir.Syntax.{w64}
+use mir.Val.{SFits, toZ, ofZ}
+use mir.Facts.{toZ-ofZ}
+use Rattle.ledger_spec.specs.Bench.{Handle}
+use Rattle.reads.specs.Shown.{shownWeight}
+use Rattle.reads.specs.declared.Weighed.{Weighed}
+use Rattle.answer_words.specs.Forms.{nodeWord, signedWord, outerWords, worded}
+
+pub worded-by : {A : Type 0} (f : A → ℕ) {n w : ℕ} {a : A} {r : ℕ × A} → (n, a) ≡ r → w ≡ f a → (n, w) ≡ worded f r
+worded-by f p k = let q = k ∙ ap f (λ i. p i .1) in λ i. (p i .0, q i)
+
+pub outer-by : {n w l : ℕ} {h : Handle} {r : ℕ × (Handle × ℕ)} → (n, (h, l)) ≡ r → w ≡ nodeWord h → (n, (w, l)) ≡ worded outerWords r
+outer-by p k = let q = k ∙ ap nodeWord (λ i. p i .1 .0) in λ i. (p i .0, (q i, p i .1 .1))
+
+-- a weight is read again from 64 bits
+pub weighed : (a : Weighed) {w : ℕ} {r : ℕ × ℤ} → SFits w64 (a .weight) → shownWeight a ≡ r → w ≡ signedWord (toZ w64 (ofZ w64 (a .weight))) → (a .number, w) ≡ worded signedWord r
+weighed a f p k = worded-by signedWord p (k ∙ ap signedWord (toZ-ofZ f))
