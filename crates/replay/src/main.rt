@@ -7,6 +7,7 @@ mod nodes;
 mod packs;
 mod pools;
 mod says;
+mod tries;
 mod turns;
 
 use crate::packs::Four;

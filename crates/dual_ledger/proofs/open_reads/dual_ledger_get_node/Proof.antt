@@ -1,0 +1,18 @@
+-- The read below answers; its number and its values as words are handed on. Assumes nothing.
+use borrow.Author.Needs.{needs}
+use Rattle.dual_ledger.proofs.Handing.{worded-by}
+use Rattle.answer_words.specs.Forms.{maybeWord}
+use Rattle.dual_ledger.proofs.open_reads.dual_ledger_get_node.Statement.{statement}
+use Rattle.dual_ledger.proofs.open_reads.dual_ledger_get_node.Tie as tie
+
+get-node-requires : tie.Need-get-node-requires
+get-node-requires c κs = search needs
+
+maybe-word-requires : tie.Need-maybe-word-requires
+maybe-word-requires c κs = search needs
+
+returns : tie.Need-returns
+returns c = worded-by maybeWord (c .before .get-node .ensures) (c .maybe-word .ensures)
+
+pub dual-ledger-get-node-spec : {M : Type 1} → statement M
+dual-ledger-get-node-spec = tie.close (tie.spec get-node-requires maybe-word-requires returns)

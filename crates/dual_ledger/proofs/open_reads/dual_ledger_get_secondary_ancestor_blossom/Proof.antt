@@ -1,0 +1,27 @@
+-- The read below answers; its number and its values as words are handed on. Assumes nothing.
+use borrow.Author.Needs.{needs}
+use mathlib.Core.Path.{ap, _∙_}
+use Rattle.views.specs.View.{view}
+use Rattle.lent.specs.Verdict.{asked}
+use Rattle.ledger_spec.specs.Bench.{Handle}
+use Rattle.ledger_spec.specs.Walk.{underOf}
+use Rattle.ledger_spec.specs.Calls.{nobody}
+use Rattle.dual_ledger.proofs.Handing.{worded-by}
+use Rattle.answer_words.specs.Forms.{nodeWord}
+use Rattle.dual_ledger.proofs.open_reads.dual_ledger_get_secondary_ancestor_blossom.Statement.{statement}
+use Rattle.dual_ledger.proofs.open_reads.dual_ledger_get_secondary_ancestor_blossom.Tie as tie
+
+hand-requires : tie.Need-hand-requires
+hand-requires c κs = search needs
+
+get-secondary-ancestor-blossom-requires : tie.Need-get-secondary-ancestor-blossom-requires
+get-secondary-ancestor-blossom-requires c κs = search needs
+
+node-word-requires : tie.Need-node-word-requires
+node-word-requires c κs = search needs
+
+returns : tie.Need-returns
+returns c = worded-by nodeWord (c .before .before .get-secondary-ancestor-blossom .ensures ∙ ap (λ (h : Handle). asked (c .before .before .before .before .args .bench .now) nobody (underOf (view (c .before .before .before .before .args .bench .now)) h)) (c .before .before .before .hand .ensures)) (c .node-word .ensures)
+
+pub dual-ledger-get-secondary-ancestor-blossom-spec : {M : Type 1} → statement M
+dual-ledger-get-secondary-ancestor-blossom-spec = tie.close (tie.spec hand-requires get-secondary-ancestor-blossom-requires node-word-requires returns)

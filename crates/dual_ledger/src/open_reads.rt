@@ -1,0 +1,183 @@
+// The reads and checks on any words: BROKEN (2) where they hold no sound bench; else a number, and values as words, 0 or none where refused. A signed value
+// is the word of the same bits. None changes the bench. Assumes nothing.
+use kinds::NodeIndex;
+use words::WORDS;
+ghost use mathlib.Core.Path.{_≡_};
+ghost use mathlib.Core.Bool.{false};
+ghost use mathlib.Core.Option.{none};
+ghost use lib.IntN.{pos};
+ghost use Rattle.ledger_spec.specs.Calls.{nobody};
+ghost use Rattle.ledger_spec.specs.Reads.{sumOf, speedOf, countOf, handleOf, valueOf, belongs};
+ghost use Rattle.ledger_spec.specs.Walk.{outerOf, underOf, firstVertex, verticesInto};
+ghost use Rattle.ledger_spec.specs.Check.{checkOf, strictOf};
+ghost use Rattle.rings.specs.Given.{handGiven};
+ghost use Rattle.views.specs.View.{view};
+ghost use Rattle.lent.specs.Verdict.{asked};
+ghost use Rattle.verdicts.specs.Asked.{asked as checked};
+ghost use Rattle.answer_words.specs.Forms.{nodeWord, maybeWord, flagWord, signedWord, outerWords, worded};
+
+#[no_mangle]
+pub extern "C" fn dual_ledger_sum_dual_variables(
+    bench: &[u64; WORDS],
+    unit: u8,
+    sum: &mut u64,
+) -> u8
+    ensures { λ r. ⌜ (r, now (sum .exit)) ≡ worded signedWord (asked (now (bench .entry)) (pos 0) (sumOf (view (now (bench .entry))) unit)) ⌝ }
+{
+    let a = asks::sum_dual_variables(bench, unit);
+    *sum = answer_words::signed_word(a.weight);
+    a.number
+}
+
+#[no_mangle]
+pub extern "C" fn dual_ledger_sum_grow_speed(bench: &[u64; WORDS], unit: u8, speed: &mut u64) -> u8
+    ensures { λ r. ⌜ (r, now (speed .exit)) ≡ worded signedWord (asked (now (bench .entry)) (pos 0) (speedOf (view (now (bench .entry))) unit)) ⌝ }
+{
+    let a = asks::sum_grow_speed(bench, unit);
+    *speed = answer_words::signed_word(a.weight);
+    a.number
+}
+
+#[no_mangle]
+pub extern "C" fn dual_ledger_nodes_count(bench: &[u64; WORDS], unit: u8, count: &mut u64) -> u8
+    ensures { λ r. ⌜ (r, now (count .exit)) ≡ asked (now (bench .entry)) 0 (countOf (view (now (bench .entry))) unit) ⌝ }
+{
+    let a = asks::nodes_count(bench, unit);
+    *count = a.count;
+    a.number
+}
+
+#[no_mangle]
+pub extern "C" fn dual_ledger_get_node(
+    bench: &[u64; WORDS],
+    unit: u8,
+    index: u32,
+    node: &mut u64,
+) -> u8
+    ensures { λ r. ⌜ (r, now (node .exit)) ≡ worded maybeWord (asked (now (bench .entry)) none (handleOf (view (now (bench .entry))) unit index)) ⌝ }
+{
+    let a = asks::get_node(bench, unit, NodeIndex(index));
+    let found = a.node;
+    *node = answer_words::maybe_word(found);
+    a.number
+}
+
+#[no_mangle]
+pub extern "C" fn dual_ledger_check_ptr_belonging(
+    bench: &[u64; WORDS],
+    unit: u8,
+    node: u64,
+    inside: &mut u64,
+) -> u8
+    ensures { λ r. ⌜ (r, now (inside .exit)) ≡ worded flagWord (asked (now (bench .entry)) false (belongs (view (now (bench .entry))) unit (handGiven node))) ⌝ }
+{
+    let h = answer_words::hand(node);
+    let a = asks::check_ptr_belonging(bench, unit, h);
+    *inside = answer_words::flag_word(a.inside);
+    a.number
+}
+
+#[no_mangle]
+pub extern "C" fn dual_ledger_get_dual_variable(
+    bench: &[u64; WORDS],
+    node: u64,
+    value: &mut u64,
+) -> u8
+    ensures { λ r. ⌜ (r, now (value .exit)) ≡ worded signedWord (asked (now (bench .entry)) (pos 0) (valueOf (view (now (bench .entry))) (handGiven node))) ⌝ }
+{
+    let h = answer_words::hand(node);
+    let a = asks::get_dual_variable(bench, h);
+    *value = answer_words::signed_word(a.weight);
+    a.number
+}
+
+#[no_mangle]
+pub extern "C" fn dual_ledger_get_ancestor_blossom(
+    bench: &[u64; WORDS],
+    node: u64,
+    ancestor: &mut u64,
+    links: &mut u64,
+) -> u8
+    ensures { λ r. ⌜ (r, (now (ancestor .exit), now (links .exit))) ≡ worded outerWords (asked (now (bench .entry)) (nobody, 0) (outerOf (view (now (bench .entry))) (handGiven node))) ⌝ }
+{
+    let h = answer_words::hand(node);
+    let a = asks::get_ancestor_blossom(bench, h);
+    let outer = a.node;
+    *ancestor = answer_words::node_word(outer);
+    *links = a.links;
+    a.number
+}
+
+#[no_mangle]
+pub extern "C" fn dual_ledger_get_secondary_ancestor_blossom(
+    bench: &[u64; WORDS],
+    node: u64,
+    second: &mut u64,
+) -> u8
+    ensures { λ r. ⌜ (r, now (second .exit)) ≡ worded nodeWord (asked (now (bench .entry)) nobody (underOf (view (now (bench .entry))) (handGiven node))) ⌝ }
+{
+    let h = answer_words::hand(node);
+    let a = asks::get_secondary_ancestor_blossom(bench, h);
+    let under = a.node;
+    *second = answer_words::node_word(under);
+    a.number
+}
+
+#[no_mangle]
+pub extern "C" fn dual_ledger_get_representative_vertex(
+    bench: &[u64; WORDS],
+    node: u64,
+    vertex: &mut u32,
+) -> u8
+    ensures { λ r. ⌜ (r, now (vertex .exit)) ≡ asked (now (bench .entry)) 0 (firstVertex (view (now (bench .entry))) (handGiven node)) ⌝ }
+{
+    let h = answer_words::hand(node);
+    let a = asks::get_representative_vertex(bench, h);
+    *vertex = a.vertex.0;
+    a.number
+}
+
+#[no_mangle]
+pub extern "C" fn dual_ledger_get_all_vertices(
+    bench: &[u64; WORDS],
+    node: u64,
+    out: &mut [u32],
+    count: &mut u64,
+) -> u8
+    ensures { λ r. ⌜ (r, (now (count .exit), now (out .exit))) ≡ asked (now (bench .entry)) (0, now (out .entry)) (verticesInto (view (now (bench .entry))) (handGiven node) (now (out .entry))) ⌝ }
+{
+    let h = answer_words::hand(node);
+    let a = asks::get_all_vertices(bench, h, out);
+    *count = a.count;
+    a.number
+}
+
+#[no_mangle]
+pub extern "C" fn dual_ledger_sanity_check(
+    bench: &[u64; WORDS],
+    unit: u8,
+    verdict: &mut u64,
+    index: &mut u64,
+) -> u8
+    ensures { λ r. ⌜ (r, (now (verdict .exit), now (index .exit))) ≡ checked (now (bench .entry)) (0, 0) (checkOf (view (now (bench .entry))) unit) ⌝ }
+{
+    let a = verdicts::sanity_check(bench, unit);
+    *verdict = a.verdict as u64;
+    *index = a.index.0 as u64;
+    a.number
+}
+
+#[no_mangle]
+pub extern "C" fn dual_ledger_strict_check(
+    bench: &[u64; WORDS],
+    unit: u8,
+    verdict: &mut u64,
+    index: &mut u64,
+) -> u8
+    ensures { λ r. ⌜ (r, (now (verdict .exit), now (index .exit))) ≡ checked (now (bench .entry)) (0, 0) (strictOf (view (now (bench .entry))) unit) ⌝ }
+{
+    let a = verdicts::strict_check(bench, unit);
+    *verdict = a.verdict as u64;
+    *index = a.index.0 as u64;
+    a.number
+}
