@@ -6,6 +6,7 @@ pub mod driver;
 pub mod generator;
 pub mod line;
 pub mod model;
+pub mod pairs;
 pub mod panics;
 pub mod recording;
 pub mod recordings;

@@ -16,6 +16,8 @@ compare FILE  the answers of the original and of the model to each call, and of 
 bare FILE     each call by the original alone, refused or not: answers, panics, hangs
 list          the fixed list of a million operations in shots, as text lines
 time FILE     nanoseconds by kind of the operations in such a list (release build)
+linked        the linked ledger beside the original and the model: `linked small`, `linked scale`, `linked play FILE`
+bench         times of the original and the linked ledger in one run; makes docs/benchmark.svg
 raw           text lines on standard input, answered by the original alone
 text          text lines on standard input, answered as `ledger` is to answer them
 lines PLAN COUNT SEED   lines of a plan: text and mixed are lines of the text program, the others of recordings";

@@ -5,7 +5,7 @@ use crate::generator::{Plan, Player};
 use crate::line::read;
 use crate::recording::record;
 use crate::replay::Replay;
-use crate::{scenes, text};
+use crate::{pairs, scenes, text};
 use std::path::Path;
 
 /// How many answers of each plan, and how long a run is.
@@ -48,6 +48,7 @@ pub fn all(edges: &str) -> Vec<(&'static str, String)> {
         let (_, answers, longest) = SIZES.iter().find(|(name, ..)| *name == plan.name).expect("each plan has a size");
         found.push((plan.name, head(plan.name, plan.about) + &calls(*plan, *answers, *longest, 1_000 * (at as u64 + 1))));
     }
+    found.push(("pairs", head("pairs", "every number a call can be refused by, alone and beside each other that can apply") + &pairs::lines()));
     found.push(("limits", head("limits", "straight to the limits") + &scenes::limits()));
     found
 }

@@ -5,8 +5,8 @@ mod circles;
 mod looks;
 mod nodes;
 mod packs;
-mod pools;
 mod says;
+mod tries;
 mod turns;
 
 use crate::packs::Four;

@@ -6,6 +6,7 @@ use crate::nodes;
 use crate::packs;
 use crate::packs::Four;
 use crate::packs::Packed;
+use crate::tries;
 use tapes::ROOM;
 use words::WORDS;
 
@@ -26,6 +27,39 @@ fn changes(
         b'F' => acts::fuse(b, out, row, n),
         _ => acts::clear(b, out, row, n),
     }
+}
+
+// Whether a line that is refused is BROKEN on words that hold no bench, and leaves them alone.
+fn broken_too(before: &[u64; WORDS], letter: u8, row: &[i64; ROOM], n: usize) -> bool {
+    let mut out = [0i64; ROOM];
+    let mut torn = *before;
+    words::store_next(&mut torn, 0);
+    let kept = torn;
+    let said = changes(&mut torn, letter, row, n, &mut out);
+    if tapes::number(&out, said, 0) != 2 {
+        return false;
+    }
+    tries::same_words(&torn, &kept)
+}
+
+// A line that changes the bench, or is refused: then nothing is changed.
+fn tried(
+    b: &mut [u64; WORDS],
+    letter: u8,
+    row: &[i64; ROOM],
+    n: usize,
+    out: &mut [i64; ROOM],
+) -> usize {
+    let before = *b;
+    let said = changes(b, letter, row, n, out);
+    if tapes::number(out, said, 0) == 0 {
+        return said;
+    }
+    if !tries::same_words(b, &before) {
+        return tries::held(out, said, false);
+    }
+    let right = broken_too(&before, letter, row, n);
+    tries::held(out, said, right)
 }
 
 // The lines that read the bench.
@@ -53,6 +87,28 @@ fn looks_at(
         b'f' => looks::first(b, out, h),
         _ => looks::vertices(b, out, h, tapes::number(row, n, 1)),
     }
+}
+
+// A read that is refused is BROKEN on words that hold no bench. The dump is no read of the bench's own.
+fn looked(
+    b: &[u64; WORDS],
+    letter: u8,
+    row: &[i64; ROOM],
+    n: usize,
+    out: &mut [i64; ROOM],
+) -> usize {
+    let said = looks_at(b, letter, row, n, out);
+    if letter == b'd' {
+        return said;
+    }
+    if tapes::number(out, said, 0) == 0 {
+        return said;
+    }
+    let mut spare = [0i64; ROOM];
+    let mut torn = *b;
+    words::store_next(&mut torn, 0);
+    let t = looks_at(&torn, letter, row, n, &mut spare);
+    tries::held(out, said, tapes::number(&spare, t, 0) == 2)
 }
 
 // The lines about groups.
@@ -104,7 +160,7 @@ pub fn turn(
     match letter {
         b'N' => begins(b, tapes::number(row, n, 0), out),
         b'D' | b'B' | b'b' | b't' | b'E' | b'S' | b'G' | b'F' | b'C' => {
-            let said = changes(b, letter, row, n, out);
+            let said = tried(b, letter, row, n, out);
             Packed { said, four }
         }
         b'e' | b'g' | b'c' | b'w' | b'x' | b'q' | b'r' | b'j' | b'y' | b'z' | b'l' | b'm' => sorts(
@@ -116,7 +172,7 @@ pub fn turn(
             out,
         ),
         _ => {
-            let said = looks_at(b, letter, row, n, out);
+            let said = looked(b, letter, row, n, out);
             Packed { said, four }
         }
     }

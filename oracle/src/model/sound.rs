@@ -37,7 +37,7 @@ impl Bench {
         let reach = self.reach(unit);
         let speed: i64 = self.present(unit).into_iter().map(|h| self.at(h).state).sum();
         self.faces[unit].speed == speed
-            && self.faces[unit].sum.abs() <= 512 * reach
+            && self.faces[unit].sum.unsigned_abs() <= 512 * reach as u64
             && self.present(unit).into_iter().all(|h| self.at(h).value.abs() <= reach && self.is_sound_node(unit, h))
     }
 

@@ -1,0 +1,90 @@
+//! The linked ledger beside the original and the plain model: comparison at scale, and the benchmark.
+mod bench;
+mod damage;
+mod groups;
+mod ledger;
+mod reads;
+mod runs;
+mod table;
+mod words;
+
+use oracle::generator::plans::{ALL, MIXED, TEXT};
+use oracle::generator::Plan;
+use runs::Run;
+use std::process::exit;
+use std::time::Instant;
+use table::Table;
+
+const HELP: &str = "\
+linked small                              a part of a few seconds
+linked scale [ACCEPTED REFUSED DAMAGED [SEED]]   until so many of each were compared; by default 10000000 1000000 1000000 1
+linked play FILE                          lines of a file by all three: the first difference, if there is one
+bench LIST NUMBERS                        times of both sides in one run, over such a list; the same as numbers into a file";
+
+fn fail(why: impl std::fmt::Display) -> ! {
+    eprintln!("{why}");
+    exit(1)
+}
+
+/// Plans in turn, refusals every third: every other run short, with everything read after each line.
+fn nth(at: u64, seed: u64) -> Run {
+    let plans: Vec<Plan> = ALL.into_iter().chain([TEXT, MIXED]).collect();
+    let each = at % 2 == 0;
+    let seed = seed * 1_000_000_007 + at;
+    let lines = if each { 12 + seed as usize % 37 } else { 150 + seed as usize % 451 };
+    Run { plan: plans[(at / 2) as usize % plans.len()], seed, lines, each }
+}
+
+/// Shrinks a difference and stops.
+fn differ(run: &Run, lines: Vec<String>, why: String) -> ! {
+    println!("plan {}, seed {}: {why}", run.plan.name, run.seed);
+    let least = if runs::difference(&lines).is_some() { runs::smallest(lines) } else { lines };
+    println!("smallest input: {}", runs::difference(&least).unwrap_or(why));
+    least.iter().for_each(|line| println!("  {line}"));
+    exit(1)
+}
+
+/// Compares until there are so many accepted, refused and damaged.
+fn scale(accepted: usize, refused: usize, damaged: usize, seed: u64) {
+    let (mut table, began, mut said) = (Table::default(), Instant::now(), 0);
+    let mut at = 0;
+    while table.accepted() < accepted || table.refused() < refused {
+        let run = nth(at, seed);
+        run.play(&mut table).unwrap_or_else(|(lines, why)| differ(&run, lines, why));
+        at += 1;
+        if began.elapsed().as_secs() / 60 > said {
+            said = began.elapsed().as_secs() / 60;
+            eprintln!("{said} min: {} accepted, {} refused", table.accepted(), table.refused());
+        }
+    }
+    while table.damages() < damaged {
+        let plan = ALL[at as usize % ALL.len()];
+        damage::run(plan, seed + at, 400.min(damaged - table.damages()), &mut table).unwrap_or_else(|why| fail(why));
+        at += 1;
+    }
+    print!("{table}no difference; {} s\n", began.elapsed().as_secs());
+}
+
+fn play(path: &str) {
+    let text = std::fs::read_to_string(path).unwrap_or_else(|why| fail(format!("{path}: {why}")));
+    let lines: Vec<&str> = text.lines().filter(|line| !line.is_empty() && !line.starts_with(['#', '='])).collect();
+    match runs::difference(&lines) {
+        None => println!("{} lines, no difference", lines.len()),
+        Some(why) => fail(why),
+    }
+}
+
+fn main() {
+    let arguments: Vec<String> = std::env::args().skip(1).collect();
+    let words: Vec<&str> = arguments.iter().map(String::as_str).collect();
+    let count = |text: &str| text.parse::<u64>().unwrap_or_else(|_| fail(format!("`{text}` is no number")));
+    match words[..] {
+        ["small"] => scale(60_000, 6_000, 10_000, 1),
+        ["scale"] => scale(10_000_000, 1_000_000, 1_000_000, 1),
+        ["scale", accepted, refused, damaged] => scale(count(accepted) as usize, count(refused) as usize, count(damaged) as usize, 1),
+        ["scale", accepted, refused, damaged, seed] => scale(count(accepted) as usize, count(refused) as usize, count(damaged) as usize, count(seed)),
+        ["play", path] => play(path),
+        ["bench", list, numbers] => bench::run(list, numbers).unwrap_or_else(|why| fail(why)),
+        _ => fail(HELP),
+    }
+}

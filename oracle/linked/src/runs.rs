@@ -1,0 +1,129 @@
+//! Runs of generated lines by the original, the plain model and the linked ledger, compared in everything; a difference is shrunk to its smallest input.
+use crate::ledger::Ledger;
+use crate::table::Table;
+use crate::words::encode;
+use oracle::generator::{Plan, Player};
+use oracle::line::{numbers, read, Line};
+use oracle::replay::{Replay, Turn};
+
+/// The three of them, line by line.
+pub struct Sides {
+    pub replay: Replay,
+    pub ledger: Ledger,
+}
+
+/// Whether a line may change the bench.
+fn changes(line: &Line) -> bool {
+    use Line::*;
+    matches!(line, SetUp(_) | Defect(..) | Blossom(..) | Expand(..) | SetState(..) | Grow(..) | Fuse(..) | Clear(_))
+}
+
+impl Default for Sides {
+    fn default() -> Self {
+        Sides { replay: Replay::default(), ledger: Ledger::new(1) }
+    }
+}
+
+impl Sides {
+    /// One line by all; an error says how they differ.
+    pub fn turn(&mut self, line: &Line) -> Result<Turn, String> {
+        let turn = self.replay.turn(line);
+        if !turn.agrees() {
+            return Err(format!("original {:?}, model {}", turn.original, numbers(&turn.answer)));
+        }
+        let answer = self.ledger.answer(line)?;
+        if answer != turn.answer {
+            return Err(format!("linked {}, document 01 {}", numbers(&answer), numbers(&turn.answer)));
+        }
+        if changes(line) && encode(&self.replay.model.bench) != self.ledger.lent {
+            return Err("the words are not those of the plain ledger's bench".to_string());
+        }
+        Ok(turn)
+    }
+
+    /// Every read of everything: each interface, each index, each present node, each group.
+    fn everything(&mut self) -> Result<usize, String> {
+        let lines = self.reads();
+        let ask = |line: &Line| self.turn(line).map(|_| ()).map_err(|why| format!("{line:?}: {why}"));
+        lines.iter().try_for_each(ask)?;
+        Ok(lines.len())
+    }
+
+    fn reads(&self) -> Vec<Line> {
+        let bench = &self.replay.model.bench;
+        let mut lines = vec![];
+        for unit in (0..8).filter(|unit| self.replay.model.is_top(*unit)) {
+            let u = unit as u32;
+            lines.extend([Line::Sum(u), Line::Speed(u), Line::Count(u), Line::Dump(u), Line::Check(u), Line::Strict(u)]);
+            lines.extend((0..bench.slots(unit).len() as u32).map(|index| Line::HandleAt(u, index)));
+            for h in bench.present(unit) {
+                let s = h.serial;
+                lines.extend([Line::Value(s), Line::Outer(s), Line::First(s), Line::Belongs(u, s), Line::Belongs(7, s)]);
+                lines.push(Line::Vertices(s, bench.at(h).size as u32 + 1));
+                lines.extend(bench.at(h).parent.map(|_| Line::Under(s)));
+            }
+        }
+        lines.extend((0..self.ledger.groups.len()).flat_map(|g| [Line::Asked(g), Line::Content(g)]));
+        lines
+    }
+}
+
+/// A run: which plan, from which seed, how many lines, and whether everything is read after each.
+#[derive(Clone, Copy)]
+pub struct Run {
+    pub plan: Plan,
+    pub seed: u64,
+    pub lines: usize,
+    pub each: bool,
+}
+
+impl Run {
+    /// Plays the run; a difference comes back with the lines up to it.
+    pub fn play(&self, table: &mut Table) -> Result<(), (Vec<String>, String)> {
+        let mut player = Player::new(self.plan, self.seed);
+        let mut sides = Sides::default();
+        let mut said = vec![];
+        table.runs[self.each as usize] += 1;
+        for at in 0..self.lines {
+            let line = player.line();
+            let call = read(&line).expect("the generator makes lines of the language");
+            said.push(line);
+            let before = table.wants_shapes(self.seed).then(|| sides.replay.model.clone());
+            let turn = sides.turn(&call).map_err(|why| (said.clone(), why))?;
+            table.see(&said[at], &call, before.as_ref(), &sides.replay.model, &turn);
+            if self.each || at + 1 == self.lines {
+                table.reads += sides.everything().map_err(|why| (said.clone(), why))?;
+            }
+        }
+        Ok(())
+    }
+}
+
+/// The first difference over these lines, everything being read after each.
+pub fn difference<S: AsRef<str>>(lines: &[S]) -> Option<String> {
+    let mut sides = Sides::default();
+    let step = |line: &S| {
+        let call = read(line.as_ref())?;
+        sides.turn(&call).and_then(|_| sides.everything()).map_err(|why| format!("{}: {why}", line.as_ref()))
+    };
+    lines.iter().map(step).find_map(Result::err)
+}
+
+/// The fewest lines that still differ: parts are left out, halves first, single lines last, while they do.
+pub fn smallest(mut lines: Vec<String>) -> Vec<String> {
+    let mut part = lines.len().div_ceil(2);
+    while part > 0 {
+        let mut at = 0;
+        let was = lines.len();
+        while at < lines.len() {
+            let without: Vec<String> = lines.iter().enumerate().filter(|(i, _)| *i < at || *i >= at + part).map(|(_, line)| line.clone()).collect();
+            if difference(&without).is_some() {
+                lines = without;
+            } else {
+                at += part;
+            }
+        }
+        part = if part == 1 && lines.len() < was { 1 } else { part / 2 };
+    }
+    lines
+}

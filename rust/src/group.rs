@@ -1,0 +1,186 @@
+//! Groups of obstacles: what stands in the way of growing, as the original's `GroupMaxUpdateLength`.
+use crate::linked::{group, GroupWords, ObstacleWords, GROUP_WORDS};
+use crate::refusal::settled;
+use crate::{Bench, Handle, Refusal};
+
+/// What stands in the way, as the original's `MaxUpdateLength`. Pairs are a node and what touches there.
+#[derive(Clone, Copy, Debug, PartialEq, Eq, Hash)]
+pub enum Obstacle {
+    /// Growing by this length is possible; whether some boundary node is empty.
+    NonZeroGrow(i64, bool),
+    /// Two nodes meet.
+    Conflicting((Handle, Handle), (Handle, Handle)),
+    /// A node meets a virtual vertex; whether that is a mirror.
+    TouchingVirtual((Handle, Handle), (u32, bool)),
+    /// A shrinking blossom is at 0.
+    BlossomNeedExpand(Handle),
+    /// A shrinking vertex is at 0, perhaps with the pair that it would conflict by.
+    VertexShrinkStop(Handle, Option<(Handle, Handle)>),
+}
+
+impl Obstacle {
+    fn words(self) -> ObstacleWords {
+        let flag = u64::from;
+        match self {
+            Obstacle::NonZeroGrow(length, empty) => [1, length as u64, flag(empty), 0, 0],
+            Obstacle::Conflicting((a, b), (c, d)) => [2, a.word(), b.word(), c.word(), d.word()],
+            Obstacle::TouchingVirtual((a, b), (vertex, mirror)) => [3, a.word(), b.word(), u64::from(vertex), flag(mirror)],
+            Obstacle::BlossomNeedExpand(a) => [4, a.word(), 0, 0, 0],
+            Obstacle::VertexShrinkStop(a, None) => [5, a.word(), 0, 0, 0],
+            Obstacle::VertexShrinkStop(a, Some((b, c))) => [6, a.word(), b.word(), c.word(), 0],
+        }
+    }
+
+    /// None for the words of no obstacle.
+    fn from_words(words: &[u64]) -> Option<Obstacle> {
+        let at = |place: usize| Handle::from_word(words[place]);
+        match words[0] {
+            1 => Some(Obstacle::NonZeroGrow(words[1] as i64, words[2] == 1)),
+            2 => Some(Obstacle::Conflicting((at(1), at(2)), (at(3), at(4)))),
+            3 => Some(Obstacle::TouchingVirtual((at(1), at(2)), (words[3] as u32, words[4] == 1))),
+            4 => Some(Obstacle::BlossomNeedExpand(at(1))),
+            5 => Some(Obstacle::VertexShrinkStop(at(1), None)),
+            6 => Some(Obstacle::VertexShrinkStop(at(1), Some((at(2), at(3))))),
+            _ => None,
+        }
+    }
+}
+
+/// A growth, or conflicts: a list of at most 128 obstacles and at most 128 pending stops by vertex. Always sound.
+///
+/// ```
+/// use dual_ledger::{Bench, Group, Obstacle, Refusal};
+///
+/// # fn main() -> Result<(), Refusal> {
+/// let mut bench = Bench::default();
+/// let node = bench.create_defect_node(0, 3)?;
+/// let mut group = Group::default();
+/// group.add(&bench, Obstacle::NonZeroGrow(5, false))?;
+/// assert_eq!(group.get_none_zero_growth()?, Some(5));
+///
+/// group.add(&bench, Obstacle::BlossomNeedExpand(node))?; // the growth is lost
+/// assert_eq!(group.get_none_zero_growth()?, None);
+/// assert_eq!(group.pop()?, Some(Obstacle::BlossomNeedExpand(node)));
+/// assert_eq!(group.pop()?, None);
+/// # Ok(())
+/// # }
+/// ```
+#[derive(Clone, PartialEq, Eq)]
+pub struct Group(Box<GroupWords>);
+
+impl Default for Group {
+    /// The empty group: a growth of the largest weight.
+    fn default() -> Self {
+        let mut words = Box::new([0; GROUP_WORDS]);
+        group::empty_group(&mut words);
+        Group(words)
+    }
+}
+
+impl Group {
+    /// The empty group.
+    pub fn new() -> Group {
+        Group::default()
+    }
+
+    /// The group that words hold, tested once.
+    ///
+    /// # Errors
+    /// [`Refusal::Broken`] where the words hold no sound group.
+    pub fn from_words(words: &[u64; GROUP_WORDS]) -> Result<Group, Refusal> {
+        let is_sound = group::group_is_sound(words) == 1;
+        is_sound.then(|| Group(Box::new(*words))).ok_or(Refusal::Broken)
+    }
+
+    /// The words, to be kept or sent.
+    pub fn words(&self) -> &[u64; GROUP_WORDS] {
+        &self.0
+    }
+
+    /// Whether no obstacle stands in the way: a growth of the largest weight.
+    pub fn is_empty(&self) -> bool {
+        let mut yes = 0;
+        group::group_is_empty(&self.0, &mut yes);
+        yes == 1
+    }
+
+    /// Whether it is anything but the empty group.
+    pub fn is_active(&self) -> bool {
+        let mut yes = 0;
+        group::group_is_active(&self.0, &mut yes);
+        yes == 1
+    }
+
+    /// The length of a growth; none of conflicts.
+    ///
+    /// # Errors
+    /// [`Refusal::Nothing`] for a growth of the largest weight.
+    pub fn get_none_zero_growth(&self) -> Result<Option<i64>, Refusal> {
+        let (mut asked, mut length) = (0, 0);
+        let number = group::group_get_none_zero_growth(&self.0, &mut asked, &mut length);
+        settled(number, (asked == 1).then_some(length))
+    }
+
+    /// The obstacle that [`pop`](Group::pop) would take, left where it is.
+    ///
+    /// # Errors
+    /// [`Refusal::Kind`] for a growth.
+    pub fn peek(&self) -> Result<Option<Obstacle>, Refusal> {
+        let mut words = [0; 5];
+        settled(group::group_peek(&self.0, &mut words), Obstacle::from_words(&words))
+    }
+
+    /// Takes the last of the list, else the stop of the smallest vertex. That stop goes in either case.
+    ///
+    /// # Errors
+    /// [`Refusal::Kind`] for a growth.
+    pub fn pop(&mut self) -> Result<Option<Obstacle>, Refusal> {
+        let mut words = [0; 5];
+        settled(group::group_pop(&mut self.0, &mut words), Obstacle::from_words(&words))
+    }
+
+    /// Adds an obstacle; every node that it names must be present in the bench.
+    pub fn add(&mut self, bench: &Bench, obstacle: Obstacle) -> Result<(), Refusal> {
+        settled(group::group_add(bench.words(), &mut self.0, &obstacle.words()), ())
+    }
+
+    /// Adds what another group holds; every node that it names must be present in the bench.
+    pub fn extend(&mut self, bench: &Bench, other: &Group) -> Result<(), Refusal> {
+        settled(group::group_extend(bench.words(), &mut self.0, &other.0), ())
+    }
+
+    /// Length and flag of a growth, of the largest weight too; none of conflicts.
+    pub fn growth(&self) -> Option<(i64, bool)> {
+        (self.0[0] == 1).then_some((self.0[1] as i64, self.0[2] == 1))
+    }
+
+    /// The obstacles listed, in the order of the list; none of a growth.
+    pub fn list(&self) -> impl Iterator<Item = Obstacle> + '_ {
+        self.0[5..].chunks(5).take(self.count(3)).filter_map(Obstacle::from_words)
+    }
+
+    /// The pending stops by rising vertex; none of a growth.
+    pub fn stops(&self) -> impl Iterator<Item = (u32, Obstacle)> + '_ {
+        self.0[645..].chunks(6).take(self.count(4)).filter_map(|stop| Some((stop[0] as u32, Obstacle::from_words(&stop[1..])?)))
+    }
+
+    /// A growth says nothing by its counts.
+    fn count(&self, word: usize) -> usize {
+        if self.0[0] == 2 {
+            self.0[word] as usize
+        } else {
+            0
+        }
+    }
+}
+
+impl std::fmt::Debug for Group {
+    fn fmt(&self, f: &mut std::fmt::Formatter) -> std::fmt::Result {
+        match self.growth() {
+            Some((length, flag)) => f.debug_struct("Group").field("length", &length).field("flag", &flag).finish(),
+            None => {
+                f.debug_struct("Group").field("list", &self.list().collect::<Vec<_>>()).field("stops", &self.stops().collect::<Vec<_>>()).finish()
+            }
+        }
+    }
+}

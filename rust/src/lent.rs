@@ -1,0 +1,74 @@
+//! The calls, reads and checks on words from anywhere: a file, another process, a device. Each tests the words first and answers [`Refusal::Broken`] where they
+//! hold no sound bench; a refused call leaves every word as it was. To make many calls, test once by [`Bench::from_words`](crate::Bench::from_words).
+//!
+//! ```
+//! use dual_ledger::{lent, Bench, Notice, Refusal};
+//!
+//! let mut words = *Bench::default().words();
+//! let told = lent::create_defect_node(&mut words, 0, 3).unwrap();
+//! let node = told.node().unwrap();
+//! assert_eq!(told.notices().collect::<Vec<_>>(), [Notice::DefectAdded(node)]);
+//!
+//! words[0] = 0; // no serial comes next: not a sound bench
+//! assert_eq!(lent::get_dual_variable(&words, node), Err(Refusal::Broken));
+//! ```
+use crate::linked::{any, AnswerWords, Words};
+use crate::reads::{reads, MOST_VERTICES};
+use crate::refusal::settled;
+use crate::{GrowState, Handle, Refusal, Told, Verdict};
+
+reads!(any, Words);
+
+fn told(call: impl FnOnce(&mut AnswerWords) -> u8) -> Result<Told, Refusal> {
+    let mut answer = Told::blank();
+    let number = call(answer.words());
+    settled(number, answer)
+}
+
+/// Makes the words an empty bench whose first node gets this serial.
+///
+/// # Errors
+/// [`Refusal::Worn`] for 0: then the words are a bench as from serial 1.
+pub fn set_up(words: &mut Words, first_serial: u32) -> Result<(), Refusal> {
+    settled(any::set_up(words, first_serial), ())
+}
+
+/// Whether the words hold a sound bench.
+pub fn is_sound(words: &Words) -> bool {
+    any::is_sound(words) == 1
+}
+
+/// Adds the node of a vertex to an interface: growing, with value 0.
+pub fn create_defect_node(words: &mut Words, interface: u8, vertex: u32) -> Result<Told, Refusal> {
+    told(|answer| any::create_defect_node(words, interface, vertex, answer))
+}
+
+/// Makes a blossom of the members, in circle order. `touching` has two handles for each member, or is empty: then each member touches by itself.
+pub fn create_blossom(words: &mut Words, interface: u8, circle: &[Handle], touching: &[[Handle; 2]]) -> Result<Told, Refusal> {
+    told(|answer| any::create_blossom(words, interface, circle, touching, answer))
+}
+
+/// Takes a blossom apart: its members are outermost again and grow, and its value stays in the sum.
+pub fn expand_blossom(words: &mut Words, interface: u8, blossom: Handle) -> Result<Told, Refusal> {
+    told(|answer| any::expand_blossom(words, interface, blossom, answer))
+}
+
+/// Sets the state of an outermost node.
+pub fn set_grow_state(words: &mut Words, interface: u8, node: Handle, state: GrowState) -> Result<Told, Refusal> {
+    told(|answer| any::set_grow_state(words, interface, node, state.rate(), answer))
+}
+
+/// Grows an interface, and what is fused into it.
+pub fn grow(words: &mut Words, interface: u8, length: i64) -> Result<Told, Refusal> {
+    told(|answer| any::grow(words, interface, length, answer))
+}
+
+/// Makes two interfaces the halves of a third of higher number. Tells nothing.
+pub fn fuse(words: &mut Words, parent: u8, left: u8, right: u8) -> Result<(), Refusal> {
+    settled(any::fuse(words, parent, left, right), ())
+}
+
+/// Empties an interface and what is fused into it; serials go on. Tells nothing.
+pub fn clear(words: &mut Words, interface: u8) -> Result<(), Refusal> {
+    settled(any::clear(words, interface), ())
+}

@@ -1,0 +1,177 @@
+//! The archive's functions, as safe ones. Nothing else in this crate is unsafe.
+//!
+//! Each function of the archive is proved to end with an answer for any arguments, to write only what is lent to be written, and to keep no pointer.
+//! A call of one is right, then, if what is lent is as long as include/dual_ledger.h says and what is written overlaps nothing else. Both hold by the types: an array
+//! has its length, a slice goes with its own, and `&mut` is lent alone. The forms that test nothing ask besides for words that hold a sound bench: they
+//! are declared over `Sound`, which nothing but set-up, the test and those forms themselves can make or change, and a theorem (crates/runs) says that every call leaves such words sound.
+#![allow(unsafe_code)]
+
+use crate::Handle;
+
+/// How many words a bench has.
+pub const WORDS: usize = 6273;
+/// How many words a group has.
+pub const GROUP_WORDS: usize = 1413;
+
+pub type Words = [u64; WORDS];
+pub type GroupWords = [u64; GROUP_WORDS];
+pub type ObstacleWords = [u64; 5];
+pub type Touching = [[Handle; 2]];
+
+/// The answer of a call that tells its notices: 199 words, of which those past the counts are 0.
+#[derive(Clone)]
+#[repr(C)]
+pub struct AnswerWords {
+    pub node: Handle,
+    pub count: u64,
+    pub members: u64,
+    /// kind, and what it is of
+    pub notices: [[u64; 2]; 66],
+    pub circle: [Handle; 64],
+}
+
+const _: () = assert!(std::mem::size_of::<AnswerWords>() == 199 * 8);
+
+/// Words that hold a sound bench.
+#[derive(Clone, PartialEq, Eq)]
+#[repr(transparent)]
+pub struct Sound(Words);
+
+impl Sound {
+    /// Set-up from a first serial, and the number it answers; the words are sound whatever it is.
+    pub fn set_up(first: u32) -> (Box<Self>, u8) {
+        let mut bench = Box::new(Sound([0; WORDS]));
+        let number = any::set_up(&mut bench.0, first);
+        (bench, number)
+    }
+
+    /// The words, if they are sound.
+    pub fn tested(words: &Words) -> Option<Box<Self>> {
+        (any::is_sound(words) == 1).then(|| Box::new(Sound(*words)))
+    }
+
+    pub fn words(&self) -> &Words {
+        &self.0
+    }
+}
+
+/// Each function by its name in the archive less `dual_ledger_` and the form.
+macro_rules! link {
+    ($form:literal $($name:ident($($arg:ident: $type:ty),*) $(-> $number:ty)?;)*) => { $(
+        pub fn $name($($arg: $type),*) $(-> $number)? {
+            extern "C" {
+                #[link_name = concat!("dual_ledger_", $form, stringify!($name))]
+                fn linked($($arg: $type),*) $(-> $number)?;
+            }
+            // SAFETY: arguments are numbers and references of the header's lengths; a form without tests is lent a `Sound`
+            unsafe { linked($($arg),*) }
+        }
+    )* };
+}
+
+/// A blossom's call: the lists go as pointer and length.
+macro_rules! link_blossom {
+    ($form:literal $bench:ty, $out:ty) => {
+        pub fn create_blossom(bench: &mut $bench, unit: u8, members: &[Handle], touching: &Touching, out: &mut $out) -> u8 {
+            type List = *const Handle;
+            extern "C" {
+                #[link_name = concat!("dual_ledger_", $form, "create_blossom")]
+                fn linked(bench: &mut $bench, unit: u8, members: List, count: usize, touching: List, touches: usize, out: &mut $out) -> u8;
+            }
+            // SAFETY: as above; a handle is a word, an array of two handles two words, and both lists are of the lengths said
+            unsafe { linked(bench, unit, members.as_ptr(), members.len(), touching.as_ptr().cast(), 2 * touching.len(), out) }
+        }
+    };
+}
+
+/// The reads and checks of a form.
+macro_rules! link_reads {
+    ($form:literal $bench:ty) => {
+        link! { $form
+            sum_dual_variables(bench: &$bench, unit: u8, sum: &mut i64) -> u8;
+            sum_grow_speed(bench: &$bench, unit: u8, speed: &mut i64) -> u8;
+            nodes_count(bench: &$bench, unit: u8, count: &mut u64) -> u8;
+            get_node(bench: &$bench, unit: u8, index: u32, node: &mut Handle) -> u8;
+            check_ptr_belonging(bench: &$bench, unit: u8, node: Handle, inside: &mut u64) -> u8;
+            get_dual_variable(bench: &$bench, node: Handle, value: &mut i64) -> u8;
+            get_ancestor_blossom(bench: &$bench, node: Handle, ancestor: &mut Handle, links: &mut u64) -> u8;
+            get_secondary_ancestor_blossom(bench: &$bench, node: Handle, second: &mut Handle) -> u8;
+            get_representative_vertex(bench: &$bench, node: Handle, vertex: &mut u32) -> u8;
+            sanity_check(bench: &$bench, unit: u8, verdict: &mut u64, index: &mut u64) -> u8;
+            strict_check(bench: &$bench, unit: u8, verdict: &mut u64, index: &mut u64) -> u8;
+        }
+
+        pub fn get_all_vertices(bench: &$bench, node: Handle, out: &mut [u32], count: &mut u64) -> u8 {
+            extern "C" {
+                #[link_name = concat!("dual_ledger_", $form, "get_all_vertices")]
+                fn linked(bench: &$bench, node: Handle, out: *mut u32, room: usize, count: &mut u64) -> u8;
+            }
+            // SAFETY: as above; the slice is of the length said and lent alone
+            unsafe { linked(bench, node, out.as_mut_ptr(), out.len(), count) }
+        }
+    };
+}
+
+/// On any words: they are tested first.
+pub mod any {
+    use super::*;
+
+    link! { ""
+        set_up(bench: &mut Words, first: u32) -> u8;
+        is_sound(bench: &Words) -> u8;
+        create_defect_node(bench: &mut Words, unit: u8, vertex: u32, answer: &mut AnswerWords) -> u8;
+        expand_blossom(bench: &mut Words, unit: u8, node: Handle, answer: &mut AnswerWords) -> u8;
+        set_grow_state(bench: &mut Words, unit: u8, node: Handle, state: i8, answer: &mut AnswerWords) -> u8;
+        grow(bench: &mut Words, unit: u8, length: i64, answer: &mut AnswerWords) -> u8;
+        fuse(bench: &mut Words, parent: u8, left: u8, right: u8) -> u8;
+        clear(bench: &mut Words, unit: u8) -> u8;
+    }
+    link_blossom!("" Words, AnswerWords);
+    link_reads!("" Words);
+}
+
+/// On sound words, with the notices.
+pub mod told {
+    use super::*;
+
+    link! { "told_"
+        create_defect_node(bench: &mut Sound, unit: u8, vertex: u32, answer: &mut AnswerWords) -> u8;
+        expand_blossom(bench: &mut Sound, unit: u8, node: Handle, answer: &mut AnswerWords) -> u8;
+        set_grow_state(bench: &mut Sound, unit: u8, node: Handle, state: i8, answer: &mut AnswerWords) -> u8;
+        grow(bench: &mut Sound, unit: u8, length: i64, answer: &mut AnswerWords) -> u8;
+    }
+    link_blossom!("told_" Sound, AnswerWords);
+}
+
+/// On sound words, without notices.
+pub mod trusted {
+    use super::*;
+
+    link! { "trusted_"
+        create_defect_node(bench: &mut Sound, unit: u8, vertex: u32, node: &mut Handle) -> u8;
+        expand_blossom(bench: &mut Sound, unit: u8, node: Handle) -> u8;
+        set_grow_state(bench: &mut Sound, unit: u8, node: Handle, state: i8) -> u8;
+        grow(bench: &mut Sound, unit: u8, length: i64) -> u8;
+        fuse(bench: &mut Sound, parent: u8, left: u8, right: u8) -> u8;
+        clear(bench: &mut Sound, unit: u8) -> u8;
+    }
+    link_blossom!("trusted_" Sound, Handle);
+    link_reads!("trusted_" Sound);
+}
+
+/// Groups of obstacles, of any words.
+pub mod group {
+    use super::*;
+
+    link! { ""
+        empty_group(group: &mut GroupWords);
+        group_is_sound(group: &GroupWords) -> u8;
+        group_is_empty(group: &GroupWords, yes: &mut u64) -> u8;
+        group_is_active(group: &GroupWords, yes: &mut u64) -> u8;
+        group_get_none_zero_growth(group: &GroupWords, asked: &mut u64, length: &mut i64) -> u8;
+        group_peek(group: &GroupWords, obstacle: &mut ObstacleWords) -> u8;
+        group_pop(group: &mut GroupWords, obstacle: &mut ObstacleWords) -> u8;
+        group_add(bench: &Words, group: &mut GroupWords, obstacle: &ObstacleWords) -> u8;
+        group_extend(bench: &Words, group: &mut GroupWords, other: &GroupWords) -> u8;
+    }
+}

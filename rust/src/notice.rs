@@ -1,0 +1,67 @@
+//! What a call tells a dual module: the list of notices, proved to be the calls that the original makes, in its order.
+use crate::linked::AnswerWords;
+use crate::{GrowState, Handle};
+
+/// One thing that a dual module is told.
+#[derive(Clone, Copy, Debug, PartialEq, Eq, Hash)]
+pub enum Notice<'a> {
+    /// A defect's node was added.
+    DefectAdded(Handle),
+    /// A node's state was set.
+    StateSet(Handle, GrowState),
+    /// The members of a circle that is to become a blossom.
+    ShrinkPrepared(&'a [Handle]),
+    /// A blossom was added.
+    BlossomAdded(Handle),
+    /// A blossom was taken apart.
+    BlossomRemoved(Handle),
+    /// The tree has grown by so much.
+    Grown(i64),
+}
+
+/// The answer of an accepted call that tells its notices.
+#[derive(Clone)]
+pub struct Told(AnswerWords);
+
+impl Told {
+    pub(crate) fn blank() -> Told {
+        let none = Handle::from_word(0);
+        Told(AnswerWords { node: none, count: 0, members: 0, notices: [[0; 2]; 66], circle: [none; 64] })
+    }
+
+    pub(crate) fn words(&mut self) -> &mut AnswerWords {
+        &mut self.0
+    }
+
+    /// The node made or named; of a growth there is none.
+    pub fn node(&self) -> Option<Handle> {
+        let is_grown = matches!(self.notices().next(), Some(Notice::Grown(_)));
+        (!is_grown).then_some(self.0.node)
+    }
+
+    /// The notices in order, at most 66.
+    pub fn notices(&self) -> impl ExactSizeIterator<Item = Notice<'_>> {
+        self.0.notices[..self.0.count as usize].iter().map(|[kind, of]| self.notice(*kind, *of))
+    }
+
+    fn notice(&self, kind: u64, of: u64) -> Notice<'_> {
+        let node = Handle::from_word(of);
+        match kind {
+            1 => Notice::DefectAdded(node),
+            2 => Notice::StateSet(node, GrowState::Stay),
+            3 => Notice::StateSet(node, GrowState::Grow),
+            4 => Notice::StateSet(node, GrowState::Shrink),
+            5 => Notice::ShrinkPrepared(&self.0.circle[..self.0.members as usize]),
+            6 => Notice::BlossomAdded(node),
+            7 => Notice::BlossomRemoved(node),
+            8 => Notice::Grown(of as i64),
+            other => unreachable!("no notice is of kind {other}"),
+        }
+    }
+}
+
+impl std::fmt::Debug for Told {
+    fn fmt(&self, f: &mut std::fmt::Formatter) -> std::fmt::Result {
+        f.debug_list().entries(self.notices()).finish()
+    }
+}

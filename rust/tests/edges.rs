@@ -1,0 +1,110 @@
+//! The specification's edges and worked case, by a bench's calls.
+use dual_ledger::{Bench, Group, GrowState, Obstacle, Refusal, Verdict};
+
+#[test]
+fn values_through_a_fuse() {
+    let mut bench = Bench::default();
+    let (a, b) = (bench.create_defect_node(0, 3).unwrap(), bench.create_defect_node(1, 7).unwrap());
+    bench.grow(0, 4).unwrap();
+    bench.grow(1, 6).unwrap();
+    bench.fuse(2, 0, 1).unwrap();
+    bench.grow(2, 5).unwrap();
+    assert_eq!((bench.get_dual_variable(a), bench.get_dual_variable(b)), (Ok(9), Ok(11)));
+    assert_eq!((bench.sum_grow_speed(2), bench.sum_dual_variables(2)), (Ok(2), Ok(20)));
+    assert_eq!(bench.create_defect_node(0, 5), Err(Refusal::Child));
+}
+
+#[test]
+fn limits() {
+    let mut bench = Bench::default();
+    assert_eq!(bench.grow(0, 1 << 40), Ok(()));
+    assert_eq!(bench.grow(0, 1), Err(Refusal::Length));
+    assert_eq!(bench.grow(1, -1), Err(Refusal::Length));
+    assert!((0..64).all(|vertex| bench.create_defect_node(2, vertex).is_ok()));
+    assert_eq!(bench.create_defect_node(2, 64), Err(Refusal::Full));
+    assert_eq!(bench.create_defect_node(8, 0), Err(Refusal::Unit));
+    assert_eq!(Bench::new(0), Err(Refusal::Worn));
+    let mut last = Bench::new(u32::MAX).unwrap();
+    assert_eq!(last.create_defect_node(0, 1).unwrap().serial(), u32::MAX);
+    assert_eq!(last.create_defect_node(0, 2), Err(Refusal::Worn));
+}
+
+#[test]
+fn refused_calls_change_nothing() {
+    let mut bench = Bench::default();
+    let a = bench.create_defect_node(0, 3).unwrap();
+    let before = bench.clone();
+    assert_eq!(bench.create_blossom(0, &[a, a], &[]), Err(Refusal::Twice));
+    assert_eq!(bench.create_blossom(0, &[], &[]), Err(Refusal::Circle));
+    assert_eq!(bench.create_blossom(0, &[a], &[[a, a], [a, a]]), Err(Refusal::Touch));
+    assert_eq!(bench.expand_blossom(0, a), Err(Refusal::Kind));
+    assert_eq!(bench.set_grow_state(1, a, GrowState::Stay), Err(Refusal::Foreign));
+    assert_eq!(bench.fuse(1, 1, 0), Err(Refusal::Pair));
+    assert_eq!(bench, before);
+    bench.clear(0).unwrap();
+    assert_eq!(bench.get_dual_variable(a), Err(Refusal::Stale));
+}
+
+#[test]
+fn the_worked_case() {
+    let mut bench = Bench::default();
+    let nodes = [3, 8, 9].map(|vertex| bench.create_defect_node(0, vertex).unwrap());
+    bench.grow(0, 5).unwrap();
+    let blossom = bench.create_blossom(0, &nodes, &[]).unwrap();
+    assert_eq!((blossom.interface(), blossom.slot(), blossom.serial()), (0, 3, 4));
+    assert_eq!(bench.get_all_vertices(blossom), Ok(vec![3, 8, 9]));
+    assert_eq!(bench.ancestor_and_links(nodes[1]), Ok((blossom, 1)));
+    assert_eq!(bench.get_secondary_ancestor_blossom(nodes[1]), Ok(nodes[1]));
+    assert_eq!(bench.get_secondary_ancestor_blossom(blossom), Err(Refusal::Top));
+    assert_eq!(bench.get_representative_vertex(blossom), Ok(3));
+    assert_eq!(bench.get_all_vertices_into(blossom, &mut [0; 2]), Err(Refusal::Small));
+    bench.grow(0, 2).unwrap();
+    bench.set_grow_state(0, blossom, GrowState::Shrink).unwrap();
+    bench.grow(0, 1).unwrap();
+    assert_eq!(bench.strict_check(0), Ok(Verdict::Sound));
+    bench.expand_blossom(0, blossom).unwrap();
+    assert_eq!((bench.sum_grow_speed(0), bench.sum_dual_variables(0)), (Ok(3), Ok(16)));
+    assert_eq!(bench.sanity_check(0), Ok(Verdict::SumDiffers));
+    assert_eq!((bench.nodes_count(0), bench.get_node(0, 3), bench.get_node(0, 4)), (Ok(4), Ok(None), Err(Refusal::Range)));
+    assert_eq!((bench.check_ptr_belonging(0, nodes[0]), bench.check_ptr_belonging(0, blossom)), (Ok(true), Ok(false)));
+}
+
+#[test]
+fn words_there_and_back() {
+    let mut bench = Bench::new(7).unwrap();
+    bench.create_defect_node(3, 1).unwrap();
+    assert_eq!(Bench::from_words(bench.words()).unwrap(), bench);
+    let mut words = *bench.words();
+    words[1] = 65;
+    assert_eq!(Bench::from_words(&words), Err(Refusal::Broken));
+}
+
+#[test]
+fn groups() {
+    let mut bench = Bench::default();
+    let nodes: Vec<_> = (0..6).map(|vertex| bench.create_defect_node(0, 4 + vertex).unwrap()).collect();
+    let mut group = Group::new();
+    assert!(group.is_empty() && !group.is_active());
+    assert_eq!(group.get_none_zero_growth(), Err(Refusal::Nothing));
+    assert_eq!(group.pop(), Err(Refusal::Kind));
+
+    // (5, yes) extended by (5, no) is (5, no); by the largest, nothing
+    group.add(&bench, Obstacle::NonZeroGrow(5, true)).unwrap();
+    let mut other = Group::new();
+    other.add(&bench, Obstacle::NonZeroGrow(5, false)).unwrap();
+    group.extend(&bench, &other).unwrap();
+    assert_eq!(group.growth(), Some((5, false)));
+    group.extend(&bench, &Group::new()).unwrap();
+    assert_eq!(group.growth(), Some((5, false)));
+
+    // a pop takes the last of the list and the lowest stop
+    let (c1, c2) = (Obstacle::BlossomNeedExpand(nodes[1]), Obstacle::BlossomNeedExpand(nodes[2]));
+    for obstacle in [c1, c2, Obstacle::VertexShrinkStop(nodes[0], None), Obstacle::VertexShrinkStop(nodes[5], None)] {
+        group.add(&bench, obstacle).unwrap();
+    }
+    assert_eq!(group.stops().map(|(vertex, _)| vertex).collect::<Vec<_>>(), [4, 9]);
+    assert_eq!(group.peek(), Ok(Some(c2)));
+    assert_eq!([group.pop(), group.pop(), group.pop()], [Ok(Some(c2)), Ok(Some(c1)), Ok(None)]);
+    assert_eq!(Group::from_words(group.words()).unwrap(), group);
+    assert_eq!(Group::from_words(&[9; dual_ledger::GROUP_WORDS]), Err(Refusal::Broken));
+}
