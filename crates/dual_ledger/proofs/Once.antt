@@ -20,9 +20,12 @@ module _ {b : List ℕ} {c : Call} {n m : ℕ} {b′ b″ : List ℕ} where
   settled-once x y = (x .number ∙ sym (y .number), same-bench (x .words) (y .words) (x .seen ∙ sym (y .seen)))
 
   pub left-once : Left b c n b′ → Left b c m b″ → (n ≡ m) × (b′ ≡ b″)
-  left-once x y = (one, by-cases (ℕ-discrete n 0)
-      (λ (z : n ≡ 0). let w : m ≡ 0 = sym one ∙ z in same-bench (x .words z) (y .words w) (x .seen z ∙ sym (y .seen w)))
-      (λ (z : n ≡ 0 → ⊥). x .refused z ∙ sym (y .refused (λ w. z (one ∙ w)))))
+  left-once x y = (
+    one,
+    by-cases (ℕ-discrete n 0)
+        (λ (z : n ≡ 0). let w : m ≡ 0 = sym one ∙ z in same-bench (x .words z) (y .words w) (x .seen z ∙ sym (y .seen w)))
+        (λ (z : n ≡ 0 → ⊥). x .refused z ∙ sym (y .refused (λ w. z (one ∙ w)))),
+  )
     where
       one : n ≡ m
       one = x .number ∙ sym (y .number)
