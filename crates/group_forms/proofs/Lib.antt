@@ -1,2 +1,5 @@
 pub mod Formed
 pub mod Changes
+pub mod Carried
+pub mod Low
+pub mod Says
