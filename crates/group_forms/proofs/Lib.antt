@@ -3,3 +3,4 @@ pub mod Changes
 pub mod Carried
 pub mod Low
 pub mod Says
+pub mod Hands
