@@ -6,6 +6,7 @@ use crate::words::encode;
 use oracle::generator::{Plan, Player};
 use oracle::line::{numbers, read, Line};
 use oracle::replay::{Replay, Turn};
+use std::time::Instant;
 
 /// The three of them, line by line.
 pub struct Sides {
@@ -105,25 +106,28 @@ impl Run {
     }
 }
 
-/// The first difference over these lines, everything being read after each.
-pub fn difference<S: AsRef<str>>(lines: &[S]) -> Option<String> {
+/// The first difference over these lines, everything being read after each, or after the last alone.
+pub fn difference<S: AsRef<str>>(lines: &[S], each: bool) -> Option<String> {
     let mut sides = Sides::default();
-    let step = |line: &S| {
+    let step = |(at, line): (usize, &S)| {
         let call = read(line.as_ref())?;
-        sides.turn(&call).and_then(|_| sides.everything()).map_err(|why| format!("{}: {why}", line.as_ref()))
+        let looks = each || at + 1 == lines.len();
+        let seen = sides.turn(&call).and_then(|_| if looks { sides.everything() } else { Ok(0) });
+        seen.map_err(|why| format!("{}: {why}", line.as_ref()))
     };
-    lines.iter().map(step).find_map(Result::err)
+    lines.iter().enumerate().map(step).find_map(Result::err)
 }
 
-/// The fewest lines that still differ: parts are left out, halves first, single lines last, while they do.
+/// Fewer lines that still differ: parts are left out, halves first, single lines last, while they do. The fewest, unless it takes longer than half a minute.
 pub fn smallest(mut lines: Vec<String>) -> Vec<String> {
+    let began = Instant::now();
     let mut part = lines.len().div_ceil(2);
     while part > 0 {
         let mut at = 0;
         let was = lines.len();
-        while at < lines.len() {
+        while at < lines.len() && began.elapsed().as_secs() < 30 {
             let without: Vec<String> = lines.iter().enumerate().filter(|(i, _)| *i < at || *i >= at + part).map(|(_, line)| line.clone()).collect();
-            if difference(&without).is_some() {
+            if difference(&without, false).is_some() {
                 lines = without;
             } else {
                 at += part;

@@ -1,0 +1,139 @@
+/* The archive's functions with one of them spoiled, by the number in SPOILED: what the comparison must notice. `real_NAME` is the archive's own. */
+#include <stdlib.h>
+#include <string.h>
+
+#include "../../../include/dual_ledger.h"
+
+static int spoiled(int which) {
+    const char *said = getenv("SPOILED");
+    return said && atoi(said) == which;
+}
+
+#define REAL(name) __typeof__(name) real_##name;
+#include "names.h"
+#undef REAL
+
+/* 1: the halves of a fuse exchanged, public form */
+uint8_t dual_ledger_fuse(uint64_t *bench, uint8_t parent, uint8_t left, uint8_t right) {
+    return spoiled(1) ? real_dual_ledger_fuse(bench, parent, right, left) : real_dual_ledger_fuse(bench, parent, left, right);
+}
+
+/* 2: the last two notices of a told expansion exchanged; 3: its count of notices one short */
+uint8_t dual_ledger_told_expand_blossom(uint64_t *bench, uint8_t unit, uint64_t node, uint64_t *answer) {
+    uint8_t number = real_dual_ledger_told_expand_blossom(bench, unit, node, answer);
+    uint64_t count = answer[1];
+    if (number == 0 && spoiled(2) && count > 2) {
+        uint64_t last = answer[2 + 2 * count];
+        answer[2 + 2 * count] = answer[2 * count];
+        answer[2 * count] = last;
+    }
+    if (number == 0 && spoiled(3)) answer[1] = count - 1;
+    return number;
+}
+
+/* 4: shrinking set as staying, trusted form */
+uint8_t dual_ledger_trusted_set_grow_state(uint64_t *bench, uint8_t unit, uint64_t node, int8_t state) {
+    return real_dual_ledger_trusted_set_grow_state(bench, unit, node, spoiled(4) && state < 0 ? 0 : state);
+}
+
+/* 5: growth to 2^40 exactly is refused; 6: one past it is not looked at, but grown by one less */
+uint8_t dual_ledger_trusted_grow(uint64_t *bench, uint8_t unit, int64_t length) {
+    uint64_t limit = (uint64_t)1 << 40;
+    int fits = unit < 8 && length > 0;
+    if (spoiled(5) && fits && bench[16 * unit + 2] + (uint64_t)length == limit) return DUAL_LEDGER_LENGTH;
+    if (spoiled(6) && fits && bench[16 * unit + 2] + (uint64_t)length == limit + 1) return real_dual_ledger_trusted_grow(bench, unit, length - 1);
+    return real_dual_ledger_trusted_grow(bench, unit, length);
+}
+
+/* 7: touching handles left out, told form */
+uint8_t dual_ledger_told_create_blossom(uint64_t *bench, uint8_t unit, const uint64_t *members, size_t members_len, const uint64_t *touching,
+                                        size_t touching_len, uint64_t *answer) {
+    size_t kept = spoiled(7) && touching_len == 2 * members_len ? 0 : touching_len;
+    return real_dual_ledger_told_create_blossom(bench, unit, members, members_len, touching, kept, answer);
+}
+
+/* 8: a defect refused by FULL leaves a word behind, public form; 9: a wrong number for it */
+uint8_t dual_ledger_create_defect_node(uint64_t *bench, uint8_t unit, uint32_t vertex, uint64_t *answer) {
+    uint8_t number = real_dual_ledger_create_defect_node(bench, unit, vertex, answer);
+    if (number == DUAL_LEDGER_FULL && spoiled(8)) bench[16 * unit + 8] = 1;
+    return number == DUAL_LEDGER_FULL && spoiled(9) ? DUAL_LEDGER_WORN : number;
+}
+
+/* 10: a clear gives serials out anew, trusted form */
+uint8_t dual_ledger_trusted_clear(uint64_t *bench, uint8_t unit) {
+    uint8_t number = real_dual_ledger_trusted_clear(bench, unit);
+    if (number == 0 && spoiled(10)) bench[0] = 1;
+    return number;
+}
+
+/* 11: verdict 3 where 4 is due; 12: the index one more */
+uint8_t dual_ledger_trusted_sanity_check(const uint64_t *bench, uint8_t unit, uint64_t *verdict, uint64_t *index) {
+    uint8_t number = real_dual_ledger_trusted_sanity_check(bench, unit, verdict, index);
+    if (spoiled(11) && *verdict == 4) *verdict = 3;
+    if (spoiled(12) && *verdict == 2) *index += 1;
+    return number;
+}
+
+/* 13: the strict check says no more than the plain one */
+uint8_t dual_ledger_trusted_strict_check(const uint64_t *bench, uint8_t unit, uint64_t *verdict, uint64_t *index) {
+    uint8_t number = real_dual_ledger_trusted_strict_check(bench, unit, verdict, index);
+    if (spoiled(13) && *verdict == 6) *verdict = *index = 0;
+    return number;
+}
+
+/* 14: an entry past the vertices is written */
+uint8_t dual_ledger_trusted_get_all_vertices(const uint64_t *bench, uint64_t node, uint32_t *out, size_t out_len, uint64_t *count) {
+    uint8_t number = real_dual_ledger_trusted_get_all_vertices(bench, node, out, out_len, count);
+    if (number == 0 && spoiled(14) && *count < out_len) out[*count] = 0;
+    return number;
+}
+
+/* 15: a stale handle belongs */
+uint8_t dual_ledger_trusted_check_ptr_belonging(const uint64_t *bench, uint8_t unit, uint64_t node, uint64_t *inside) {
+    uint8_t number = real_dual_ledger_trusted_check_ptr_belonging(bench, unit, node, inside);
+    int64_t value;
+    if (number == 0 && spoiled(15) && dual_ledger_trusted_get_dual_variable(bench, node, &value) == DUAL_LEDGER_STALE) *inside = 1;
+    return number;
+}
+
+/* 16 to 19: the sound test without the next serial, without touching handles below it, without the sum's limit, without the words past the used slots */
+uint8_t dual_ledger_is_sound(const uint64_t *bench) {
+    static uint64_t mended[DUAL_LEDGER_WORDS];
+    if (real_dual_ledger_is_sound(bench)) return 1;
+    memcpy(mended, bench, sizeof mended);
+    if (spoiled(16) && bench[0] > ((uint64_t)1 << 32)) mended[0] = (uint64_t)1 << 32;
+    for (int k = 0; spoiled(17) && k < 512; k++)
+        for (int side = 7; side < 9; side++)
+            if (mended[128 + 12 * k + side] / 512 >= bench[0]) mended[128 + 12 * k + side] %= 512;
+    for (int u = 0; spoiled(18) && u < 8; u++) mended[16 * u + 3] = (uint64_t)1 << 62;
+    for (int u = 0; spoiled(19) && u < 8; u++)
+        for (uint64_t s = bench[16 * u + 1]; s < 64; s++) memset(mended + 129 + 12 * (64 * u + s), 0, 12 * 8);
+    return real_dual_ledger_is_sound(mended);
+}
+
+/* 20: a pop spares the stops while the list has entries */
+uint8_t dual_ledger_group_pop(uint64_t *group, uint64_t *obstacle) {
+    if (!spoiled(20) || group[0] != 2 || group[3] == 0) return real_dual_ledger_group_pop(group, obstacle);
+    uint64_t stops = group[4];
+    group[4] = 0;
+    uint8_t number = real_dual_ledger_group_pop(group, obstacle);
+    group[4] = stops;
+    return number;
+}
+
+/* 21: flags joined by or where a growth is extended by one of the same length */
+uint8_t dual_ledger_group_extend(const uint64_t *bench, uint64_t *group, const uint64_t *other) {
+    int joins = spoiled(21) && group[0] == 1 && other[0] == 1 && group[1] == other[1] && group[1] != INT64_MAX;
+    uint64_t flag = group[2] | other[2];
+    uint8_t number = real_dual_ledger_group_extend(bench, group, other);
+    if (number == 0 && joins) group[2] = flag;
+    return number;
+}
+
+/* 22: an obstacle's second handle is not looked up */
+uint8_t dual_ledger_group_add(const uint64_t *bench, uint64_t *group, const uint64_t *obstacle) {
+    uint64_t seen[DUAL_LEDGER_OBSTACLE_WORDS];
+    memcpy(seen, obstacle, sizeof seen);
+    if (spoiled(22) && obstacle[0] == DUAL_LEDGER_TOUCHING_VIRTUAL) seen[2] = obstacle[1];
+    return real_dual_ledger_group_add(bench, group, seen);
+}
