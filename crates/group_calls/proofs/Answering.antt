@@ -11,7 +11,7 @@ use Rattle.ledger_spec.specs.Sound.{sound}
 use Rattle.ledger_spec.specs.Groups.{Group, soundGroup, added, extended}
 use Rattle.ledger_spec.specs.GroupCalls.{handlesOf, groupHandles, gone, vertexOf, orElse, add, extend}
 use Rattle.views.specs.View.{view}
-use Rattle.views.specs.Fit.{SoundWords, Fit}
+use Rattle.views.specs.Fit.{Fit}
 use Rattle.views.proofs.Fits.{fit-of}
 use Rattle.groups.specs.View.{viewed, groupOf}
 use Rattle.groups.specs.declared.Kind.{Kind}
@@ -23,7 +23,7 @@ use Rattle.group_adds.specs.Adds.{changed}
 use Rattle.group_adds.specs.declared.Changed.{Changed}
 use Rattle.group_extends.specs.Extends.{wholeBy as keptBy, wholeOf}
 use Rattle.group_calls.specs.Whole.{wholeBy, whole}
-use borrow.Author.Tests.{not-true, not-false}
+use borrow.Author.Tests.{not-false}
 
 abbrev refusal : ℕ → Code → Changed
 refusal n g = record { number = n; group = g }

@@ -1,7 +1,7 @@
 -- A group's 1413 words, as include/dual_ledger.h has them: what is written for each group, which words are a group's, and which one they say. Any
 -- counts are a form: whether a group is sound is not asked here. Assumes nothing.
 use Prim.Native.Nat.{ℕ, zero, suc, _+_, _*_, _%_}
-use mathlib.Core.Bool.{Bool, true, false, _&&_}
+use mathlib.Core.Bool.{Bool, true, _&&_}
 use mathlib.Core.Option.{Option, none, some}
 use mathlib.Core.List.{List, [], _∷_, _++_}
 use lib.Dec.{eqb, leb, ltb}

@@ -15,7 +15,7 @@ use Rattle.words.specs.Store.{nodeAt, interfaceAt}
 use Rattle.words.specs.declared.Node.{Node}
 use Rattle.kinds.specs.declared.Class.{Class}
 use Rattle.kinds.specs.declared.Class.the-variants.{Absent, Blossom, Defect}
-use Rattle.ledger_spec.specs.Bench.{Handle, Member}
+use Rattle.ledger_spec.specs.Bench.{Handle}
 use Rattle.ledger_spec.specs.Bench as plain
 use Rattle.ledger_spec.specs.Look.{slotOf, ifSerial, nodeAt as nodeNamed}
 use Rattle.ledger_spec.specs.Named.{handleNamed}

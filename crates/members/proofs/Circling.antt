@@ -10,7 +10,7 @@ use Rattle.words.specs.declared.Node.{Node}
 use Rattle.kinds.specs.Names.{nobody}
 use Rattle.kinds.specs.declared.Class.the-variants.{Blossom}
 use Rattle.kinds.specs.declared.Handle.{Handle as Code}
-use Rattle.ledger_spec.specs.Bench.{Handle, Member, Bench, blossom}
+use Rattle.ledger_spec.specs.Bench.{Handle, Member, Bench}
 use Rattle.ledger_spec.specs.Named.{handleNamed}
 use Rattle.ledger_spec.specs.Walk.{parentOf, outermost}
 use Rattle.ledger_spec.specs.Knit.{In, here, there, nodes}

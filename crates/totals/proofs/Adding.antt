@@ -11,8 +11,6 @@ use lib.Seq.{drop-cons}
 use lib.IntN.{ℤ, _+ℤ_, natAbs, +ℤ-assoc, +ℤ-idl, +ℤ-idr}
 use Rattle.words.specs.Store.{nodeAt, interfaceAt}
 use Rattle.words.specs.declared.Node.{Node}
-use Rattle.kinds.specs.declared.Class.the-variants.{Absent}
-use Rattle.ledger_spec.specs.Bench.{Member}
 use Rattle.ledger_spec.specs.Bench as plain
 use Rattle.ledger_spec.specs.Look.{slotOf}
 use Rattle.ledger_spec.specs.Change.{worth}

@@ -1,6 +1,5 @@
 -- `is_form` tests the words of the kind that it finds, in the order of the definition. Assumes nothing.
 use borrow.Author.Tests.{ne-eqb}
-use borrow.Author.Needs.{needs}
 use Rattle.group_words.specs.Forms.{isForm}
 use Rattle.group_words.proofs.is_form.Statement.{statement}
 use Rattle.group_words.proofs.is_form.Tie as tie

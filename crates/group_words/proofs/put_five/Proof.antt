@@ -2,7 +2,6 @@
 use Prim.Native.Nat.{suc, _+_}
 use mathlib.Core.Path.{_≡_}
 use native.Mathlib.Omega.{arith}
-use native.Mathlib.Numerals.{add-one}
 use borrow.Author.Needs.{needs}
 use Rattle.group_words.proofs.put_five.Statement.{statement}
 use Rattle.group_words.proofs.put_five.Tie as tie

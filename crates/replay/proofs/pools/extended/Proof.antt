@@ -1,8 +1,6 @@
-use Prim.Native.Nat.{_-_, _≤_, _<_, _+_}
+use Prim.Native.Nat.{_-_}
 use mathlib.Core.Path.{sym, _∙_}
 use borrow.Author.Tests.{not-false}
-use lib.ListN.{length}
-use native.Mathlib.Omega.{arith}
 use borrow.Author.Needs.{needs}
 use borrow.Author.Needs.{needs}
 use Rattle.replay.proofs.pools.extended.Statement.{statement}
