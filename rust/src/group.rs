@@ -19,15 +19,17 @@ pub enum Obstacle {
 }
 
 impl Obstacle {
+    /// Words that are no handle are written as the one word for it that an obstacle may have.
     fn words(self) -> ObstacleWords {
         let flag = u64::from;
+        let hand = |node: Handle| node.word().min(Handle::NONE.word());
         match self {
             Obstacle::NonZeroGrow(length, empty) => [1, length as u64, flag(empty), 0, 0],
-            Obstacle::Conflicting((a, b), (c, d)) => [2, a.word(), b.word(), c.word(), d.word()],
-            Obstacle::TouchingVirtual((a, b), (vertex, mirror)) => [3, a.word(), b.word(), u64::from(vertex), flag(mirror)],
-            Obstacle::BlossomNeedExpand(a) => [4, a.word(), 0, 0, 0],
-            Obstacle::VertexShrinkStop(a, None) => [5, a.word(), 0, 0, 0],
-            Obstacle::VertexShrinkStop(a, Some((b, c))) => [6, a.word(), b.word(), c.word(), 0],
+            Obstacle::Conflicting((a, b), (c, d)) => [2, hand(a), hand(b), hand(c), hand(d)],
+            Obstacle::TouchingVirtual((a, b), (vertex, mirror)) => [3, hand(a), hand(b), u64::from(vertex), flag(mirror)],
+            Obstacle::BlossomNeedExpand(a) => [4, hand(a), 0, 0, 0],
+            Obstacle::VertexShrinkStop(a, None) => [5, hand(a), 0, 0, 0],
+            Obstacle::VertexShrinkStop(a, Some((b, c))) => [6, hand(a), hand(b), hand(c), 0],
         }
     }
 

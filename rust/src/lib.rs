@@ -45,3 +45,8 @@ pub use notice::{Notice, Told};
 pub use refusal::Refusal;
 pub use telling::{DualModule, Telling};
 pub use verdict::Verdict;
+
+/// The guide's program, run as an example.
+#[cfg(doctest)]
+#[doc = include_str!("../../docs/MIGRATING.md")]
+pub struct Guide;

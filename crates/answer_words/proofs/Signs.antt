@@ -1,7 +1,7 @@
 -- A number's sign decides a state; a number below 0 is written from -1 - z, since -z need not fit. Assumes nothing.
 use Prim.Native.Nat.{ℕ, zero, suc, _-_, _<_, _≤_}
 use native.Mathlib.Omega.{arith}
-use mathlib.Core.Path.{_≡_, refl, sym, ap}
+use mathlib.Core.Path.{_≡_, refl, sym, ap, _∙_}
 use mathlib.Core.Bool.{true, false, true≢false}
 use lib.Dec.{T}
 use lib.Signed.{ltZ, nonNeg}
@@ -11,7 +11,10 @@ use mir.Syntax.{Width, w8, w64}
 use mir.Val.{SFits, Fits, toZ, ofZ}
 use mir.Facts.{toZ-ofZ}
 use Rattle.ledger_spec.specs.Bench.{grows, stays, shrinks}
+use Rattle.kinds.specs.declared.Notice.{Notice}
+use Rattle.kinds.specs.declared.Notice.the-variants.{Grown}
 use Rattle.answer_words.specs.Forms.{signedWord, stateGiven}
+use Rattle.answer_words.specs.Answers.{whatWord}
 
 -- as the code reads it again from its bits
 abbrev pub again : Width → ℤ → ℤ
@@ -76,3 +79,6 @@ kept-once (negsuc n) f e = absurd (true≢false e)
 
 pub kept : (z : ℤ) → SFits w64 z → ltZ (again w64 z) (pos 0) ≡ false → Kept z (again w64 z)
 kept z f e = let t = kept-once z f (rw (toZ-ofZ f) at e) in rw (toZ-ofZ f) t
+
+pub grown-word : (n : Notice) (l : ℤ) (w : ℕ) → SFits w64 l → w ≡ signedWord (again w64 l) → n ≡ Grown l → w ≡ whatWord n
+grown-word n l w f e q = e ∙ ap signedWord (toZ-ofZ f) ∙ ap whatWord (sym q)

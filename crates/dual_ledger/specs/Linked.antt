@@ -3,9 +3,14 @@ use Prim.Native.Nat.{ℕ}
 use mathlib.Core.Path.{_≡_}
 use mathlib.Core.List.{List}
 use Rattle.ledger_spec.specs.Calls.{Call, perform}
+use Rattle.ledger_spec.specs.Answers.{answer}
 use Rattle.views.specs.View.{view}
 use Rattle.views.specs.Fit.{SoundWords}
+use Rattle.soundness.specs.Sound.{soundWords}
+use Rattle.telling.specs.Shown.{shown}
+use Rattle.telling.specs.Told.{answerOn}
 use Rattle.answer_words.specs.Forms.{nodeWord}
+use Rattle.answer_words.specs.Answers.{answerWords}
 
 -- on sound words b, call c answers n and leaves the words b′; refused, every word is as it was
 pub record Settled (b : List ℕ) (c : Call) (n : ℕ) (b′ : List ℕ) : Type 0 where
@@ -17,3 +22,27 @@ pub record Settled (b : List ℕ) (c : Call) (n : ℕ) (b′ : List ℕ) : Type 
 -- the node made or named, as a word; 0 where there is none
 abbrev pub nodeOf : List ℕ → Call → ℕ
 nodeOf b c = nodeWord (perform (view b) c .node)
+
+-- ---- with the notices
+
+-- on sound words b, call c answers n, writes ws and leaves the words b′
+pub record ToldBy (b : List ℕ) (c : Call) (n : ℕ) (ws b′ : List ℕ) : Type 0 where
+  pub number : n ≡ answer (view b) c .number
+  pub told : ws ≡ answerWords (shown (answer (view b) c))
+  pub words : SoundWords b′
+  pub seen : view b′ ≡ answer (view b) c .bench
+  pub refused : (n ≡ 0 → ⊥) → b′ ≡ b
+
+-- ---- on any words: BROKEN where they hold no sound bench
+
+-- call c on words b answers n and leaves the words b′
+pub record Left (b : List ℕ) (c : Call) (n : ℕ) (b′ : List ℕ) : Type 0 where
+  pub number : n ≡ answerOn (soundWords b) b c .number
+  pub words : n ≡ 0 → SoundWords b′
+  pub seen : n ≡ 0 → view b′ ≡ answerOn (soundWords b) b c .bench
+  pub refused : (n ≡ 0 → ⊥) → b′ ≡ b
+
+-- and it writes ws
+pub record CalledBy (b : List ℕ) (c : Call) (n : ℕ) (ws b′ : List ℕ) : Type 0 where
+  pub left : Left b c n b′
+  pub told : ws ≡ answerWords (shown (answerOn (soundWords b) b c))

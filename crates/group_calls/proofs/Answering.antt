@@ -4,6 +4,7 @@ use mathlib.Core.Path.{_≡_, refl, sym, ap, ap₂, _∙_}
 use mathlib.Core.Bool.{Bool, true, false, not, _&&_}
 use mathlib.Core.Option.{Option, none, some}
 use mathlib.Core.List.{List, [], _∷_}
+use borrow.Author.Tests.{not-false}
 use Rattle.kinds.specs.declared.Obstacle.{Obstacle}
 use Rattle.ledger_spec.specs.Tests.{first, any, given}
 use Rattle.ledger_spec.specs.Reads.{said}
@@ -23,7 +24,10 @@ use Rattle.group_adds.specs.Adds.{changed}
 use Rattle.group_adds.specs.declared.Changed.{Changed}
 use Rattle.group_extends.specs.Extends.{wholeBy as keptBy, wholeOf}
 use Rattle.group_calls.specs.Whole.{wholeBy, whole}
+<<<<<<< HEAD
 use borrow.Author.Tests.{not-false}
+=======
+>>>>>>> main
 
 abbrev refusal : ℕ → Code → Changed
 refusal n g = record { number = n; group = g }
@@ -76,59 +80,68 @@ module _ (b : List ℕ) {s : Bool} (v : Verdict b s) where
     is-sound : sound (view b) ≡ true
     is-sound = v .says (not-false s t) .sound
 
+    -- ---- add
     module _ (g : Code) (o : Obstacle) where
+      abbrev unfit : Bool
+      unfit = not (sound (view b) && soundGroup (groupOf g))
+
+      abbrev missing : Bool
+      missing = any (gone (view b)) (handlesOf o)
+
+      abbrev after : Option Group
+      after = added (groupOf g) o (vertexOf (view b) o)
+
       abbrev answer : Changed
       answer = whole (asked b (groupOf g) (add (view b) (groupOf g) o)) g g
 
-      bad : {x : Bool} → soundGroup (groupOf g) ≡ x → not (sound (view b) && soundGroup (groupOf g)) ≡ not x
-      bad e = ap₂ (λ (p q : Bool). not (p && q)) is-sound e
+      unfit-is : {x : Bool} → soundGroup (groupOf g) ≡ x → unfit ≡ not x
+      unfit-is e = ap₂ (λ (p q : Bool). not (p && q)) is-sound e
 
-      to : {r : Changed} → r ≡ whole (add (view b) (groupOf g) o) g g → r ≡ answer
-      to e = e ∙ on-words (add (view b) (groupOf g) o) g g t
-
-      abbrev goes : Option Group
-      goes = added (groupOf g) o (vertexOf (view b) o)
+      by-tests : {r : Changed} → r ≡ whole (saidBy unfit missing after (groupOf g)) g g → r ≡ answer
+      unfolding add
+      by-tests e = e ∙ on-words (add (view b) (groupOf g) o) g g t
 
       pub add-broken : soundGroup (groupOf g) ≡ false → refusal 2 g ≡ answer
-      unfolding add
-      add-broken e = to (broken (not (sound (view b) && soundGroup (groupOf g))) (any (gone (view b)) (handlesOf o)) goes (groupOf g) g g (bad e))
+      add-broken e = by-tests (broken unfit missing after (groupOf g) g g (unfit-is e))
 
       module _ (e : soundGroup (groupOf g) ≡ true) where
-        pub add-stale : any (gone (view b)) (handlesOf o) ≡ true → refusal 8 g ≡ answer
-        unfolding add
-        add-stale f = to (stale (not (sound (view b) && soundGroup (groupOf g))) (any (gone (view b)) (handlesOf o)) goes (groupOf g) g g (bad e) f)
+        pub add-stale : missing ≡ true → refusal 8 g ≡ answer
+        add-stale f = by-tests (stale unfit missing after (groupOf g) g g (unfit-is e) f)
 
-        pub add-goes : any (gone (view b)) (handlesOf o) ≡ false → (n : ℕ) → n ≡ vertexOf (view b) o → (r : Changed) → r ≡ changed (added (groupOf g) o n) g → r ≡ answer
-        unfolding add
-        add-goes f n w r m = to (m ∙ ap (λ (k : ℕ). changed (added (groupOf g) o k) g) w ∙ room goes (groupOf g) g ∙ passed (not (sound (view b) && soundGroup (groupOf g))) (any (gone (view b)) (handlesOf o)) goes (groupOf g) g g (bad e) f)
+        pub add-goes : missing ≡ false → (v : ℕ) → v ≡ vertexOf (view b) o → (r : Changed) → r ≡ changed (added (groupOf g) o v) g → r ≡ answer
+        add-goes f v w r m = by-tests (m ∙ ap (λ (k : ℕ). changed (added (groupOf g) o k) g) w ∙ room after (groupOf g) g ∙ passed unfit missing after (groupOf g) g g (unfit-is e) f)
 
+    -- ---- extend
     module _ (g h : Code) where
+      abbrev unfit′ : Bool
+      unfit′ = not (sound (view b) && (soundGroup (groupOf g) && soundGroup (groupOf h)))
+
+      abbrev missing′ : Bool
+      missing′ = any (gone (view b)) (groupHandles (groupOf h))
+
+      abbrev after′ : Option Group
+      after′ = extended (groupOf g) (groupOf h)
+
       abbrev answer′ : Changed
       answer′ = whole (asked b (groupOf g) (extend (view b) (groupOf g) (groupOf h))) g (wholeOf g h)
 
-      either-bad : {x y : Bool} → soundGroup (groupOf g) ≡ x → soundGroup (groupOf h) ≡ y → not (sound (view b) && (soundGroup (groupOf g) && soundGroup (groupOf h))) ≡ not (x && y)
-      either-bad e f = ap₂ (λ (p q : Bool). not (p && q)) is-sound (ap₂ (λ (p q : Bool). p && q) e f)
+      unfit′-is : {x y : Bool} → soundGroup (groupOf g) ≡ x → soundGroup (groupOf h) ≡ y → unfit′ ≡ not (x && y)
+      unfit′-is e f = ap₂ (λ (p q : Bool). not (p && q)) is-sound (ap₂ (λ (p q : Bool). p && q) e f)
 
-      to′ : {r : Changed} → r ≡ whole (extend (view b) (groupOf g) (groupOf h)) g (wholeOf g h) → r ≡ answer′
-      to′ e = e ∙ on-words (extend (view b) (groupOf g) (groupOf h)) g (wholeOf g h) t
-
-      abbrev goes′ : Option Group
-      goes′ = extended (groupOf g) (groupOf h)
+      by-tests′ : {r : Changed} → r ≡ whole (saidBy unfit′ missing′ after′ (groupOf g)) g (wholeOf g h) → r ≡ answer′
+      unfolding extend
+      by-tests′ e = e ∙ on-words (extend (view b) (groupOf g) (groupOf h)) g (wholeOf g h) t
 
       pub own-broken : soundGroup (groupOf g) ≡ false → refusal 2 g ≡ answer′
-      unfolding extend
-      own-broken e = to′ (broken (not (sound (view b) && (soundGroup (groupOf g) && soundGroup (groupOf h)))) (any (gone (view b)) (groupHandles (groupOf h))) goes′ (groupOf g) g (wholeOf g h) (either-bad e refl))
+      own-broken e = by-tests′ (broken unfit′ missing′ after′ (groupOf g) g (wholeOf g h) (unfit′-is e refl))
 
       module _ (e : soundGroup (groupOf g) ≡ true) where
         pub other-broken : soundGroup (groupOf h) ≡ false → refusal 2 g ≡ answer′
-        unfolding extend
-        other-broken f = to′ (broken (not (sound (view b) && (soundGroup (groupOf g) && soundGroup (groupOf h)))) (any (gone (view b)) (groupHandles (groupOf h))) goes′ (groupOf g) g (wholeOf g h) (either-bad e f))
+        other-broken f = by-tests′ (broken unfit′ missing′ after′ (groupOf g) g (wholeOf g h) (unfit′-is e f))
 
         module _ (f : soundGroup (groupOf h) ≡ true) where
-          pub extend-stale : any (gone (view b)) (groupHandles (groupOf h)) ≡ true → refusal 8 g ≡ answer′
-          unfolding extend
-          extend-stale n = to′ (stale (not (sound (view b) && (soundGroup (groupOf g) && soundGroup (groupOf h)))) (any (gone (view b)) (groupHandles (groupOf h))) goes′ (groupOf g) g (wholeOf g h) (either-bad e f) n)
+          pub extend-stale : missing′ ≡ true → refusal 8 g ≡ answer′
+          extend-stale n = by-tests′ (stale unfit′ missing′ after′ (groupOf g) g (wholeOf g h) (unfit′-is e f) n)
 
-          pub extend-goes : any (gone (view b)) (groupHandles (groupOf h)) ≡ false → (r : Changed) → r ≡ changed (extended (groupOf g) (groupOf h)) (wholeOf g h) → r ≡ answer′
-          unfolding extend
-          extend-goes n r m = to′ (m ∙ room-of (groupOf g) g h (g .kind) (h .kind) ∙ passed (not (sound (view b) && (soundGroup (groupOf g) && soundGroup (groupOf h)))) (any (gone (view b)) (groupHandles (groupOf h))) goes′ (groupOf g) g (wholeOf g h) (either-bad e f) n)
+          pub extend-goes : missing′ ≡ false → (r : Changed) → r ≡ changed after′ (wholeOf g h) → r ≡ answer′
+          extend-goes n r m = by-tests′ (m ∙ room-of (groupOf g) g h (g .kind) (h .kind) ∙ passed unfit′ missing′ after′ (groupOf g) g (wholeOf g h) (unfit′-is e f) n)

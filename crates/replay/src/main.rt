@@ -5,7 +5,6 @@ mod circles;
 mod looks;
 mod nodes;
 mod packs;
-mod pools;
 mod says;
 mod tries;
 mod turns;

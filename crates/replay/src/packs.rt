@@ -1,7 +1,6 @@
 // The lines about obstacle groups: four of them, by number.
 use crate::acts;
 use crate::nodes;
-use crate::pools;
 use crate::says;
 use group_takes::MaybeObstacle;
 use groups::Group;
@@ -92,7 +91,7 @@ pub fn add(
     let i = tapes::number(row, n, 0);
     let o = obstacle(b, letter, row, n);
     let g = nth(f, i);
-    let r = pools::add(b, g, o);
+    let r = group_calls::add(b, g, o);
     let after = r.group;
     let said = tapes::say(out, 0, r.number as i64);
     let four = with(f, i, after);
@@ -102,7 +101,7 @@ pub fn add(
 pub fn extend(b: &[u64; WORDS], f: Four, out: &mut [i64; ROOM], i: i64, j: i64) -> Packed {
     let g = nth(f, i);
     let h = nth(f, j);
-    let r = pools::extend(b, g, h);
+    let r = group_calls::extend(b, g, h);
     let after = r.group;
     let said = tapes::say(out, 0, r.number as i64);
     let four = with(f, i, after);

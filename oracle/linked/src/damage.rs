@@ -1,4 +1,5 @@
 //! Damaged benches: words that no call makes. The linked ledger must say BROKEN exactly where the plain model does, change nothing then, and else answer as the model.
+use crate::bend::bend;
 use crate::ledger::{notices, number, state, unit};
 use crate::table::Table;
 use crate::words::{decode, encode, handle_word, Words};
@@ -89,21 +90,30 @@ pub fn run(plan: Plan, seed: u64, count: usize, table: &mut Table) -> Result<(),
         }
         let (kind, damaged) = if rng.chance(1) {
             chance(&mut rng)
+        } else if rng.chance(40) {
+            let mut bent = player.model.bench.clone();
+            bend(&mut rng, &mut bent);
+            ("a rule of the plain bench", encode(&bent))
         } else {
             let (kind, damage) = KINDS[rng.below(KINDS.len())];
             let mut damaged = words.clone();
             damage(&mut rng, &mut damaged);
             (kind, damaged)
         };
-        let is_sound = check(&mut rng, &player.model.bench, &damaged).map_err(|why| format!("{kind}, plan {} seed {seed}: {why}", plan.name))?;
-        table.damaged.entry(kind).or_default()[!is_sound as usize] += 1;
+        let found = check(&mut rng, &player.model.bench, &damaged).map_err(|why| format!("{kind}, plan {} seed {seed}: {why}", plan.name))?;
+        *table.damaged.entry((kind, found)).or_default() += 1;
     }
     Ok(())
 }
 
-/// One bench: the verdict on it, then one public call; whether it is sound.
-fn check(rng: &mut Rng, was: &Plain, words: &Words) -> Result<bool, String> {
-    let plain = decode(words).filter(|bench| bench.is_sound());
+/// What words are that are no bench's.
+const NO_BENCH: &str = "words of no bench";
+
+/// One bench: the verdict on it, then one public call. The rule that it breaks, if it is not sound.
+fn check(rng: &mut Rng, was: &Plain, words: &Words) -> Result<Option<&'static str>, String> {
+    let encoded = decode(words);
+    let broken = encoded.as_ref().map_or(Some(NO_BENCH), Plain::broken_rule);
+    let plain = encoded.filter(|_| broken.is_none());
     let is_sound = lent::is_sound(words);
     if is_sound != plain.is_some() || Bench::from_words(words).is_ok() != is_sound {
         return Err(format!("sound by the model: {}, linked: {is_sound}; words {:?}", plain.is_some(), shown(words)));
@@ -125,7 +135,7 @@ fn check(rng: &mut Rng, was: &Plain, words: &Words) -> Result<bool, String> {
     if after != left {
         return Err(format!("{line:?}: other words left than the model's; words {:?}", shown(words)));
     }
-    Ok(is_sound)
+    Ok(broken)
 }
 
 /// Whether the nodes of a line are in their places still, so that serials name what handles do.

@@ -1,8 +1,10 @@
 //! The linked ledger beside the original and the plain model: comparison at scale, and the benchmark.
 mod bench;
+mod bend;
 mod damage;
 mod groups;
 mod ledger;
+mod openings;
 mod reads;
 mod runs;
 mod table;

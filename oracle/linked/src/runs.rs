@@ -1,5 +1,6 @@
 //! Runs of generated lines by the original, the plain model and the linked ledger, compared in everything; a difference is shrunk to its smallest input.
 use crate::ledger::Ledger;
+use crate::openings;
 use crate::table::Table;
 use crate::words::encode;
 use oracle::generator::{Plan, Player};
@@ -83,15 +84,20 @@ impl Run {
         let mut player = Player::new(self.plan, self.seed);
         let mut sides = Sides::default();
         let mut said = vec![];
+        let opening = openings::lines(&self.plan, self.seed, self.each);
+        let lines = opening.len() + self.lines;
         table.runs[self.each as usize] += 1;
-        for at in 0..self.lines {
-            let line = player.line();
+        for at in 0..lines {
+            let line = opening.get(at).cloned().unwrap_or_else(|| player.line());
+            if at < opening.len() {
+                player.play(&line);
+            }
             let call = read(&line).expect("the generator makes lines of the language");
             said.push(line);
             let before = table.wants_shapes(self.seed).then(|| sides.replay.model.clone());
             let turn = sides.turn(&call).map_err(|why| (said.clone(), why))?;
             table.see(&said[at], &call, before.as_ref(), &sides.replay.model, &turn);
-            if self.each || at + 1 == self.lines {
+            if self.each && at >= opening.len() || at + 1 == lines {
                 table.reads += sides.everything().map_err(|why| (said.clone(), why))?;
             }
         }

@@ -16,15 +16,15 @@ pub struct Table {
     marked: usize,
     /// reads made to compare everything, beside the lines of the runs
     pub reads: usize,
-    /// shapes, of one run in sixteen
+    /// shapes, of one run in seventeen
     shapes: Coverage,
-    /// damaged benches by kind of damage: sound ones, BROKEN ones
-    pub damaged: BTreeMap<&'static str, [usize; 2]>,
+    /// damaged benches by kind of damage, and by the rule that they break first; none if they are sound still
+    pub damaged: BTreeMap<(&'static str, Option<&'static str>), usize>,
 }
 
 impl Table {
     pub fn wants_shapes(&self, seed: u64) -> bool {
-        seed % 16 == 0
+        seed % 17 == 0
     }
 
     pub fn see(&mut self, text: &str, call: &Line, before: Option<&Model>, after: &Model, turn: &Turn) {
@@ -48,7 +48,7 @@ impl Table {
     }
 
     pub fn damages(&self) -> usize {
-        self.damaged.values().flatten().sum()
+        self.damaged.values().sum()
     }
 }
 
@@ -66,8 +66,17 @@ impl fmt::Display for Table {
         let verdicts: Vec<String> = self.verdicts.iter().map(|((check, verdict), count)| format!("{check} {verdict}: {count}")).collect();
         writeln!(f, "verdicts: {}", verdicts.join(", "))?;
         let shapes: Vec<String> = self.shapes.shapes.iter().map(|(shape, count)| format!("{shape}: {count}")).collect();
-        writeln!(f, "shapes, in one run of sixteen: {}, blossoms in one another up to {}", shapes.join(", "), self.shapes.deepest)?;
-        writeln!(f, "{} damaged benches (sound, BROKEN):", self.damages())?;
-        self.damaged.iter().try_for_each(|(kind, [sound, broken])| writeln!(f, "  {kind}: {sound}, {broken}"))
+        writeln!(f, "shapes, in one run of seventeen: {}, blossoms in one another up to {}", shapes.join(", "), self.shapes.deepest)?;
+        self.damages_by(f, "by damage", |(kind, _)| kind)?;
+        self.damages_by(f, "BROKEN by", |(_, rule)| rule.unwrap_or("nothing: sound still"))
+    }
+}
+
+impl Table {
+    fn damages_by(&self, f: &mut fmt::Formatter, title: &str, key: impl Fn((&'static str, Option<&'static str>)) -> &'static str) -> fmt::Result {
+        let mut counts: BTreeMap<&str, usize> = BTreeMap::new();
+        self.damaged.iter().for_each(|(at, count)| *counts.entry(key(*at)).or_default() += count);
+        let shown: Vec<String> = counts.iter().map(|(name, count)| format!("{name}: {count}")).collect();
+        writeln!(f, "{} damaged benches, {title}: {}", self.damages(), shown.join(", "))
     }
 }

@@ -6,7 +6,7 @@ mod reads;
 pub mod rng;
 mod wrong;
 
-use crate::line::read;
+use crate::line::{read, Line};
 use crate::model::bench::Handle;
 use crate::model::Model;
 use rng::Rng;
@@ -83,7 +83,10 @@ impl Player {
         let call = read(line).unwrap_or_else(|why| panic!("{line}: {why}"));
         let next = self.model.bench.next;
         let number = self.model.answer(&call)[0];
-        self.past.extend((next..self.model.bench.next).map(|serial| serial as u32));
+        match call {
+            Line::SetUp(_) => self.past.clear(),
+            _ => self.past.extend((next..self.model.bench.next).map(|serial| serial as u32)),
+        }
         number == 0
     }
 

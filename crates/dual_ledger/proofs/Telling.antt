@@ -1,0 +1,37 @@
+-- A call's answer with notices, on sound words or on any, handed on as words. Assumes nothing.
+use Prim.Native.Nat.{ℕ}
+use mathlib.Core.Path.{_≡_, refl, sym, ap, _∙_, subst}
+use mathlib.Core.List.{List}
+use Rattle.ledger_spec.specs.Calls.{Call}
+use Rattle.soundness.specs.Sound.{soundWords}
+use Rattle.telling.specs.declared.Answer.{Answer}
+use Rattle.telling.specs.Told.{Told, Called}
+use Rattle.answer_words.specs.Answers.{answerWords}
+use Rattle.dual_ledger.specs.Linked.{ToldBy, Left, CalledBy}
+
+module _ {b : List ℕ} {c : Call} {a : Answer} {b′ : List ℕ} where
+  told-so : Told b c a b′ → {n : ℕ} {ws : List ℕ} → n ≡ a .number → ws ≡ answerWords a → ToldBy b c n ws b′
+  told-so T m w = record {
+    number = m ∙ ap (λ (x : Answer). x .number) (T .reply);
+    told = w ∙ ap answerWords (T .reply);
+    words = T .words;
+    seen = T .seen;
+    refused = λ q. T .refused (λ z. q (m ∙ z));
+  }
+
+  pub told-by : {d : Call} → c ≡ d → Told b c a b′ → {n : ℕ} {ws : List ℕ} → n ≡ a .number → ws ≡ answerWords a → ToldBy b d n ws b′
+  told-by e T {n} {ws} m w = subst (λ (x : Call). ToldBy b x n ws b′) e (told-so T m w)
+
+  left-so : Called (soundWords b) b c a b′ → {n : ℕ} → n ≡ a .number → Left b c n b′
+  left-so C m = record {
+    number = m ∙ ap (λ (x : Answer). x .number) (C .reply);
+    words = λ z. C .words (sym m ∙ z);
+    seen = λ z. C .seen (sym m ∙ z);
+    refused = λ q. C .refused (λ z. q (m ∙ z));
+  }
+
+  pub called-by : {d : Call} → c ≡ d → Called (soundWords b) b c a b′ → {n : ℕ} {ws : List ℕ} → n ≡ a .number → ws ≡ answerWords a → CalledBy b d n ws b′
+  called-by e C {n} {ws} m w = subst (λ (x : Call). CalledBy b x n ws b′) e (record { left = left-so C m; told = w ∙ ap answerWords (C .reply) })
+
+  pub left-by : Called (soundWords b) b c a b′ → Left b c (a .number) b′
+  left-by C = left-so C refl

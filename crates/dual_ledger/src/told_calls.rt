@@ -1,0 +1,85 @@
+// The calls on words that hold a sound bench, with notices: the number, and the whole answer as words. No scan of the slots. Assumes nothing.
+use answer_words::ANSWER;
+use kinds::Vertex;
+use words::WORDS;
+ghost use Rattle.ledger_spec.specs.Calls.{Defect, Blossom, Expand, SetState, Grow};
+ghost use Rattle.rings.specs.Given.{handGiven, handsGiven, pairsGiven};
+ghost use Rattle.views.specs.Fit.{SoundWords};
+ghost use Rattle.answer_words.specs.Forms.{stateGiven};
+ghost use Rattle.dual_ledger.specs.Linked.{ToldBy};
+
+#[no_mangle]
+pub extern "C" fn dual_ledger_told_create_defect_node(
+    bench: &mut [u64; WORDS],
+    unit: u8,
+    vertex: u32,
+    answer: &mut [u64; ANSWER],
+) -> u8
+    requires { ⌜ SoundWords (now bench) ⌝ }
+    ensures { λ r. ⌜ ToldBy (now (bench .entry)) (Defect unit vertex) r (now (answer .exit)) (now (bench .exit)) ⌝ }
+{
+    let a = telling::create_defect_node(bench, unit, Vertex(vertex));
+    answer_words::put_answer(a, answer)
+}
+
+#[no_mangle]
+pub extern "C" fn dual_ledger_told_create_blossom(
+    bench: &mut [u64; WORDS],
+    unit: u8,
+    members: &[u64],
+    touching: &[u64],
+    answer: &mut [u64; ANSWER],
+) -> u8
+    requires { ⌜ SoundWords (now bench) ⌝ }
+    ensures { λ r. ⌜ ToldBy (now (bench .entry)) (Blossom unit (handsGiven (now (members .entry))) (pairsGiven (now (touching .entry)))) r (now (answer .exit)) (now (bench .exit)) ⌝ }
+{
+    let a = telling::create_blossom(bench, unit, members, touching);
+    answer_words::put_answer(a, answer)
+}
+
+#[no_mangle]
+pub extern "C" fn dual_ledger_told_expand_blossom(
+    bench: &mut [u64; WORDS],
+    unit: u8,
+    node: u64,
+    answer: &mut [u64; ANSWER],
+) -> u8
+    requires { ⌜ SoundWords (now bench) ⌝ }
+    ensures { λ r. ⌜ ToldBy (now (bench .entry)) (Expand unit (handGiven node)) r (now (answer .exit)) (now (bench .exit)) ⌝ }
+{
+    let h = answer_words::hand(node);
+    let a = telling::expand_blossom(bench, unit, h);
+    answer_words::put_answer(a, answer)
+}
+
+// Grows, stays or shrinks by the sign of state.
+#[no_mangle]
+pub extern "C" fn dual_ledger_told_set_grow_state(
+    bench: &mut [u64; WORDS],
+    unit: u8,
+    node: u64,
+    state: i8,
+    answer: &mut [u64; ANSWER],
+) -> u8
+    requires { ⌜ SoundWords (now bench) ⌝ }
+    ensures { λ r. ⌜ ToldBy (now (bench .entry)) (SetState unit (handGiven node) (stateGiven state)) r (now (answer .exit)) (now (bench .exit)) ⌝ }
+{
+    let h = answer_words::hand(node);
+    let to = answer_words::state_given(state);
+    let a = telling::set_grow_state(bench, unit, h, to);
+    answer_words::put_answer(a, answer)
+}
+
+#[no_mangle]
+pub extern "C" fn dual_ledger_told_grow(
+    bench: &mut [u64; WORDS],
+    unit: u8,
+    length: i64,
+    answer: &mut [u64; ANSWER],
+) -> u8
+    requires { ⌜ SoundWords (now bench) ⌝ }
+    ensures { λ r. ⌜ ToldBy (now (bench .entry)) (Grow unit length) r (now (answer .exit)) (now (bench .exit)) ⌝ }
+{
+    let a = telling::grow(bench, unit, length);
+    answer_words::put_answer(a, answer)
+}

@@ -1,0 +1,28 @@
+//! How runs begin: most from a new bench; some with few serials left, with a full interface, with many free nodes, or in the largest tree.
+use oracle::generator::Plan;
+
+/// The lines before those of the plan. The largest tree is for plans over all interfaces, and for runs that are compared at their end.
+pub fn lines(plan: &Plan, seed: u64, each: bool) -> Vec<String> {
+    match seed / 2 % 16 {
+        3 => vec![format!("N {}", u32::MAX - (seed / 32 % 24) as u32)],
+        4 => vec![format!("N {}", [0u32, 1, 2, 1 << 31, 77][seed as usize / 32 % 5])],
+        6 => [defects(0, 64), ["D 0 9999", "B 0 1 2", "B 0 3", "E 0 65"].map(String::from).to_vec()].concat(),
+        7 if !each => [defects(0, 40), defects(1, 40), vec!["F 2 0 1".to_string()]].concat(),
+        8 if !each && plan.units == 8 => largest(),
+        _ => vec![],
+    }
+}
+
+fn defects(unit: u32, count: u32) -> Vec<String> {
+    (0..count).map(|at| format!("D {unit} {}", 1000 * unit + at)).collect()
+}
+
+/// Seven interfaces in one tree, each with 60 nodes.
+fn largest() -> Vec<String> {
+    let mut lines: Vec<String> = (0..4).flat_map(|unit| defects(unit, 60)).collect();
+    for (parent, left, right) in [(4, 0, 1), (5, 2, 3), (6, 4, 5)] {
+        lines.push(format!("F {parent} {left} {right}"));
+        lines.extend(defects(parent, 60));
+    }
+    lines
+}

@@ -1,0 +1,346 @@
+/* The linked library from C, by its header alone: document 01's worked cases, a blossom with its notices word by word, every read and check in both forms,
+ * and refusals with all that was lent compared before and after. Ends with 0 and one line, or names the first difference. */
+#include "dual_ledger.h"
+
+#include <inttypes.h>
+#include <stdio.h>
+#include <stdlib.h>
+#include <string.h>
+
+static uint64_t bench[DUAL_LEDGER_WORDS];
+static uint64_t kept[DUAL_LEDGER_WORDS];
+static uint64_t answer[DUAL_LEDGER_ANSWER_WORDS];
+static long compared;
+
+static void same(const char *what, int64_t got, int64_t expected) {
+    compared++;
+    if (got == expected) return;
+    printf("linked: %s is %" PRId64 ", not %" PRId64 "\n", what, got, expected);
+    exit(1);
+}
+
+static void same_words(const char *what, const uint64_t *got, const uint64_t *expected, size_t count) {
+    compared++;
+    for (size_t i = 0; i < count; i++) {
+        if (got[i] == expected[i]) continue;
+        printf("linked: %s: word %zu is %" PRIu64 ", not %" PRIu64 "\n", what, i, got[i], expected[i]);
+        exit(1);
+    }
+}
+
+static uint64_t handle(uint64_t serial, uint64_t slot, uint64_t unit) { return (serial * 64 + slot) * 8 + unit; }
+
+/* ---- a line of the text program: number, serial, speed, sum */
+
+enum form { OPEN, TOLD, TRUSTED };
+
+/* A call of one form; the node made or named is left in answer[0]. */
+static uint8_t call(enum form form, const char *line) {
+    char letter;
+    long long f[6] = {0};
+    uint64_t members[4], node, *a = answer;
+    int n = sscanf(line, "%c %lld %lld %lld %lld %lld", &letter, f, f + 1, f + 2, f + 3, f + 4) - 1;
+    uint8_t unit = (uint8_t)f[0], number = 0;
+    memset(answer, 0, sizeof answer);
+    switch (letter) {
+    case 'D':
+        if (form == OPEN) return dual_ledger_create_defect_node(bench, unit, (uint32_t)f[1], a);
+        if (form == TOLD) return dual_ledger_told_create_defect_node(bench, unit, (uint32_t)f[1], a);
+        return dual_ledger_trusted_create_defect_node(bench, unit, (uint32_t)f[1], a);
+    case 'B':
+        for (int i = 1; i < n; i++) members[i - 1] = handle((uint64_t)f[i], (uint64_t)f[i] - 1, unit);
+        if (form == OPEN) return dual_ledger_create_blossom(bench, unit, members, (size_t)(n - 1), NULL, 0, a);
+        if (form == TOLD) return dual_ledger_told_create_blossom(bench, unit, members, (size_t)(n - 1), NULL, 0, a);
+        return dual_ledger_trusted_create_blossom(bench, unit, members, (size_t)(n - 1), NULL, 0, a);
+    case 'E':
+        node = handle((uint64_t)f[1], (uint64_t)f[1] - 1, unit);
+        if (form == OPEN) return dual_ledger_expand_blossom(bench, unit, node, a);
+        if (form == TOLD) return dual_ledger_told_expand_blossom(bench, unit, node, a);
+        number = dual_ledger_trusted_expand_blossom(bench, unit, node);
+        if (number == 0) answer[0] = node;
+        return number;
+    case 'S':
+        node = handle((uint64_t)f[1], (uint64_t)f[1] - 1, unit);
+        if (form == OPEN) return dual_ledger_set_grow_state(bench, unit, node, (int8_t)f[2], a);
+        if (form == TOLD) return dual_ledger_told_set_grow_state(bench, unit, node, (int8_t)f[2], a);
+        number = dual_ledger_trusted_set_grow_state(bench, unit, node, (int8_t)f[2]);
+        if (number == 0) answer[0] = node;
+        return number;
+    case 'G':
+        if (form == OPEN) return dual_ledger_grow(bench, unit, f[1], a);
+        if (form == TOLD) return dual_ledger_told_grow(bench, unit, f[1], a);
+        return dual_ledger_trusted_grow(bench, unit, f[1]);
+    case 'F':
+        if (form == OPEN) return dual_ledger_fuse(bench, unit, (uint8_t)f[1], (uint8_t)f[2]);
+        return dual_ledger_trusted_fuse(bench, unit, (uint8_t)f[1], (uint8_t)f[2]);
+    case 'C':
+        if (form == OPEN) return dual_ledger_clear(bench, unit);
+        return dual_ledger_trusted_clear(bench, unit);
+    default:
+        if (form == OPEN) number = dual_ledger_sanity_check(bench, unit, a, &node);
+        else number = dual_ledger_trusted_sanity_check(bench, unit, a, &node);
+        answer[0] *= 512; /* shown where a serial is */
+        return number;
+    }
+}
+
+struct step {
+    const char *line;
+    int number, serial, speed, sum;
+};
+
+static void play(const char *name, enum form form, const struct step *steps, size_t count) {
+    char what[80];
+    same("set-up", dual_ledger_set_up(bench, 1), 0);
+    for (size_t i = 0; i < count; i++) {
+        int64_t speed = 0, sum = 0;
+        uint8_t unit = (uint8_t)atoi(steps[i].line + 2);
+        snprintf(what, sizeof what, "%s, '%s' (form %d)", name, steps[i].line, form);
+        same(what, call(form, steps[i].line), steps[i].number);
+        same(what, (int64_t)(answer[0] / 512), steps[i].serial);
+        dual_ledger_sum_grow_speed(bench, unit, &speed);
+        dual_ledger_sum_dual_variables(bench, unit, &sum);
+        same(what, speed, steps[i].speed);
+        same(what, sum, steps[i].sum);
+        same(what, dual_ledger_is_sound(bench), 1);
+    }
+}
+
+/* P1 and P2: two halves grown apart, fused, grown together; a half then takes no call. */
+static void halves(enum form form) {
+    static const struct step steps[] = {{"D 0 3", 0, 1, 1, 0}, {"D 1 7", 0, 2, 1, 0},   {"G 0 4", 0, 0, 1, 4},           {"G 1 6", 0, 0, 1, 6},
+                                        {"F 2 0 1", 0, 0, 2, 10}, {"G 2 5", 0, 0, 2, 20}, {"D 0 5", DUAL_LEDGER_CHILD, 0, 0, 0}};
+    int64_t value = 0;
+    play("P1", form, steps, sizeof steps / sizeof *steps);
+    same("P1's first value", dual_ledger_get_dual_variable(bench, handle(1, 0, 0), &value), 0);
+    same("P1's first value", value, 9);
+    same("P1's second value", dual_ledger_trusted_get_dual_variable(bench, handle(2, 0, 1), &value), 0);
+    same("P1's second value", value, 11);
+}
+
+/* P10, the whole case. */
+static void whole_case(enum form form) {
+    static const struct step steps[] = {{"D 0 3", 0, 1, 1, 0},    {"D 0 8", 0, 2, 2, 0},      {"D 0 9", 0, 3, 3, 0},     {"G 0 5", 0, 0, 3, 15},
+                                        {"B 0 1 2 3", 0, 4, 1, 15}, {"G 0 2", 0, 0, 1, 17},     {"S 0 4 -1", 0, 4, -1, 17}, {"G 0 1", 0, 0, -1, 16},
+                                        {"E 0 4", 0, 4, 3, 16},    {"K 0", 0, 5, 3, 16}};
+    play("P10", form, steps, sizeof steps / sizeof *steps);
+}
+
+/* ---- notices */
+
+static uint64_t expected[DUAL_LEDGER_ANSWER_WORDS];
+
+static void expect(uint64_t node, uint64_t count, uint64_t members) {
+    memset(expected, 0, sizeof expected);
+    expected[0] = node, expected[1] = count, expected[2] = members;
+}
+
+static void notice(size_t i, uint64_t kind, uint64_t what) { expected[3 + 2 * i] = kind, expected[4 + 2 * i] = what; }
+
+static void told(const char *what) {
+    same_words(what, answer, expected, DUAL_LEDGER_ANSWER_WORDS);
+    memset(answer, 0xa5, sizeof answer); /* the next answer must write every word */
+}
+
+static void notices(void) {
+    uint64_t a = handle(9, 0, 5), b = handle(10, 1, 5), q = handle(11, 2, 5);
+    uint64_t members[2], touching[4];
+    members[0] = b, members[1] = a;
+    touching[0] = b, touching[1] = b, touching[2] = a, touching[3] = a;
+    memset(answer, 0xa5, sizeof answer);
+    same("set-up from 9", dual_ledger_set_up(bench, 9), 0);
+    same("add", dual_ledger_create_defect_node(bench, 5, 70, answer), 0);
+    expect(a, 1, 0), notice(0, DUAL_LEDGER_DEFECT_ADDED, a), told("a defect's answer");
+    same("add", dual_ledger_told_create_defect_node(bench, 5, 4000000000u, answer), 0);
+    expect(b, 1, 0), notice(0, DUAL_LEDGER_DEFECT_ADDED, b), told("a second defect's answer");
+    same("grow", dual_ledger_grow(bench, 5, 1099511627775, answer), 0);
+    expect(0, 1, 0), notice(0, DUAL_LEDGER_GROWN, 1099511627775), told("a growth's answer");
+    same("blossom", dual_ledger_create_blossom(bench, 5, members, 2, touching, 4, answer), 0);
+    expect(q, 4, 2), notice(0, DUAL_LEDGER_STATE_STAY, b), notice(1, DUAL_LEDGER_STATE_STAY, a);
+    notice(2, DUAL_LEDGER_SHRINK_PREPARED, 0), notice(3, DUAL_LEDGER_BLOSSOM_ADDED, q);
+    expected[135] = b, expected[136] = a, told("a blossom's answer");
+    same("shrink", dual_ledger_set_grow_state(bench, 5, q, -128, answer), 0);
+    expect(q, 1, 0), notice(0, DUAL_LEDGER_STATE_SHRINK, q), told("a shrinking node's answer");
+    same("stay", dual_ledger_told_set_grow_state(bench, 5, q, 0, answer), 0);
+    expect(q, 1, 0), notice(0, DUAL_LEDGER_STATE_STAY, q), told("a staying node's answer");
+    same("grow again", dual_ledger_set_grow_state(bench, 5, q, 127, answer), 0);
+    expect(q, 1, 0), notice(0, DUAL_LEDGER_STATE_GROW, q), told("a growing node's answer");
+    same("expand", dual_ledger_told_expand_blossom(bench, 5, q, answer), 0);
+    expect(q, 3, 0), notice(0, DUAL_LEDGER_BLOSSOM_REMOVED, q), notice(1, DUAL_LEDGER_STATE_GROW, b), notice(2, DUAL_LEDGER_STATE_GROW, a);
+    told("an expansion's answer");
+}
+
+/* A circle of 64, the largest, tells 66 notices. */
+static void largest_circle(void) {
+    uint64_t members[64], q = handle(65, 0, 2);
+    same("set-up", dual_ledger_set_up(bench, 1), 0);
+    for (uint32_t i = 0; i < 64; i++) same("add", dual_ledger_trusted_create_defect_node(bench, (uint8_t)(i / 32), i, members + i), 0);
+    same("fuse", dual_ledger_fuse(bench, 2, 0, 1), 0);
+    memset(answer, 0xa5, sizeof answer);
+    same("the largest circle", dual_ledger_create_blossom(bench, 2, members, 64, NULL, 0, answer), 0);
+    expect(q, 66, 64);
+    for (size_t i = 0; i < 64; i++) notice(i, DUAL_LEDGER_STATE_STAY, members[i]), expected[135 + i] = members[i];
+    notice(64, DUAL_LEDGER_SHRINK_PREPARED, 0), notice(65, DUAL_LEDGER_BLOSSOM_ADDED, q), told("the largest circle's answer");
+}
+
+/* ---- reads and checks, in both forms */
+
+typedef uint8_t by_unit(const uint64_t *, uint8_t, int64_t *);
+typedef uint8_t by_node(const uint64_t *, uint64_t, uint64_t *);
+
+static void read_weight(const char *what, by_unit *open, by_unit *trusted, uint8_t unit, int number, int64_t expected_value) {
+    int64_t value = 77;
+    same(what, open(bench, unit, &value), number), same(what, value, expected_value);
+    value = 77;
+    same(what, trusted(bench, unit, &value), number), same(what, value, expected_value);
+}
+
+static void read_node(uint8_t unit, uint32_t index, int number, uint64_t expected_node) {
+    uint64_t node = 77;
+    same("the node at an index", dual_ledger_get_node(bench, unit, index, &node), number), same("the node at an index", (int64_t)node, (int64_t)expected_node);
+    node = 77;
+    same("the node at an index", dual_ledger_trusted_get_node(bench, unit, index, &node), number);
+    same("the node at an index", (int64_t)node, (int64_t)expected_node);
+}
+
+static void read_tree(uint64_t node, int number, uint64_t outer, uint64_t links, int second_number, uint64_t second) {
+    uint64_t got = 77, way = 77;
+    same("the outermost", dual_ledger_get_ancestor_blossom(bench, node, &got, &way), number);
+    same("the outermost", (int64_t)got, (int64_t)outer), same("its links", (int64_t)way, (int64_t)links);
+    got = way = 77;
+    same("the outermost", dual_ledger_trusted_get_ancestor_blossom(bench, node, &got, &way), number);
+    same("the outermost", (int64_t)got, (int64_t)outer), same("its links", (int64_t)way, (int64_t)links);
+    same("the one below", dual_ledger_get_secondary_ancestor_blossom(bench, node, &got), second_number), same("the one below", (int64_t)got, (int64_t)second);
+    got = 77;
+    same("the one below", dual_ledger_trusted_get_secondary_ancestor_blossom(bench, node, &got), second_number);
+    same("the one below", (int64_t)got, (int64_t)second);
+}
+
+static void read_inside(uint8_t unit, uint64_t node, int number, int64_t yes) {
+    uint64_t inside = 77;
+    same("belonging", dual_ledger_check_ptr_belonging(bench, unit, node, &inside), number), same("belonging", (int64_t)inside, yes);
+    inside = 77;
+    same("belonging", dual_ledger_trusted_check_ptr_belonging(bench, unit, node, &inside), number), same("belonging", (int64_t)inside, yes);
+}
+
+static void read_vertices(uint64_t node, size_t room, int number, uint64_t expected_count, const uint32_t *expected_out) {
+    uint32_t out[5] = {1, 1, 1, 1, 1}, first = 77;
+    uint64_t count = 77;
+    same("vertices", dual_ledger_get_all_vertices(bench, node, out, room, &count), number), same("vertices", (int64_t)count, (int64_t)expected_count);
+    for (size_t i = 0; i < 5; i++) same("a vertex", out[i], expected_out[i]), out[i] = 1;
+    same("vertices", dual_ledger_trusted_get_all_vertices(bench, node, out, room, &count), number), same("vertices", (int64_t)count, (int64_t)expected_count);
+    for (size_t i = 0; i < 5; i++) same("a vertex", out[i], expected_out[i]);
+    number = number == DUAL_LEDGER_STALE ? number : 0;
+    same("first vertex", dual_ledger_get_representative_vertex(bench, node, &first), number);
+    if (number == 0 && expected_count) same("first vertex", first, expected_out[0]);
+    same("first vertex", dual_ledger_trusted_get_representative_vertex(bench, node, &first), number);
+}
+
+static void check(uint8_t unit, int number, int verdict, int index) {
+    uint64_t v = 77, i = 77;
+    same("the check", dual_ledger_sanity_check(bench, unit, &v, &i), number), same("verdict", (int64_t)v, verdict), same("index", (int64_t)i, index);
+    v = i = 77;
+    same("the check", dual_ledger_trusted_sanity_check(bench, unit, &v, &i), number), same("verdict", (int64_t)v, verdict), same("index", (int64_t)i, index);
+}
+
+static void check_strictly(uint8_t unit, int number, int verdict, int index) {
+    uint64_t v = 77, i = 77;
+    same("the strict check", dual_ledger_strict_check(bench, unit, &v, &i), number), same("verdict", (int64_t)v, verdict), same("index", (int64_t)i, index);
+    v = i = 77;
+    same("the strict check", dual_ledger_trusted_strict_check(bench, unit, &v, &i), number);
+    same("verdict", (int64_t)v, verdict), same("index", (int64_t)i, index);
+}
+
+static void reads(void) {
+    uint64_t node[4], count = 77;
+    static const uint32_t two[5] = {30, 20, 1, 1, 1}, none[5] = {1, 1, 1, 1, 1};
+    same("set-up", dual_ledger_set_up(bench, 1), 0);
+    dual_ledger_trusted_create_defect_node(bench, 0, 20, node), dual_ledger_trusted_create_defect_node(bench, 0, 30, node + 1);
+    dual_ledger_trusted_create_defect_node(bench, 1, 40, node + 2), dual_ledger_trusted_grow(bench, 0, 3);
+    count = node[0], node[0] = node[1], node[1] = count; /* the later one first */
+    same("blossom", dual_ledger_trusted_create_blossom(bench, 0, node, 2, NULL, 0, node + 3), 0);
+    dual_ledger_trusted_set_grow_state(bench, 0, node[3], -1), dual_ledger_trusted_grow(bench, 0, 10);
+    read_weight("sum", dual_ledger_sum_dual_variables, dual_ledger_trusted_sum_dual_variables, 0, 0, -4);
+    read_weight("speed", dual_ledger_sum_grow_speed, dual_ledger_trusted_sum_grow_speed, 0, 0, -1);
+    read_weight("sum", dual_ledger_sum_dual_variables, dual_ledger_trusted_sum_dual_variables, 8, DUAL_LEDGER_UNIT, 0);
+    same("count", dual_ledger_nodes_count(bench, 0, &count), 0), same("count", (int64_t)count, 3), count = 77;
+    same("count", dual_ledger_trusted_nodes_count(bench, 0, &count), 0), same("count", (int64_t)count, 3);
+    read_node(0, 2, 0, node[3]), read_node(0, 3, DUAL_LEDGER_RANGE, DUAL_LEDGER_NO_NODE);
+    read_tree(node[0], 0, node[3], 1, 0, node[0]), read_tree(node[3], 0, node[3], 0, DUAL_LEDGER_TOP, 0);
+    read_tree(DUAL_LEDGER_NO_NODE, DUAL_LEDGER_STALE, 0, 0, DUAL_LEDGER_STALE, 0);
+    read_inside(0, node[1], 0, 1), read_inside(0, node[2], 0, 0), read_inside(9, node[1], DUAL_LEDGER_UNIT, 0);
+    read_vertices(node[3], 5, 0, 2, two), read_vertices(node[3], 1, DUAL_LEDGER_SMALL, 0, none);
+    read_vertices(node[3] + 1, 5, DUAL_LEDGER_STALE, 0, none);
+    check(0, 0, 0, 0), check_strictly(0, 0, 0, 0), check(7, 0, 0, 0), check(200, DUAL_LEDGER_UNIT, 0, 0);
+    same("expand", dual_ledger_trusted_expand_blossom(bench, 0, node[3]), 0), read_node(0, 2, 0, DUAL_LEDGER_NO_NODE);
+    check(0, 0, 5, 0), check_strictly(0, 0, 5, 0);
+}
+
+/* ---- refusals: the number, no value, and every word as it was */
+
+static void refused(const char *what, uint8_t got, int number) {
+    static const uint64_t zeros[DUAL_LEDGER_ANSWER_WORDS];
+    same(what, got, number);
+    same_words(what, bench, kept, DUAL_LEDGER_WORDS);
+    same_words(what, answer, zeros, DUAL_LEDGER_ANSWER_WORDS);
+    memset(answer, 0xa5, sizeof answer);
+}
+
+static void refusals(void) {
+    uint64_t node[3], far, q;
+    same("set-up from 0", dual_ledger_set_up(bench, 0), DUAL_LEDGER_WORN), same("set-up from 0", (int64_t)bench[0], 1);
+    for (uint32_t i = 0; i < 3; i++) dual_ledger_trusted_create_defect_node(bench, 0, i, node + i);
+    dual_ledger_trusted_create_defect_node(bench, 3, 9, &q), dual_ledger_trusted_create_defect_node(bench, 1, 9, &far);
+    dual_ledger_trusted_create_blossom(bench, 0, node, 2, NULL, 0, &q);
+    memcpy(kept, bench, sizeof bench), memset(answer, 0xa5, sizeof answer);
+    refused("interface 8", dual_ledger_create_defect_node(bench, 8, 1, answer), DUAL_LEDGER_UNIT);
+    refused("told: interface 8", dual_ledger_told_create_defect_node(bench, 8, 1, answer), DUAL_LEDGER_UNIT);
+    refused("growth below 0", dual_ledger_grow(bench, 0, -1, answer), DUAL_LEDGER_LENGTH);
+    refused("the least growth", dual_ledger_grow(bench, 0, INT64_MIN, answer), DUAL_LEDGER_LENGTH);
+    refused("no member", dual_ledger_create_blossom(bench, 0, NULL, 0, NULL, 0, answer), DUAL_LEDGER_CIRCLE);
+    refused("two pairs for one member", dual_ledger_create_blossom(bench, 0, node + 2, 1, node, 4, answer), DUAL_LEDGER_TOUCH);
+    refused("half a pair", dual_ledger_create_blossom(bench, 0, node + 2, 1, node + 2, 1, answer), DUAL_LEDGER_STALE);
+    refused("a word that is no handle", dual_ledger_expand_blossom(bench, 0, UINT64_MAX, answer), DUAL_LEDGER_STALE);
+    refused("another tree's node", dual_ledger_set_grow_state(bench, 0, far, 1, answer), DUAL_LEDGER_FOREIGN);
+    refused("a defect expanded", dual_ledger_expand_blossom(bench, 0, node[2], answer), DUAL_LEDGER_KIND);
+    refused("a member's state", dual_ledger_set_grow_state(bench, 0, node[0], 1, answer), DUAL_LEDGER_INSIDE);
+    node[0] = node[1] = node[2];
+    refused("a member twice", dual_ledger_create_blossom(bench, 0, node, 2, NULL, 0, answer), DUAL_LEDGER_TWICE);
+    memset(answer, 0, sizeof answer), refused("a half twice", dual_ledger_fuse(bench, 2, 1, 1), DUAL_LEDGER_PAIR);
+    memset(answer, 0, sizeof answer), refused("a used parent", dual_ledger_fuse(bench, 3, 0, 1), DUAL_LEDGER_USED);
+    memset(answer, 0, sizeof answer), refused("clear of interface 255", dual_ledger_clear(bench, 255), DUAL_LEDGER_UNIT);
+}
+
+/* Words that hold no sound bench: each public call and read says so and changes none. */
+static void broken(void) {
+    uint64_t node = handle(1, 0, 0), v, w;
+    int64_t z;
+    uint32_t vertex;
+    bench[3]++;
+    memcpy(kept, bench, sizeof bench);
+    same("is sound", dual_ledger_is_sound(bench), 0);
+    refused("broken: add", dual_ledger_create_defect_node(bench, 0, 1, answer), DUAL_LEDGER_BROKEN);
+    refused("broken: blossom", dual_ledger_create_blossom(bench, 0, &node, 1, NULL, 0, answer), DUAL_LEDGER_BROKEN);
+    refused("broken: expand", dual_ledger_expand_blossom(bench, 0, node, answer), DUAL_LEDGER_BROKEN);
+    refused("broken: set state", dual_ledger_set_grow_state(bench, 0, node, 1, answer), DUAL_LEDGER_BROKEN);
+    refused("broken: grow", dual_ledger_grow(bench, 0, 1, answer), DUAL_LEDGER_BROKEN);
+    memset(answer, 0, sizeof answer), refused("broken: fuse", dual_ledger_fuse(bench, 2, 0, 1), DUAL_LEDGER_BROKEN);
+    memset(answer, 0, sizeof answer), refused("broken: clear", dual_ledger_clear(bench, 0), DUAL_LEDGER_BROKEN);
+    same("broken: sum", dual_ledger_sum_dual_variables(bench, 0, &z), DUAL_LEDGER_BROKEN), same("broken: sum", z, 0);
+    same("broken: value", dual_ledger_get_dual_variable(bench, node, &z), DUAL_LEDGER_BROKEN), same("broken: value", z, 0);
+    same("broken: node", dual_ledger_get_node(bench, 0, 0, &v), DUAL_LEDGER_BROKEN), same("broken: node", v == DUAL_LEDGER_NO_NODE, 1);
+    same("broken: outermost", dual_ledger_get_ancestor_blossom(bench, node, &v, &w), DUAL_LEDGER_BROKEN), same("broken: outermost", (int64_t)(v + w), 0);
+    same("broken: vertex", dual_ledger_get_representative_vertex(bench, node, &vertex), DUAL_LEDGER_BROKEN), same("broken: vertex", vertex, 0);
+    same("broken: check", dual_ledger_strict_check(bench, 0, &v, &w), DUAL_LEDGER_BROKEN), same("broken: check", (int64_t)(v + w), 0);
+}
+
+int main(void) {
+    for (int form = OPEN; form <= TRUSTED; form++) halves((enum form)form), whole_case((enum form)form);
+    notices();
+    largest_circle();
+    reads();
+    refusals();
+    broken();
+    printf("linked: all %ld comparisons agree\n", compared);
+    return 0;
+}
