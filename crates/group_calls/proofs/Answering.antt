@@ -24,10 +24,6 @@ use Rattle.group_adds.specs.Adds.{changed}
 use Rattle.group_adds.specs.declared.Changed.{Changed}
 use Rattle.group_extends.specs.Extends.{wholeBy as keptBy, wholeOf}
 use Rattle.group_calls.specs.Whole.{wholeBy, whole}
-<<<<<<< HEAD
-use borrow.Author.Tests.{not-false}
-=======
->>>>>>> main
 
 abbrev refusal : ℕ → Code → Changed
 refusal n g = record { number = n; group = g }
