@@ -2,7 +2,7 @@
 -- those of the group after it. Assumes nothing.
 use Prim.Native.Nat.{ℕ, zero, suc}
 use mathlib.Core.Path.{_≡_, refl, sym, ap, _∙_}
-use mathlib.Core.Bool.{Bool, true, false, not}
+use mathlib.Core.Bool.{true, false, not}
 use mathlib.Core.Option.{Option, none, some}
 use mathlib.Core.List.{List}
 use native.Mathlib.Omega.{arith}
@@ -11,7 +11,7 @@ use Rattle.ledger_spec.specs.Groups.{Group}
 use Rattle.ledger_spec.specs.GroupCalls.{peek, pop, add, extend}
 use Rattle.views.specs.View.{view}
 use Rattle.lent.specs.Verdict.{asked}
-use Rattle.groups.specs.View.{groupOf, laid}
+use Rattle.groups.specs.View.{groupOf}
 use Rattle.groups.specs.declared.Group.{Group as Code}
 use Rattle.group_takes.specs.Takes.{maybe, shownPeeked, shownPopped, after as afterPop}
 use Rattle.group_takes.specs.declared.MaybeObstacle.{MaybeObstacle}

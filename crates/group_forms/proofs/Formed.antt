@@ -1,12 +1,11 @@
 -- What the reading of a group's words decides: BROKEN, or the call on the group that they say. Assumes nothing.
-use Prim.Native.Nat.{ℕ, zero, suc}
-use mathlib.Core.Path.{_≡_, refl, sym, ap, _∙_}
+use Prim.Native.Nat.{ℕ}
+use mathlib.Core.Path.{_≡_, sym, ap, _∙_}
 use mathlib.Core.Bool.{Bool, true, false, not}
 use mathlib.Core.Option.{Option, none, some}
 use mathlib.Core.List.{List}
 use borrow.Author.Tests.{not-true, not-false}
 use Rattle.words.specs.Codec.{pick}
-use Rattle.kinds.specs.declared.Obstacle.{Obstacle}
 use Rattle.ledger_spec.specs.Groups.{Group, soundGroup}
 use Rattle.groups.specs.View.{groupOf}
 use Rattle.groups.specs.declared.Group.{Group as Code}

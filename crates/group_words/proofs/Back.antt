@@ -1,7 +1,7 @@
 -- An obstacle's words read back: what is written for an obstacle that words can carry is a form, and says that obstacle. Assumes nothing.
-use Prim.Native.Nat.{ℕ, _+_, _-_, _*_, _<_, _≤_}
-use mathlib.Core.Path.{_≡_, refl, sym, ap, _∙_}
-use mathlib.Core.Bool.{Bool, true, false}
+use Prim.Native.Nat.{_-_, _<_}
+use mathlib.Core.Path.{_≡_, refl, ap, _∙_}
+use mathlib.Core.Bool.{true, false}
 use mathlib.Core.Logic.{_⊎_, inl, inr}
 use mathlib.Core.Option.{some}
 use native.Mathlib.Omega.{arith}
@@ -16,9 +16,9 @@ use Rattle.kinds.specs.declared.MaybePair.{MaybePair}
 use Rattle.kinds.specs.declared.MaybePair.the-variants.{NoPair, WithPair}
 use Rattle.kinds.specs.declared.Obstacle.{Obstacle}
 use Rattle.kinds.specs.declared.Obstacle.the-variants.{NonZeroGrow, Conflicting, TouchingVirtual, BlossomNeedExpand, VertexShrinkStop}
-use Rattle.words.specs.Codec.{pick, handleOf, handleWord}
+use Rattle.words.specs.Codec.{handleWord}
 use Rattle.words.proofs.Laws.{GoodHandle, handle-back}
-use Rattle.group_words.specs.Forms.{lengthWord, lengthOf, flagWord, nowhere, handWord, handOf, fiveOf, fiveWords, obstacleWords, isHand, isForm, obstacleOf, fiveAt, obstacleRead}
+use Rattle.group_words.specs.Forms.{lengthWord, lengthOf, nowhere, handWord, handOf, fiveOf, obstacleWords, isHand, isForm, obstacleOf, fiveAt, obstacleRead}
 
 -- ---- what words can carry
 

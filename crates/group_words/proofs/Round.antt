@@ -1,8 +1,8 @@
 -- A group's words read back: what is written for a group that words can carry is a form, and says that group. Assumes nothing.
-use Prim.Native.Nat.{ℕ, zero, suc, _+_, _*_, _%_, _<_, _≤_}
+use Prim.Native.Nat.{ℕ, zero, suc, _+_, _*_, _<_, _≤_}
 use mathlib.Core.Path.{_≡_, refl, sym, ap, _∙_, subst}
-use mathlib.Core.Bool.{Bool, true, false, _&&_}
-use mathlib.Core.Option.{Option, none, some}
+use mathlib.Core.Bool.{Bool, true, false}
+use mathlib.Core.Option.{some}
 use mathlib.Core.List.{List, [], _∷_, _++_, append-assoc}
 use native.Mathlib.Omega.{arith}
 use native.Mathlib.Nat.{mod-eq-of-lt}
@@ -11,14 +11,12 @@ use lib.ListN.{length, take, drop, getD, length-append}
 use lib.Seq.{split-at, take-suc, take-all, getD-append-add}
 use mir.Syntax.{w64}
 use mir.Val.{SFits}
-use Rattle.kinds.specs.declared.Entry.{Entry}
 use Rattle.kinds.specs.declared.Stop.{Stop}
-use Rattle.words.specs.Codec.{pick}
 use Rattle.groups.specs.View.{noEntry, noStop}
 use Rattle.groups.specs.declared.Kind.{Kind}
 use Rattle.groups.specs.declared.Kind.the-variants.{Growth, Conflicts}
 use Rattle.groups.specs.declared.Group.{Group as Code}
-use Rattle.group_words.specs.Forms.{fiveOf, fiveWords, isForm, obstacleOf, fiveAt}
+use Rattle.group_words.specs.Forms.{fiveOf, fiveWords, fiveAt}
 use Rattle.group_words.specs.Groups.{headFive, headOf, entryWords, stopWords, chunks, groupWords, tab, allBelow, isHead, kindOf, entryForm, entryAt, stopRead, stopForm, stopAt, isGroup, groupAt, groupRead}
 use Rattle.group_words.specs.declared.Five.{Five}
 use Rattle.group_words.proofs.Runs.{chunks-append, chunks-long, chunks-length}
