@@ -8,7 +8,6 @@ use std::{env, fs};
 const ARCHIVE: &str = "libdual_ledger.a";
 
 fn fail(why: String) -> ! {
-    println!("cargo:warning=dual_ledger: {why}");
     eprintln!("dual_ledger: {why}");
     std::process::exit(1)
 }

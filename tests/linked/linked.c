@@ -1,5 +1,5 @@
 /* The linked library from C, by its header alone: document 01's worked cases, a blossom with its notices word by word, every read and check in both forms,
- * and refusals with all that was lent compared before and after. Ends with 0 and one line, or names the first difference. */
+ * groups of obstacles, and refusals with all that was lent compared before and after. Ends with 0 and one line, or names the first difference. */
 #include "dual_ledger.h"
 
 #include <inttypes.h>
@@ -334,6 +334,96 @@ static void broken(void) {
     same("broken: check", dual_ledger_strict_check(bench, 0, &v, &w), DUAL_LEDGER_BROKEN), same("broken: check", (int64_t)(v + w), 0);
 }
 
+/* ---- groups of obstacles */
+
+static uint64_t group[DUAL_LEDGER_GROUP_WORDS], other[DUAL_LEDGER_GROUP_WORDS], before[DUAL_LEDGER_GROUP_WORDS];
+
+static uint8_t add(uint64_t *to, uint64_t kind, uint64_t a, uint64_t b, uint64_t c, uint64_t d) {
+    uint64_t obstacle[DUAL_LEDGER_OBSTACLE_WORDS];
+    obstacle[0] = kind, obstacle[1] = a, obstacle[2] = b, obstacle[3] = c, obstacle[4] = d;
+    return dual_ledger_group_add(bench, to, obstacle);
+}
+
+static void growth(const char *what, const uint64_t *of, int64_t length, uint64_t flag) {
+    uint64_t first[5];
+    first[0] = 1, first[1] = (uint64_t)length, first[2] = flag, first[3] = first[4] = 0;
+    same_words(what, of, first, 5);
+}
+
+static void next(const char *what, uint64_t kind, uint64_t a, uint64_t b, uint64_t c, uint64_t d) {
+    uint64_t obstacle[DUAL_LEDGER_OBSTACLE_WORDS], said[DUAL_LEDGER_OBSTACLE_WORDS];
+    said[0] = kind, said[1] = a, said[2] = b, said[3] = c, said[4] = d;
+    memcpy(before, group, sizeof group), memset(obstacle, 0xa5, sizeof obstacle);
+    same(what, dual_ledger_group_peek(group, obstacle), 0), same_words(what, obstacle, said, DUAL_LEDGER_OBSTACLE_WORDS);
+    same_words("a group that was peeked into", group, before, DUAL_LEDGER_GROUP_WORDS), memset(obstacle, 0xa5, sizeof obstacle);
+    same(what, dual_ledger_group_pop(group, obstacle), 0), same_words(what, obstacle, said, DUAL_LEDGER_OBSTACLE_WORDS);
+    same(what, dual_ledger_group_is_sound(group), 1);
+}
+
+/* P7 and P8: growths extended by growths. */
+static void growths(void) {
+    uint64_t yes = 77, asked = 77;
+    int64_t length = 77;
+    dual_ledger_empty_group(group), growth("the empty group", group, INT64_MAX, 0), dual_ledger_empty_group(other);
+    same("the empty group", dual_ledger_group_is_empty(group, &yes), 0), same("is empty", (int64_t)yes, 1);
+    same("the empty group", dual_ledger_group_is_active(group, &yes), 0), same("is active", (int64_t)yes, 0);
+    same("its growth", dual_ledger_group_get_none_zero_growth(group, &asked, &length), DUAL_LEDGER_NOTHING);
+    same("its growth", (int64_t)asked, 0), same("its growth", length, 0);
+    same("add (5, yes)", add(group, DUAL_LEDGER_NON_ZERO_GROW, 5, 1, 0, 0), 0), growth("(5, yes)", group, 5, 1);
+    same("add (5, no)", add(other, DUAL_LEDGER_NON_ZERO_GROW, 5, 0, 0, 0), 0), growth("(5, no)", other, 5, 0);
+    same("P7", dual_ledger_group_extend(bench, group, other), 0), growth("P7", group, 5, 0);
+    dual_ledger_empty_group(other), same("add (largest, yes)", add(other, DUAL_LEDGER_NON_ZERO_GROW, INT64_MAX, 1, 0, 0), 0);
+    same("P8", dual_ledger_group_extend(bench, group, other), 0), growth("P8", group, 5, 0);
+    same("a growth", dual_ledger_group_is_active(group, &yes), 0), same("is active", (int64_t)yes, 1);
+    same("its growth", dual_ledger_group_get_none_zero_growth(group, &asked, &length), 0), same("its growth", (int64_t)asked, 1), same("its growth", length, 5);
+    same("add (-7, no)", add(group, DUAL_LEDGER_NON_ZERO_GROW, (uint64_t)-7, 0, 0, 0), 0), growth("a growth below 0", group, -7, 0);
+    same("its growth", dual_ledger_group_get_none_zero_growth(group, &asked, &length), 0), same("its growth", length, -7);
+}
+
+/* P9: two conflicts listed, two stops pending; each pop takes a stop along. */
+static void conflicts(uint64_t n, uint64_t m) {
+    uint64_t asked = 77;
+    int64_t length = 77;
+    dual_ledger_empty_group(other);
+    same("c1", add(other, DUAL_LEDGER_CONFLICTING, n, n, m, m), 0), same("c2", add(other, DUAL_LEDGER_TOUCHING_VIRTUAL, n, n, 4000000000u, 1), 0);
+    same("a stop", add(other, DUAL_LEDGER_VERTEX_SHRINK_STOP, m, 0, 0, 0), 0), same("a stop", add(other, DUAL_LEDGER_VERTEX_SHRINK_STOP_PAIR, n, m, m, 0), 0);
+    same("listed", (int64_t)other[3], 2), same("pending", (int64_t)other[4], 2), same("the first stop's vertex", (int64_t)other[645], 4);
+    same("a growth by conflicts", dual_ledger_group_extend(bench, group, other), 0), same("conflicts", (int64_t)group[0], 2);
+    same("its growth", dual_ledger_group_get_none_zero_growth(group, &asked, &length), 0), same("its growth", (int64_t)asked, 0), same("its growth", length, 0);
+    next("P9's first", DUAL_LEDGER_TOUCHING_VIRTUAL, n, n, 4000000000u, 1), next("P9's second", DUAL_LEDGER_CONFLICTING, n, n, m, m);
+    next("P9's third", DUAL_LEDGER_NO_OBSTACLE, 0, 0, 0, 0), same("pending", (int64_t)group[4], 0);
+}
+
+static void unchanged(const char *what, uint8_t got, int number) {
+    same(what, got, number), same_words(what, group, before, DUAL_LEDGER_GROUP_WORDS);
+}
+
+static void refused_groups(uint64_t n) {
+    uint64_t obstacle[DUAL_LEDGER_OBSTACLE_WORDS], yes = 77;
+    dual_ledger_empty_group(group), memcpy(before, group, sizeof group);
+    unchanged("pop of a growth", dual_ledger_group_pop(group, obstacle), DUAL_LEDGER_KIND);
+    unchanged("a node that is gone", add(group, DUAL_LEDGER_BLOSSOM_NEED_EXPAND, n + 512, 0, 0, 0), DUAL_LEDGER_STALE);
+    unchanged("words that are no obstacle", add(group, 7, 0, 0, 0, 0), DUAL_LEDGER_BROKEN);
+    memcpy(other, group, sizeof group), other[0] = 3;
+    unchanged("words that are no group", dual_ledger_group_extend(bench, group, other), DUAL_LEDGER_BROKEN);
+    same("is a sound group", dual_ledger_group_is_sound(group), 1), same("is a sound group", dual_ledger_group_is_sound(other), 0);
+    same("empty, of no group", dual_ledger_group_is_empty(other, &yes), DUAL_LEDGER_BROKEN), same("empty, of no group", (int64_t)yes, 0);
+    for (int i = 0; i < 128; i++) same("an obstacle", add(group, DUAL_LEDGER_BLOSSOM_NEED_EXPAND, n, 0, 0, 0), 0);
+    memcpy(before, group, sizeof group);
+    unchanged("the 129th", add(group, DUAL_LEDGER_BLOSSOM_NEED_EXPAND, n, 0, 0, 0), DUAL_LEDGER_ROOM);
+}
+
+static void groups(void) {
+    uint64_t n = 0, m = 0;
+    same("set-up", dual_ledger_set_up(bench, 1), 0);
+    dual_ledger_trusted_create_defect_node(bench, 0, 9, &n), dual_ledger_trusted_create_defect_node(bench, 0, 4, &m);
+    memcpy(kept, bench, sizeof bench);
+    growths(), conflicts(n, m), refused_groups(n);
+    same_words("the bench that groups are of", bench, kept, DUAL_LEDGER_WORDS);
+    bench[3]++, memcpy(before, group, sizeof group);
+    unchanged("a group of a broken bench", dual_ledger_group_extend(bench, group, before), DUAL_LEDGER_BROKEN);
+}
+
 int main(void) {
     for (int form = OPEN; form <= TRUSTED; form++) halves((enum form)form), whole_case((enum form)form);
     notices();
@@ -341,6 +431,7 @@ int main(void) {
     reads();
     refusals();
     broken();
+    groups();
     printf("linked: all %ld comparisons agree\n", compared);
     return 0;
 }

@@ -26,6 +26,11 @@ abbrev pub signedWord : ℤ → ℕ
 signedWord (pos n) = n
 signedWord (negsuc n) = 18446744073709551615 - n
 
+-- whether there is a length, and the length
+abbrev pub lengthWords : Option ℤ → ℕ × ℕ
+lengthWords none = (0, 0)
+lengthWords (some l) = (1, signedWord l)
+
 abbrev pub stateGiven : ℤ → State
 stateGiven (pos zero) = stays
 stateGiven (pos (suc n)) = grows

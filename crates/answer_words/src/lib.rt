@@ -2,6 +2,7 @@
 // call that tells notices. Assumes nothing.
 use kinds::GrowState;
 use kinds::Handle;
+use kinds::MaybeLength;
 use kinds::MaybeNode;
 use kinds::Notice;
 use kinds::Serial;
@@ -15,9 +16,10 @@ ghost use Prim.Native.Nat.{_+_, _<_, _≤_};
 ghost use Rattle.ledger_spec.specs.Named.{handleNamed, stateNamed};
 ghost use Rattle.rings.specs.Given.{handGiven};
 ghost use Rattle.reads.specs.Shown.{maybe};
+ghost use Rattle.groups.specs.Shown.{maybeLength};
 ghost use Rattle.words.specs.Codec.{handleWord};
 ghost use Rattle.notices.specs.Laid.{pad};
-ghost use Rattle.answer_words.specs.Forms.{nodeWord, maybeWord, flagWord, signedWord, stateGiven};
+ghost use Rattle.answer_words.specs.Forms.{nodeWord, maybeWord, flagWord, signedWord, lengthWords, stateGiven};
 ghost use Rattle.answer_words.specs.Answers.{kindWord, stateKind, whatWord, toldWords, Least, Filled, answerWords};
 
 pub const ANSWER: usize = 199;
@@ -59,6 +61,25 @@ pub fn flag_word(yes: bool) -> u64
         return 1;
     }
     0
+}
+
+// Whether there is a length, and the length or 0.
+pub fn asked_word(m: MaybeLength) -> u64
+    ensures { λ r. ⌜ r ≡ lengthWords (maybeLength m) .0 ⌝ }
+{
+    match m {
+        MaybeLength::NoLength => 0,
+        MaybeLength::Length(_) => 1,
+    }
+}
+
+pub fn length_word(m: MaybeLength) -> u64
+    ensures { λ r. ⌜ r ≡ lengthWords (maybeLength m) .1 ⌝ }
+{
+    match m {
+        MaybeLength::NoLength => 0,
+        MaybeLength::Length(l) => signed_word(l),
+    }
 }
 
 // Grow, stay or shrink, by a number's sign.

@@ -1,3 +1,4 @@
 pub mod Settling
 pub mod Handing
 pub mod Telling
+pub mod Once

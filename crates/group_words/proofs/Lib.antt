@@ -5,3 +5,4 @@ pub mod Back
 pub mod Round
 pub mod Same
 pub mod Whole
+pub mod Examples

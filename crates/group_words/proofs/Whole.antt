@@ -165,7 +165,7 @@ read-fits ws w = record {
 }
 
 -- what a reading that gives a group says of the words
-read-is : (ws : List ℕ) (g : Code) → groupRead ws ≡ some g → (isGroup ws ≡ true) × (groupAt ws ≡ g)
+pub read-is : (ws : List ℕ) (g : Code) → groupRead ws ≡ some g → (isGroup ws ≡ true) × (groupAt ws ≡ g)
 unfolding groupRead
 read-is ws g e = go (isGroup ws) refl e
   where

@@ -14,6 +14,8 @@ pub struct Ledger {
     pub groups: Vec<Group>,
     /// every handle ever given out, so that a stale serial is asked by what named it
     pub handles: HashMap<u32, Handle>,
+    /// how many reads were made
+    pub asked: usize,
 }
 
 /// An answer, or how the forms of a call differ among themselves.
@@ -88,7 +90,7 @@ impl Ledger {
     pub fn new(first: u32) -> Self {
         let bench = Bench::new(first).unwrap_or_default();
         let (lent, before) = (Box::new(*bench.words()), Box::new(*bench.words()));
-        Ledger { trusted: bench.clone(), told: bench, lent, before, groups: vec![Group::default(); GROUPS], handles: HashMap::new() }
+        Ledger { trusted: bench.clone(), told: bench, lent, before, groups: vec![Group::default(); GROUPS], handles: HashMap::new(), asked: 0 }
     }
 
     /// The handle of a serial: the one given out with it, else a made-up one, or a word that is no handle.

@@ -2,6 +2,8 @@
 mod bench;
 mod bend;
 mod damage;
+mod damage_groups;
+mod group_words;
 mod groups;
 mod ledger;
 mod openings;
@@ -62,6 +64,10 @@ fn scale(accepted: usize, refused: usize, damaged: usize, seed: u64) {
     while table.damages() < damaged {
         let plan = ALL[at as usize % ALL.len()];
         damage::run(plan, seed + at, 400.min(damaged - table.damages()), &mut table).unwrap_or_else(|why| fail(why));
+        at += 1;
+    }
+    while table.groups.values().sum::<usize>() < damaged / 4 {
+        damage_groups::run(seed + at, 400, &mut table).unwrap_or_else(|why| fail(why));
         at += 1;
     }
     print!("{table}no difference; {} s\n", began.elapsed().as_secs());

@@ -1,4 +1,4 @@
-//! How runs begin: most from a new bench; some with few serials left, with a full interface, with many free nodes, or in the largest tree.
+//! How runs begin: most from a new bench; some with few serials left, with a full interface, with many free nodes, or in the largest tree; some with full groups.
 use oracle::generator::Plan;
 
 /// The lines before those of the plan. The largest tree is for plans over all interfaces, and for runs that are compared at their end.
@@ -7,10 +7,24 @@ pub fn lines(plan: &Plan, seed: u64, each: bool) -> Vec<String> {
         3 => vec![format!("N {}", u32::MAX - (seed / 32 % 24) as u32)],
         4 => vec![format!("N {}", [0u32, 1, 2, 1 << 31, 77][seed as usize / 32 % 5])],
         6 => [defects(0, 64), ["D 0 9999", "B 0 1 2", "B 0 3", "E 0 65"].map(String::from).to_vec()].concat(),
-        7 if !each => [defects(0, 40), defects(1, 40), vec!["F 2 0 1".to_string()]].concat(),
+        7 if !each => [defects(0, 40), defects(1, 40), vec!["F 2 0 1".to_string(), numbered("B 2", 1..65)]].concat(),
         8 if !each && plan.units == 8 => largest(),
+        9 if !each && plan.name == "groups" => full_groups(),
         _ => vec![],
     }
+}
+
+/// A line and the numbers after it.
+fn numbered(line: &str, numbers: std::ops::Range<u32>) -> String {
+    numbers.fold(line.to_string(), |line, number| format!("{line} {number}"))
+}
+
+/// A group of as many stops as there can be, one of as long a list, and both past that.
+fn full_groups() -> Vec<String> {
+    let stops = (1..131).map(|serial| format!("q 0 {serial}"));
+    let list = (0..130).map(|at| format!("x 1 {}", 1 + at % 9));
+    let joined = ["j 2 0", "j 2 1", "j 0 1", "j 1 0", "r 0 7 8 9", "r 0 7 9 9", "z 0", "z 1"].map(String::from);
+    [defects(0, 64), defects(1, 64), defects(2, 6)].concat().into_iter().chain(stops).chain(list).chain(joined).collect()
 }
 
 fn defects(unit: u32, count: u32) -> Vec<String> {

@@ -20,6 +20,8 @@ pub struct Table {
     shapes: Coverage,
     /// damaged benches by kind of damage, and by the rule that they break first; none if they are sound still
     pub damaged: BTreeMap<(&'static str, Option<&'static str>), usize>,
+    /// damaged groups by kind of damage, and whether they are sound still
+    pub groups: BTreeMap<(&'static str, bool), usize>,
 }
 
 impl Table {
@@ -68,7 +70,10 @@ impl fmt::Display for Table {
         let shapes: Vec<String> = self.shapes.shapes.iter().map(|(shape, count)| format!("{shape}: {count}")).collect();
         writeln!(f, "shapes, in one run of seventeen: {}, blossoms in one another up to {}", shapes.join(", "), self.shapes.deepest)?;
         self.damages_by(f, "by damage", |(kind, _)| kind)?;
-        self.damages_by(f, "BROKEN by", |(_, rule)| rule.unwrap_or("nothing: sound still"))
+        self.damages_by(f, "BROKEN by", |(_, rule)| rule.unwrap_or("nothing: sound still"))?;
+        let shown = |((kind, sound), count): (&(&str, bool), &usize)| format!("{kind}, {}: {count}", if *sound { "sound" } else { "BROKEN" });
+        let groups: Vec<String> = self.groups.iter().map(shown).collect();
+        writeln!(f, "{} damaged groups: {}", self.groups.values().sum::<usize>(), groups.join(", "))
     }
 }
 

@@ -15,7 +15,7 @@ pub fn handle_word(h: Handle) -> u64 {
     (h.serial as u64 * 64 + h.slot as u64) * 8 + h.unit as u64
 }
 
-fn handle_of(word: u64) -> Option<Handle> {
+pub fn handle_of(word: u64) -> Option<Handle> {
     (word < 1 << 41).then_some(Handle { unit: (word % 8) as u32, slot: (word / 8 % 64) as u32, serial: (word / 512) as u32 })
 }
 
