@@ -1,7 +1,8 @@
-/* The proved dual ledger, for C. Link libdual_ledger.a, which `rt staticlib dual_ledger` makes.
+/* The proved dual ledger, for C. Link libdual_ledger.a, which `rust/archive` makes for this machine.
  *
  * A bench is DUAL_LEDGER_WORDS words that the caller owns and lends; a group is DUAL_LEDGER_GROUP_WORDS. No function keeps a pointer, allocates,
  * prints or stops the program. Pointers must be valid for what they are said to hold, and what is written must not overlap what else is lent.
+ * A list of length 0 may be NULL.
  *
  * A call or read answers a number: 0 is accepted; any other is the reason of a refusal, the lowest that applies. Refused, everything that was lent
  * stays as it was but for the answer, whose values are then 0 or none. (dual_ledger_set_up alone makes a bench although it answers WORN.)
@@ -74,7 +75,8 @@ uint8_t dual_ledger_is_sound(const uint64_t *bench);
 
 /* Adds the node of a vertex to interface unit, growing, with value 0. */
 uint8_t dual_ledger_create_defect_node(uint64_t *bench, uint8_t unit, uint32_t vertex, uint64_t *answer);
-/* Makes a blossom of the members, in circle order. touching has two handles for each member, or none: then each member touches by itself. */
+/* Makes a blossom of the members, in circle order. touching has two handles for each member, or none: then each member touches by itself. (The lengths
+ * count handles; one touching handle left over goes with none.) */
 uint8_t dual_ledger_create_blossom(uint64_t *bench, uint8_t unit, const uint64_t *members, size_t members_len, const uint64_t *touching,
                                    size_t touching_len, uint64_t *answer);
 /* Takes a blossom apart: its members are outermost again and grow, and its value stays in the sum. */
@@ -151,7 +153,7 @@ uint8_t dual_ledger_strict_check(const uint64_t *bench, uint8_t unit, uint64_t *
 uint8_t dual_ledger_trusted_sanity_check(const uint64_t *bench, uint8_t unit, uint64_t *verdict, uint64_t *index);
 uint8_t dual_ledger_trusted_strict_check(const uint64_t *bench, uint8_t unit, uint64_t *verdict, uint64_t *index);
 
-/* ---- groups of obstacles. Group words that are not written as above, or hold no sound group, are refused as BROKEN. */
+/* ---- groups of obstacles. Words of a group or an obstacle that are not written as above, and groups that are not sound, are refused as BROKEN. */
 
 /* Makes the words the empty group. */
 void dual_ledger_empty_group(uint64_t *group);
@@ -163,9 +165,9 @@ uint8_t dual_ledger_group_is_empty(const uint64_t *group, uint64_t *yes);
 uint8_t dual_ledger_group_is_active(const uint64_t *group, uint64_t *yes);
 /* asked: 1 and the length where the group is a growth, else 0 and 0. */
 uint8_t dual_ledger_group_get_none_zero_growth(const uint64_t *group, uint64_t *asked, int64_t *length);
-/* The obstacle that pop would take, left where it is. */
+/* The obstacle that pop would answer, left where it is; NO_OBSTACLE where there is none, and where refused. */
 uint8_t dual_ledger_group_peek(const uint64_t *group, uint64_t *obstacle);
-/* Takes the next obstacle out. */
+/* Takes out the last of the list, and the stop of smallest vertex with it, which is answered where the list was empty. */
 uint8_t dual_ledger_group_pop(uint64_t *group, uint64_t *obstacle);
 /* Adds an obstacle; every node that it names must be present in the bench. */
 uint8_t dual_ledger_group_add(const uint64_t *bench, uint64_t *group, const uint64_t *obstacle);

@@ -20,7 +20,7 @@ told-append : (ts us : List Told) → toldWords (ts ++ us) ≡ toldWords ts ++ t
 told-append [] us = refl
 told-append (t ∷ ts) us = ap (λ (l : List ℕ). kindWord (t .notice) ∷ whatWord (t .notice) ∷ l) (told-append ts us)
 
-told-long : (ts : List Told) → length (toldWords ts) ≡ length ts * 2
+pub told-long : (ts : List Told) → length (toldWords ts) ≡ length ts * 2
 told-long [] = refl
 told-long (t ∷ ts) = let h = told-long ts in omega arith
 
