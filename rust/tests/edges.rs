@@ -108,3 +108,24 @@ fn groups() {
     assert_eq!(Group::from_words(group.words()).unwrap(), group);
     assert_eq!(Group::from_words(&[9; dual_ledger::GROUP_WORDS]), Err(Refusal::Broken));
 }
+
+#[test]
+fn benches_and_groups_go_between_threads() {
+    fn goes<T: Send + Sync>() {}
+    goes::<Bench>();
+    goes::<Group>();
+    let bench = Bench::default();
+    std::thread::scope(|scope| {
+        scope.spawn(|| assert_eq!(bench.nodes_count(0), Ok(0)));
+        scope.spawn(|| assert_eq!(bench.sum_dual_variables(7), Ok(0)));
+    });
+}
+
+#[test]
+fn every_refusal_has_its_number_and_name() {
+    for (at, refusal) in Refusal::ALL.into_iter().enumerate() {
+        assert_eq!((refusal.number() as usize, Refusal::from_number(refusal.number())), (at + 1, Some(refusal)));
+        assert!(refusal.to_string().starts_with(&format!("{} ({})", refusal.name(), at + 1)));
+    }
+    assert_eq!((Refusal::from_number(0), Refusal::from_number(22)), (None, None));
+}

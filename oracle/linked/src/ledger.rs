@@ -86,7 +86,7 @@ struct Forms {
 }
 
 impl Ledger {
-    /// None for set-up from 0, which a bench cannot be made by.
+    /// From 0 as from 1: so the refused set-up leaves it.
     pub fn new(first: u32) -> Self {
         let bench = Bench::new(first).unwrap_or_default();
         let (lent, before) = (Box::new(*bench.words()), Box::new(*bench.words()));
