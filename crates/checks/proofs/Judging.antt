@@ -8,7 +8,7 @@ use Rattle.words.specs.declared.Interface.{Interface}
 use Rattle.ledger_spec.specs.Bench.{Bench}
 use Rattle.ledger_spec.specs.Look.{interface}
 use Rattle.ledger_spec.specs.Reads.{slotsOf}
-use Rattle.ledger_spec.specs.Check.{walk, strictWalk, totalOf, verdict, strictVerdict, checkOf, strictOf}
+use Rattle.ledger_spec.specs.Check.{strictWalk, totalOf, verdict, strictVerdict, checkOf, strictOf}
 use Rattle.ledger_laws.proofs.Five.{found, verdict-found, verdict-zero, verdict-five}
 use Rattle.views.specs.View.{off, view}
 use Rattle.walks.specs.Walks.{walkBy}

@@ -2,10 +2,8 @@
 // What the bytes are is crate sessions'; here is only reading and writing, of which no contract can speak. Assumes nothing.
 use serials::HINTS;
 use words::WORDS;
-ghost use mathlib.Core.Path.{_≡_};
-ghost use Prim.Native.Nat.{_+_, _*_, _≤_};
+ghost use Prim.Native.Nat.{_≤_};
 ghost use lib.ListN.{length};
-ghost use Rattle.views.specs.Fit.{SoundWords};
 ghost use Rattle.console.specs.Serving.{Ready, Served};
 
 // Bytes of input in a piece; 57 bytes of answers for each.

@@ -2,3 +2,4 @@ pub mod Settling
 pub mod Handing
 pub mod Telling
 pub mod Once
+pub mod Agree

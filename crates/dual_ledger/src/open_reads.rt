@@ -13,7 +13,6 @@ ghost use Rattle.ledger_spec.specs.Check.{checkOf, strictOf};
 ghost use Rattle.rings.specs.Given.{handGiven};
 ghost use Rattle.views.specs.View.{view};
 ghost use Rattle.lent.specs.Verdict.{asked};
-ghost use Rattle.verdicts.specs.Asked.{asked as checked};
 ghost use Rattle.answer_words.specs.Forms.{nodeWord, maybeWord, flagWord, signedWord, outerWords, worded};
 
 #[no_mangle]
@@ -159,7 +158,7 @@ pub extern "C" fn dual_ledger_sanity_check(
     verdict: &mut u64,
     index: &mut u64,
 ) -> u8
-    ensures { λ r. ⌜ (r, (now (verdict .exit), now (index .exit))) ≡ checked (now (bench .entry)) (0, 0) (checkOf (view (now (bench .entry))) unit) ⌝ }
+    ensures { λ r. ⌜ (r, (now (verdict .exit), now (index .exit))) ≡ asked (now (bench .entry)) (0, 0) (checkOf (view (now (bench .entry))) unit) ⌝ }
 {
     let a = verdicts::sanity_check(bench, unit);
     *verdict = a.verdict as u64;
@@ -174,7 +173,7 @@ pub extern "C" fn dual_ledger_strict_check(
     verdict: &mut u64,
     index: &mut u64,
 ) -> u8
-    ensures { λ r. ⌜ (r, (now (verdict .exit), now (index .exit))) ≡ checked (now (bench .entry)) (0, 0) (strictOf (view (now (bench .entry))) unit) ⌝ }
+    ensures { λ r. ⌜ (r, (now (verdict .exit), now (index .exit))) ≡ asked (now (bench .entry)) (0, 0) (strictOf (view (now (bench .entry))) unit) ⌝ }
 {
     let a = verdicts::strict_check(bench, unit);
     *verdict = a.verdict as u64;

@@ -1,14 +1,14 @@
 -- What each part of an add answers: room or no room at a push, at a free place, at a meeting; and by the kinds of the group and of the obstacle.
 -- Assumes nothing.
 use Prim.Native.Nat.{ℕ, _+_, _-_, _≤_, _<_}
-use mathlib.Core.Path.{_≡_, refl, sym, ap, ap₂, _∙_}
+use mathlib.Core.Path.{_≡_, refl, sym, ap, _∙_}
 use mathlib.Core.Bool.{Bool, true, false, _||_, false≢true}
-use mathlib.Core.Option.{Option, none, some}
+use mathlib.Core.Option.{Option}
 use mathlib.Core.List.{List, [], _∷_, _++_}
 use native.Mathlib.Omega.{arith}
 use lib.IntN.{ℤ}
 use lib.ListN.{length, take, set}
-use Rattle.kinds.specs.Obstacles.{listable, isStop, pairOf}
+use Rattle.kinds.specs.Obstacles.{listable, isStop}
 use Rattle.kinds.specs.declared.Pair.{Pair}
 use Rattle.kinds.specs.declared.MaybePair.{MaybePair}
 use Rattle.kinds.specs.declared.Obstacle.{Obstacle}
@@ -25,7 +25,7 @@ use Rattle.group_stops.specs.declared.Meeting.the-variants.{Keep, Replace, Join
 use Rattle.group_adds.specs.Adds.{changed}
 use Rattle.group_adds.specs.declared.Changed.{Changed}
 use Rattle.group_adds.proofs.Places.{keeps, replaces, joins}
-use Rattle.group_adds.proofs.Rooms.{done, full, changed-some, room-yes, room-list, room-stops, answers-room, answers-lists}
+use Rattle.group_adds.proofs.Rooms.{done, full, room-yes, room-list, room-stops, answers-room, answers-lists}
 use Rattle.group_adds.proofs.Bytes.{Fits, swap-long, pushed-long, put-in-long, taken-long, pushed, put-in, replaced, moved}
 
 module _ (g : Code) (h : Fits g) where

@@ -1,10 +1,9 @@
 -- Adding a stop by the place that was found for its vertex: it comes in at a free place, or meets the stop that is pending there. The place is as long
 -- as the front of smaller vertices. Assumes nothing.
 use Prim.Native.Nat.{ℕ, zero, suc, _+_, _≤_, _<_}
-use mathlib.Core.Path.{_≡_, refl, sym, ap, ap₂, _∙_, subst}
+use mathlib.Core.Path.{_≡_, refl, sym, ap, ap₂, _∙_}
 use mathlib.Core.Bool.{Bool, true, false, cond, false≢true}
 use mathlib.Core.List.{List, [], _∷_, _++_}
-use mathlib.Core.Option.{Option}
 use native.Mathlib.Omega.{arith}
 use borrow.Author.Tests.{ltb-true, ltb-false, eqb-true, eqb-false, lt-ltb, le-ltb, eq-eqb, ne-eqb}
 use lib.Dec.{ltb, eqb}
@@ -18,7 +17,7 @@ use Rattle.kinds.specs.declared.MaybePair.the-variants.{NoPair, WithPair}
 use Rattle.kinds.specs.declared.Obstacle.the-variants.{Conflicting}
 use Rattle.kinds.specs.declared.Entry.{Entry}
 use Rattle.kinds.specs.declared.Stop.{Stop}
-use Rattle.ledger_spec.specs.Groups.{Lists, roomFor, frontOf, backOf, meet, placed, addStop}
+use Rattle.ledger_spec.specs.Groups.{roomFor, frontOf, backOf, meet, placed, addStop}
 use Rattle.group_stops.specs.Places.{insertedAt, afterAt, spotOf, meetingOf}
 use Rattle.group_stops.specs.declared.Spot.{Spot}
 use Rattle.group_stops.specs.declared.Spot.the-variants.{Free, Held}

@@ -1,15 +1,11 @@
 -- What an extend answers, by the two kinds. Assumes nothing.
-use Prim.Native.Nat.{ℕ, _≤_}
-use mathlib.Core.Path.{_≡_, refl, sym, ap, ap₂, _∙_}
+use Prim.Native.Nat.{_≤_}
+use mathlib.Core.Path.{_≡_, refl, sym, ap, _∙_}
 use mathlib.Core.Bool.{Bool, true, false, _&&_, false≢true}
-use mathlib.Core.Option.{Option, some}
-use mathlib.Core.List.{List}
-use native.Mathlib.Omega.{arith}
+use mathlib.Core.Option.{some}
 use lib.Dec.{leb}
 use lib.IntN.{ℤ}
 use lib.ListN.{length}
-use Rattle.kinds.specs.declared.Entry.{Entry}
-use Rattle.kinds.specs.declared.Stop.{Stop}
 use Rattle.ledger_spec.specs.Groups.{Group, growth, conflicts, soundGroup, allListable, rising, grouped, roomFor, andThen, addStops, extended}
 use Rattle.groups.specs.View.{listOf, stopsOf, groupOf, laid}
 use Rattle.groups.specs.declared.Kind.{Kind}

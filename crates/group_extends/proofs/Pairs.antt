@@ -3,7 +3,7 @@ use mathlib.Core.Path.{_≡_, sym, ap, _∙_}
 use mathlib.Core.Bool.{Bool, true, false, cond, _&&_}
 use lib.IntN.{ℤ}
 use lib.Signed.{ltZ}
-use Rattle.ledger_spec.specs.Groups.{Group, growth, largest, eqZ, smallerPair}
+use Rattle.ledger_spec.specs.Groups.{growth, largest, eqZ, smallerPair}
 use Rattle.group_extends.specs.Extends.{leastOf}
 
 module _ (a b a′ b′ : ℤ) (f h : Bool) (p : a′ ≡ a) (q : b′ ≡ b) where

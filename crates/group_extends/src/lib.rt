@@ -8,7 +8,7 @@ ghost use mathlib.Core.Path.{_≡_};
 ghost use mathlib.Core.Bool.{true, _&&_};
 ghost use Prim.Native.Nat.{_≤_};
 ghost use Rattle.ledger_spec.specs.Groups.{growth, soundGroup, rising, grouped, roomFor, andThen, addStops, extended};
-ghost use Rattle.groups.specs.View.{listOf, stopsOf, groupOf};
+ghost use Rattle.groups.specs.View.{stopsOf, groupOf};
 ghost use Rattle.group_adds.specs.Adds.{changed};
 ghost use Rattle.group_extends.specs.Extends.{appendList, leastOf, wholeOf};
 

@@ -37,7 +37,7 @@ use Rattle.group_words.proofs.Round.{GroupFits, group-back}
 use Rattle.group_words.proofs.Same.{and-left, and-right, five-fits}
 use Rattle.group_words.proofs.Whole.{Words, read-fits, read-is}
 use Rattle.group_forms.specs.Forms as forms
-use Rattle.group_forms.specs.Forms.{maybeWords, left, popBy, popped, after, addBy, extendBy}
+use Rattle.group_forms.specs.Forms.{maybeWords, left, popBy, popped, addBy, extendBy}
 use Rattle.group_forms.proofs.Carried.{Carried, Given, view-carried, laid-fits, top-carried, held-is, pop-carried, add-carried, extend-carried}
 use Rattle.group_forms.proofs.Low.{vertex-low}
 

@@ -5,15 +5,15 @@ use mathlib.Core.Bool.{Bool, true, false, not}
 use mathlib.Core.Option.{Option, none}
 use mathlib.Core.List.{List, [], _∷_}
 use lib.IntN.{ℤ}
-use lib.ListN.{length, take, drop, getD}
+use lib.ListN.{length, take, getD}
 use Rattle.kinds.specs.declared.Entry.{Entry}
 use Rattle.kinds.specs.declared.Stop.{Stop}
 use Rattle.kinds.specs.declared.Obstacle.{Obstacle}
 use Rattle.ledger_spec.specs.Tests.{first}
 use Rattle.ledger_spec.specs.Reads.{said}
-use Rattle.ledger_spec.specs.Groups.{Group, growth, conflicts, soundGroup, topOf, front, popped}
+use Rattle.ledger_spec.specs.Groups.{Group, soundGroup, topOf, popped}
 use Rattle.ledger_spec.specs.GroupCalls.{isGrowth, topIn, takeTests, peek, afterPop, pop}
-use Rattle.groups.specs.View.{listOf, stopsOf, groupOf, over, laid}
+use Rattle.groups.specs.View.{listOf, stopsOf, groupOf, laid}
 use Rattle.groups.specs.declared.Kind.the-variants.{Growth, Conflicts}
 use Rattle.groups.specs.declared.Group.{Group as Code}
 use Rattle.groups.proofs.View.{same, view-laid, view-growth, view-conflicts, list-is, stops-is}

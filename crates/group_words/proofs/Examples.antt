@@ -1,16 +1,14 @@
 -- The forms on examples, by computing: a few obstacles' words, words that are refused, and where a group's words lie. Assumes nothing.
-use Prim.Native.Nat.{ℕ}
 use mathlib.Core.Path.{_≡_, refl}
 use mathlib.Core.Bool.{true, false}
 use mathlib.Core.Option.{none, some}
-use mathlib.Core.List.{List, [], _∷_}
-use lib.IntN.{pos, negsuc}
+use mathlib.Core.List.{[], _∷_}
+use lib.IntN.{negsuc}
 use lib.ListN.{take, drop, replicate}
 use Rattle.kinds.specs.declared.Handle.{Handle}
 use Rattle.kinds.specs.declared.Entry.{Entry}
 use Rattle.kinds.specs.declared.Stop.{Stop}
 use Rattle.kinds.specs.declared.MaybePair.the-variants.{NoPair, WithPair}
-use Rattle.kinds.specs.declared.Obstacle.{Obstacle}
 use Rattle.kinds.specs.declared.Obstacle.the-variants.{NonZeroGrow, Conflicting, TouchingVirtual, BlossomNeedExpand, VertexShrinkStop}
 use Rattle.groups.specs.declared.Kind.the-variants.{Conflicts}
 use Rattle.groups.specs.declared.Group.{Group as Code}

@@ -1,9 +1,9 @@
 -- What each question is answered, once it is known whether the group is sound and of which kind it is; and the largest weight's test on a machine's
 -- bits. Assumes nothing.
 use Prim.Native.Nat.{ℕ}
-use mathlib.Core.Path.{_≡_, refl, sym, ap, ap₂, _∙_}
-use mathlib.Core.Bool.{Bool, true, false, cond, not}
-use mathlib.Core.Option.{Option, none, some}
+use mathlib.Core.Path.{_≡_, refl, sym, ap, _∙_}
+use mathlib.Core.Bool.{Bool, true, false, not}
+use mathlib.Core.Option.{Option, none}
 use mathlib.Core.List.{List, [], _∷_}
 use native.Mathlib.Omega.{arith}
 use borrow.Author.Tests.{ne-eqb}
@@ -13,7 +13,7 @@ use mir.Syntax.{w64}
 use mir.Val.{SFits, ofZ}
 use Rattle.ledger_spec.specs.Tests.{first}
 use Rattle.ledger_spec.specs.Reads.{said}
-use Rattle.ledger_spec.specs.Groups.{Group, growth, conflicts, largest, eqZ, soundGroup}
+use Rattle.ledger_spec.specs.Groups.{Group, largest, eqZ, soundGroup}
 use Rattle.ledger_spec.specs.GroupCalls.{isLargest, active, lengthIn, groupTests, isEmpty, isActive, growthOf}
 
 -- a weight is the largest where its bits are the largest's

@@ -3,17 +3,16 @@
 use Prim.Native.Nat.{ℕ, _≤_, _<_}
 use mathlib.Core.Path.{_≡_, refl, sym, ap, ap₂, _∙_}
 use mathlib.Core.Bool.{Bool, true, false, _&&_, false≢true}
-use mathlib.Core.List.{List, [], _∷_, _++_}
+use mathlib.Core.List.{List}
 use native.Mathlib.Omega.{arith}
 use borrow.Author.Tests.{leb-true, le-leb, lt-leb}
 use lib.Dec.{leb}
 use lib.IntN.{ℤ}
 use lib.ListN.{length, take, drop}
-use lib.Seq.{length-take-le}
 use Rattle.kinds.specs.declared.Entry.{Entry}
 use Rattle.kinds.specs.declared.Stop.{Stop}
 use Rattle.ledger_spec.specs.Groups.{Group, growth, conflicts, allListable, rising, soundGroup}
-use Rattle.groups.specs.View.{counted, noEntry, noStop, listOf, stopsOf, viewed, groupOf, over, laid}
+use Rattle.groups.specs.View.{noEntry, noStop, listOf, stopsOf, viewed, groupOf, over, laid}
 use Rattle.groups.specs.declared.Kind.{Kind}
 use Rattle.groups.specs.declared.Kind.the-variants.{Growth, Conflicts}
 use Rattle.groups.specs.declared.Group.{Group as Code}

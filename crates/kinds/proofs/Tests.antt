@@ -1,8 +1,8 @@
 -- How a row of tests gives an "and" and an "or", and what the getters read off a known case. Assumes nothing.
-use mathlib.Core.Path.{_≡_, refl, sym, _∙_, ap}
+use mathlib.Core.Path.{_≡_, sym, _∙_, ap}
 use mathlib.Core.Bool.{Bool, true, false, _&&_, _||_}
 use lib.IntN.{ℤ}
-use Rattle.kinds.specs.Obstacles.{theseOf, bothOf, conflictingOf, lengthOf, nodesOf, virtualOf}
+use Rattle.kinds.specs.Obstacles.{bothOf, conflictingOf, lengthOf, nodesOf, virtualOf}
 use Rattle.kinds.specs.declared.Handle.{Handle}
 use Rattle.kinds.specs.declared.Pair.{Pair}
 use Rattle.kinds.specs.declared.Vertex.{Vertex}

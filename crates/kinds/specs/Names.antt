@@ -1,5 +1,5 @@
 -- Handles: when two are the same, and the one that a refusal answers. Assumes nothing.
-use mathlib.Core.Bool.{Bool, true, false, _&&_}
+use mathlib.Core.Bool.{Bool, _&&_}
 use lib.Dec.{eqb}
 use Rattle.kinds.specs.declared.Handle.{Handle}
 

@@ -4,7 +4,7 @@ use Rattle.kinds.specs.Names.{sameHandle}
 use Rattle.kinds.specs.declared.Handle.{Handle}
 use Rattle.kinds.specs.declared.Pair.{Pair}
 use Rattle.kinds.specs.declared.MaybePair.{MaybePair}
-use Rattle.kinds.specs.declared.MaybePair.the-variants.{NoPair, WithPair}
+use Rattle.kinds.specs.declared.MaybePair.the-variants.{NoPair}
 use Rattle.kinds.specs.declared.MaybeLength.{MaybeLength}
 use Rattle.kinds.specs.declared.MaybeLength.the-variants.{NoLength, Length}
 use Rattle.kinds.specs.declared.MaybeNode.{MaybeNode}

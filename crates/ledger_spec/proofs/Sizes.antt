@@ -10,15 +10,15 @@ use native.Mathlib.Omega.{arith}
 use native.Mathlib.Decide.{ℕ-discrete, decLt}
 use lib.Dec.{eqb}
 use borrow.Author.Tests.{eq-eqb, ne-eqb}
-use lib.ListN.{length, getD, List·getD-eq-default}
-use Rattle.ledger_spec.specs.Bench.{Handle, Member, Class, defect, blossom, Node, Interface, Bench}
+use lib.ListN.{length, List·getD-eq-default}
+use Rattle.ledger_spec.specs.Bench.{Handle, Member, Class, defect, blossom, Node, Bench}
 use Rattle.ledger_spec.specs.Look.{interface, slotOf, nodeAt, ifSerial, top, sameHandle}
 use Rattle.ledger_spec.specs.Tests.{given, hasParent}
 use Rattle.ledger_spec.specs.Deeds.{sizeOf, sizes, members}
 use Rattle.ledger_spec.specs.SoundTree.{tally}
 use Rattle.ledger_spec.proofs.Counts.{sumTo, sumOf, one, rest, count, Below, sum-one, sum-zero, sum-has, sum-most, list-has, family}
-use Rattle.ledger_spec.specs.Knit.{mk, nodes, In, here, there, Has, Up, Down, Sewn}
-use Rattle.ledger_spec.proofs.Knit.{none-some, some-eq, same-handle, same-self, blossom-eq}
+use Rattle.ledger_spec.specs.Knit.{mk, nodes, In, here, there, Up, Sewn}
+use Rattle.ledger_spec.proofs.Knit.{none-some, some-eq, same-handle, same-self}
 use Rattle.ledger_spec.proofs.Lists.{tally-yes, tally-no}
 use Rattle.ledger_spec.proofs.Readings.{slot-out}
 

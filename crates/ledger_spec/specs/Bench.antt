@@ -1,8 +1,8 @@
 -- The bench of document 01, held plainly: what a node, an interface and a bench are, and the bench that set-up makes.
 -- A weight is the ℤ that a contract has for an `i64`; serials, slots and vertices are ℕ. Assumes nothing.
-use Prim.Native.Nat.{ℕ, zero, suc}
-use mathlib.Core.Option.{Option, none, some}
-use mathlib.Core.List.{List, [], _∷_}
+use Prim.Native.Nat.{ℕ}
+use mathlib.Core.Option.{Option, none}
+use mathlib.Core.List.{List, []}
 use lib.IntN.{ℤ, pos, negsuc}
 use lib.ListN.{replicate}
 

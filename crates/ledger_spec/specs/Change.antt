@@ -1,9 +1,9 @@
 -- The four ways in which a call changes a bench: a node put where there was one (or taken away), a node added, an interface replaced,
 -- and the speed that follows. Every call that touches nodes is made of these. Assumes nothing.
-use Prim.Native.Nat.{ℕ, zero, suc, _+_}
+use Prim.Native.Nat.{ℕ, suc, _+_}
 use mathlib.Core.Option.{Option, none, some}
 use mathlib.Core.List.{List, [], _∷_, _++_}
-use lib.ListN.{getD, length, set}
+use lib.ListN.{set}
 use lib.IntN.{ℤ, pos, _+ℤ_, _-ℤ_}
 use Rattle.ledger_spec.specs.Bench.{Handle, State, rate, Node, Interface, Bench}
 use Rattle.ledger_spec.specs.Look.{interface, slotOf, top}

@@ -1,18 +1,17 @@
 -- The check and the strict check: a verdict and an index. Present nodes by index, members in circle order, the first finding wins. Assumes nothing.
 use Prim.Native.Nat.{ℕ, zero, suc, _+_}
-use mathlib.Core.Bool.{Bool, true, false, not, _||_, _&&_}
+use mathlib.Core.Bool.{Bool, true, false, _||_, _&&_}
 use mathlib.Core.Option.{Option, none, some}
-use mathlib.Core.List.{List, [], _∷_, _++_, map}
-use lib.ListN.{length}
+use mathlib.Core.List.{List, [], _∷_}
 use lib.Dec.{eqb, ltb}
 use lib.IntN.{ℤ, pos, _+ℤ_, _-ℤ_, natAbs}
-use Rattle.ledger_spec.specs.Bench.{Handle, Member, Class, defect, blossom, Node, Interface, Bench}
-use Rattle.ledger_spec.specs.Look.{interface, nodeAt, tree, sameHandle}
+use Rattle.ledger_spec.specs.Bench.{Handle, Member, defect, blossom, Node, Bench}
+use Rattle.ledger_spec.specs.Look.{interface, nodeAt, sameHandle}
 use Rattle.ledger_spec.specs.Change.{worth}
 use Rattle.ledger_spec.specs.Tests.{first, any, stale, isDefect}
 use Rattle.ledger_spec.specs.Refuse.{unitTests}
 use Rattle.ledger_spec.specs.Reads.{said, slotsOf}
-use Rattle.ledger_spec.specs.Walk.{outerFrom, outermost}
+use Rattle.ledger_spec.specs.Walk.{outermost}
 
 -- the index of a place in a list of slots
 unfoldable pub indexIn : List (ℕ × ℕ × Option Node) → ℕ → Handle → ℕ

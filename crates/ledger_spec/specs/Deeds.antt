@@ -1,12 +1,12 @@
 -- What each call of the plain ledger does where it is accepted. Assumes nothing.
-use Prim.Native.Nat.{ℕ, zero, suc, _+_}
-use mathlib.Core.Bool.{Bool, true, false}
+use Prim.Native.Nat.{ℕ, suc, _+_}
+use mathlib.Core.Bool.{true, false}
 use mathlib.Core.Option.{Option, none, some}
 use mathlib.Core.List.{List, [], _∷_, map}
 use lib.ListN.{length}
 use lib.Dec.{eqb}
 use lib.IntN.{ℤ, pos, _+ℤ_, _*ℤ_}
-use Rattle.ledger_spec.specs.Bench.{Handle, grows, stays, rate, Member, Class, defect, blossom, Node, Interface, Bench, fresh}
+use Rattle.ledger_spec.specs.Bench.{Handle, grows, stays, rate, Member, defect, blossom, Node, Interface, Bench, fresh}
 use Rattle.ledger_spec.specs.Look.{interface, nodeAt, top}
 use Rattle.ledger_spec.specs.Change.{withInterface, withSlots, withParent, place, push, markAll}
 

@@ -1,10 +1,10 @@
 -- The calls on obstacle groups, for every group and bench: a number, the answer, and the group after it, which a refusal leaves as it was.
 -- Add and extend are lent the bench, the others none. Assumes nothing.
-use Prim.Native.Nat.{ℕ, zero, suc}
+use Prim.Native.Nat.{ℕ}
 use mathlib.Core.Bool.{Bool, true, false, cond, not, _&&_}
 use mathlib.Core.Option.{Option, none, some}
 use mathlib.Core.List.{List, [], _∷_, _++_}
-use lib.IntN.{ℤ, pos}
+use lib.IntN.{ℤ}
 use Rattle.kinds.specs.declared.Handle.{Handle as Code}
 use Rattle.kinds.specs.declared.Entry.{Entry}
 use Rattle.kinds.specs.declared.Stop.{Stop}
@@ -12,7 +12,7 @@ use Rattle.kinds.specs.declared.MaybePair.{MaybePair}
 use Rattle.kinds.specs.declared.MaybePair.the-variants.{NoPair, WithPair}
 use Rattle.kinds.specs.declared.Obstacle.{Obstacle}
 use Rattle.kinds.specs.declared.Obstacle.the-variants.{NonZeroGrow, Conflicting, TouchingVirtual, BlossomNeedExpand, VertexShrinkStop}
-use Rattle.ledger_spec.specs.Bench.{Handle, Bench}
+use Rattle.ledger_spec.specs.Bench.{Bench}
 use Rattle.ledger_spec.specs.Tests.{first, any, given, stale}
 use Rattle.ledger_spec.specs.Reads.{said}
 use Rattle.ledger_spec.specs.Walk.{firstVertex}

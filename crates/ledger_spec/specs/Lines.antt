@@ -1,18 +1,18 @@
 -- What each line of the text program answers: number, serial, speed, sum. Assumes nothing.
-use Prim.Native.Nat.{ℕ, zero, suc}
-use mathlib.Core.Bool.{Bool, true, false, _||_}
+use Prim.Native.Nat.{ℕ}
+use mathlib.Core.Bool.{true, false, _||_}
 use mathlib.Core.Option.{Option, none, some}
 use mathlib.Core.List.{List, [], _∷_, map}
 use lib.Dec.{eqb}
 use lib.IntN.{ℤ, pos}
-use Rattle.ledger_spec.specs.Bench.{Handle, State, Node, Bench}
+use Rattle.ledger_spec.specs.Bench.{Handle, Node, Bench}
 use Rattle.ledger_spec.specs.Look.{interface}
 use Rattle.ledger_spec.specs.Tests.{outside, child}
 use Rattle.ledger_spec.specs.Calls.{Call, Defect, Blossom, Expand, SetState, Grow, Fuse, Clear}
 use Rattle.ledger_spec.specs.Reads.{gather}
 use Rattle.ledger_spec.specs.Check.{checkOf}
 use Rattle.ledger_spec.specs.SoundTree.{units}
-use Rattle.ledger_spec.specs.Answers.{Answer, answer, ask}
+use Rattle.ledger_spec.specs.Answers.{answer, ask}
 use Rattle.ledger_spec.specs.Grammar.{Line, D, B, E, S, G, F, C, K, wrong}
 
 -- the present node with a serial, or a handle of interface 8, which names none

@@ -1,12 +1,11 @@
 -- Looking into a bench: an interface by its number, a node by its handle, the tree that an interface stands in. Assumes nothing.
 use Prim.Native.Nat.{ℕ, zero, suc, _+_}
-use mathlib.Core.Bool.{Bool, true, false, _&&_, _||_}
+use mathlib.Core.Bool.{Bool, true, false, _&&_}
 use mathlib.Core.Option.{Option, none, some}
 use mathlib.Core.List.{List, [], _∷_, _++_}
-use lib.ListN.{getD, length}
+use lib.ListN.{getD}
 use lib.Dec.{eqb}
-use lib.IntN.{ℤ, pos}
-use Rattle.ledger_spec.specs.Bench.{Handle, Node, Interface, Bench, fresh, Class, defect, blossom, Member}
+use Rattle.ledger_spec.specs.Bench.{Handle, Node, Interface, Bench, fresh}
 
 abbrev pub interface : Bench → ℕ → Interface
 interface b u = getD (b .interfaces) u fresh

@@ -1,25 +1,23 @@
 -- The plain ledger with every definition open, for what is shown by computing: the text program, reads, groups, the sound bench. Assumes nothing.
 use Prim.Native.Nat.{ℕ, zero, suc}
 use Prim.Native.String.{String}
-use mathlib.Core.Bool.{Bool}
 use mathlib.Core.Option.{Option}
-use mathlib.Core.List.{List, [], _∷_, _++_}
-use lib.IntN.{ℤ}
+use mathlib.Core.List.{List, [], _∷_}
 use Rattle.kinds.specs.declared.Obstacle.{Obstacle}
-use Rattle.ledger_spec.specs.Bench.{Handle, Bench, setUp}
+use Rattle.ledger_spec.specs.Bench.{Bench}
 use Rattle.ledger_spec.specs.Look.{nodeAt, ifSerial, climb, tree}
 use Rattle.ledger_spec.specs.Change.{push, place, mark, markAll, faster}
 use Rattle.ledger_spec.specs.Tests.{first, any, twice, both}
 use Rattle.ledger_spec.specs.Refuse.{unitTests, defectTests, blossomTests, expandTests, stateTests, growTests, fuseTests}
 use Rattle.ledger_spec.specs.Deeds.{addDefect, addBlossom, removeBlossom, growBy, join, wipe, circle, sizes, growSlot, across}
-use Rattle.ledger_spec.specs.Calls.{settle, setUpCall, defectCall, blossomCall, expandCall, stateCall, growCall, fuseCall, clearCall, Call, perform}
+use Rattle.ledger_spec.specs.Calls.{settle, setUpCall, defectCall, blossomCall, expandCall, stateCall, growCall, fuseCall, clearCall, perform}
 use Rattle.ledger_spec.specs.Notices.{tells}
 use Rattle.ledger_spec.specs.Reads.{said, slotsFrom, gather, sumOf, speedOf, countOf, indexTests, handleOf, nodeTests, valueOf, belongs}
 use Rattle.ledger_spec.specs.Walk.{outerFrom, linksFrom, underFrom, each, verticesFrom, outerOf, underTests, underOf, firstVertex, sizeTests, verticesInto}
 use Rattle.ledger_spec.specs.Check.{indexIn, memberVerdict, circleVerdict, walk, totalOf, verdict, isUnder, strictMember, strictCircle, strictWalk, strictVerdict, checkOf, strictOf}
 use Rattle.ledger_spec.specs.SoundTree.{all, tally, linksUp, linksDown, soundInterface, reach}
 use Rattle.ledger_spec.specs.Sound.{sound, soundClass, soundParent, soundSlot, rates, soundTop, serials, different}
-use Rattle.ledger_spec.specs.Answers.{told, whole, broken, Answer, answer, ask}
+use Rattle.ledger_spec.specs.Answers.{told, whole, broken, answer, ask}
 use Rattle.ledger_spec.specs.Groups.{Group, allListable, rising, soundGroup, roomFor, frontOf, backOf, meet, placed, addStop, addToGrowth, addToConflicts, added, smallerPair, addStops, extended, topOf, front}
 use Rattle.ledger_spec.specs.GroupCalls.{groupTests, takeTests, isEmpty, isActive, growthOf, peek, pop, handlesOf, listHandles, stopHandles, add, extend}
 use Rattle.ledger_spec.specs.Decimals.{digits, decimal, signed, value, natural, between, integer}
@@ -27,7 +25,7 @@ use Rattle.ledger_spec.specs.Fields.{upto, after}
 use Rattle.ledger_spec.specs.Grammar.{step, serials as allSerials, rest, lineOf}
 use Rattle.ledger_spec.specs.Lines.{seek, named, shown, calls, checks, says}
 use Rattle.ledger_spec.specs.Program.{ended, linesOf, answers, afterLines, textOf, texts, program}
-use Rattle.ledger_spec.specs.Book.{Book, wrote, writes, turn, turns, begun}
+use Rattle.ledger_spec.specs.Book.{wrote, writes, turn, turns}
 use Rattle.ledger_spec.specs.Bytes.{bytes}
 
 -- the bytes that lines answer, from a bench

@@ -6,7 +6,7 @@ use Rattle.ledger_spec.specs.Bench.{Bench, setUp}
 use Rattle.ledger_spec.specs.Decimals.{decimal, signed}
 use Rattle.ledger_spec.specs.Fields.{cut}
 use Rattle.ledger_spec.specs.Grammar.{Line, wrong, lineOf}
-use Rattle.ledger_spec.specs.Lines.{Said, says}
+use Rattle.ledger_spec.specs.Lines.{says}
 
 -- the lines of an input: each that a newline ends says what it says (an overlong one is wrong by `lineOf`); a last one without newline is wrong;
 -- nothing after the last newline is no line

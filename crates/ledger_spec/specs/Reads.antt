@@ -1,7 +1,7 @@
 -- What a bench can be asked of its interfaces and nodes: a number and, where that is 0, a value (on a sound bench: Answers.antt has BROKEN).
 -- A read of an interface answers 3 or 4 as a call does, a read of a node 8. Assumes nothing.
 use Prim.Native.Nat.{ℕ, zero, suc}
-use mathlib.Core.Bool.{Bool, true, false, not, _&&_}
+use mathlib.Core.Bool.{Bool, false, not, _&&_}
 use mathlib.Core.Option.{Option, none, some}
 use mathlib.Core.List.{List, [], _∷_, _++_}
 use lib.ListN.{length, getD}

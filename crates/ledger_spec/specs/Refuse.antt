@@ -1,7 +1,7 @@
 -- The numbers of document 01's table, for each call: its tests in rising order of their numbers, of which the first that holds gives
 -- the number (`first`). 0 is accepted. Assumes nothing.
-use Prim.Native.Nat.{ℕ, zero, suc, _^_}
-use mathlib.Core.Bool.{Bool, true, false, _&&_, _||_, not}
+use Prim.Native.Nat.{ℕ, _^_}
+use mathlib.Core.Bool.{Bool, _&&_, _||_, not}
 use mathlib.Core.List.{List, [], _∷_, _++_}
 use lib.ListN.{length}
 use lib.Dec.{eqb, leb, ltb}

@@ -1,7 +1,7 @@
 -- A sound bench, as a test that computes: the rules of document 01's section, of the plain bench. Slots past the used ones are empty by form,
 -- and there is no cached progress to go wrong. Assumes nothing.
-use Prim.Native.Nat.{ℕ, zero, suc, _*_, _^_}
-use mathlib.Core.Bool.{Bool, true, false, not, _&&_, _||_}
+use Prim.Native.Nat.{ℕ, _*_, _^_}
+use mathlib.Core.Bool.{Bool, true, false, _&&_}
 use mathlib.Core.Option.{Option, none, some}
 use mathlib.Core.List.{List, [], _∷_, map}
 use lib.ListN.{length}

@@ -1,5 +1,5 @@
 -- A sound bench, first half: the interfaces and how they are linked into trees, as tests that compute. Assumes nothing.
-use Prim.Native.Nat.{ℕ, zero, suc, _+_, _^_}
+use Prim.Native.Nat.{ℕ, suc, _+_, _^_}
 use mathlib.Core.Bool.{Bool, true, false, not, _&&_, _||_}
 use mathlib.Core.Option.{Option, none, some}
 use mathlib.Core.List.{List, [], _∷_}
@@ -7,7 +7,7 @@ use lib.ListN.{length}
 use lib.Dec.{eqb, leb, ltb}
 use lib.IntN.{pos, natAbs}
 use lib.Signed.{leZ}
-use Rattle.ledger_spec.specs.Bench.{Interface, Bench}
+use Rattle.ledger_spec.specs.Bench.{Bench}
 use Rattle.ledger_spec.specs.Look.{interface}
 
 unfoldable pub all : {A : Type 0} → (A → Bool) → List A → Bool

@@ -1,12 +1,12 @@
 -- The tests behind the refusal numbers of document 01's table, each of one thing: an interface's number, a handle, a list. Assumes nothing.
-use Prim.Native.Nat.{ℕ, zero, suc, _^_}
-use mathlib.Core.Bool.{Bool, true, false, _&&_, _||_, not}
+use Prim.Native.Nat.{ℕ, _^_}
+use mathlib.Core.Bool.{Bool, true, false, _||_, not}
 use mathlib.Core.Option.{Option, none, some}
 use mathlib.Core.List.{List, [], _∷_}
 use lib.ListN.{length}
 use lib.Dec.{eqb, leb}
 use lib.IntN.{natAbs}
-use Rattle.ledger_spec.specs.Bench.{Handle, Node, Interface, Bench, Class, defect, blossom}
+use Rattle.ledger_spec.specs.Bench.{Handle, Node, Interface, Bench, defect, blossom}
 use Rattle.ledger_spec.specs.Look.{interface, nodeAt, top, sameHandle}
 
 unfoldable pub first : List (Bool × ℕ) → ℕ

@@ -1,6 +1,6 @@
 -- The sound bench, rule by rule: a bench made by calls, one thing in it changed, and whether it is still sound. Each rule of document 01's section is
 -- broken and, where it has a limit, kept just at it; BROKEN is what every call then answers. Assumes nothing.
-use Prim.Native.Nat.{ℕ, zero, suc, _^_}
+use Prim.Native.Nat.{ℕ, suc, _^_}
 use mathlib.Core.Path.{_≡_, refl}
 use mathlib.Core.Bool.{Bool, true, false, not}
 use mathlib.Core.Option.{Option, none, some}
@@ -8,9 +8,9 @@ use mathlib.Core.List.{List, [], _∷_, _++_, map}
 use lib.Dec.{eqb}
 use lib.ListN.{getD, set, replicate, take}
 use lib.IntN.{ℤ, pos, negsuc}
-use Rattle.ledger_spec.specs.Bench.{Handle, State, grows, stays, shrinks, Member, Class, defect, blossom, Node, Interface, Bench, setUp}
+use Rattle.ledger_spec.specs.Bench.{Handle, State, grows, stays, shrinks, Member, Class, blossom, Node, Interface, Bench, setUp}
 use Rattle.ledger_spec.specs.Look.{interface}
-use Rattle.ledger_spec.specs.Change.{withSlots, withSpeed, withParent, withInterface}
+use Rattle.ledger_spec.specs.Change.{withSlots, withSpeed, withInterface}
 use Rattle.ledger_spec.specs.Calls.{Grow}
 use Rattle.ledger_spec.specs.Sound.{sound}
 use Rattle.ledger_spec.specs.Answers.{answer}

@@ -1,5 +1,4 @@
 -- Document 01's own examples. Assumes nothing.
-use Prim.Native.Nat.{ℕ}
 use mathlib.Core.Path.{_≡_, refl}
 use Rattle.ledger_table.specs.Opened.{replayed}
 

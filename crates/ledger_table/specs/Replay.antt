@@ -1,6 +1,6 @@
 -- A recording is lines: a call, then `= ` and its answer; `#` begins a comment. Replayed, it counts the answers compared and those that differ.
 -- Assumes nothing.
-use Prim.Native.Nat.{ℕ, zero, suc}
+use Prim.Native.Nat.{ℕ, suc}
 use Prim.Native.String.{String}
 use mathlib.Core.Bool.{Bool, true, false, _&&_}
 use mathlib.Core.Option.{Option, none, some}
@@ -10,7 +10,7 @@ use lib.Dec.{eqb}
 use lib.IntN.{ℤ, pos}
 use Rattle.ledger_spec.specs.Bench.{setUp}
 use Rattle.ledger_spec.specs.Decimals.{signed, integer}
-use Rattle.ledger_spec.specs.Fields.{upto, after, cut}
+use Rattle.ledger_spec.specs.Fields.{after, cut}
 use Rattle.ledger_spec.specs.Bytes.{bytes}
 use Rattle.ledger_table.specs.Talk.{Desk, fresh, Turn, turn}
 

@@ -1,10 +1,10 @@
 -- The recordings' line language (oracle/README.md), answered by the plain ledger: a letter and numbers in, numbers out. Assumes nothing.
-use Prim.Native.Nat.{ℕ, zero, suc, _+_, _-_}
+use Prim.Native.Nat.{ℕ, zero, suc, _+_}
 use Prim.Native.Char.{Char, code}
 use mathlib.Core.Bool.{Bool, true, false}
 use mathlib.Core.Option.{Option, none, some}
 use mathlib.Core.List.{List, [], _∷_, _++_, map}
-use lib.ListN.{length, getD, set, replicate, take, drop}
+use lib.ListN.{length, getD, set, replicate, drop}
 use lib.Dec.{eqb}
 use lib.IntN.{ℤ, pos, negsuc, natAbs}
 use Rattle.kinds.specs.declared.Handle.{Handle as Code}
@@ -14,7 +14,7 @@ use Rattle.kinds.specs.declared.Stop.{Stop}
 use Rattle.kinds.specs.declared.MaybePair.the-variants.{NoPair, WithPair}
 use Rattle.kinds.specs.declared.Obstacle.{Obstacle}
 use Rattle.kinds.specs.declared.Obstacle.the-variants.{NonZeroGrow, Conflicting, TouchingVirtual, BlossomNeedExpand, VertexShrinkStop}
-use Rattle.ledger_spec.specs.Bench.{Handle, State, grows, stays, shrinks, rate, Member, defect, blossom, Node, Bench, setUp}
+use Rattle.ledger_spec.specs.Bench.{Handle, State, grows, stays, shrinks, rate, Member, defect, blossom, Node, Bench}
 use Rattle.ledger_spec.specs.Calls.{nobody, setUpCall, Call, Defect, Blossom, Expand, SetState, Grow, Fuse, Clear}
 use Rattle.ledger_spec.specs.Notices.{Notice, defectAdded, stateSet, shrinkPrepared, blossomAdded, blossomRemoved, grown}
 use Rattle.ledger_spec.specs.Reads.{slotsOf, sumOf, speedOf, countOf, handleOf, valueOf, belongs}

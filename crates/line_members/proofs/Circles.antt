@@ -1,21 +1,21 @@
 -- A blossom of members given by words is the blossom of the members named by serials: either each word gives the very handle, or some member is
 -- stale on both sides, and then no member has a part in the answer. Assumes nothing.
-use Prim.Native.Nat.{ℕ, zero, suc, _≤_, _<_}
+use Prim.Native.Nat.{ℕ, suc, _≤_, _<_}
 use native.Mathlib.Omega.{arith}
-use mathlib.Core.Bool.{Bool, true, false, not, _||_}
+use mathlib.Core.Bool.{Bool, true, false, _||_}
 use mathlib.Core.Path.{_≡_, refl, sym, _∙_, ap, ap₂}
 use mathlib.Core.Logic.{_⊎_, inl, inr}
-use mathlib.Core.Option.{Option, none}
+use mathlib.Core.Option.{none}
 use mathlib.Core.List.{List, [], _∷_, _++_, map, append-nil}
 use lib.Dec.{ltb}
 use lib.ListN.{length, take, getD, length-map}
 use lib.Seq.{length-take-le, getD-take}
-use Rattle.ledger_spec.specs.Bench.{Handle, Node, Bench}
+use Rattle.ledger_spec.specs.Bench.{Handle, Bench}
 use Rattle.ledger_spec.specs.Look.{nodeAt}
-use Rattle.ledger_spec.specs.Tests.{first, any, given, empty, outside, child, stale, both}
+use Rattle.ledger_spec.specs.Tests.{first, any, empty, outside, child, stale, both}
 use Rattle.ledger_spec.specs.Deeds.{newHandle, addBlossom}
 use Rattle.ledger_spec.specs.Refuse.{blossomTests}
-use Rattle.ledger_spec.specs.Calls.{Reply, nobody, settle, Blossom, blossomCall, perform}
+use Rattle.ledger_spec.specs.Calls.{nobody, settle, Blossom, blossomCall, perform}
 use Rattle.ledger_spec.specs.Lines.{named}
 use Rattle.rings.specs.Given.{handGiven, handsGiven}
 use Rattle.line_members.specs.Names.{Names, AllNamed}

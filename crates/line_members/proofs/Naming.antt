@@ -1,8 +1,7 @@
 -- What a search finds for a serial, as a packed handle. A serial past 32 bits was never given out. Assumes nothing.
-use Prim.Native.Nat.{ℕ, _+_, _*_, _/_, _%_, _<_, _≤_}
+use Prim.Native.Nat.{ℕ, _+_, _/_, _%_, _<_, _≤_}
 use mathlib.Core.Path.{_≡_, refl, sym, _∙_, ap, subst, subst₂}
 use mathlib.Core.Logic.{inl, inr, by-cases}
-use mathlib.Core.Option.{none}
 use mathlib.Core.List.{List}
 use native.Mathlib.Omega.{arith}
 use native.Mathlib.Decide.{ℕ-discrete}
@@ -14,15 +13,14 @@ use Rattle.words.proofs.Laws.{handle-back}
 use Rattle.ledger_spec.specs.Bench.{Bench}
 use Rattle.ledger_spec.specs.Look.{nodeAt}
 use Rattle.ledger_spec.specs.Named.{handleNamed}
-use Rattle.ledger_spec.specs.Lines.{named}
 use Rattle.views.specs.View.{view}
-use Rattle.views.specs.Fit.{SoundWords, Fit}
+use Rattle.views.specs.Fit.{SoundWords}
 use Rattle.views.proofs.Fits.{fit-of}
 use Rattle.links.specs.declared.Found.the-variants.{At, Stale}
 use Rattle.links.proofs.Finding.{out-unit}
 use Rattle.rings.specs.Given.{nowhere, handGiven}
 use Rattle.rings.proofs.Givens.{given-fine}
-use Rattle.serials.specs.Seek.{handle, Seeks}
+use Rattle.serials.specs.Seek.{Seeks}
 use Rattle.serials.proofs.Scanning.{not-yet, seeks-none}
 use Rattle.line_members.specs.Names.{Names, AllNamed}
 

@@ -15,7 +15,7 @@ use Rattle.words.specs.Store.{nodeAt, interfaceAt}
 use Rattle.words.specs.declared.Node.{Node}
 use Rattle.kinds.specs.declared.Class.{Class}
 use Rattle.kinds.specs.declared.Class.the-variants.{Absent, Blossom, Defect}
-use Rattle.ledger_spec.specs.Bench.{Handle, Member}
+use Rattle.ledger_spec.specs.Bench.{Handle}
 use Rattle.ledger_spec.specs.Bench as plain
 use Rattle.ledger_spec.specs.Look.{slotOf, ifSerial, nodeAt as nodeNamed}
 use Rattle.ledger_spec.specs.Named.{handleNamed}
@@ -25,6 +25,7 @@ use Rattle.views.specs.View.{view, slotSeen, nodeSeen, sumUp, circleOf}
 use Rattle.views.specs.Canon.{Canon}
 use Rattle.views.proofs.Views.{view-slot, view-past, view-out}
 use Rattle.views.proofs.Rings.{slot-held, Shows, slot-shows}
+use Rattle.views.proofs.Slots.{slot-absent}
 use Rattle.links.specs.declared.Found.{Found}
 use Rattle.links.specs.declared.Found.the-variants.{At, Stale}
 use Rattle.links.specs.Find.{absentOf, spot, Stands, Held, Finds}
@@ -50,10 +51,6 @@ absent-yes (Defect v) e = absurd (let z : _≡_ {A = ℕ} 0 1 = cc in omega arit
 
 pub absent-no : {c : Class} → absentOf c ≡ false → c ≡ Absent → ⊥
 absent-no {c} e q = let z : _≡_ {A = ℕ} 0 1 = cc in omega arith
-
-pub slot-absent : (n : Node) (t : ℕ) (ms : List Member) → n .class ≡ Absent → slotSeen n t ms ≡ none
-unfolding slotSeen
-slot-absent n t ms e = rw e
 
 -- ---- in words
 module _ (b : List ℕ) (h : Handle) where

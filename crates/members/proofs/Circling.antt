@@ -10,7 +10,7 @@ use Rattle.words.specs.declared.Node.{Node}
 use Rattle.kinds.specs.Names.{nobody}
 use Rattle.kinds.specs.declared.Class.the-variants.{Blossom}
 use Rattle.kinds.specs.declared.Handle.{Handle as Code}
-use Rattle.ledger_spec.specs.Bench.{Handle, Member, Bench, blossom}
+use Rattle.ledger_spec.specs.Bench.{Handle, Member, Bench}
 use Rattle.ledger_spec.specs.Named.{handleNamed}
 use Rattle.ledger_spec.specs.Walk.{parentOf, outermost}
 use Rattle.ledger_spec.specs.Knit.{In, here, there, nodes}
@@ -20,6 +20,7 @@ use Rattle.ledger_spec.proofs.Chains.{outer-some, outer-more}
 use Rattle.views.specs.View.{view, handleAt, memberAt, follow, circleOf, sumUp}
 use Rattle.views.specs.Fit.{Fit}
 use Rattle.views.proofs.Rings.{slot-blossom}
+use Rattle.views.proofs.Slots.{follow-more, follow-none}
 use Rattle.vertices.specs.Under.{Placed}
 use Rattle.vertices.proofs.Circling.{standing, shown, member-placed}
 use Rattle.members.specs.declared.Finding.{Finding}
@@ -37,15 +38,6 @@ circle-bad s b m ms k e = rw (e, circleBy)
 circle-none : (s : Bool) (b : Bench) → circleBy s b [] ≡ (0, handleNamed nobody)
 unfolding circleBy
 circle-none s b = refl
-
-follow-more : (A : ℕ → Node) (m p : ℕ) → 0 < m → follow m A p ≡ memberAt A p ∷ follow (m - 1) A (A p .next)
-unfolding follow
-follow-more A zero p l = absurd (omega arith)
-follow-more A (suc m) p l = let e : suc m - 1 ≡ m = omega arith in ap (λ (x : ℕ). memberAt A p ∷ follow x A (A p .next)) (sym e)
-
-follow-none : (A : ℕ → Node) (m p : ℕ) → m ≡ 0 → follow m A p ≡ []
-unfolding follow
-follow-none A m p e = ap (λ (x : ℕ). follow x A p) e
 
 -- ---- a member has its blossom's outermost blossom
 module _ (b : List ℕ) (F : Fit b) (k : ℕ) (P : Placed b k) (e : nodeAt b k .class ≡ Blossom) where

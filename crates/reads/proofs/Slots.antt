@@ -15,7 +15,8 @@ use Rattle.views.specs.View.{view, slotSeen, sumUp, circleOf}
 use Rattle.views.proofs.Views.{view-slot}
 use Rattle.views.proofs.Rings.{slot-held}
 use Rattle.links.specs.Find.{absentOf}
-use Rattle.links.proofs.Finding.{absent-yes, absent-no, slot-absent}
+use Rattle.links.proofs.Finding.{absent-yes, absent-no}
+use Rattle.views.proofs.Slots.{slot-absent}
 
 module _ (b : List ℕ) (k : ℕ) (l : k / 64 < 8) (m : k % 64 < interfaceAt b (k / 64) .used) (n : Node) (e : n ≡ nodeAt b k) {t : Bool} (a : t ≡ absentOf (n .class)) where
   slot-is : slotOf (view b) (k / 64) (k % 64) ≡ slotSeen n (sumUp 8 (interfaceAt b) (k / 64)) (circleOf (nodeAt b) k)

@@ -1,5 +1,5 @@
 -- A line read, done and written is the line answered; the empty bench is sound. Assumes nothing.
-use Prim.Native.Nat.{ℕ, _+_, _≤_, _<_}
+use Prim.Native.Nat.{ℕ, _≤_, _<_}
 use mathlib.Core.Path.{_≡_, refl, sym, _∙_, ap, subst}
 use mathlib.Core.List.{List, []}
 use native.Mathlib.Omega.{arith}
@@ -11,10 +11,9 @@ use mir.Val.{SFits}
 use Rattle.decimals.specs.Wrote.{Wrote}
 use Rattle.decimals.proofs.Writes.{same-text}
 use Rattle.answers.proofs.Answers.{answer-short}
-use Rattle.ledger_spec.specs.Bench.{Bench, setUp}
+use Rattle.ledger_spec.specs.Bench.{setUp}
 use Rattle.ledger_spec.specs.Sound.{sound}
-use Rattle.ledger_spec.specs.Grammar.{Line, lineOf}
-use Rattle.ledger_spec.specs.Lines.{says}
+use Rattle.ledger_spec.specs.Grammar.{lineOf}
 use Rattle.ledger_spec.specs.Program.{textOf}
 use Rattle.ledger_spec.proofs.Holds.{holds}
 use Rattle.ledger_laws.proofs.SoundCalls.{opened-sound}

@@ -11,8 +11,6 @@ use lib.Seq.{drop-cons}
 use lib.IntN.{ℤ, _+ℤ_, natAbs, +ℤ-assoc, +ℤ-idl, +ℤ-idr}
 use Rattle.words.specs.Store.{nodeAt, interfaceAt}
 use Rattle.words.specs.declared.Node.{Node}
-use Rattle.kinds.specs.declared.Class.the-variants.{Absent}
-use Rattle.ledger_spec.specs.Bench.{Member}
 use Rattle.ledger_spec.specs.Bench as plain
 use Rattle.ledger_spec.specs.Look.{slotOf}
 use Rattle.ledger_spec.specs.Change.{worth}
@@ -28,15 +26,12 @@ use Rattle.views.proofs.Ranges.{off-range, ranged}
 use Rattle.views.proofs.Rings.{slot-held}
 use Rattle.views.proofs.Sums.{sumUp-le}
 use Rattle.views.proofs.Offsets.{off-both, off-zero}
+use Rattle.views.proofs.Slots.{slot-absent}
 use Rattle.links.specs.Find.{absentOf}
 use Rattle.links.proofs.Finding.{absent-yes, absent-no}
 use Rattle.orders.specs.Order.{AtIndex}
 use Rattle.places.specs.Places.{Places}
 use Rattle.totals.specs.Total.{Added}
-
-slot-absent : (n : Node) (t : ℕ) (ms : List Member) → n .class ≡ Absent → slotSeen n t ms ≡ none
-unfolding slotSeen
-slot-absent n t ms e = rw e
 
 module _ (b : List ℕ) (F : Fit b) (k : ℕ) (lu : k / 64 < 8) (ls : k % 64 < interfaceAt b (k / 64) .used) (n : Node) (e : n ≡ nodeAt b k) {c : Bool} (a : c ≡ absentOf (n .class)) where
   split : k / 64 * 64 + k % 64 ≡ k

@@ -5,10 +5,9 @@ use words::Up;
 use words::WORDS;
 ghost use mathlib.Core.Path.{_≡_};
 ghost use Prim.Native.Nat.{_+_, _<_, _≤_};
-ghost use Rattle.words.specs.Store.{interfaceAt};
 ghost use Rattle.ledger_spec.specs.Look.{top};
 ghost use Rattle.views.specs.Records.{rateOf, Steady};
-ghost use Rattle.views.specs.View.{valueOf, biasOf, sumUp, view};
+ghost use Rattle.views.specs.View.{valueOf, biasOf};
 ghost use Rattle.trees.specs.Climb.{Climbs};
 
 // The value of a node, 2^60 higher than it is.

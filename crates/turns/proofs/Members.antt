@@ -9,9 +9,9 @@ use lib.ListN.{length, take}
 use lib.Seq.{take-all}
 use Rattle.kinds.specs.declared.Handle.{Handle}
 use Rattle.ledger_spec.specs.Bench.{Bench}
-use Rattle.ledger_spec.specs.Calls.{Blossom, perform}
+use Rattle.ledger_spec.specs.Calls.{Blossom}
 use Rattle.ledger_spec.specs.Grammar.{B}
-use Rattle.ledger_spec.specs.Lines.{Said, named, calls, says, shown}
+use Rattle.ledger_spec.specs.Lines.{named, says, shown}
 use Rattle.views.specs.View.{view}
 use Rattle.views.specs.Fit.{SoundWords}
 use Rattle.made.specs.Answered.{Answered}
@@ -21,7 +21,7 @@ use Rattle.line_members.proofs.Circles.{same-blossom}
 use Rattle.streams.proofs.Circles.{first-65}
 use Rattle.replies.specs.declared.Reply.{Reply}
 use Rattle.replies.specs.Numbers.{numbersOf}
-use Rattle.turns.specs.Turned.{Turned, Few, TurnedBlossom}
+use Rattle.turns.specs.Turned.{Few, TurnedBlossom}
 use Rattle.turns.proofs.Turning.{turned}
 
 front-says : (b : Bench) (u : ℕ) (ks : List ℕ) (n : ℕ) → Few (length ks) n → says b (B u ks) ≡ says b (B u (take n ks))

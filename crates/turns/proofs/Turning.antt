@@ -1,20 +1,18 @@
 -- A call's answer on sound words is the line's: BROKEN does not come up, and what the line shows is read off the words after the call. Assumes nothing.
 use Prim.Native.Nat.{ℕ}
-use mathlib.Core.Path.{_≡_, refl, sym, _∙_, ap, subst}
+use mathlib.Core.Path.{_≡_, refl, sym, _∙_, ap}
 use mathlib.Core.Bool.{true}
-use mathlib.Core.List.{List, []}
-use lib.IntN.{ℤ, pos}
+use mathlib.Core.List.{List}
+use lib.IntN.{pos}
 use Rattle.kinds.specs.declared.Handle.{Handle}
 use Rattle.ledger_spec.specs.Bench.{Bench}
 use Rattle.ledger_spec.specs.Bench as plain
 use Rattle.ledger_spec.specs.Calls.{Reply as Done, Call, perform}
-use Rattle.ledger_spec.specs.Answers.{Answer, whole, answer, ask}
-use Rattle.ledger_spec.specs.Notices.{tells}
+use Rattle.ledger_spec.specs.Answers.{Answer, whole, ask}
 use Rattle.ledger_spec.specs.Sound.{sound}
 use Rattle.ledger_spec.specs.Check.{checkOf}
 use Rattle.ledger_spec.specs.Grammar.{Line, K, wrong}
 use Rattle.ledger_spec.specs.Lines.{Said, shown, calls, checks, says}
-use Rattle.ledger_spec.specs.Named.{handleNamed}
 use Rattle.ledger_laws.proofs.Answered.{answer-true}
 use Rattle.ledger_laws.proofs.Asked.{ask-true}
 use Rattle.views.specs.View.{view}

@@ -12,7 +12,7 @@ ghost use mathlib.Core.Path.{_≡_};
 ghost use mathlib.Core.List.{List};
 ghost use Prim.Native.Nat.{ℕ, _≤_};
 ghost use lib.ListN.{length};
-ghost use Rattle.ledger_spec.specs.Grammar.{Line as Said, D, E, S, G, F, C, K, wrong};
+ghost use Rattle.ledger_spec.specs.Grammar.{Line as Said, D, E, S, G, F, C, K};
 ghost use Rattle.ledger_spec.specs.Lines.{shown};
 ghost use Rattle.ledger_spec.specs.Named.{stateNamed};
 ghost use Rattle.lines.specs.Shown.{ReadAs};

@@ -16,8 +16,8 @@ use Rattle.soundness.specs.Sound.{soundWords}
 use Rattle.soundness.proofs.Theorem.{sound-says, sound-holds}
 use Rattle.checks.specs.declared.Checked.{Checked}
 use Rattle.checks.specs.Judged.{shownCheck}
-use Rattle.verdicts.specs.Asked.{asked}
-use Rattle.verdicts.proofs.Asking.{asked-sound, asked-broken}
+use Rattle.lent.specs.Verdict.{asked}
+use Rattle.lent.proofs.Asking.{asked-by}
 
 -- an answer is what it shows
 pub one-answer : (r s : Checked) → shownCheck r ≡ shownCheck s → r ≡ s
@@ -25,14 +25,14 @@ one-answer r s e = λ i. record { number = e i .0; verdict = e i .1 .0; index = 
 
 module _ {A : Type 0} (b : List ℕ) (z : A) (r : ℕ × A) where
   pub two-broken : (r .0 ≡ 2 → ⊥) → asked b z r .0 ≡ 2 → SoundWords b → ⊥
-  two-broken q e S = q (ap (λ (x : ℕ × A). x .0) (asked-sound b true (sym (sound-holds b S)) z r refl) ∙ e)
+  two-broken q e S = q (sym (ap (λ (x : ℕ × A). x .0) (asked-by b z r true (sound-holds b S))) ∙ e)
 
   pub broken-two : length b ≡ 6273 → (SoundWords b → ⊥) → asked b z r .0 ≡ 2
   broken-two len q = go (soundWords b) refl
     where
       go : (t : Bool) → t ≡ soundWords b → asked b z r .0 ≡ 2
       go true e = absurd (q (sound-says b len (sym e)))
-      go false e = sym (ap (λ (x : ℕ × A). x .0) (asked-broken b false e z r refl))
+      go false e = ap (λ (x : ℕ × A). x .0) (asked-by b z r false (sym e))
 
 -- ---- of the checks, whose own numbers are 0, 3 and 4
 said-number : {A : Type 0} (k : ℕ) (v z : A) → said k v z .0 ≡ k

@@ -7,7 +7,7 @@ ghost use mathlib.Core.Path.{_≡_};
 ghost use Rattle.ledger_spec.specs.Check.{checkOf, strictOf};
 ghost use Rattle.views.specs.View.{view};
 ghost use Rattle.checks.specs.Judged.{shownCheck};
-ghost use Rattle.verdicts.specs.Asked.{asked};
+ghost use Rattle.lent.specs.Verdict.{asked};
 
 fn broken() -> Checked
     ensures { λ r. ⌜ shownCheck r ≡ (2, (0, 0)) ⌝ }
@@ -22,19 +22,17 @@ fn broken() -> Checked
 pub fn sanity_check(b: &[u64; WORDS], unit: u8) -> Checked
     ensures { λ r. ⌜ shownCheck r ≡ asked (now (b .entry)) (0, 0) (checkOf (view (now (b .entry))) unit) ⌝ }
 {
-    words::full(b);
-    if soundness::is_sound(b) {
-        return checks::sanity_check(b, unit);
+    if !lent::is_bench(b) {
+        return broken();
     }
-    broken()
+    checks::sanity_check(b, unit)
 }
 
 pub fn strict_check(b: &[u64; WORDS], unit: u8) -> Checked
     ensures { λ r. ⌜ shownCheck r ≡ asked (now (b .entry)) (0, 0) (strictOf (view (now (b .entry))) unit) ⌝ }
 {
-    words::full(b);
-    if soundness::is_sound(b) {
-        return checks::strict_check(b, unit);
+    if !lent::is_bench(b) {
+        return broken();
     }
-    broken()
+    checks::strict_check(b, unit)
 }

@@ -1,6 +1,6 @@
 -- The circle of a blossom in words: its members stand where the links lead, present and older; what is left of the circle is written after what is
 -- written already. Assumes nothing.
-use Prim.Native.Nat.{ℕ, zero, suc, _+_, _-_, _*_, _/_, _%_, _<_, _≤_}
+use Prim.Native.Nat.{ℕ, suc, _+_, _-_, _*_, _/_, _%_, _<_, _≤_}
 use mathlib.Core.Path.{_≡_, refl, ap, ap₂, sym, _∙_, subst}
 use mathlib.Core.Option.{some}
 use mathlib.Core.List.{List, [], _∷_, _++_}
@@ -20,6 +20,7 @@ use Rattle.ledger_spec.proofs.Walks.{inner, vertices-defect, vertices-blossom, 
 use Rattle.views.specs.View.{view, handleAt, memberAt, follow, circleOf, sumUp, slotSeen, nodeSeen}
 use Rattle.views.specs.Fit.{Fit}
 use Rattle.views.proofs.Rings.{Ringed, ringed}
+use Rattle.views.proofs.Slots.{slot-defect, slot-ring, follow-more, follow-none}
 use Rattle.links.specs.Find.{Stands}
 use Rattle.links.proofs.Finding.{find-there}
 use Rattle.vertices.specs.Under.{Placed, under, Wrote}
@@ -38,14 +39,6 @@ sets-append [] ys l i = let e : i ≡ i + 0 = omega arith in ap (λ (k : ℕ). s
 sets-append (x ∷ xs) ys l i =
     let e : suc i + length xs ≡ i + suc (length xs) = omega arith in
     sets-append xs ys (set l i x) (suc i) ∙ ap (λ (k : ℕ). sets (sets (set l i x) (suc i) xs) k ys) e
-
-slot-defect : (n : Node) (t : ℕ) (ms : List Member) (v : Vertex) → n .class ≡ Defect v → slotSeen n t ms ≡ some (nodeSeen n t (defect (v .0)))
-unfolding slotSeen
-slot-defect n t ms v e = rw e
-
-slot-ring : (n : Node) (t : ℕ) (ms : List Member) → n .class ≡ Blossom → slotSeen n t ms ≡ some (nodeSeen n t (blossom ms))
-unfolding slotSeen
-slot-ring n t ms e = rw e
 
 module _ (b : List ℕ) (F : Fit b) where
   abbrev A : ℕ → Node
@@ -87,15 +80,6 @@ module _ (b : List ℕ) (F : Fit b) where
           let m = map-in (λ (x : Member). x .node) (circleOf A k) i in
           let l = inner (view b) (F .facts) (handleAt A k) (nodeSeen (A k) (sumUp 8 (interfaceAt b) (k / 64)) (blossom (circleOf A k))) (circleOf A k) blossom-there refl (m .0) (m .1) .lower in
           omega (arith, l, ap (λ (g : Handle). g .serial) (m .2))
-
-follow-more : (A : ℕ → Node) (m p : ℕ) → 0 < m → follow m A p ≡ memberAt A p ∷ follow (m - 1) A (A p .next)
-unfolding follow
-follow-more A zero p l = absurd (omega arith)
-follow-more A (suc m) p l = let e : suc m - 1 ≡ m = omega arith in ap (λ (x : ℕ). memberAt A p ∷ follow x A (A p .next)) (sym e)
-
-follow-none : (A : ℕ → Node) (m p : ℕ) → m ≡ 0 → follow m A p ≡ []
-unfolding follow
-follow-none A m p e = ap (λ (x : ℕ). follow x A p) e
 
 -- the vertices of what is left of a circle: m members from position p on
 abbrev pub rest : List ℕ → ℕ → ℕ → List ℕ

@@ -1,16 +1,9 @@
 -- What a circle depends on. Assumes nothing.
-use Prim.Native.Nat.{ℕ, zero, suc, _+_, _-_, _*_, _/_, _%_, _<_, _≤_}
-use mathlib.Core.Path.{_≡_, refl, ap, ap₂, sym, _∙_, subst}
-use mathlib.Core.Logic.{_≢_, by-cases}
-use mathlib.Core.Option.{Option, none, some}
-use mathlib.Core.List.{List, [], _∷_, _++_, map}
-use native.Mathlib.Decide.{ℕ-discrete}
-use native.Mathlib.Omega.{arith}
-use lib.ListN.{length, getD}
-use Rattle.words.specs.Store.{nodeAt, interfaceAt}
+use Prim.Native.Nat.{ℕ, zero, suc, _-_, _/_, _%_}
+use mathlib.Core.Path.{_≡_, refl, ap, ap₂, _∙_}
+use mathlib.Core.List.{List, _∷_}
 use Rattle.words.specs.declared.Node.{Node}
-use Rattle.kinds.specs.declared.Handle.{Handle as Packed}
-use Rattle.ledger_spec.specs.Bench.{Handle, Member}
+use Rattle.ledger_spec.specs.Bench.{Member}
 use Rattle.ledger_spec.specs.Knit.{In, here, there, nodes}
 use Rattle.views.specs.View.{follow, circleOf, handleAt, memberAt}
 use Rattle.ledger_spec.specs.Named.{handleNamed}

@@ -1,19 +1,17 @@
 -- Stores keep words coded, and what the view says of the units. Assumes nothing.
-use Prim.Native.Nat.{ℕ, zero, suc, _+_, _-_, _*_, _/_, _%_, _<_, _≤_}
-use mathlib.Core.Path.{_≡_, refl, ap, ap₂, sym, _∙_, subst}
-use mathlib.Core.Logic.{_≢_, by-cases}
-use mathlib.Core.Option.{Option, none, some}
+use Prim.Native.Nat.{ℕ, _+_, _-_, _%_, _<_, _≤_}
+use mathlib.Core.Path.{_≡_, ap, sym, _∙_, subst}
+use mathlib.Core.Logic.{by-cases}
 use mathlib.Core.List.{List}
 use native.Mathlib.Decide.{ℕ-discrete}
 use native.Mathlib.Omega.{arith}
-use lib.IntN.{ℤ, pos, natAbs}
+use lib.IntN.{natAbs}
 use lib.ListN.{length, getD, set}
 use lib.Seq.{getD-set-other}
 use Rattle.words.specs.Store.{nodeAt, interfaceAt, storeNode, storeInterface, base, ibase, interfaceWords, nodeWords}
 use Rattle.words.proofs.Laws.{Good, GoodUp, inside, inside-interface, store-out, store-interface-out, load-same, load-other, store-node-interface, interface-same, interface-other, store-interface-node, interface-first, node-first}
 use Rattle.words.specs.declared.Node.{Node}
 use Rattle.words.specs.declared.Interface.{Interface}
-use Rattle.words.specs.declared.Up.the-variants.{Top, Under}
 use Rattle.ledger_spec.specs.Bench as plain
 use Rattle.ledger_spec.specs.Look.{interface}
 use Rattle.ledger_spec.specs.Frame.{Frame}

@@ -1,14 +1,11 @@
 -- Sound words are fit for a call's work: each fact is one of the sound bench's own, or a bound that follows. Assumes nothing.
-use Prim.Native.Nat.{ℕ, _+_, _*_, _≤_, _<_, _^_}
-use mathlib.Core.Path.{_≡_, refl, sym, _∙_, ap, subst}
-use mathlib.Core.Option.{none, some}
+use Prim.Native.Nat.{ℕ, _≤_, _^_}
+use mathlib.Core.Path.{subst}
 use mathlib.Core.List.{List}
-use native.Mathlib.Omega.{arith}
-use lib.ListN.{length, getD}
+use lib.ListN.{getD}
 use Rattle.words.specs.Store.{nodeAt, interfaceAt}
-use Rattle.ledger_spec.specs.Bench.{Bench, Member, defect, blossom}
+use Rattle.ledger_spec.specs.Bench.{Bench}
 use Rattle.ledger_spec.specs.Bench as plain
-use Rattle.ledger_spec.specs.Look.{interface, slotOf}
 use Rattle.ledger_spec.specs.Facts.{Sound}
 use Rattle.ledger_spec.proofs.Says.{says}
 use Rattle.ledger_spec.proofs.Bounds.{speed-bound, value-bound, sum-bound}

@@ -4,7 +4,7 @@ pub mod Offsets
 pub mod Views
 pub mod Circles
 pub mod Rings
-pub mod Along
+pub mod Slots
 pub mod Codes
 pub mod Ranges
 pub mod Unique

@@ -1,8 +1,8 @@
 -- Numbers that stand higher than they are, in ℤ. Assumes nothing.
-use Prim.Native.Nat.{ℕ, zero, suc, _+_, _-_, _*_, _<_, _≤_}
-use mathlib.Core.Path.{_≡_, refl, ap, ap₂, sym, _∙_}
+use Prim.Native.Nat.{ℕ, zero, suc, _+_, _-_, _*_, _≤_}
+use mathlib.Core.Path.{_≡_, refl, ap, sym, _∙_}
 use native.Mathlib.Omega.{arith}
-use lib.IntN.{ℤ, pos, negsuc, negℤ, _+ℤ_, _-ℤ_, _*ℤ_, +ℤ-assoc, +ℤ-comm, +ℤ-idr, +ℤ-invr, +ℤ-negℤ-cancel}
+use lib.IntN.{ℤ, pos, negℤ, _+ℤ_, _-ℤ_, _*ℤ_, +ℤ-assoc, +ℤ-comm, +ℤ-idr, +ℤ-invr, +ℤ-negℤ-cancel}
 use Rattle.ledger_spec.proofs.Ints.{*ℤ-dist-l}
 use Rattle.ledger_spec.specs.Bench.{rate}
 use Rattle.kinds.specs.declared.GrowState.{GrowState}

@@ -1,25 +1,23 @@
 -- Where the members of a circle stand, in a bench whose nodes are knit together. Assumes nothing.
-use Prim.Native.Nat.{ℕ, zero, suc, _+_, _-_, _*_, _/_, _%_, _<_, _≤_}
+use Prim.Native.Nat.{ℕ, _+_, _-_, _*_, _/_, _%_, _<_}
 use mathlib.Core.Path.{_≡_, refl, ap, ap₂, sym, _∙_, subst}
-use mathlib.Core.Logic.{_≢_, by-cases}
-use mathlib.Core.Option.{Option, none, some}
-use mathlib.Core.List.{List, [], _∷_, _++_, map}
+use mathlib.Core.Option.{none, some}
+use mathlib.Core.List.{List}
 use native.Mathlib.Decide.{decLt}
 use native.Mathlib.Omega.{arith}
-use lib.ListN.{length, getD}
+use lib.ListN.{getD}
 use Rattle.words.specs.Store.{nodeAt, interfaceAt}
 use Rattle.kinds.specs.declared.Class.{Class}
 use Rattle.kinds.specs.declared.Class.the-variants.{Absent, Blossom, Defect}
 use Rattle.words.specs.declared.Node.{Node}
-use Rattle.ledger_spec.specs.Bench.{Handle, Member, blossom}
+use Rattle.ledger_spec.specs.Bench.{Member, blossom}
 use Rattle.ledger_spec.specs.Bench as plain
 use Rattle.ledger_spec.specs.Look.{slotOf, top, sameHandle}
 use Rattle.ledger_spec.specs.SoundTree.{tally}
-use Rattle.ledger_spec.specs.Knit.{In, here, there, nodes, mk, Has, Up, Down, Knit, Sewn}
+use Rattle.ledger_spec.specs.Knit.{In, nodes, mk, Up, Down, Sewn}
 use Rattle.ledger_spec.proofs.Knit.{none-some, some-eq, blossom-eq}
-use Rattle.views.specs.View.{circleOf, handleAt, slotSeen, nodeSeen, slotIn, sumUp, view}
+use Rattle.views.specs.View.{circleOf, handleAt, slotSeen, nodeSeen, sumUp, view}
 use Rattle.ledger_spec.specs.Named.{parentNamed}
-use Rattle.views.specs.Records.{Steady}
 use Rattle.views.proofs.Views.{view-slot, view-past, view-out}
 
 -- what a slot that shows a node holds

@@ -1,18 +1,15 @@
 -- Canonical words with the same view are the same words. Assumes nothing.
 use Prim.Native.Nat.{ℕ, zero, suc, _+_, _-_, _*_, _/_, _%_, _<_, _≤_}
-use mathlib.Core.Path.{_≡_, refl, ap, ap₂, sym, _∙_, subst}
-use mathlib.Core.Logic.{_≢_, by-cases, _⊎_, inl, inr}
-use mathlib.Core.Bool.{Bool, true, false}
+use mathlib.Core.Path.{_≡_, refl, ap, sym, _∙_, subst}
+use mathlib.Core.Logic.{by-cases, _⊎_, inl, inr}
 use mathlib.Core.Option.{Option, none, some}
-use mathlib.Core.List.{List, [], _∷_}
+use mathlib.Core.List.{List}
 use native.Mathlib.Decide.{ℕ-discrete, decLt}
 use native.Mathlib.Omega.{arith}
-use lib.Dec.{eqb}
 use borrow.Author.Tests.{eq-eqb, ne-eqb}
-use lib.IntN.{ℤ, pos, negℤ, _+ℤ_, _-ℤ_, +ℤ-assoc, +ℤ-invl, +ℤ-idr, -ℤ-+ℤ-cancel}
+use lib.IntN.{ℤ, pos, _+ℤ_, _-ℤ_, -ℤ-+ℤ-cancel}
 use lib.ListN.{length, getD}
 use lib.Seq.{ext-getD}
-use Rattle.words.specs.Codec.{pick}
 use Rattle.words.specs.Store.{nodeAt, interfaceAt, base, ibase, interfaceWords, nodeWords}
 use Rattle.kinds.specs.declared.GrowState.{GrowState}
 use Rattle.kinds.specs.declared.GrowState.the-variants.{Grow as Growing, Stay, Shrink}
@@ -26,16 +23,14 @@ use Rattle.words.specs.declared.Node.{Node}
 use Rattle.words.specs.declared.Interface.{Interface}
 use Rattle.words.specs.declared.Up.{Up}
 use Rattle.words.specs.declared.Up.the-variants.{Top, Under}
-use Rattle.ledger_spec.specs.Bench.{Handle, State, grows, stays, shrinks, Member, blossom, defect, Bench}
+use Rattle.ledger_spec.specs.Bench.{Member, blossom, defect, Bench}
 use Rattle.ledger_spec.specs.Bench as plain
 use Rattle.ledger_spec.specs.Look.{interface, slotOf}
 use Rattle.ledger_spec.proofs.Knit.{none-some}
 use Rattle.words.proofs.Laws.{good-interface}
-use Rattle.views.specs.View.{off, upSeen, halvesSeen, valueOf, sumUp, follow, circleOf, memberAt, handleAt, slotSeen, slotIn, nodeSeen, byClass, interfaceIn, view}
+use Rattle.views.specs.View.{off, upSeen, halvesSeen, valueOf, sumUp, follow, circleOf, memberAt, slotSeen, nodeSeen, byClass, interfaceIn, view}
 use Rattle.ledger_spec.specs.Named.{stateNamed, handleNamed, parentNamed}
-use Rattle.views.specs.Records.{Steady, Ranged}
-use Rattle.views.specs.Records.{noNode}
-use Rattle.views.specs.Canon.{Within, walk, Seated, Alone, Canon}
+use Rattle.views.specs.Canon.{Within, walk, Seated, Canon}
 use Rattle.views.proofs.Sums.{sumUp-le, sumUp-same}
 use Rattle.views.proofs.Ranges.{ranged}
 use Rattle.views.proofs.Views.{interface-in, view-next, view-slot, view-count}

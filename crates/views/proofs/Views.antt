@@ -1,10 +1,10 @@
 -- The view over units and nodes as functions: its parts, and what makes it the bench that a step of the ledger gives. Assumes nothing.
-use Prim.Native.Nat.{ℕ, zero, suc, _+_, _-_, _*_, _/_, _%_, _<_, _≤_}
-use mathlib.Core.Path.{_≡_, refl, ap, ap₂, sym, _∙_, subst}
+use Prim.Native.Nat.{ℕ, zero, suc, _+_, _-_, _*_, _<_, _≤_}
+use mathlib.Core.Path.{_≡_, refl, ap, ap₂, sym, _∙_}
 use mathlib.Core.Logic.{_≢_, by-cases}
 use mathlib.Core.Option.{Option, none, some}
 use mathlib.Core.List.{List, [], _∷_, _++_, map}
-use mathlib.Core.Bool.{Bool, true, false}
+use mathlib.Core.Bool.{Bool}
 use native.Mathlib.Decide.{ℕ-discrete}
 use native.Mathlib.Omega.{arith}
 use lib.Dec.{eqb}
@@ -20,20 +20,19 @@ use Rattle.words.specs.declared.Node.{Node}
 use Rattle.words.specs.declared.Interface.{Interface}
 use Rattle.words.specs.declared.Up.{Up}
 use Rattle.words.specs.declared.Up.the-variants.{Top, Under}
-use Rattle.ledger_spec.specs.Bench.{Handle, State, rate, Member, defect, blossom, Bench, fresh}
+use Rattle.ledger_spec.specs.Bench.{rate, Member, Bench, fresh}
 use Rattle.ledger_spec.specs.Bench as plain
 use Rattle.ledger_spec.specs.Look.{interface, slotOf, top, climb}
 use Rattle.ledger_spec.specs.Change.{share, place, push, faster}
-use Rattle.ledger_spec.specs.Deeds.{growBy, growSlot, booked, across}
+use Rattle.ledger_spec.specs.Deeds.{growBy, growSlot}
 use Rattle.ledger_spec.proofs.Tops.{climb-none, climb-some}
 use Rattle.ledger_spec.proofs.Readings.{place-field, place-else, place-here, place-slow, place-fast, place-length, push-field, push-else, push-here, push-slow, push-fast, push-length}
 use Rattle.ledger_spec.proofs.TreeReadings.{grow-field, grow-under, grow-else, grow-sum, grow-sum-else, grow-length, grow-progress, grow-progress-else}
 use Rattle.views.specs.Tab.{tab}
-use Rattle.views.specs.View.{off, upSeen, halvesSeen, sumUp, over, slotSeen, nodeSeen, slotIn, interfaceIn, viewIn, circleOf, valueOf}
-use Rattle.ledger_spec.specs.Named.{stateNamed}
+use Rattle.views.specs.View.{off, upSeen, halvesSeen, sumUp, over, slotSeen, slotIn, interfaceIn, viewIn, circleOf}
 use Rattle.views.specs.Records.{withSpeed, withUsed, withGrowth}
 use Rattle.views.proofs.Tabs.{length-tab, getD-tab, tab-same, tab-set, tab-snoc, tab-map}
-use Rattle.views.proofs.Offsets.{sum-grown, value-grown}
+use Rattle.views.proofs.Offsets.{value-grown}
 
 -- ---- the parts of a view
 module _ (n : ℕ) (U : ℕ → Interface) (A : ℕ → Node) where

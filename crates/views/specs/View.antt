@@ -12,13 +12,11 @@ use Rattle.kinds.specs.declared.GrowState.the-variants.{Grow as Growing, Stay, 
 use Rattle.kinds.specs.declared.Class.{Class}
 use Rattle.kinds.specs.declared.Class.the-variants.{Absent, Blossom, Defect}
 use Rattle.kinds.specs.declared.Vertex.{Vertex}
-use Rattle.kinds.specs.declared.Parent.{Parent}
-use Rattle.kinds.specs.declared.Parent.the-variants.{Outermost, Inside}
 use Rattle.words.specs.declared.Node.{Node}
 use Rattle.words.specs.declared.Interface.{Interface}
 use Rattle.words.specs.declared.Up.{Up}
 use Rattle.words.specs.declared.Up.the-variants.{Top, Under}
-use Rattle.ledger_spec.specs.Bench.{Handle, State, grows, stays, shrinks, Member, defect, blossom, Bench}
+use Rattle.ledger_spec.specs.Bench.{Handle, Member, defect, blossom, Bench}
 use Rattle.ledger_spec.specs.Bench as plain
 use Rattle.ledger_spec.specs.Named.{handleNamed, stateNamed, parentNamed}
 use Rattle.views.specs.Tab.{tab}

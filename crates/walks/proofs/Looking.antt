@@ -21,6 +21,7 @@ use Rattle.check_laws.specs.Clean.{Entry}
 use Rattle.check_laws.proofs.Steps.{strict-on, strict-bad, walk-empty, walk-again, walk-new, walk-ring, walk-bad, strict-empty, strict-vertex, strict-ring, strict-six}
 use Rattle.views.specs.View.{view, nodeSeen, slotSeen, sumUp, circleOf}
 use Rattle.views.proofs.Views.{view-slot}
+use Rattle.views.proofs.Slots.{slot-absent, slot-defect, slot-ring}
 use Rattle.orders.specs.Order.{AtIndex}
 use Rattle.vertices.specs.Under.{Placed}
 use Rattle.met.specs.Met.{known, Keeps, Meets}
@@ -109,18 +110,6 @@ module _ (b : Bench) (whole : List Entry) (t : Entry) (ts : List Entry) (seen : 
         go (suc i) j = walk-bad b whole t ts seen k n e ms c i j ∙ ap (λ (x : ℕ). (x, indexIn whole 0 (circleVerdict b ms .1))) (sym j) ∙ sym (ap (λ (r : ℕ × Handle). (r .0, indexIn whole 0 (r .1))) p)
 
 -- ---- in words
-slot-absent : (n : Node) (t : ℕ) (ms : List Member) → n .class ≡ Absent → slotSeen n t ms ≡ none
-unfolding slotSeen
-slot-absent n t ms e = rw e
-
-slot-defect : (n : Node) (t : ℕ) (ms : List Member) (v : Vertex) → n .class ≡ Defect v → slotSeen n t ms ≡ some (nodeSeen n t (defect (v .0)))
-unfolding slotSeen
-slot-defect n t ms v e = rw e
-
-slot-ring : (n : Node) (t : ℕ) (ms : List Member) → n .class ≡ Blossom → slotSeen n t ms ≡ some (nodeSeen n t (blossom ms))
-unfolding slotSeen
-slot-ring n t ms e = rw e
-
 module _ (b : List ℕ) (unit k p : ℕ) (I : AtIndex b unit k p) (x : Node) (e : x ≡ nodeAt b p) where
   abbrev here : Entry
   here = getD (slotsOf (view b) unit) k (0, 0, none)

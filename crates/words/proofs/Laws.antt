@@ -1,6 +1,6 @@
 -- The laws of nodes in words: what a store gives back, what it leaves, and that codes read back.
-use Prim.Native.Nat.{ℕ, zero, suc, _+_, _-_, _*_, _/_, _%_, _<_, _≤_}
-use mathlib.Core.Path.{_≡_, refl, ap, sym, _∙_}
+use Prim.Native.Nat.{ℕ, zero, suc, _+_, _-_, _*_, _%_, _<_, _≤_}
+use mathlib.Core.Path.{_≡_, refl, ap, _∙_}
 use mathlib.Core.Bool.{Bool, true, false}
 use lib.Dec.{eqb}
 use mathlib.Core.List.{List, [], _∷_}
@@ -11,7 +11,7 @@ use lib.Arith.{digits-div, digits-mod}
 use native.Mathlib.Nat.{mod-eq-of-lt}
 use borrow.Author.Tests.{ne-eqb}
 use Rattle.words.specs.Codec.{stateOf, stateWord, handleOf, handleWord, classOf, classWord, parentOf, parentWord, upOf, upWord, pick}
-use Rattle.words.specs.Store.{base, nodeOf, nodeAt, storeNode, writes, nodeWords, ibase, interfaceOf, interfaceAt, storeInterface, interfaceWords}
+use Rattle.words.specs.Store.{base, nodeAt, storeNode, writes, nodeWords, ibase, interfaceAt, storeInterface, interfaceWords}
 use Rattle.kinds.specs.declared.GrowState.{GrowState}
 use Rattle.kinds.specs.declared.GrowState.the-variants.{Grow, Stay, Shrink}
 use Rattle.kinds.specs.declared.Class.{Class}

@@ -14,7 +14,7 @@ use kinds::Serial;
 use kinds::Vertex;
 ghost use mathlib.Core.Path.{_≡_};
 ghost use lib.ListN.{length, getD, set};
-ghost use Prim.Native.Nat.{ℕ, _+_, _*_, _<_, _≤_};
+ghost use Prim.Native.Nat.{_+_, _*_, _<_};
 ghost use Rattle.words.specs.Codec.{stateOf, stateWord, handleOf, handleWord, classOf, classWord, parentOf, parentWord, upOf, upWord};
 ghost use Rattle.words.specs.Coding.{blankAt, codedAt, spareAt, linkAt};
 ghost use Rattle.words.specs.Store.{nodeAt, storeNode, interfaceAt, storeInterface};

@@ -1,5 +1,4 @@
 -- The test decides. Assumes nothing.
-use Prim.Native.Nat.{_<_}
 use mathlib.Core.Path.{refl}
 use mathlib.Core.Logic.{inl, inr}
 use native.Mathlib.Omega.{arith}

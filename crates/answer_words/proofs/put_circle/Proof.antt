@@ -1,11 +1,10 @@
 -- The loop writes a member a turn, each just past what stands. Assumes nothing.
-use Prim.Native.Nat.{ℕ, _≤_, _-_, _+_}
+use Prim.Native.Nat.{_≤_, _-_, _+_}
 use mathlib.Core.Path.{_≡_, _∙_, ap}
 use native.Mathlib.Omega.{arith}
 use borrow.Author.Needs.{needs}
 use lib.ListN.{length, set}
 use Rattle.kinds.specs.Names.{nobody}
-use Rattle.words.specs.Codec.{handleWord}
 use Rattle.answer_words.proofs.Filling.{ringSoFar, ring-none, ring-one, ring-all}
 use Rattle.answer_words.proofs.put_circle.Statement.{statement}
 use Rattle.answer_words.proofs.put_circle.Tie as tie

@@ -4,7 +4,6 @@ use mathlib.Core.Path.{_≡_, _∙_}
 use native.Mathlib.Omega.{arith}
 use borrow.Author.Needs.{needs}
 use lib.ListN.{length}
-use Rattle.notices.specs.Laid.{blank}
 use Rattle.answer_words.proofs.Filling.{toldSoFar, told-none, told-one, told-all}
 use Rattle.answer_words.proofs.put_told.Statement.{statement}
 use Rattle.answer_words.proofs.put_told.Tie as tie

@@ -1,5 +1,5 @@
 -- The slices keep their lengths and the bench stays sound. The measure is the number of pieces that are left. Assumes nothing.
-use mathlib.Core.Path.{_≡_, refl, _∙_, ap, subst}
+use mathlib.Core.Path.{_≡_, _∙_}
 use native.Mathlib.Omega.{arith}
 use borrow.Author.Needs.{needs}
 use Rattle.console.specs.declared.Next.the-variants.{More}

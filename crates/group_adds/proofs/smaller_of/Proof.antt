@@ -1,5 +1,4 @@
 -- `smaller_of` compares the two lengths as the machine reads them back. Assumes nothing.
-use mathlib.Core.Path.{_≡_}
 use borrow.Author.Needs.{needs}
 use mir.Syntax.{w64}
 use mir.Val.{SFits}

@@ -1,7 +1,6 @@
 -- `extend_conflicts` lays the other's list after the own one, and then adds the stops in one pass. Assumes nothing.
 use mathlib.Core.Path.{_≡_, sym, ap, _∙_}
 use native.Mathlib.Omega.{arith}
-use borrow.Author.Needs.{needs}
 use lib.ListN.{length, length-map}
 use Rattle.ledger_spec.specs.Groups.{rising}
 use Rattle.groups.proofs.View.{stops-is}

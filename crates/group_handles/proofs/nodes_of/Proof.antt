@@ -1,5 +1,5 @@
 -- `nodes_of` goes by the obstacle, and by a stop's pair. Assumes nothing.
-use mathlib.Core.Path.{_≡_, sym, ap, _∙_}
+use mathlib.Core.Path.{sym, ap, _∙_}
 use mathlib.Core.List.{_∷_}
 use Rattle.kinds.specs.declared.MaybePair.{MaybePair}
 use Rattle.ledger_spec.specs.GroupCalls.{handlesOf, pairHandles}

@@ -1,5 +1,5 @@
 -- `merged` makes one turn of the pass a turn of its loop: a stop of the one comes in, a stop of the other is passed, or two meet. Assumes nothing.
-use Prim.Native.Nat.{ℕ, _+_, _-_}
+use Prim.Native.Nat.{_+_, _-_}
 use mathlib.Core.Path.{_≡_, refl, sym, _∙_}
 use mathlib.Core.List.{_++_}
 use native.Mathlib.Omega.{arith}

@@ -1,5 +1,5 @@
 -- `meeting_of` asks the two pairs, and where there are two whether their first nodes are one. Assumes nothing.
-use mathlib.Core.Path.{_≡_, sym, _∙_}
+use mathlib.Core.Path.{sym, _∙_}
 use borrow.Author.Needs.{needs}
 use Rattle.group_stops.proofs.Spots.{meets-keep, meets-replace, meets-same, meets-join}
 use Rattle.group_stops.proofs.meeting_of.Statement.{statement}

@@ -1,11 +1,9 @@
 -- `put_in` goes up from the place and carries the stop that has to move. Assumes nothing.
 use Prim.Native.Nat.{ℕ, _+_, _≤_, _-_}
 use mathlib.Core.Path.{_≡_, sym, ap, _∙_}
-use mathlib.Core.List.{List}
 use native.Mathlib.Omega.{arith}
 use borrow.Author.Needs.{needs}
 use lib.ListN.{length, getD, set}
-use Rattle.kinds.specs.declared.Stop.{Stop}
 use Rattle.groups.specs.View.{noStop}
 use Rattle.groups.proofs.Lay.{upto, put}
 use Rattle.group_stops.proofs.Turns.{in-start, in-first, in-step, in-next, in-end}

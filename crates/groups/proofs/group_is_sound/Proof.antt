@@ -1,5 +1,4 @@
 -- `group_is_sound` makes each test of the definition, in its order, once the counts are known to lie within the arrays. Assumes nothing.
-use Prim.Native.Nat.{_≤_}
 use mathlib.Core.Path.{_≡_, sym, _∙_}
 use native.Mathlib.Omega.{arith}
 use borrow.Author.Needs.{needs}

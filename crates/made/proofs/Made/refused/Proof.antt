@@ -1,8 +1,7 @@
 -- The node is `Handle::nobody`'s. Assumes nothing.
-use mathlib.Core.Path.{_≡_, ap}
+use mathlib.Core.Path.{ap}
 use borrow.Author.Needs.{needs}
 use Rattle.kinds.specs.declared.Handle.{Handle}
-use Rattle.made.specs.declared.Made.{Made}
 use Rattle.made.proofs.Made.refused.Statement.{statement}
 use Rattle.made.proofs.Made.refused.Tie as tie
 

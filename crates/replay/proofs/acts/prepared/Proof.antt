@@ -1,7 +1,4 @@
-use Prim.Native.Nat.{_-_, _≤_, _<_, _+_}
-use mathlib.Core.Path.{_≡_, refl}
-use lib.ListN.{length}
-use native.Mathlib.Omega.{arith}
+use Prim.Native.Nat.{_-_, _≤_}
 use borrow.Author.Needs.{needs}
 use Rattle.replay.proofs.acts.prepared.Statement.{statement}
 use Rattle.replay.proofs.acts.prepared.Tie as tie

@@ -1,0 +1,65 @@
+-- The three forms of a call are one on sound words: what meets the public contract meets the one with notices, and what meets that meets the one without,
+-- its node being the answer's first word. Assumes nothing.
+use Prim.Native.Nat.{ℕ}
+use mathlib.Core.Path.{_≡_, sym, ap, _∙_, subst}
+use mathlib.Core.Logic.{by-cases}
+use mathlib.Core.Bool.{Bool, true}
+use mathlib.Core.List.{List}
+use native.Mathlib.Decide.{ℕ-discrete}
+use lib.ListN.{getD}
+use Rattle.ledger_spec.specs.Answers.{Answer as Plain, whole, answer}
+use Rattle.ledger_spec.specs.Calls.{Call, perform}
+use Rattle.ledger_spec.specs.Notices.{tells}
+use Rattle.ledger_laws.proofs.Answered.{answer-true, refused-bench}
+use Rattle.views.specs.View.{view}
+use Rattle.views.specs.Fit.{SoundWords}
+use Rattle.soundness.specs.Sound.{soundWords}
+use Rattle.soundness.proofs.Theorem.{sound-holds}
+use Rattle.telling.specs.Shown.{shown}
+use Rattle.telling.specs.Told.{answerOn}
+use Rattle.answer_words.specs.Forms.{nodeWord}
+use Rattle.answer_words.specs.Answers.{frontWords, answerWords}
+use Rattle.dual_ledger.specs.Linked.{Settled, nodeOf, ToldBy, Left, CalledBy}
+
+module _ {b : List ℕ} (W : SoundWords b) (c : Call) where
+  on-sound : answerOn (soundWords b) b c ≡ answer (view b) c
+  unfolding answerOn
+  on-sound = ap (λ (s : Bool). answerOn s b c) (sound-holds b W)
+
+  as-performed : answer (view b) c ≡ whole (perform (view b) c) (tells (view b) c)
+  as-performed = answer-true (view b) c (W .sound)
+
+  module _ {n : ℕ} {b′ : List ℕ} where
+    left-sound : Left b c n b′ → SoundWords b′
+    left-sound L = by-cases (ℕ-discrete n 0) (L .words) (λ (z : n ≡ 0 → ⊥). subst SoundWords (sym (L .refused z)) W)
+
+    left-number : Left b c n b′ → n ≡ answer (view b) c .number
+    left-number L = L .number ∙ ap (λ (a : Plain). a .number) on-sound
+
+    left-seen : Left b c n b′ → view b′ ≡ answer (view b) c .bench
+    left-seen L = by-cases (ℕ-discrete n 0)
+        (λ (z : n ≡ 0). L .seen z ∙ ap (λ (a : Plain). a .bench) on-sound)
+        (λ (z : n ≡ 0 → ⊥). ap view (L .refused z) ∙ sym (refused-bench (view b) c (λ e. z (left-number L ∙ e))))
+
+    module _ {ws : List ℕ} where
+      pub called-told : CalledBy b c n ws b′ → ToldBy b c n ws b′
+      called-told C = record {
+        number = left-number (C .left);
+        told = C .told ∙ ap (λ (a : Plain). answerWords (shown a)) on-sound;
+        words = left-sound (C .left);
+        seen = left-seen (C .left);
+        refused = C .left .refused;
+      }
+
+      pub told-settled : ToldBy b c n ws b′ → Settled b c n b′
+      unfolding whole
+      told-settled T = record {
+        number = T .number ∙ ap (λ (a : Plain). a .number) as-performed;
+        words = T .words;
+        seen = T .seen ∙ ap (λ (a : Plain). a .bench) as-performed;
+        refused = T .refused;
+      }
+
+      pub told-node : ToldBy b c n ws b′ → getD ws 0 0 ≡ nodeOf b c
+      unfolding whole answerWords frontWords
+      told-node T = ap (λ (l : List ℕ). getD l 0 0) (T .told) ∙ ap (λ (a : Plain). nodeWord (a .node)) as-performed
