@@ -8,12 +8,14 @@ use native.Mathlib.Omega.{arith}
 use lib.ListN.{length, take, getD, set, replicate, length-append, length-map, replicate-append-replicate}
 use lib.Seq.{length-take-le, take-all, take-suc, take-at, append-snoc}
 use Rattle.kinds.specs.declared.Handle.{Handle}
+use Rattle.kinds.specs.declared.Notice.{Notice}
 use Rattle.words.specs.Codec.{handleWord}
-use Rattle.notices.specs.Laid.{pad}
+use Rattle.notices.specs.Laid.{pad, blank, laid, circleIn}
 use Rattle.notices.specs.declared.Told.{Told}
 use Rattle.notices.proofs.Pads.{pad-set, pad-long, map-more}
 use Rattle.telling.specs.declared.Answer.{Answer}
-use Rattle.answer_words.specs.Answers.{kindWord, whatWord, toldWords, frontWords, answerWords, Filled, Least}
+use Rattle.telling.specs.Shown.{refusedBy}
+use Rattle.answer_words.specs.Answers.{kindWord, whatWord, toldWords, frontWords, answerWords, oneTold, Filled, Least}
 
 -- ---- lists of notices
 told-append : (ts us : List Told) → toldWords (ts ++ us) ≡ toldWords ts ++ toldWords us
@@ -152,3 +154,33 @@ module _ {a : Answer} {first : ℕ} {ws vs : List ℕ} (F : Fronted a first ws v
       e
       ∙ ap (λ (l : List ℕ). pad 0 199 (l ++ ring)) (front-take (first ∷ a .notices .count ∷ a .notices .members ∷ []) (toldOf a) refl (F .few) vs fronted)
       ∙ ap (λ (w : ℕ). pad 0 199 (((w ∷ a .notices .count ∷ a .notices .members ∷ []) ++ pad 0 132 (toldOf a)) ++ ring)) (F .node)
+
+-- ---- one notice, and none
+module _ (h : Handle) (n : Notice) (first : ℕ) (ws : List ℕ) (node : first ≡ handleWord h) (e : ws ≡ pad 0 199 (first ∷ 1 ∷ 0 ∷ [])) where
+  abbrev one : List Told
+  one = oneTold h n .notices .told
+
+  one-front : Fronted (oneTold h n) first ws (set (set ws 3 (kindWord n)) 4 (whatWord n))
+  one-front = record {
+    node = node;
+    heads = e;
+    told = told-one ws one 0 ws blank (heads-filled first 1 0 ws e) (omega arith) (omega arith) (told-none ws one (heads-filled first 1 0 ws e));
+    few = omega arith;
+  }
+
+  pub one-words : set (set ws 3 (kindWord n)) 4 (whatWord n) ≡ answerWords (oneTold h n)
+  one-words = whole one-front _ (ring-none _ (oneTold h n .notices .circle) (before-circle one-front))
+
+module _ (n : ℕ) (ws : List ℕ) (e : ws ≡ pad 0 199 (0 ∷ 0 ∷ 0 ∷ [])) where
+  none-front : Fronted (refusedBy n) 0 ws ws
+  unfolding laid circleIn
+  none-front = record {
+    node = refl;
+    heads = e;
+    told = told-none ws (refusedBy n .notices .told) (heads-filled 0 0 0 ws e);
+    few = omega arith;
+  }
+
+  pub none-words : ws ≡ answerWords (refusedBy n)
+  unfolding laid circleIn
+  none-words = whole none-front ws (ring-none ws (refusedBy n .notices .circle) (before-circle none-front))

@@ -6,11 +6,12 @@ use mathlib.Core.Logic.{_⊎_}
 use mathlib.Core.List.{List, [], _∷_, _++_, map}
 use lib.ListN.{length, take}
 use Rattle.kinds.specs.declared.GrowState.{GrowState}
+use Rattle.kinds.specs.declared.Handle.{Handle}
 use Rattle.kinds.specs.declared.GrowState.the-variants.{Grow, Stay, Shrink}
 use Rattle.kinds.specs.declared.Notice.{Notice}
 use Rattle.kinds.specs.declared.Notice.the-variants.{DefectAdded, StateSet, ShrinkPrepared, BlossomAdded, BlossomRemoved, Grown}
 use Rattle.words.specs.Codec.{handleWord}
-use Rattle.notices.specs.Laid.{pad}
+use Rattle.notices.specs.Laid.{pad, only}
 use Rattle.notices.specs.declared.Told.{Told}
 use Rattle.telling.specs.declared.Answer.{Answer}
 use Rattle.answer_words.specs.Forms.{signedWord}
@@ -48,6 +49,10 @@ frontWords a = (handleWord (a .node) ∷ a .notices .count ∷ a .notices .membe
 
 unfoldable pub answerWords : Answer → List ℕ
 answerWords a = pad 0 199 (frontWords a ++ map handleWord (take (a .notices .members) (a .notices .circle)))
+
+-- an accepted call's answer with one notice and no circle
+abbrev pub oneTold : Handle → Notice → Answer
+oneTold h n = record { number = 0; node = h; notices = only (record { notice = n }) }
 
 -- ---- while it is written
 -- the first k words are there, and 0 stands past them

@@ -20,7 +20,8 @@ ghost use Rattle.groups.specs.Shown.{maybeLength};
 ghost use Rattle.words.specs.Codec.{handleWord};
 ghost use Rattle.notices.specs.Laid.{pad};
 ghost use Rattle.answer_words.specs.Forms.{nodeWord, maybeWord, flagWord, signedWord, lengthWords, stateGiven};
-ghost use Rattle.answer_words.specs.Answers.{kindWord, stateKind, whatWord, toldWords, Least, Filled, answerWords};
+ghost use Rattle.answer_words.specs.Answers.{kindWord, stateKind, whatWord, toldWords, Least, Filled, answerWords, oneTold};
+ghost use Rattle.telling.specs.Shown.{refusedBy};
 
 pub const ANSWER: usize = 199;
 
@@ -219,4 +220,22 @@ pub fn put_answer(a: Answer, out: &mut [u64; ANSWER]) -> u8
     put_told(out, told, n.count);
     put_circle(out, circle, n.members);
     a.number
+}
+
+// Writes every word of a refusal, all 0, and gives its number.
+pub fn put_refused(number: u8, out: &mut [u64; ANSWER]) -> u8
+    ensures { λ r. ⌜ (r ≡ number) × (now (out .exit) ≡ answerWords (refusedBy number)) ⌝ }
+{
+    put_heads(out, 0, 0, 0);
+    number
+}
+
+// Writes every word of an accepted call's answer that tells one notice: as `put_answer` does, without a list of 66 in between.
+pub fn put_one(node: Handle, n: Notice, out: &mut [u64; ANSWER]) -> u8
+    ensures { λ r. ⌜ (r ≡ 0) × (now (out .exit) ≡ answerWords (oneTold node n)) ⌝ }
+{
+    let first = node_word(node);
+    put_heads(out, first, 1, 0);
+    put_notice(out, 3, n);
+    0
 }

@@ -1,7 +1,15 @@
 -- A call's answer with notices, on sound words or on any, handed on as words. Assumes nothing.
 use Prim.Native.Nat.{ℕ}
 use mathlib.Core.Path.{_≡_, refl, sym, ap, _∙_, subst}
-use mathlib.Core.List.{List}
+use mathlib.Core.List.{List, [], _∷_}
+use lib.IntN.{ℤ}
+use Rattle.kinds.specs.declared.Handle.{Handle}
+use Rattle.kinds.specs.declared.GrowState.{GrowState}
+use Rattle.kinds.specs.declared.GrowState.the-variants.{Grow, Stay, Shrink}
+use Rattle.kinds.specs.declared.Notice.the-variants.{DefectAdded, StateSet, Grown}
+use Rattle.ledger_spec.specs.Named.{handleNamed, stateNamed}
+use Rattle.ledger_spec.specs.Notices.{defectAdded, stateSet, grown}
+use Rattle.notices.specs.Laid.{only, laid, circleIn}
 use Rattle.ledger_spec.specs.Calls.{Call}
 use Rattle.soundness.specs.Sound.{soundWords}
 use Rattle.telling.specs.declared.Answer.{Answer}
@@ -35,3 +43,18 @@ module _ {b : List ℕ} {c : Call} {a : Answer} {b′ : List ℕ} where
 
   pub left-by : Called (soundWords b) b c a b′ → Left b c (a .number) b′
   left-by C = left-so C refl
+
+-- ---- one notice, as the value that stands for it
+pub one-defect : (h : Handle) → only (record { notice = DefectAdded h }) ≡ laid (defectAdded (handleNamed h) ∷ [])
+unfolding laid circleIn
+one-defect h = refl
+
+pub one-grown : (l : ℤ) → only (record { notice = Grown l }) ≡ laid (grown l ∷ [])
+unfolding laid circleIn
+one-grown l = refl
+
+pub one-state : (h : Handle) (s : GrowState) → only (record { notice = StateSet h s }) ≡ laid (stateSet (handleNamed h) (stateNamed s) ∷ [])
+unfolding laid circleIn
+one-state h Grow = refl
+one-state h Stay = refl
+one-state h Shrink = refl

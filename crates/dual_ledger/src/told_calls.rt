@@ -1,5 +1,7 @@
-// The calls on words that hold a sound bench, with notices: the number, and the whole answer as words. No scan of the slots. Assumes nothing.
+// The calls on words that hold a sound bench, with notices: the number, and the whole answer as words. No scan of the slots. A call that tells one
+// notice writes its words straight, without the struct of 66 notices. Assumes nothing.
 use answer_words::ANSWER;
+use kinds::Notice;
 use kinds::Vertex;
 use words::WORDS;
 ghost use Rattle.ledger_spec.specs.Calls.{Defect, Blossom, Expand, SetState, Grow};
@@ -18,8 +20,12 @@ pub extern "C" fn dual_ledger_told_create_defect_node(
     requires { ⌜ SoundWords (now bench) ⌝ }
     ensures { λ r. ⌜ ToldBy (now (bench .entry)) (Defect unit vertex) r (now (answer .exit)) (now (bench .exit)) ⌝ }
 {
-    let a = telling::create_defect_node(bench, unit, Vertex(vertex));
-    answer_words::put_answer(a, answer)
+    let made = trusted::create_defect_node(bench, unit, Vertex(vertex));
+    if made.number != 0 {
+        return answer_words::put_refused(made.number, answer);
+    }
+    let node = made.node;
+    answer_words::put_one(node, Notice::DefectAdded(node), answer)
 }
 
 #[no_mangle]
@@ -66,8 +72,12 @@ pub extern "C" fn dual_ledger_told_set_grow_state(
 {
     let h = answer_words::hand(node);
     let to = answer_words::state_given(state);
-    let a = telling::set_grow_state(bench, unit, h, to);
-    answer_words::put_answer(a, answer)
+    let made = trusted::set_grow_state(bench, unit, h, to);
+    if made.number != 0 {
+        return answer_words::put_refused(made.number, answer);
+    }
+    let named = made.node;
+    answer_words::put_one(named, Notice::StateSet(h, to), answer)
 }
 
 #[no_mangle]
@@ -80,6 +90,10 @@ pub extern "C" fn dual_ledger_told_grow(
     requires { ⌜ SoundWords (now bench) ⌝ }
     ensures { λ r. ⌜ ToldBy (now (bench .entry)) (Grow unit length) r (now (answer .exit)) (now (bench .exit)) ⌝ }
 {
-    let a = telling::grow(bench, unit, length);
-    answer_words::put_answer(a, answer)
+    let made = trusted::grow(bench, unit, length);
+    if made.number != 0 {
+        return answer_words::put_refused(made.number, answer);
+    }
+    let node = made.node;
+    answer_words::put_one(node, Notice::Grown(length), answer)
 }
