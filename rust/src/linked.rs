@@ -3,7 +3,7 @@
 //! Each function of the archive is proved to end with an answer for any arguments, to write only what is lent to be written, and to keep no pointer.
 //! A call of one is right, then, if what is lent is as long as include/dual_ledger.h says and what is written overlaps nothing else. Both hold by the types: an array
 //! has its length, a slice goes with its own, and `&mut` is lent alone. The forms that test nothing ask besides for words that hold a sound bench: they
-//! are declared over `Sound`, which nothing but set-up, the test and those forms themselves can make or change, and a theorem (crates/runs) says that every call leaves such words sound.
+//! are declared over `Sound`, which nothing but set-up, the test and those forms themselves can make or change, and a theorem (crates/run_laws) says that every call leaves such words sound.
 #![allow(unsafe_code)]
 
 use crate::Handle;

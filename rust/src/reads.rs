@@ -1,4 +1,4 @@
-//! The reads and checks with their numbers turned into results: once over any words (module `lent`), once over sound ones (`Bench`).
+//! The reads and checks with their numbers turned into results: once over any words (module `sound_lent`), once over sound ones (`Bench`).
 
 /// More vertices than a node can have: a tree has at most 448 slots.
 pub(crate) const MOST_VERTICES: usize = 512;

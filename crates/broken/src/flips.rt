@@ -1,7 +1,7 @@
 // Every bit of every kind of word changed by itself, on the bench `grown`. A change that is let through says another sound bench: a vertex of 32
 // bits, a touching handle below the next serial, a higher next serial, a sum or a bias within its range, a half's own sum and speed.
 use crate::Tally;
-use words::WORDS;
+use bench_words::WORDS;
 
 // The 64 bits of one word.
 fn bits(b: &mut [u64; WORDS], t: Tally, i: usize) -> Tally {

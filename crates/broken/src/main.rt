@@ -5,7 +5,7 @@ mod flips;
 mod rules;
 mod shapes;
 
-use words::WORDS;
+use bench_words::WORDS;
 
 // How many of those tried were refused.
 pub struct Tally {
@@ -62,7 +62,7 @@ pub fn write(b: &mut [u64; WORDS], table: &[u64]) {
 pub fn tried(b: &mut [u64; WORDS], t: Tally, i: usize, w: u64) -> Tally {
     let old = get(b, i);
     put(b, i, w);
-    let sound = soundness::is_sound(b);
+    let sound = sound_bench::is_sound(b);
     put(b, i, old);
     more(t, sound)
 }

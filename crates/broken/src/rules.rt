@@ -1,5 +1,5 @@
 // Each rule of "A sound bench" broken by itself, on the bench `grown`.
-use words::WORDS;
+use bench_words::WORDS;
 
 fn interfaces(b: &mut [u64; WORDS]) {
     let next = [0, 0, 0, 4294967297, 0, 12];

@@ -1,9 +1,9 @@
 // Sound benches of every shape.
-use words::WORDS;
+use bench_words::WORDS;
 
 // The empty bench with this next serial.
 fn set_up(b: &mut [u64; WORDS], next: u64) {
-    joins::set_up(b, 1);
+    deed_trees::set_up(b, 1);
     crate::put(b, 0, next);
 }
 

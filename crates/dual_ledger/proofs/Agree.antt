@@ -11,14 +11,14 @@ use Rattle.ledger_spec.specs.Answers.{Answer as Plain, whole, answer}
 use Rattle.ledger_spec.specs.Calls.{Call, perform}
 use Rattle.ledger_spec.specs.Notices.{tells}
 use Rattle.ledger_laws.proofs.Answered.{answer-true, refused-bench}
-use Rattle.views.specs.View.{view}
-use Rattle.views.specs.Fit.{SoundWords}
-use Rattle.soundness.specs.Sound.{soundWords}
-use Rattle.soundness.proofs.Theorem.{sound-holds}
-use Rattle.telling.specs.Shown.{shown}
-use Rattle.telling.specs.Told.{answerOn}
-use Rattle.answer_words.specs.Forms.{nodeWord}
-use Rattle.answer_words.specs.Answers.{frontWords, answerWords}
+use Rattle.bench_views.specs.View.{view}
+use Rattle.bench_views.specs.Fit.{SoundWords}
+use Rattle.sound_bench.specs.Sound.{soundWords}
+use Rattle.sound_bench.proofs.Theorem.{sound-holds}
+use Rattle.call_told.specs.Shown.{shown}
+use Rattle.call_told.specs.Told.{answerOn}
+use Rattle.link_answers.specs.Forms.{nodeWord}
+use Rattle.link_answers.specs.Answers.{frontWords, answerWords}
 use Rattle.dual_ledger.specs.Linked.{Settled, nodeOf, ToldBy, Left, CalledBy}
 
 module _ {b : List ℕ} (W : SoundWords b) (c : Call) where

@@ -7,9 +7,9 @@ use mir.Syntax.{w64}
 use mir.Val.{SFits, toZ, ofZ}
 use mir.Facts.{toZ-ofZ}
 use Rattle.ledger_spec.specs.Bench.{Handle}
-use Rattle.reads.specs.Shown.{shownWeight}
-use Rattle.reads.specs.declared.Weighed.{Weighed}
-use Rattle.answer_words.specs.Forms.{nodeWord, signedWord, lengthWords, outerWords, worded}
+use Rattle.read_sound.specs.Shown.{shownWeight}
+use Rattle.read_sound.specs.declared.Weighed.{Weighed}
+use Rattle.link_answers.specs.Forms.{nodeWord, signedWord, lengthWords, outerWords, worded}
 
 pub worded-by : {A : Type 0} (f : A → ℕ) {n w : ℕ} {a : A} {r : ℕ × A} → (n, a) ≡ r → w ≡ f a → (n, w) ≡ worded f r
 worded-by f p k = let q = k ∙ ap f (λ i. p i .1) in λ i. (p i .0, q i)

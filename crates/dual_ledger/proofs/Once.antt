@@ -6,10 +6,10 @@ use mathlib.Core.Logic.{by-cases}
 use mathlib.Core.List.{List}
 use native.Mathlib.Decide.{ℕ-discrete}
 use Rattle.ledger_spec.specs.Calls.{Call}
-use Rattle.views.specs.View.{view}
-use Rattle.views.specs.Fit.{SoundWords}
-use Rattle.views.proofs.Unique.{words-same}
-use Rattle.views.proofs.Fits.{fit-of}
+use Rattle.bench_views.specs.View.{view}
+use Rattle.bench_views.specs.Fit.{SoundWords}
+use Rattle.bench_views.proofs.Unique.{words-same}
+use Rattle.bench_views.proofs.Fits.{fit-of}
 use Rattle.dual_ledger.specs.Linked.{Settled, ToldBy, Left, CalledBy}
 
 same-bench : {b′ b″ : List ℕ} → SoundWords b′ → SoundWords b″ → view b′ ≡ view b″ → b′ ≡ b″

@@ -10,8 +10,8 @@ use Rattle.kinds.specs.declared.Handle.{Handle}
 use Rattle.ledger_spec.specs.Bench as plain
 use Rattle.ledger_spec.specs.Calls.{Call, SetState, Grow}
 use Rattle.ledger_spec.specs.Named.{handleNamed}
-use Rattle.made.specs.Answered.{Answered}
-use Rattle.answer_words.specs.Forms.{nodeWord, stateGiven}
+use Rattle.outcomes.specs.Answered.{Answered}
+use Rattle.link_answers.specs.Forms.{nodeWord, stateGiven}
 use Rattle.dual_ledger.specs.Linked.{Settled, nodeOf}
 
 module _ {b : List ℕ} {c : Call} {n : ℕ} {h : Handle} {b′ : List ℕ} where

@@ -9,12 +9,12 @@ use Rattle.kinds.specs.declared.GrowState.the-variants.{Grow, Stay, Shrink}
 use Rattle.kinds.specs.declared.Notice.the-variants.{DefectAdded, StateSet, Grown}
 use Rattle.ledger_spec.specs.Named.{handleNamed, stateNamed}
 use Rattle.ledger_spec.specs.Notices.{defectAdded, stateSet, grown}
-use Rattle.notices.specs.Laid.{only, laid, circleIn}
+use Rattle.outcome_notices.specs.Laid.{only, laid, circleIn}
 use Rattle.ledger_spec.specs.Calls.{Call}
-use Rattle.soundness.specs.Sound.{soundWords}
-use Rattle.telling.specs.declared.Answer.{Answer}
-use Rattle.telling.specs.Told.{Told, Called}
-use Rattle.answer_words.specs.Answers.{answerWords}
+use Rattle.sound_bench.specs.Sound.{soundWords}
+use Rattle.call_told.specs.declared.Answer.{Answer}
+use Rattle.call_told.specs.Told.{Told, Called}
+use Rattle.link_answers.specs.Answers.{answerWords}
 use Rattle.dual_ledger.specs.Linked.{ToldBy, Left, CalledBy}
 
 module _ {b : List ℕ} {c : Call} {a : Answer} {b′ : List ℕ} where

@@ -4,13 +4,13 @@ use mathlib.Core.Path.{_≡_}
 use mathlib.Core.List.{List}
 use Rattle.ledger_spec.specs.Calls.{Call, perform}
 use Rattle.ledger_spec.specs.Answers.{answer}
-use Rattle.views.specs.View.{view}
-use Rattle.views.specs.Fit.{SoundWords}
-use Rattle.soundness.specs.Sound.{soundWords}
-use Rattle.telling.specs.Shown.{shown}
-use Rattle.telling.specs.Told.{answerOn}
-use Rattle.answer_words.specs.Forms.{nodeWord}
-use Rattle.answer_words.specs.Answers.{answerWords}
+use Rattle.bench_views.specs.View.{view}
+use Rattle.bench_views.specs.Fit.{SoundWords}
+use Rattle.sound_bench.specs.Sound.{soundWords}
+use Rattle.call_told.specs.Shown.{shown}
+use Rattle.call_told.specs.Told.{answerOn}
+use Rattle.link_answers.specs.Forms.{nodeWord}
+use Rattle.link_answers.specs.Answers.{answerWords}
 
 -- on sound words b, call c answers n and leaves the words b′; refused, every word is as it was
 pub record Settled (b : List ℕ) (c : Call) (n : ℕ) (b′ : List ℕ) : Type 0 where

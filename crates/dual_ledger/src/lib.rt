@@ -7,24 +7,24 @@ mod told_calls; // the calls on sound words, with notices
 mod trusted_calls; // the calls on sound words, without notices
 mod trusted_reads; // the reads and checks on sound words
 
-use words::WORDS;
+use bench_words::WORDS;
 ghost use mathlib.Core.Path.{_≡_};
-ghost use Rattle.openings.specs.Opened.{OpenedBy};
-ghost use Rattle.soundness.specs.Sound.{soundWords};
-ghost use Rattle.answer_words.specs.Forms.{flagWord};
+ghost use Rattle.call_set_up.specs.Opened.{OpenedBy};
+ghost use Rattle.sound_bench.specs.Sound.{soundWords};
+ghost use Rattle.link_answers.specs.Forms.{flagWord};
 
 #[no_mangle]
 pub extern "C" fn dual_ledger_set_up(bench: &mut [u64; WORDS], first: u32) -> u8
     ensures { λ r. ⌜ OpenedBy first r (now (bench .exit)) ⌝ }
 {
-    openings::set_up(bench, first)
+    call_set_up::set_up(bench, first)
 }
 
 #[no_mangle]
 pub extern "C" fn dual_ledger_is_sound(bench: &[u64; WORDS]) -> u8
     ensures { λ r. ⌜ r ≡ flagWord (soundWords (now (bench .entry))) ⌝ }
 {
-    if lent::is_bench(bench) {
+    if sound_lent::is_bench(bench) {
         return 1;
     }
     0

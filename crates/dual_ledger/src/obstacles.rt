@@ -1,29 +1,29 @@
 // Groups of obstacles over words: any words may be lent, and BROKEN (2) is the answer where they are no group's or hold no sound one. Assumes nothing.
-use group_words::GROUP;
-use group_words::OBSTACLE;
-use words::WORDS;
+use bench_words::WORDS;
+use link_groups::GROUP;
+use link_groups::OBSTACLE;
 ghost use mathlib.Core.Path.{_≡_};
 ghost use mathlib.Core.Bool.{false};
 ghost use mathlib.Core.Option.{none};
 ghost use Rattle.ledger_spec.specs.GroupCalls.{isEmpty, isActive, growthOf, peek};
 ghost use Rattle.groups.specs.Shown.{emptyOf};
-ghost use Rattle.group_words.specs.Groups.{groupWords, groupRead};
-ghost use Rattle.group_forms.specs.Forms.{soundBy, formed, popped, added, extended};
-ghost use Rattle.group_forms.specs.Forms.{worded as obstacleWorded};
-ghost use Rattle.answer_words.specs.Forms.{flagWord, lengthWords, worded};
+ghost use Rattle.link_groups.specs.Groups.{groupWords, groupRead};
+ghost use Rattle.link_group_calls.specs.Forms.{soundBy, formed, popped, added, extended};
+ghost use Rattle.link_group_calls.specs.Forms.{worded as obstacleWorded};
+ghost use Rattle.link_answers.specs.Forms.{flagWord, lengthWords, worded};
 
 #[no_mangle]
 pub extern "C" fn dual_ledger_empty_group(group: &mut [u64; GROUP])
     ensures { λ _. ⌜ now (group .exit) ≡ groupWords emptyOf ⌝ }
 {
-    group_forms::empty_group(group);
+    link_group_calls::empty_group(group);
 }
 
 #[no_mangle]
 pub extern "C" fn dual_ledger_group_is_sound(group: &[u64; GROUP]) -> u8
     ensures { λ r. ⌜ r ≡ flagWord (soundBy (groupRead (now (group .entry)))) ⌝ }
 {
-    if group_forms::group_is_sound(group) {
+    if link_group_calls::group_is_sound(group) {
         return 1;
     }
     0
@@ -33,8 +33,8 @@ pub extern "C" fn dual_ledger_group_is_sound(group: &[u64; GROUP]) -> u8
 pub extern "C" fn dual_ledger_group_is_empty(group: &[u64; GROUP], yes: &mut u64) -> u8
     ensures { λ r. ⌜ (r, now (yes .exit)) ≡ worded flagWord (formed (now (group .entry)) false isEmpty) ⌝ }
 {
-    let a = group_forms::is_empty(group);
-    *yes = answer_words::flag_word(a.yes);
+    let a = link_group_calls::is_empty(group);
+    *yes = link_answers::flag_word(a.yes);
     a.number
 }
 
@@ -42,8 +42,8 @@ pub extern "C" fn dual_ledger_group_is_empty(group: &[u64; GROUP], yes: &mut u64
 pub extern "C" fn dual_ledger_group_is_active(group: &[u64; GROUP], yes: &mut u64) -> u8
     ensures { λ r. ⌜ (r, now (yes .exit)) ≡ worded flagWord (formed (now (group .entry)) false isActive) ⌝ }
 {
-    let a = group_forms::is_active(group);
-    *yes = answer_words::flag_word(a.yes);
+    let a = link_group_calls::is_active(group);
+    *yes = link_answers::flag_word(a.yes);
     a.number
 }
 
@@ -55,10 +55,10 @@ pub extern "C" fn dual_ledger_group_get_none_zero_growth(
 ) -> u8
     ensures { λ r. ⌜ (r, (now (asked .exit), now (length .exit))) ≡ worded lengthWords (formed (now (group .entry)) none growthOf) ⌝ }
 {
-    let a = group_forms::get_none_zero_growth(group);
+    let a = link_group_calls::get_none_zero_growth(group);
     let l = a.length;
-    *asked = answer_words::asked_word(l);
-    *length = answer_words::length_word(l);
+    *asked = link_answers::asked_word(l);
+    *length = link_answers::length_word(l);
     a.number
 }
 
@@ -66,7 +66,7 @@ pub extern "C" fn dual_ledger_group_get_none_zero_growth(
 pub extern "C" fn dual_ledger_group_peek(group: &[u64; GROUP], obstacle: &mut [u64; OBSTACLE]) -> u8
     ensures { λ r. ⌜ (r, now (obstacle .exit)) ≡ obstacleWorded (formed (now (group .entry)) none peek) ⌝ }
 {
-    group_forms::peek(group, obstacle)
+    link_group_calls::peek(group, obstacle)
 }
 
 #[no_mangle]
@@ -76,7 +76,7 @@ pub extern "C" fn dual_ledger_group_pop(
 ) -> u8
     ensures { λ r. ⌜ (r, (now (obstacle .exit), now (group .exit))) ≡ popped (now (group .entry)) ⌝ }
 {
-    group_forms::pop(group, obstacle)
+    link_group_calls::pop(group, obstacle)
 }
 
 #[no_mangle]
@@ -87,7 +87,7 @@ pub extern "C" fn dual_ledger_group_add(
 ) -> u8
     ensures { λ r. ⌜ (r, now (group .exit)) ≡ added (now (bench .entry)) (now (group .entry)) (now (obstacle .entry)) ⌝ }
 {
-    group_forms::add(bench, group, obstacle)
+    link_group_calls::add(bench, group, obstacle)
 }
 
 #[no_mangle]
@@ -98,5 +98,5 @@ pub extern "C" fn dual_ledger_group_extend(
 ) -> u8
     ensures { λ r. ⌜ (r, now (group .exit)) ≡ extended (now (bench .entry)) (now (group .entry)) (now (other .entry)) ⌝ }
 {
-    group_forms::extend(bench, group, other)
+    link_group_calls::extend(bench, group, other)
 }

@@ -1,7 +1,7 @@
 // The reads and checks on any words: BROKEN (2) where they hold no sound bench; else a number, and values as words, 0 or none where refused. A signed value
 // is the word of the same bits. None changes the bench. Assumes nothing.
+use bench_words::WORDS;
 use kinds::NodeIndex;
-use words::WORDS;
 ghost use mathlib.Core.Path.{_≡_};
 ghost use mathlib.Core.Bool.{false};
 ghost use mathlib.Core.Option.{none};
@@ -10,10 +10,10 @@ ghost use Rattle.ledger_spec.specs.Calls.{nobody};
 ghost use Rattle.ledger_spec.specs.Reads.{sumOf, speedOf, countOf, handleOf, valueOf, belongs};
 ghost use Rattle.ledger_spec.specs.Walk.{outerOf, underOf, firstVertex, verticesInto};
 ghost use Rattle.ledger_spec.specs.Check.{checkOf, strictOf};
-ghost use Rattle.rings.specs.Given.{handGiven};
-ghost use Rattle.views.specs.View.{view};
-ghost use Rattle.lent.specs.Verdict.{asked};
-ghost use Rattle.answer_words.specs.Forms.{nodeWord, maybeWord, flagWord, signedWord, outerWords, worded};
+ghost use Rattle.deed_circles.specs.Given.{handGiven};
+ghost use Rattle.bench_views.specs.View.{view};
+ghost use Rattle.sound_lent.specs.Verdict.{asked};
+ghost use Rattle.link_answers.specs.Forms.{nodeWord, maybeWord, flagWord, signedWord, outerWords, worded};
 
 #[no_mangle]
 pub extern "C" fn dual_ledger_sum_dual_variables(
@@ -23,8 +23,8 @@ pub extern "C" fn dual_ledger_sum_dual_variables(
 ) -> u8
     ensures { λ r. ⌜ (r, now (sum .exit)) ≡ worded signedWord (asked (now (bench .entry)) (pos 0) (sumOf (view (now (bench .entry))) unit)) ⌝ }
 {
-    let a = asks::sum_dual_variables(bench, unit);
-    *sum = answer_words::signed_word(a.weight);
+    let a = read_any::sum_dual_variables(bench, unit);
+    *sum = link_answers::signed_word(a.weight);
     a.number
 }
 
@@ -32,8 +32,8 @@ pub extern "C" fn dual_ledger_sum_dual_variables(
 pub extern "C" fn dual_ledger_sum_grow_speed(bench: &[u64; WORDS], unit: u8, speed: &mut u64) -> u8
     ensures { λ r. ⌜ (r, now (speed .exit)) ≡ worded signedWord (asked (now (bench .entry)) (pos 0) (speedOf (view (now (bench .entry))) unit)) ⌝ }
 {
-    let a = asks::sum_grow_speed(bench, unit);
-    *speed = answer_words::signed_word(a.weight);
+    let a = read_any::sum_grow_speed(bench, unit);
+    *speed = link_answers::signed_word(a.weight);
     a.number
 }
 
@@ -41,7 +41,7 @@ pub extern "C" fn dual_ledger_sum_grow_speed(bench: &[u64; WORDS], unit: u8, spe
 pub extern "C" fn dual_ledger_nodes_count(bench: &[u64; WORDS], unit: u8, count: &mut u64) -> u8
     ensures { λ r. ⌜ (r, now (count .exit)) ≡ asked (now (bench .entry)) 0 (countOf (view (now (bench .entry))) unit) ⌝ }
 {
-    let a = asks::nodes_count(bench, unit);
+    let a = read_any::nodes_count(bench, unit);
     *count = a.count;
     a.number
 }
@@ -55,9 +55,9 @@ pub extern "C" fn dual_ledger_get_node(
 ) -> u8
     ensures { λ r. ⌜ (r, now (node .exit)) ≡ worded maybeWord (asked (now (bench .entry)) none (handleOf (view (now (bench .entry))) unit index)) ⌝ }
 {
-    let a = asks::get_node(bench, unit, NodeIndex(index));
+    let a = read_any::get_node(bench, unit, NodeIndex(index));
     let found = a.node;
-    *node = answer_words::maybe_word(found);
+    *node = link_answers::maybe_word(found);
     a.number
 }
 
@@ -70,9 +70,9 @@ pub extern "C" fn dual_ledger_check_ptr_belonging(
 ) -> u8
     ensures { λ r. ⌜ (r, now (inside .exit)) ≡ worded flagWord (asked (now (bench .entry)) false (belongs (view (now (bench .entry))) unit (handGiven node))) ⌝ }
 {
-    let h = answer_words::hand(node);
-    let a = asks::check_ptr_belonging(bench, unit, h);
-    *inside = answer_words::flag_word(a.inside);
+    let h = link_answers::hand(node);
+    let a = read_any::check_ptr_belonging(bench, unit, h);
+    *inside = link_answers::flag_word(a.inside);
     a.number
 }
 
@@ -84,9 +84,9 @@ pub extern "C" fn dual_ledger_get_dual_variable(
 ) -> u8
     ensures { λ r. ⌜ (r, now (value .exit)) ≡ worded signedWord (asked (now (bench .entry)) (pos 0) (valueOf (view (now (bench .entry))) (handGiven node))) ⌝ }
 {
-    let h = answer_words::hand(node);
-    let a = asks::get_dual_variable(bench, h);
-    *value = answer_words::signed_word(a.weight);
+    let h = link_answers::hand(node);
+    let a = read_any::get_dual_variable(bench, h);
+    *value = link_answers::signed_word(a.weight);
     a.number
 }
 
@@ -99,10 +99,10 @@ pub extern "C" fn dual_ledger_get_ancestor_blossom(
 ) -> u8
     ensures { λ r. ⌜ (r, (now (ancestor .exit), now (links .exit))) ≡ worded outerWords (asked (now (bench .entry)) (nobody, 0) (outerOf (view (now (bench .entry))) (handGiven node))) ⌝ }
 {
-    let h = answer_words::hand(node);
-    let a = asks::get_ancestor_blossom(bench, h);
+    let h = link_answers::hand(node);
+    let a = read_any::get_ancestor_blossom(bench, h);
     let outer = a.node;
-    *ancestor = answer_words::node_word(outer);
+    *ancestor = link_answers::node_word(outer);
     *links = a.links;
     a.number
 }
@@ -115,10 +115,10 @@ pub extern "C" fn dual_ledger_get_secondary_ancestor_blossom(
 ) -> u8
     ensures { λ r. ⌜ (r, now (second .exit)) ≡ worded nodeWord (asked (now (bench .entry)) nobody (underOf (view (now (bench .entry))) (handGiven node))) ⌝ }
 {
-    let h = answer_words::hand(node);
-    let a = asks::get_secondary_ancestor_blossom(bench, h);
+    let h = link_answers::hand(node);
+    let a = read_any::get_secondary_ancestor_blossom(bench, h);
     let under = a.node;
-    *second = answer_words::node_word(under);
+    *second = link_answers::node_word(under);
     a.number
 }
 
@@ -130,8 +130,8 @@ pub extern "C" fn dual_ledger_get_representative_vertex(
 ) -> u8
     ensures { λ r. ⌜ (r, now (vertex .exit)) ≡ asked (now (bench .entry)) 0 (firstVertex (view (now (bench .entry))) (handGiven node)) ⌝ }
 {
-    let h = answer_words::hand(node);
-    let a = asks::get_representative_vertex(bench, h);
+    let h = link_answers::hand(node);
+    let a = read_any::get_representative_vertex(bench, h);
     *vertex = a.vertex.0;
     a.number
 }
@@ -145,8 +145,8 @@ pub extern "C" fn dual_ledger_get_all_vertices(
 ) -> u8
     ensures { λ r. ⌜ (r, (now (count .exit), now (out .exit))) ≡ asked (now (bench .entry)) (0, now (out .entry)) (verticesInto (view (now (bench .entry))) (handGiven node) (now (out .entry))) ⌝ }
 {
-    let h = answer_words::hand(node);
-    let a = asks::get_all_vertices(bench, h, out);
+    let h = link_answers::hand(node);
+    let a = read_any::get_all_vertices(bench, h, out);
     *count = a.count;
     a.number
 }
@@ -160,7 +160,7 @@ pub extern "C" fn dual_ledger_sanity_check(
 ) -> u8
     ensures { λ r. ⌜ (r, (now (verdict .exit), now (index .exit))) ≡ asked (now (bench .entry)) (0, 0) (checkOf (view (now (bench .entry))) unit) ⌝ }
 {
-    let a = verdicts::sanity_check(bench, unit);
+    let a = check_any::sanity_check(bench, unit);
     *verdict = a.verdict as u64;
     *index = a.index.0 as u64;
     a.number
@@ -175,7 +175,7 @@ pub extern "C" fn dual_ledger_strict_check(
 ) -> u8
     ensures { λ r. ⌜ (r, (now (verdict .exit), now (index .exit))) ≡ asked (now (bench .entry)) (0, 0) (strictOf (view (now (bench .entry))) unit) ⌝ }
 {
-    let a = verdicts::strict_check(bench, unit);
+    let a = check_any::strict_check(bench, unit);
     *verdict = a.verdict as u64;
     *index = a.index.0 as u64;
     a.number

@@ -1,13 +1,13 @@
 // The calls on words that hold a sound bench, with notices: the number, and the whole answer as words. No scan of the slots. A call that tells one
 // notice writes its words straight, without the struct of 66 notices. Assumes nothing.
-use answer_words::ANSWER;
+use bench_words::WORDS;
 use kinds::Notice;
 use kinds::Vertex;
-use words::WORDS;
+use link_answers::ANSWER;
 ghost use Rattle.ledger_spec.specs.Calls.{Defect, Blossom, Expand, SetState, Grow};
-ghost use Rattle.rings.specs.Given.{handGiven, handsGiven, pairsGiven};
-ghost use Rattle.views.specs.Fit.{SoundWords};
-ghost use Rattle.answer_words.specs.Forms.{stateGiven};
+ghost use Rattle.deed_circles.specs.Given.{handGiven, handsGiven, pairsGiven};
+ghost use Rattle.bench_views.specs.Fit.{SoundWords};
+ghost use Rattle.link_answers.specs.Forms.{stateGiven};
 ghost use Rattle.dual_ledger.specs.Linked.{ToldBy};
 
 #[no_mangle]
@@ -20,12 +20,12 @@ pub extern "C" fn dual_ledger_told_create_defect_node(
     requires { ⌜ SoundWords (now bench) ⌝ }
     ensures { λ r. ⌜ ToldBy (now (bench .entry)) (Defect unit vertex) r (now (answer .exit)) (now (bench .exit)) ⌝ }
 {
-    let made = trusted::create_defect_node(bench, unit, Vertex(vertex));
+    let made = call_sound::create_defect_node(bench, unit, Vertex(vertex));
     if made.number != 0 {
-        return answer_words::put_refused(made.number, answer);
+        return link_answers::put_refused(made.number, answer);
     }
     let node = made.node;
-    answer_words::put_one(node, Notice::DefectAdded(node), answer)
+    link_answers::put_one(node, Notice::DefectAdded(node), answer)
 }
 
 #[no_mangle]
@@ -39,8 +39,8 @@ pub extern "C" fn dual_ledger_told_create_blossom(
     requires { ⌜ SoundWords (now bench) ⌝ }
     ensures { λ r. ⌜ ToldBy (now (bench .entry)) (Blossom unit (handsGiven (now (members .entry))) (pairsGiven (now (touching .entry)))) r (now (answer .exit)) (now (bench .exit)) ⌝ }
 {
-    let a = telling::create_blossom(bench, unit, members, touching);
-    answer_words::put_answer(a, answer)
+    let a = call_told::create_blossom(bench, unit, members, touching);
+    link_answers::put_answer(a, answer)
 }
 
 #[no_mangle]
@@ -53,9 +53,9 @@ pub extern "C" fn dual_ledger_told_expand_blossom(
     requires { ⌜ SoundWords (now bench) ⌝ }
     ensures { λ r. ⌜ ToldBy (now (bench .entry)) (Expand unit (handGiven node)) r (now (answer .exit)) (now (bench .exit)) ⌝ }
 {
-    let h = answer_words::hand(node);
-    let a = telling::expand_blossom(bench, unit, h);
-    answer_words::put_answer(a, answer)
+    let h = link_answers::hand(node);
+    let a = call_told::expand_blossom(bench, unit, h);
+    link_answers::put_answer(a, answer)
 }
 
 // Grows, stays or shrinks by the sign of state.
@@ -70,14 +70,14 @@ pub extern "C" fn dual_ledger_told_set_grow_state(
     requires { ⌜ SoundWords (now bench) ⌝ }
     ensures { λ r. ⌜ ToldBy (now (bench .entry)) (SetState unit (handGiven node) (stateGiven state)) r (now (answer .exit)) (now (bench .exit)) ⌝ }
 {
-    let h = answer_words::hand(node);
-    let to = answer_words::state_given(state);
-    let made = trusted::set_grow_state(bench, unit, h, to);
+    let h = link_answers::hand(node);
+    let to = link_answers::state_given(state);
+    let made = call_sound::set_grow_state(bench, unit, h, to);
     if made.number != 0 {
-        return answer_words::put_refused(made.number, answer);
+        return link_answers::put_refused(made.number, answer);
     }
     let named = made.node;
-    answer_words::put_one(named, Notice::StateSet(h, to), answer)
+    link_answers::put_one(named, Notice::StateSet(h, to), answer)
 }
 
 #[no_mangle]
@@ -90,10 +90,10 @@ pub extern "C" fn dual_ledger_told_grow(
     requires { ⌜ SoundWords (now bench) ⌝ }
     ensures { λ r. ⌜ ToldBy (now (bench .entry)) (Grow unit length) r (now (answer .exit)) (now (bench .exit)) ⌝ }
 {
-    let made = trusted::grow(bench, unit, length);
+    let made = call_sound::grow(bench, unit, length);
     if made.number != 0 {
-        return answer_words::put_refused(made.number, answer);
+        return link_answers::put_refused(made.number, answer);
     }
     let node = made.node;
-    answer_words::put_one(node, Notice::Grown(length), answer)
+    link_answers::put_one(node, Notice::Grown(length), answer)
 }

@@ -1,11 +1,11 @@
 // The calls on words that hold a sound bench, without notices: the number, and the node made as a word. No scan of the slots. Assumes nothing.
+use bench_words::WORDS;
 use kinds::Vertex;
-use words::WORDS;
 ghost use mathlib.Core.Path.{_≡_};
 ghost use Rattle.ledger_spec.specs.Calls.{Defect, Blossom, Expand, SetState, Grow, Fuse, Clear};
-ghost use Rattle.rings.specs.Given.{handGiven, handsGiven, pairsGiven};
-ghost use Rattle.views.specs.Fit.{SoundWords};
-ghost use Rattle.answer_words.specs.Forms.{stateGiven};
+ghost use Rattle.deed_circles.specs.Given.{handGiven, handsGiven, pairsGiven};
+ghost use Rattle.bench_views.specs.Fit.{SoundWords};
+ghost use Rattle.link_answers.specs.Forms.{stateGiven};
 ghost use Rattle.dual_ledger.specs.Linked.{Settled, nodeOf};
 
 #[no_mangle]
@@ -19,8 +19,8 @@ pub extern "C" fn dual_ledger_trusted_create_defect_node(
     ensures { λ r. ⌜ Settled (now (bench .entry)) (Defect unit vertex) r (now (bench .exit)) ⌝ }
     ensures { λ _. ⌜ now (node .exit) ≡ nodeOf (now (bench .entry)) (Defect unit vertex) ⌝ }
 {
-    let made = trusted::create_defect_node(bench, unit, Vertex(vertex));
-    *node = answer_words::node_word(made.node);
+    let made = call_sound::create_defect_node(bench, unit, Vertex(vertex));
+    *node = link_answers::node_word(made.node);
     made.number
 }
 
@@ -36,8 +36,8 @@ pub extern "C" fn dual_ledger_trusted_create_blossom(
     ensures { λ r. ⌜ Settled (now (bench .entry)) (Blossom unit (handsGiven (now (members .entry))) (pairsGiven (now (touching .entry)))) r (now (bench .exit)) ⌝ }
     ensures { λ _. ⌜ now (node .exit) ≡ nodeOf (now (bench .entry)) (Blossom unit (handsGiven (now (members .entry))) (pairsGiven (now (touching .entry)))) ⌝ }
 {
-    let made = blossoms::create_blossom(bench, unit, members, touching);
-    *node = answer_words::node_word(made.node);
+    let made = call_sound_blossom::create_blossom(bench, unit, members, touching);
+    *node = link_answers::node_word(made.node);
     made.number
 }
 
@@ -50,8 +50,8 @@ pub extern "C" fn dual_ledger_trusted_expand_blossom(
     requires { ⌜ SoundWords (now bench) ⌝ }
     ensures { λ r. ⌜ Settled (now (bench .entry)) (Expand unit (handGiven node)) r (now (bench .exit)) ⌝ }
 {
-    let h = answer_words::hand(node);
-    let made = trusted::expand_blossom(bench, unit, h);
+    let h = link_answers::hand(node);
+    let made = call_sound::expand_blossom(bench, unit, h);
     made.number
 }
 
@@ -66,9 +66,9 @@ pub extern "C" fn dual_ledger_trusted_set_grow_state(
     requires { ⌜ SoundWords (now bench) ⌝ }
     ensures { λ r. ⌜ Settled (now (bench .entry)) (SetState unit (handGiven node) (stateGiven state)) r (now (bench .exit)) ⌝ }
 {
-    let h = answer_words::hand(node);
-    let to = answer_words::state_given(state);
-    let made = trusted::set_grow_state(bench, unit, h, to);
+    let h = link_answers::hand(node);
+    let to = link_answers::state_given(state);
+    let made = call_sound::set_grow_state(bench, unit, h, to);
     made.number
 }
 
@@ -77,7 +77,7 @@ pub extern "C" fn dual_ledger_trusted_grow(bench: &mut [u64; WORDS], unit: u8, l
     requires { ⌜ SoundWords (now bench) ⌝ }
     ensures { λ r. ⌜ Settled (now (bench .entry)) (Grow unit length) r (now (bench .exit)) ⌝ }
 {
-    let made = trusted::grow(bench, unit, length);
+    let made = call_sound::grow(bench, unit, length);
     made.number
 }
 
@@ -91,7 +91,7 @@ pub extern "C" fn dual_ledger_trusted_fuse(
     requires { ⌜ SoundWords (now bench) ⌝ }
     ensures { λ r. ⌜ Settled (now (bench .entry)) (Fuse parent left right) r (now (bench .exit)) ⌝ }
 {
-    let made = trusted::fuse(bench, parent, left, right);
+    let made = call_sound::fuse(bench, parent, left, right);
     made.number
 }
 
@@ -100,6 +100,6 @@ pub extern "C" fn dual_ledger_trusted_clear(bench: &mut [u64; WORDS], unit: u8) 
     requires { ⌜ SoundWords (now bench) ⌝ }
     ensures { λ r. ⌜ Settled (now (bench .entry)) (Clear unit) r (now (bench .exit)) ⌝ }
 {
-    let made = trusted::clear(bench, unit);
+    let made = call_sound::clear(bench, unit);
     made.number
 }

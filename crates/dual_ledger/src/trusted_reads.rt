@@ -1,15 +1,15 @@
 // The reads on words that hold a sound bench: a number, and values as words, 0 or none where refused. A signed
 // value is the word of the same bits. None changes the bench. Assumes nothing.
+use bench_words::WORDS;
 use kinds::NodeIndex;
-use words::WORDS;
 ghost use mathlib.Core.Path.{_≡_};
 ghost use Rattle.ledger_spec.specs.Reads.{sumOf, speedOf, countOf, handleOf, valueOf, belongs};
 ghost use Rattle.ledger_spec.specs.Walk.{outerOf, underOf, firstVertex, verticesInto};
 ghost use Rattle.ledger_spec.specs.Check.{checkOf, strictOf};
-ghost use Rattle.rings.specs.Given.{handGiven};
-ghost use Rattle.views.specs.Fit.{SoundWords};
-ghost use Rattle.views.specs.View.{view};
-ghost use Rattle.answer_words.specs.Forms.{nodeWord, maybeWord, flagWord, signedWord, outerWords, worded};
+ghost use Rattle.deed_circles.specs.Given.{handGiven};
+ghost use Rattle.bench_views.specs.Fit.{SoundWords};
+ghost use Rattle.bench_views.specs.View.{view};
+ghost use Rattle.link_answers.specs.Forms.{nodeWord, maybeWord, flagWord, signedWord, outerWords, worded};
 
 #[no_mangle]
 pub extern "C" fn dual_ledger_trusted_sum_dual_variables(
@@ -20,8 +20,8 @@ pub extern "C" fn dual_ledger_trusted_sum_dual_variables(
     requires { ⌜ SoundWords (now bench) ⌝ }
     ensures { λ r. ⌜ (r, now (sum .exit)) ≡ worded signedWord (sumOf (view (now (bench .entry))) unit) ⌝ }
 {
-    let a = reads::sum_dual_variables(bench, unit);
-    *sum = answer_words::signed_word(a.weight);
+    let a = read_sound::sum_dual_variables(bench, unit);
+    *sum = link_answers::signed_word(a.weight);
     a.number
 }
 
@@ -34,8 +34,8 @@ pub extern "C" fn dual_ledger_trusted_sum_grow_speed(
     requires { ⌜ SoundWords (now bench) ⌝ }
     ensures { λ r. ⌜ (r, now (speed .exit)) ≡ worded signedWord (speedOf (view (now (bench .entry))) unit) ⌝ }
 {
-    let a = reads::sum_grow_speed(bench, unit);
-    *speed = answer_words::signed_word(a.weight);
+    let a = read_sound::sum_grow_speed(bench, unit);
+    *speed = link_answers::signed_word(a.weight);
     a.number
 }
 
@@ -48,7 +48,7 @@ pub extern "C" fn dual_ledger_trusted_nodes_count(
     requires { ⌜ SoundWords (now bench) ⌝ }
     ensures { λ r. ⌜ (r, now (count .exit)) ≡ countOf (view (now (bench .entry))) unit ⌝ }
 {
-    let a = reads::nodes_count(bench, unit);
+    let a = read_sound::nodes_count(bench, unit);
     *count = a.count;
     a.number
 }
@@ -63,9 +63,9 @@ pub extern "C" fn dual_ledger_trusted_get_node(
     requires { ⌜ SoundWords (now bench) ⌝ }
     ensures { λ r. ⌜ (r, now (node .exit)) ≡ worded maybeWord (handleOf (view (now (bench .entry))) unit index) ⌝ }
 {
-    let a = reads::get_node(bench, unit, NodeIndex(index));
+    let a = read_sound::get_node(bench, unit, NodeIndex(index));
     let found = a.node;
-    *node = answer_words::maybe_word(found);
+    *node = link_answers::maybe_word(found);
     a.number
 }
 
@@ -79,9 +79,9 @@ pub extern "C" fn dual_ledger_trusted_check_ptr_belonging(
     requires { ⌜ SoundWords (now bench) ⌝ }
     ensures { λ r. ⌜ (r, now (inside .exit)) ≡ worded flagWord (belongs (view (now (bench .entry))) unit (handGiven node)) ⌝ }
 {
-    let h = answer_words::hand(node);
-    let a = reads::check_ptr_belonging(bench, unit, h);
-    *inside = answer_words::flag_word(a.inside);
+    let h = link_answers::hand(node);
+    let a = read_sound::check_ptr_belonging(bench, unit, h);
+    *inside = link_answers::flag_word(a.inside);
     a.number
 }
 
@@ -94,9 +94,9 @@ pub extern "C" fn dual_ledger_trusted_get_dual_variable(
     requires { ⌜ SoundWords (now bench) ⌝ }
     ensures { λ r. ⌜ (r, now (value .exit)) ≡ worded signedWord (valueOf (view (now (bench .entry))) (handGiven node)) ⌝ }
 {
-    let h = answer_words::hand(node);
-    let a = reads::get_dual_variable(bench, h);
-    *value = answer_words::signed_word(a.weight);
+    let h = link_answers::hand(node);
+    let a = read_sound::get_dual_variable(bench, h);
+    *value = link_answers::signed_word(a.weight);
     a.number
 }
 
@@ -110,10 +110,10 @@ pub extern "C" fn dual_ledger_trusted_get_ancestor_blossom(
     requires { ⌜ SoundWords (now bench) ⌝ }
     ensures { λ r. ⌜ (r, (now (ancestor .exit), now (links .exit))) ≡ worded outerWords (outerOf (view (now (bench .entry))) (handGiven node)) ⌝ }
 {
-    let h = answer_words::hand(node);
-    let a = reads::get_ancestor_blossom(bench, h);
+    let h = link_answers::hand(node);
+    let a = read_sound::get_ancestor_blossom(bench, h);
     let outer = a.node;
-    *ancestor = answer_words::node_word(outer);
+    *ancestor = link_answers::node_word(outer);
     *links = a.links;
     a.number
 }
@@ -127,10 +127,10 @@ pub extern "C" fn dual_ledger_trusted_get_secondary_ancestor_blossom(
     requires { ⌜ SoundWords (now bench) ⌝ }
     ensures { λ r. ⌜ (r, now (second .exit)) ≡ worded nodeWord (underOf (view (now (bench .entry))) (handGiven node)) ⌝ }
 {
-    let h = answer_words::hand(node);
-    let a = reads::get_secondary_ancestor_blossom(bench, h);
+    let h = link_answers::hand(node);
+    let a = read_sound::get_secondary_ancestor_blossom(bench, h);
     let under = a.node;
-    *second = answer_words::node_word(under);
+    *second = link_answers::node_word(under);
     a.number
 }
 
@@ -143,8 +143,8 @@ pub extern "C" fn dual_ledger_trusted_get_representative_vertex(
     requires { ⌜ SoundWords (now bench) ⌝ }
     ensures { λ r. ⌜ (r, now (vertex .exit)) ≡ firstVertex (view (now (bench .entry))) (handGiven node) ⌝ }
 {
-    let h = answer_words::hand(node);
-    let a = reads::get_representative_vertex(bench, h);
+    let h = link_answers::hand(node);
+    let a = read_sound::get_representative_vertex(bench, h);
     *vertex = a.vertex.0;
     a.number
 }
@@ -159,8 +159,8 @@ pub extern "C" fn dual_ledger_trusted_get_all_vertices(
     requires { ⌜ SoundWords (now bench) ⌝ }
     ensures { λ r. ⌜ (r, (now (count .exit), now (out .exit))) ≡ verticesInto (view (now (bench .entry))) (handGiven node) (now (out .entry)) ⌝ }
 {
-    let h = answer_words::hand(node);
-    let a = reads::get_all_vertices(bench, h, out);
+    let h = link_answers::hand(node);
+    let a = read_sound::get_all_vertices(bench, h, out);
     *count = a.count;
     a.number
 }
@@ -175,7 +175,7 @@ pub extern "C" fn dual_ledger_trusted_sanity_check(
     requires { ⌜ SoundWords (now bench) ⌝ }
     ensures { λ r. ⌜ (r, (now (verdict .exit), now (index .exit))) ≡ checkOf (view (now (bench .entry))) unit ⌝ }
 {
-    let a = checks::sanity_check(bench, unit);
+    let a = check_sound::sanity_check(bench, unit);
     *verdict = a.verdict as u64;
     *index = a.index.0 as u64;
     a.number
@@ -191,7 +191,7 @@ pub extern "C" fn dual_ledger_trusted_strict_check(
     requires { ⌜ SoundWords (now bench) ⌝ }
     ensures { λ r. ⌜ (r, (now (verdict .exit), now (index .exit))) ≡ strictOf (view (now (bench .entry))) unit ⌝ }
 {
-    let a = checks::strict_check(bench, unit);
+    let a = check_sound::strict_check(bench, unit);
     *verdict = a.verdict as u64;
     *index = a.index.0 as u64;
     a.number

@@ -11,15 +11,15 @@ use Rattle.ledger_spec.specs.Reads.{said}
 use Rattle.ledger_spec.specs.Sound.{sound}
 use Rattle.ledger_spec.specs.Groups.{Group, soundGroup, added, extended}
 use Rattle.ledger_spec.specs.GroupCalls.{handlesOf, groupHandles, gone, vertexOf, orElse, add, extend}
-use Rattle.views.specs.View.{view}
-use Rattle.views.specs.Fit.{Fit}
-use Rattle.views.proofs.Fits.{fit-of}
+use Rattle.bench_views.specs.View.{view}
+use Rattle.bench_views.specs.Fit.{Fit}
+use Rattle.bench_views.proofs.Fits.{fit-of}
 use Rattle.groups.specs.View.{viewed, groupOf}
 use Rattle.groups.specs.declared.Kind.{Kind}
 use Rattle.groups.specs.declared.Kind.the-variants.{Growth, Conflicts}
 use Rattle.groups.specs.declared.Group.{Group as Code}
-use Rattle.lent.specs.Verdict.{Verdict, asked}
-use Rattle.lent.proofs.Asking.{no-bench, a-bench}
+use Rattle.sound_lent.specs.Verdict.{Verdict, asked}
+use Rattle.sound_lent.proofs.Asking.{no-bench, a-bench}
 use Rattle.group_adds.specs.Adds.{changed}
 use Rattle.group_adds.specs.declared.Changed.{Changed}
 use Rattle.group_extends.specs.Extends.{wholeBy as keptBy, wholeOf}

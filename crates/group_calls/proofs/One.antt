@@ -8,10 +8,10 @@ use Rattle.kinds.specs.declared.Obstacle.{Obstacle}
 use Rattle.ledger_spec.specs.Reads.{said}
 use Rattle.ledger_spec.specs.Groups.{Group}
 use Rattle.ledger_spec.specs.GroupCalls.{add, extend}
-use Rattle.views.specs.View.{view}
-use Rattle.soundness.specs.Sound.{soundWords}
-use Rattle.lent.specs.Verdict.{asked}
-use Rattle.lent.proofs.Asking.{asked-by}
+use Rattle.bench_views.specs.View.{view}
+use Rattle.sound_bench.specs.Sound.{soundWords}
+use Rattle.sound_lent.specs.Verdict.{asked}
+use Rattle.sound_lent.proofs.Asking.{asked-by}
 use Rattle.groups.specs.View.{groupOf}
 use Rattle.groups.specs.declared.Group.{Group as Code}
 use Rattle.groups.proofs.View.{view-laid}

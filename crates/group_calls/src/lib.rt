@@ -2,14 +2,14 @@
 // group is unsound, then STALE (8), then ROOM (20), lowest first; refused, the very group comes back. The bench is only read. Assumes nothing.
 mod presence;
 
+use bench_words::WORDS;
 use group_adds::Changed;
 use groups::Group;
 use kinds::Obstacle;
-use words::WORDS;
 ghost use mathlib.Core.Path.{_≡_};
 ghost use Rattle.ledger_spec.specs.GroupCalls.{add, extend};
-ghost use Rattle.views.specs.View.{view};
-ghost use Rattle.lent.specs.Verdict.{asked};
+ghost use Rattle.bench_views.specs.View.{view};
+ghost use Rattle.sound_lent.specs.Verdict.{asked};
 ghost use Rattle.groups.specs.View.{groupOf};
 ghost use Rattle.group_extends.specs.Extends.{wholeOf};
 ghost use Rattle.group_calls.specs.Whole.{whole};
@@ -22,7 +22,7 @@ const STALE: u8 = 8;
 pub fn add(b: &[u64; WORDS], g: Group, o: Obstacle) -> Changed
     ensures { λ r. ⌜ r ≡ whole (asked (now (b .entry)) (groupOf g) (add (view (now (b .entry))) (groupOf g) o)) g g ⌝ }
 {
-    if !lent::is_bench(b) {
+    if !sound_lent::is_bench(b) {
         return Changed {
             number: BROKEN,
             group: g,
@@ -48,7 +48,7 @@ pub fn add(b: &[u64; WORDS], g: Group, o: Obstacle) -> Changed
 pub fn extend(b: &[u64; WORDS], g: Group, other: Group) -> Changed
     ensures { λ r. ⌜ r ≡ whole (asked (now (b .entry)) (groupOf g) (extend (view (now (b .entry))) (groupOf g) (groupOf other))) g (wholeOf g other) ⌝ }
 {
-    if !lent::is_bench(b) {
+    if !sound_lent::is_bench(b) {
         return Changed {
             number: BROKEN,
             group: g,

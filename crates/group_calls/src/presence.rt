@@ -1,5 +1,7 @@
 // Whether a node that an obstacle or a group names is gone from the bench, and the first vertex of a stop's node. Everything here only reads; a group's
 // arrays are passed once, not for each entry. Assumes nothing.
+use bench_links::Found;
+use bench_words::WORDS;
 use group_handles::Nodes;
 use groups::Group;
 use groups::Kind;
@@ -8,8 +10,6 @@ use kinds::Handle;
 use kinds::Obstacle;
 use kinds::Stop;
 use kinds::Vertex;
-use links::Found;
-use words::WORDS;
 ghost use mathlib.Core.Path.{_≡_};
 ghost use mathlib.Core.Bool.{true};
 ghost use mathlib.Core.List.{[], _∷_};
@@ -18,16 +18,16 @@ ghost use lib.ListN.{take};
 ghost use Rattle.ledger_spec.specs.Tests.{any};
 ghost use Rattle.ledger_spec.specs.Groups.{soundGroup};
 ghost use Rattle.ledger_spec.specs.GroupCalls.{gone, handlesOf, listHandles, stopHandles, groupHandles, vertexOf};
-ghost use Rattle.views.specs.Canon.{Canon};
-ghost use Rattle.views.specs.Fit.{Fit};
-ghost use Rattle.views.specs.View.{view};
+ghost use Rattle.bench_views.specs.Canon.{Canon};
+ghost use Rattle.bench_views.specs.Fit.{Fit};
+ghost use Rattle.bench_views.specs.View.{view};
 ghost use Rattle.groups.specs.View.{groupOf};
 
 fn is_gone(b: &[u64; WORDS], h: Handle) -> bool
     requires { ⌜ Canon (now b) ⌝ }
     ensures { λ r. ⌜ r ≡ gone (view (now (b .entry))) h ⌝ }
 {
-    let found = links::find(b, h);
+    let found = bench_links::find(b, h);
     match found {
         Found::At(_) => false,
         Found::Stale => true,
@@ -132,7 +132,7 @@ pub fn vertex_of(b: &[u64; WORDS], o: Obstacle) -> Vertex
         Obstacle::TouchingVirtual(_, _, _) => Vertex(0),
         Obstacle::BlossomNeedExpand(_) => Vertex(0),
         Obstacle::VertexShrinkStop(n, _) => {
-            let r = reads::get_representative_vertex(b, n);
+            let r = read_sound::get_representative_vertex(b, n);
             r.vertex
         }
     }

@@ -23,3 +23,4 @@ pub mod Sizes
 pub mod Walks
 pub mod Chains
 pub mod Bounds
+pub mod Tempting

@@ -1,14 +1,4 @@
 pub mod Talk
 pub mod Replay
-pub mod Opened
-pub mod First
+pub mod Quick
 pub mod Broken
-pub mod Edges
-pub mod Calls
-pub mod Trees
-pub mod Nests
-pub mod Groups
-pub mod Limits
-pub mod Refusals
-pub mod Reads
-pub mod Verdicts

@@ -12,7 +12,7 @@ use Rattle.ledger_spec.specs.Bench.{setUp}
 use Rattle.ledger_spec.specs.Decimals.{signed, integer}
 use Rattle.ledger_spec.specs.Fields.{after, cut}
 use Rattle.ledger_spec.specs.Bytes.{bytes}
-use Rattle.ledger_table.specs.Talk.{Desk, fresh, Turn, turn}
+use Rattle.ledger_table.specs.Talk.{Ledger, plain, Desk, fresh, Turn, turn}
 
 abbrev pub orZero : Option ℤ → ℤ
 orZero none = pos 0
@@ -35,25 +35,28 @@ sameBytes [] (d ∷ t) = false
 sameBytes (c ∷ s) [] = false
 sameBytes (c ∷ s) (d ∷ t) = eqb c d && sameBytes s t
 
-unfoldable pub answered : Desk → List ℕ → Turn
-answered k s = turn k (letterOf (cut 32 s)) (map (λ (f : List ℕ). orZero (integer f)) (after 32 s))
+unfoldable pub answered : Ledger → Desk → List ℕ → Turn
+answered L k s = turn L k (letterOf (cut 32 s)) (map (λ (f : List ℕ). orZero (integer f)) (after 32 s))
 
 abbrev pub plus : Bool → ℕ × ℕ → ℕ × ℕ
 plus true t = (suc (t .0), t .1)
 plus false t = (suc (t .0), suc (t .1))
 
 -- along the lines: the desk, and the last answer's text
-unfoldable pub along : Desk → List ℕ → List (List ℕ) → ℕ × ℕ
-along k last [] = (0, 0)
-along k last ([] ∷ ls) = along k last ls
-along k last ((c ∷ s) ∷ ls) = elim (eqb c 35) [
-  | true ↦ along k last ls
+unfoldable pub along : Ledger → Desk → List ℕ → List (List ℕ) → ℕ × ℕ
+along L k last [] = (0, 0)
+along L k last ([] ∷ ls) = along L k last ls
+along L k last ((c ∷ s) ∷ ls) = elim (eqb c 35) [
+  | true ↦ along L k last ls
   | false ↦ elim (eqb c 61) [
-    | true ↦ plus (sameBytes last (drop 1 s)) (along k last ls)
-    | false ↦ let t : Turn = answered k (c ∷ s) in along (t .desk) (texts (t .says)) ls
+    | true ↦ plus (sameBytes last (drop 1 s)) (along L k last ls)
+    | false ↦ let t : Turn = answered L k (c ∷ s) in along L (t .desk) (texts (t .says)) ls
   ]
 ]
 
--- answers compared, and how many of them differ
-unfoldable pub replay : String → ℕ × ℕ
-replay s = along (fresh (setUp 1)) [] (cut 10 (bytes s))
+-- answers compared, and how many of them differ: by any ledger, and by the plain one
+unfoldable pub replay : Ledger → String → ℕ × ℕ
+replay L s = along L (fresh (setUp 1)) [] (cut 10 (bytes s))
+
+unfoldable pub replayed : String → ℕ × ℕ
+replayed s = replay plain s

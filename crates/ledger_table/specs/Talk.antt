@@ -1,4 +1,4 @@
--- The recordings' line language (oracle/README.md), answered by the plain ledger: a letter and numbers in, numbers out. Assumes nothing.
+-- The recordings' line language (oracle/README.md), answered by a ledger: a letter and numbers in, numbers out. Assumes nothing.
 use Prim.Native.Nat.{ℕ, zero, suc, _+_}
 use Prim.Native.Char.{Char, code}
 use mathlib.Core.Bool.{Bool, true, false}
@@ -20,10 +20,21 @@ use Rattle.ledger_spec.specs.Notices.{Notice, defectAdded, stateSet, shrinkPrep
 use Rattle.ledger_spec.specs.Reads.{slotsOf, sumOf, speedOf, countOf, handleOf, valueOf, belongs}
 use Rattle.ledger_spec.specs.Walk.{outerOf, underOf, firstVertex, verticesInto}
 use Rattle.ledger_spec.specs.Check.{checkOf, strictOf}
-use Rattle.ledger_spec.specs.Answers.{answer, ask}
+use Rattle.ledger_spec.specs.Answers.{Answer, answer, ask}
 use Rattle.ledger_spec.specs.Lines.{named, shown}
 use Rattle.ledger_spec.specs.Groups.{Group, growth, conflicts, emptyGroup}
 use Rattle.ledger_spec.specs.GroupCalls.{isEmpty, isActive, growthOf, peek, pop, add, extend}
+
+-- who answers: calls, reads, and the two calls on groups that are lent a bench
+pub record Ledger : Type 1 where
+  pub answer : Bench → Call → Answer
+  pub ask : {A : Type 0} → Bench → A → ℕ × A → ℕ × A
+  pub add : Bench → Group → Obstacle → ℕ × Group
+  pub extend : Bench → Group → Group → ℕ × Group
+
+-- the plain ledger, with BROKEN in front of every answer
+abbrev pub plain : Ledger
+plain = record { answer = answer; ask = ask; add = add; extend = extend }
 
 -- a bench and four groups
 pub record Desk : Type 0 where
@@ -134,110 +145,138 @@ abbrev pub shownHandle : Option Handle → List ℤ
 shownHandle none = pos 0 ∷ pos 0 ∷ pos 0 ∷ []
 shownHandle (some h) = num (h .serial) ∷ num (h .unit) ∷ num (h .slot) ∷ []
 
--- ---- answers
-
-abbrev pub looks : Desk → List ℤ → Turn
-looks k l = record { says = l; desk = k }
+-- ---- calls
 
 abbrev pub four : ℕ × ℕ × ℤ × ℤ → List ℤ
 four t = num (t .0) ∷ num (t .1) ∷ t .2 ∷ t .3 ∷ []
 
-unfoldable pub acts : Desk → ℕ → Call → Turn
-acts k u c = record {
-  says = four (shown (answer (k .bench) c .number) (answer (k .bench) c .node .serial) (answer (k .bench) c .bench) u)
-      ++ (num (length (answer (k .bench) c .notices)) ∷ joined shownNotice (answer (k .bench) c .notices));
-  desk = record { bench = answer (k .bench) c .bench; groups = k .groups };
+-- a call that names interface u: four numbers, then its notices
+unfoldable pub acts : Ledger → Desk → ℕ → Call → Turn
+acts L k u c = let a : Answer = L .answer (k .bench) c in record {
+  says = four (shown (a .number) (a .node .serial) (a .bench) u) ++ (num (length (a .notices)) ∷ joined shownNotice (a .notices));
+  desk = record { bench = a .bench; groups = k .groups };
 }
 
-unfoldable pub checked : Desk → ℕ → Turn
-checked k u = let r : ℕ × (ℕ × ℕ) = ask (k .bench) (0, 0) (checkOf (k .bench) u) in
-    looks k (four (shown (r .0) (r .1 .0) (k .bench) u) ++ (num (r .1 .1) ∷ []))
+-- what each letter calls, with the numbers l behind it
+unfoldable pub calls : Bench → List ℤ → List (Char × Call)
+calls b l =
+    let u : ℕ = nat l 0 in
+    let t : List (ℕ × ℕ × ℕ) = triples 400 (drop 1 l) in
+    ("D", Defect u (nat l 1))
+    ∷ ("B", Blossom u (map (λ (z : ℤ). named b (natAbs z)) (drop 1 l)) [])
+    ∷ ("b", Blossom u (map (λ (x : ℕ × ℕ × ℕ). named b (x .0)) t) (map (λ (x : ℕ × ℕ × ℕ). (named b (x .1), named b (x .2))) t))
+    ∷ ("t", Blossom u (map (named b) (members (nat l 1) (drop 2 l))) (map (λ (x : ℕ × ℕ). (named b (x .0), named b (x .1))) (pairs 400 (drop (2 + nat l 1) l))))
+    ∷ ("E", Expand u (named b (nat l 1)))
+    ∷ ("S", SetState u (named b (nat l 1)) (stateOf (arg l 2)))
+    ∷ ("G", Grow u (arg l 1))
+    ∷ ("F", Fuse u (nat l 1) (nat l 2))
+    ∷ ("C", Clear u)
+    ∷ []
 
-unfoldable pub dumped : Desk → ℕ → Turn
-dumped k u = elim (ask (k .bench) 0 (countOf (k .bench) u) .0) [
-  | zero ↦ looks k (pos 0 ∷ num (length (slotsOf (k .bench) u)) ∷ joined shownSlot (slotsOf (k .bench) u))
-  | suc n ↦ looks k (num (suc n) ∷ pos 0 ∷ [])
-]
-
-unfoldable pub vertices : Desk → Handle → ℕ → Turn
-vertices k h room = let r : ℕ × (ℕ × List ℕ) = ask (k .bench) (0, replicate room 77) (verticesInto (k .bench) h (replicate room 77)) in
-    looks k (num (r .0) ∷ num (r .1 .0) ∷ map num (r .1 .1))
-
--- ---- groups
+-- ---- groups: what is said, and the group after it
 
 abbrev pub group : Desk → ℕ → Group
 group k g = getD (k .groups) g emptyGroup
 
-abbrev pub regroups : Desk → ℕ → List ℤ → Group → Turn
-regroups k g says q = record { says = says; desk = record { bench = k .bench; groups = set (k .groups) g q } }
-
 abbrev pub code′ : Bench → ℕ → Code
 code′ b n = let h : Handle = named b n in record { unit = h .unit; slot = h .slot; serial = record { 0 = h .serial } }
 
-unfoldable pub adds : Desk → ℕ → Obstacle → Turn
-adds k g o = let r : ℕ × Group = add (k .bench) (group k g) o in regroups k g (num (r .0) ∷ []) (r .1)
+unfoldable pub adds : Ledger → Desk → ℕ → Obstacle → List ℤ × Group
+adds L k g o = let r : ℕ × Group = L .add (k .bench) (group k g) o in (num (r .0) ∷ [], r .1)
 
-unfoldable pub extends : Desk → ℕ → ℕ → Turn
-extends k g h = let r : ℕ × Group = extend (k .bench) (group k g) (group k h) in regroups k g (num (r .0) ∷ []) (r .1)
+unfoldable pub extends : Ledger → Desk → ℕ → ℕ → List ℤ × Group
+extends L k g h = let r : ℕ × Group = L .extend (k .bench) (group k g) (group k h) in (num (r .0) ∷ [], r .1)
 
-unfoldable pub popsOne : Desk → ℕ → Turn
-popsOne k g = let r : ℕ × (Option Obstacle × Group) = pop (group k g) in regroups k g (num (r .0) ∷ shownTaken (r .1 .0)) (r .1 .1)
+unfoldable pub popsOne : Group → List ℤ × Group
+popsOne g = let r : ℕ × (Option Obstacle × Group) = pop g in (num (r .0) ∷ shownTaken (r .1 .0), r .1 .1)
 
-unfoldable pub asked : Desk → ℕ → Turn
-asked k g = let r : ℕ × Option ℤ = growthOf (group k g) in
-    looks k (pos 0 ∷ bit (isEmpty (group k g) .1) ∷ bit (isActive (group k g) .1) ∷ num (r .0) ∷ shownLength (r .1))
+unfoldable pub changes : Ledger → Desk → List ℤ → List (Char × (List ℤ × Group))
+changes L k l =
+    let g : ℕ = nat l 0 in
+    let n : ℕ → Code = λ i. code′ (k .bench) (nat l i) in
+    let p : ℕ → ℕ → Pair = λ i j. record { node = n i; touching = n j } in
+    ("e", (pos 0 ∷ [], emptyGroup))
+    ∷ ("g", adds L k g (NonZeroGrow (arg l 1) (flag (arg l 2))))
+    ∷ ("c", adds L k g (Conflicting (p 1 2) (p 3 4)))
+    ∷ ("w", adds L k g (TouchingVirtual (p 1 2) (record { 0 = nat l 3 }) (flag (arg l 4))))
+    ∷ ("x", adds L k g (BlossomNeedExpand (n 1)))
+    ∷ ("q", adds L k g (VertexShrinkStop (n 1) NoPair))
+    ∷ ("r", adds L k g (VertexShrinkStop (n 1) (WithPair (p 2 3))))
+    ∷ ("j", extends L k g (nat l 1))
+    ∷ ("z", popsOne (group k g))
+    ∷ []
 
--- ---- a line
+-- ---- reads
 
-abbrev pub is : ℕ → Char → Bool
-is c x = eqb c (code x)
+-- a number, and what stands behind it
+unfoldable pub shows : {A : Type 0} → (A → List ℤ) → ℕ × A → List ℤ
+shows f r = num (r .0) ∷ f (r .1)
 
-abbrev pub pick : Bool → Turn → Turn → Turn
-pick true a b = a
-pick false a b = b
+unfoldable pub checked : Ledger → Bench → ℕ → List ℤ
+checked L b u = let r : ℕ × (ℕ × ℕ) = L .ask b (0, 0) (checkOf b u) in four (shown (r .0) (r .1 .0) b u) ++ (num (r .1 .1) ∷ [])
 
-unfoldable pub turn : Desk → ℕ → List ℤ → Turn
-turn k c l =
+unfoldable pub dumped : Ledger → Bench → ℕ → List ℤ
+dumped L b u = elim (L .ask b 0 (countOf b u) .0) [
+  | zero ↦ pos 0 ∷ num (length (slotsOf b u)) ∷ joined shownSlot (slotsOf b u)
+  | suc n ↦ num (suc n) ∷ pos 0 ∷ []
+]
+
+-- all vertices, into so many entries that hold 77
+unfoldable pub vertices : Ledger → Bench → Handle → ℕ → List ℤ
+vertices L b h room =
+    shows (λ (r : ℕ × List ℕ). num (r .0) ∷ map num (r .1)) (L .ask b (0, replicate room 77) (verticesInto b h (replicate room 77)))
+
+unfoldable pub asked : Group → List ℤ
+asked g = pos 0 ∷ bit (isEmpty g .1) ∷ bit (isActive g .1) ∷ shows shownLength (growthOf g)
+
+unfoldable pub reads : Ledger → Desk → List ℤ → List (Char × List ℤ)
+reads L k l =
     let b : Bench = k .bench in
     let u : ℕ = nat l 0 in
     let h : Handle = named b (nat l 0) in
-    let n : ℕ → Code = λ i. code′ b (nat l i) in
-    let p : ℕ → ℕ → Pair = λ i j. record { node = n i; touching = n j } in
-    let t : List (ℕ × ℕ × ℕ) = triples 400 (drop 1 l) in
-    let m : ℕ = nat l 1 in
-    pick (is c "N") (record { says = num (setUpCall u .number) ∷ []; desk = fresh (setUpCall u .bench) })
-    (pick (is c "D") (acts k u (Defect u (nat l 1)))
-    (pick (is c "B") (acts k u (Blossom u (map (λ (z : ℤ). named b (natAbs z)) (drop 1 l)) []))
-    (pick (is c "b") (acts k u (Blossom u (map (λ (x : ℕ × ℕ × ℕ). named b (x .0)) t) (map (λ (x : ℕ × ℕ × ℕ). (named b (x .1), named b (x .2))) t)))
-    (pick (is c "t") (acts k u (Blossom u (map (named b) (members m (drop 2 l))) (map (λ (x : ℕ × ℕ). (named b (x .0), named b (x .1))) (pairs 400 (drop (2 + m) l)))))
-    (pick (is c "E") (acts k u (Expand u (named b (nat l 1))))
-    (pick (is c "S") (acts k u (SetState u (named b (nat l 1)) (stateOf (arg l 2))))
-    (pick (is c "G") (acts k u (Grow u (arg l 1)))
-    (pick (is c "F") (acts k u (Fuse u (nat l 1) (nat l 2)))
-    (pick (is c "C") (acts k u (Clear u))
-    (pick (is c "K") (checked k u)
-    (pick (is c "k") (let r : ℕ × (ℕ × ℕ) = ask b (0, 0) (strictOf b u) in looks k (num (r .0) ∷ num (r .1 .0) ∷ num (r .1 .1) ∷ []))
-    (pick (is c "s") (let r : ℕ × ℤ = ask b (pos 0) (sumOf b u) in looks k (num (r .0) ∷ r .1 ∷ []))
-    (pick (is c "p") (let r : ℕ × ℤ = ask b (pos 0) (speedOf b u) in looks k (num (r .0) ∷ r .1 ∷ []))
-    (pick (is c "n") (let r : ℕ × ℕ = ask b 0 (countOf b u) in looks k (num (r .0) ∷ num (r .1) ∷ []))
-    (pick (is c "h") (let r : ℕ × Option Handle = ask b none (handleOf b u m) in looks k (num (r .0) ∷ shownHandle (r .1)))
-    (pick (is c "i") (let r : ℕ × Bool = ask b false (belongs b u (named b m)) in looks k (num (r .0) ∷ bit (r .1) ∷ []))
-    (pick (is c "d") (dumped k u)
-    (pick (is c "v") (let r : ℕ × ℤ = ask b (pos 0) (valueOf b h) in looks k (num (r .0) ∷ r .1 ∷ []))
-    (pick (is c "o") (let r : ℕ × (Handle × ℕ) = ask b (nobody, 0) (outerOf b h) in looks k (num (r .0) ∷ num (r .1 .0 .serial) ∷ num (r .1 .1) ∷ []))
-    (pick (is c "u") (let r : ℕ × Handle = ask b nobody (underOf b h) in looks k (num (r .0) ∷ num (r .1 .serial) ∷ []))
-    (pick (is c "f") (let r : ℕ × ℕ = ask b 0 (firstVertex b h) in looks k (num (r .0) ∷ num (r .1) ∷ []))
-    (pick (is c "a") (vertices k h m)
-    (pick (is c "e") (regroups k u (pos 0 ∷ []) emptyGroup)
-    (pick (is c "g") (adds k u (NonZeroGrow (arg l 1) (flag (arg l 2))))
-    (pick (is c "c") (adds k u (Conflicting (p 1 2) (p 3 4)))
-    (pick (is c "w") (adds k u (TouchingVirtual (p 1 2) (record { 0 = nat l 3 }) (flag (arg l 4))))
-    (pick (is c "x") (adds k u (BlossomNeedExpand (n 1)))
-    (pick (is c "q") (adds k u (VertexShrinkStop (n 1) NoPair))
-    (pick (is c "r") (adds k u (VertexShrinkStop (n 1) (WithPair (p 2 3))))
-    (pick (is c "j") (extends k u m)
-    (pick (is c "y") (asked k u)
-    (pick (is c "z") (popsOne k u)
-    (pick (is c "l") (let r : ℕ × Option Obstacle = peek (group k u) in looks k (num (r .0) ∷ shownTaken (r .1)))
-    (pick (is c "m") (looks k (pos 0 ∷ shownGroup (group k u)))
-    (looks k [])))))))))))))))))))))))))))))))))))
+    let g : Group = group k (nat l 0) in
+    ("K", checked L b u)
+    ∷ ("k", shows (λ (r : ℕ × ℕ). num (r .0) ∷ num (r .1) ∷ []) (L .ask b (0, 0) (strictOf b u)))
+    ∷ ("s", shows (λ (z : ℤ). z ∷ []) (L .ask b (pos 0) (sumOf b u)))
+    ∷ ("p", shows (λ (z : ℤ). z ∷ []) (L .ask b (pos 0) (speedOf b u)))
+    ∷ ("n", shows (λ (n : ℕ). num n ∷ []) (L .ask b 0 (countOf b u)))
+    ∷ ("h", shows shownHandle (L .ask b none (handleOf b u (nat l 1))))
+    ∷ ("i", shows (λ (f : Bool). bit f ∷ []) (L .ask b false (belongs b u (named b (nat l 1)))))
+    ∷ ("d", dumped L b u)
+    ∷ ("v", shows (λ (z : ℤ). z ∷ []) (L .ask b (pos 0) (valueOf b h)))
+    ∷ ("o", shows (λ (r : Handle × ℕ). num (r .0 .serial) ∷ num (r .1) ∷ []) (L .ask b (nobody, 0) (outerOf b h)))
+    ∷ ("u", shows (λ (g : Handle). num (g .serial) ∷ []) (L .ask b nobody (underOf b h)))
+    ∷ ("f", shows (λ (n : ℕ). num n ∷ []) (L .ask b 0 (firstVertex b h)))
+    ∷ ("a", vertices L b h (nat l 1))
+    ∷ ("y", asked g)
+    ∷ ("l", shows shownTaken (peek g))
+    ∷ ("m", pos 0 ∷ shownGroup g)
+    ∷ []
+
+-- ---- a line
+
+-- what stands under a letter
+unfoldable pub under : {A : Type 0} → ℕ → List (Char × A) → Option A
+under c [] = none
+under c (r ∷ rs) = elim (eqb c (code (r .0))) [ true ↦ some (r .1) | false ↦ under c rs ]
+
+-- a letter that stands nowhere says nothing
+abbrev pub orNothing : Option (List ℤ) → List ℤ
+orNothing none = []
+orNothing (some l) = l
+
+unfoldable pub regroups : Ledger → Desk → ℕ → List ℤ → Option (List ℤ × Group) → Turn
+regroups L k c l none = record { says = orNothing (under c (reads L k l)); desk = k }
+regroups L k c l (some r) = record { says = r .0; desk = record { bench = k .bench; groups = set (k .groups) (nat l 0) (r .1) } }
+
+unfoldable pub performs : Ledger → Desk → ℕ → List ℤ → Option Call → Turn
+performs L k c l none = regroups L k c l (under c (changes L k l))
+performs L k c l (some x) = acts L k (nat l 0) x
+
+unfoldable pub opens : Ledger → Desk → ℕ → List ℤ → Bool → Turn
+opens L k c l true = record { says = num (setUpCall (nat l 0) .number) ∷ []; desk = fresh (setUpCall (nat l 0) .bench) }
+opens L k c l false = performs L k c l (under c (calls (k .bench) l))
+
+-- N sets up; the other letters stand for calls, changes of groups and reads
+unfoldable pub turn : Ledger → Desk → ℕ → List ℤ → Turn
+turn L k c l = opens L k c l (eqb c (code "N"))

@@ -1,14 +1,14 @@
 // The lines that change the bench: what the public call answers, with its notices.
 use crate::nodes;
 use crate::says;
+use bench_words::WORDS;
+use call_told::Answer;
 use kinds::GrowState;
 use kinds::Handle;
 use kinds::Notice;
 use kinds::Vertex;
-use notices::Notices;
+use outcome_notices::Notices;
 use tapes::ROOM;
-use telling::Answer;
-use words::WORDS;
 
 pub fn unit_of(z: i64) -> u8 {
     let n = tapes::natural(z);
@@ -43,8 +43,8 @@ pub fn four(b: &[u64; WORDS], out: &mut [i64; ROOM], number: u8, serial: i64, un
     let mut speed: i64 = 0;
     let mut sum: i64 = 0;
     if number != 3 {
-        let p = asks::sum_grow_speed(b, unit);
-        let q = asks::sum_dual_variables(b, unit);
+        let p = read_any::sum_grow_speed(b, unit);
+        let q = read_any::sum_dual_variables(b, unit);
         speed = p.weight;
         sum = q.weight;
     }
@@ -131,14 +131,14 @@ pub fn answer(b: &[u64; WORDS], out: &mut [i64; ROOM], r: Answer, unit: u8) -> u
 
 pub fn defect(b: &mut [u64; WORDS], out: &mut [i64; ROOM], row: &[i64; ROOM], n: usize) -> usize {
     let unit = unit_of(tapes::number(row, n, 0));
-    let r = calls::create_defect_node(b, unit, Vertex(word_of(tapes::number(row, n, 1))));
+    let r = call_any::create_defect_node(b, unit, Vertex(word_of(tapes::number(row, n, 1))));
     answer(b, out, r, unit)
 }
 
 pub fn expand(b: &mut [u64; WORDS], out: &mut [i64; ROOM], row: &[i64; ROOM], n: usize) -> usize {
     let unit = unit_of(tapes::number(row, n, 0));
     let h = nodes::named(b, tapes::number(row, n, 1));
-    let r = calls::expand_blossom(b, unit, h);
+    let r = call_any::expand_blossom(b, unit, h);
     answer(b, out, r, unit)
 }
 
@@ -150,13 +150,13 @@ pub fn set_state(
 ) -> usize {
     let unit = unit_of(tapes::number(row, n, 0));
     let h = nodes::named(b, tapes::number(row, n, 1));
-    let r = calls::set_grow_state(b, unit, h, state_of(tapes::number(row, n, 2)));
+    let r = call_any::set_grow_state(b, unit, h, state_of(tapes::number(row, n, 2)));
     answer(b, out, r, unit)
 }
 
 pub fn grow(b: &mut [u64; WORDS], out: &mut [i64; ROOM], row: &[i64; ROOM], n: usize) -> usize {
     let unit = unit_of(tapes::number(row, n, 0));
-    let r = calls::grow(b, unit, tapes::number(row, n, 1));
+    let r = call_any::grow(b, unit, tapes::number(row, n, 1));
     answer(b, out, r, unit)
 }
 
@@ -164,19 +164,19 @@ pub fn fuse(b: &mut [u64; WORDS], out: &mut [i64; ROOM], row: &[i64; ROOM], n: u
     let parent = unit_of(tapes::number(row, n, 0));
     let left = unit_of(tapes::number(row, n, 1));
     let right = unit_of(tapes::number(row, n, 2));
-    let r = calls::fuse(b, parent, left, right);
+    let r = call_any::fuse(b, parent, left, right);
     answer(b, out, r, parent)
 }
 
 pub fn clear(b: &mut [u64; WORDS], out: &mut [i64; ROOM], row: &[i64; ROOM], n: usize) -> usize {
     let unit = unit_of(tapes::number(row, n, 0));
-    let r = calls::clear(b, unit);
+    let r = call_any::clear(b, unit);
     answer(b, out, r, unit)
 }
 
 pub fn check(b: &[u64; WORDS], out: &mut [i64; ROOM], row: &[i64; ROOM], n: usize) -> usize {
     let unit = unit_of(tapes::number(row, n, 0));
-    let r = verdicts::sanity_check(b, unit);
+    let r = check_any::sanity_check(b, unit);
     let m = four(b, out, r.number, r.verdict as i64, unit);
     tapes::say(out, m, r.index.0 as i64)
 }

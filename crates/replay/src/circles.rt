@@ -1,8 +1,8 @@
 // The lines that make a blossom: by serials alone, by serials with their touching pairs, and with lists of any two lengths.
 use crate::acts;
 use crate::nodes;
+use bench_words::WORDS;
 use tapes::ROOM;
-use words::WORDS;
 ghost use Prim.Native.Nat.{_≤_};
 
 // Members and touching handles of one line, at most: more than any circle holds.
@@ -17,7 +17,7 @@ fn keep(list: &mut [u64], n: usize, w: u64) {
 // The serial at a place of a row, as a packed handle.
 fn packed(b: &[u64; WORDS], row: &[i64; ROOM], n: usize, i: usize) -> u64 {
     let h = nodes::named(b, tapes::number(row, n, i));
-    words::handle_word(h)
+    bench_words::handle_word(h)
 }
 
 // The serials of a row from one place up to another, as packed handles; how many there are.
@@ -71,7 +71,7 @@ fn made(
 ) -> usize {
     let i = tapes::within(m, members);
     let j = tapes::within(t, touching);
-    let r = calls::create_blossom(b, unit, &members[..i], &touching[..j]);
+    let r = call_any::create_blossom(b, unit, &members[..i], &touching[..j]);
     acts::answer(b, out, r, unit)
 }
 

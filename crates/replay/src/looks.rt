@@ -1,35 +1,35 @@
 // The lines that read: of an interface, of a node.
 use crate::nodes;
 use crate::says;
+use bench_words::WORDS;
 use kinds::Handle;
 use kinds::MaybeNode;
 use kinds::NodeIndex;
 use tapes::ROOM;
-use words::WORDS;
 
 const VERTICES: usize = 1024;
 
 pub fn strict(b: &[u64; WORDS], out: &mut [i64; ROOM], unit: u8) -> usize {
-    let r = verdicts::strict_check(b, unit);
+    let r = check_any::strict_check(b, unit);
     let n = tapes::say(out, 0, r.number as i64);
     let m = tapes::say(out, n, r.verdict as i64);
     tapes::say(out, m, r.index.0 as i64)
 }
 
 pub fn sum(b: &[u64; WORDS], out: &mut [i64; ROOM], unit: u8) -> usize {
-    let r = asks::sum_dual_variables(b, unit);
+    let r = read_any::sum_dual_variables(b, unit);
     let n = tapes::say(out, 0, r.number as i64);
     tapes::say(out, n, r.weight)
 }
 
 pub fn speed(b: &[u64; WORDS], out: &mut [i64; ROOM], unit: u8) -> usize {
-    let r = asks::sum_grow_speed(b, unit);
+    let r = read_any::sum_grow_speed(b, unit);
     let n = tapes::say(out, 0, r.number as i64);
     tapes::say(out, n, r.weight)
 }
 
 pub fn count(b: &[u64; WORDS], out: &mut [i64; ROOM], unit: u8) -> usize {
-    let r = asks::nodes_count(b, unit);
+    let r = read_any::nodes_count(b, unit);
     let n = tapes::say(out, 0, r.number as i64);
     tapes::say(out, n, nodes::small(r.count))
 }
@@ -41,7 +41,7 @@ fn found(out: &mut [i64; ROOM], n: usize, h: Handle) -> usize {
 }
 
 pub fn index(b: &[u64; WORDS], out: &mut [i64; ROOM], unit: u8, i: u32) -> usize {
-    let r = asks::get_node(b, unit, NodeIndex(i));
+    let r = read_any::get_node(b, unit, NodeIndex(i));
     let n = tapes::say(out, 0, r.number as i64);
     let node = r.node;
     match node {
@@ -51,19 +51,19 @@ pub fn index(b: &[u64; WORDS], out: &mut [i64; ROOM], unit: u8, i: u32) -> usize
 }
 
 pub fn belonging(b: &[u64; WORDS], out: &mut [i64; ROOM], unit: u8, h: Handle) -> usize {
-    let r = asks::check_ptr_belonging(b, unit, h);
+    let r = read_any::check_ptr_belonging(b, unit, h);
     let n = tapes::say(out, 0, r.number as i64);
     tapes::say(out, n, says::bit(r.inside))
 }
 
 pub fn value(b: &[u64; WORDS], out: &mut [i64; ROOM], h: Handle) -> usize {
-    let r = asks::get_dual_variable(b, h);
+    let r = read_any::get_dual_variable(b, h);
     let n = tapes::say(out, 0, r.number as i64);
     tapes::say(out, n, r.weight)
 }
 
 pub fn outermost(b: &[u64; WORDS], out: &mut [i64; ROOM], h: Handle) -> usize {
-    let r = asks::get_ancestor_blossom(b, h);
+    let r = read_any::get_ancestor_blossom(b, h);
     let node = r.node;
     let n = tapes::say(out, 0, r.number as i64);
     let m = says::handle(out, n, node);
@@ -71,14 +71,14 @@ pub fn outermost(b: &[u64; WORDS], out: &mut [i64; ROOM], h: Handle) -> usize {
 }
 
 pub fn below(b: &[u64; WORDS], out: &mut [i64; ROOM], h: Handle) -> usize {
-    let r = asks::get_secondary_ancestor_blossom(b, h);
+    let r = read_any::get_secondary_ancestor_blossom(b, h);
     let node = r.node;
     let n = tapes::say(out, 0, r.number as i64);
     says::handle(out, n, node)
 }
 
 pub fn first(b: &[u64; WORDS], out: &mut [i64; ROOM], h: Handle) -> usize {
-    let r = asks::get_representative_vertex(b, h);
+    let r = read_any::get_representative_vertex(b, h);
     let v = r.vertex;
     let n = tapes::say(out, 0, r.number as i64);
     tapes::say(out, n, v.0 as i64)
@@ -104,7 +104,7 @@ fn vertices_in(
     vs: &mut [u32],
 ) -> usize {
     let most = tapes::vertices_within(room, vs);
-    let r = asks::get_all_vertices(b, h, &mut vs[..most]);
+    let r = read_any::get_all_vertices(b, h, &mut vs[..most]);
     let m = tapes::say(out, 0, r.number as i64);
     let mut n = tapes::say(out, m, nodes::small(r.count));
     let mut i: usize = 0;

@@ -10,8 +10,8 @@ mod tries;
 mod turns;
 
 use crate::packs::Four;
+use bench_words::WORDS;
 use tapes::ROOM;
-use words::WORDS;
 
 const LINE: usize = 4096;
 
@@ -183,6 +183,6 @@ fn main() {
     let mut out = [0i64; ROOM];
     let mut line = [0u8; LINE];
     let mut chunk = [0u8; CHUNK];
-    openings::set_up(&mut b, 1);
+    call_set_up::set_up(&mut b, 1);
     run(&mut b, &mut line, &mut row, &mut out, &mut chunk);
 }

@@ -1,18 +1,18 @@
 // Nodes by their serials, which is how a recording names them, and the dump of a tree, slot by slot.
 use crate::says;
+use bench_words::Node;
+use bench_words::WORDS;
 use kinds::Class;
 use kinds::Handle;
 use kinds::MaybeNode;
 use kinds::NodeIndex;
 use kinds::Parent;
 use tapes::ROOM;
-use words::Node;
-use words::WORDS;
 
 // Whether slot k holds a node of this serial.
 fn holds(b: &[u64; WORDS], k: usize, serial: i64) -> bool {
     if k < 512 {
-        let n = words::load_node(b, k);
+        let n = bench_words::load_node(b, k);
         let class = n.class;
         return match class {
             Class::Absent => false,
@@ -26,7 +26,7 @@ fn holds(b: &[u64; WORDS], k: usize, serial: i64) -> bool {
 // The handle of what slot k holds.
 fn handle_at(b: &[u64; WORDS], k: usize) -> Handle {
     if k < 512 {
-        let n = words::load_node(b, k);
+        let n = bench_words::load_node(b, k);
         let serial = n.serial;
         return Handle {
             unit: (k / 64) as u8,
@@ -72,7 +72,7 @@ struct Step {
 
 fn member(b: &[u64; WORDS], out: &mut [i64; ROOM], n: usize, at: u64) -> Step {
     if at < 512 {
-        let m = words::load_node(b, at as usize);
+        let m = bench_words::load_node(b, at as usize);
         let left = m.left;
         let right = m.right;
         let x = tapes::say(out, n, m.serial.0 as i64);
@@ -107,7 +107,7 @@ fn body(b: &[u64; WORDS], out: &mut [i64; ROOM], n: usize, m: Node, h: Handle) -
     let t = tapes::say(out, s, says::rate(state));
     let p = parent(out, t, up);
     let z = tapes::say(out, p, small(m.size));
-    let v = asks::get_dual_variable(b, h);
+    let v = read_any::get_dual_variable(b, h);
     tapes::say(out, z, v.weight)
 }
 
@@ -115,7 +115,7 @@ fn body(b: &[u64; WORDS], out: &mut [i64; ROOM], n: usize, m: Node, h: Handle) -
 fn node(b: &[u64; WORDS], out: &mut [i64; ROOM], n: usize, h: Handle) -> usize {
     let k = (h.unit as usize) * 64 + (h.slot as usize);
     if k < 512 {
-        let m = words::load_node(b, k);
+        let m = bench_words::load_node(b, k);
         let class = m.class;
         return match class {
             Class::Absent => n,
@@ -135,7 +135,7 @@ fn node(b: &[u64; WORDS], out: &mut [i64; ROOM], n: usize, h: Handle) -> usize {
 }
 
 fn slot(b: &[u64; WORDS], out: &mut [i64; ROOM], n: usize, unit: u8, i: u32) -> usize {
-    let r = asks::get_node(b, unit, NodeIndex(i));
+    let r = read_any::get_node(b, unit, NodeIndex(i));
     let found = r.node;
     match found {
         MaybeNode::NoNode => tapes::say(out, n, 0),
@@ -145,7 +145,7 @@ fn slot(b: &[u64; WORDS], out: &mut [i64; ROOM], n: usize, unit: u8, i: u32) -> 
 
 // Every slot of a tree by index, used or emptied.
 pub fn dump(b: &[u64; WORDS], out: &mut [i64; ROOM], unit: u8) -> usize {
-    let c = asks::nodes_count(b, unit);
+    let c = read_any::nodes_count(b, unit);
     let a = tapes::say(out, 0, c.number as i64);
     let mut n = tapes::say(out, a, small(c.count));
     let mut i: u32 = 0;

@@ -2,6 +2,7 @@
 use crate::acts;
 use crate::nodes;
 use crate::says;
+use bench_words::WORDS;
 use group_takes::MaybeObstacle;
 use groups::Group;
 use kinds::MaybeLength;
@@ -10,7 +11,6 @@ use kinds::Obstacle;
 use kinds::Pair;
 use kinds::Vertex;
 use tapes::ROOM;
-use words::WORDS;
 
 pub struct Four {
     pub a: Group,

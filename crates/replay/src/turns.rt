@@ -7,8 +7,8 @@ use crate::packs;
 use crate::packs::Four;
 use crate::packs::Packed;
 use crate::tries;
+use bench_words::WORDS;
 use tapes::ROOM;
-use words::WORDS;
 
 // The lines that change the bench.
 fn changes(
@@ -33,7 +33,7 @@ fn changes(
 fn broken_too(before: &[u64; WORDS], letter: u8, row: &[i64; ROOM], n: usize) -> bool {
     let mut out = [0i64; ROOM];
     let mut torn = *before;
-    words::store_next(&mut torn, 0);
+    bench_words::store_next(&mut torn, 0);
     let kept = torn;
     let said = changes(&mut torn, letter, row, n, &mut out);
     if tapes::number(&out, said, 0) != 2 {
@@ -106,7 +106,7 @@ fn looked(
     }
     let mut spare = [0i64; ROOM];
     let mut torn = *b;
-    words::store_next(&mut torn, 0);
+    bench_words::store_next(&mut torn, 0);
     let t = looks_at(&torn, letter, row, n, &mut spare);
     tries::held(out, said, tapes::number(&spare, t, 0) == 2)
 }
@@ -143,7 +143,7 @@ fn sorts(
 
 // A new bench and four empty groups.
 fn begins(b: &mut [u64; WORDS], first: i64, out: &mut [i64; ROOM]) -> Packed {
-    let number = openings::set_up(b, acts::word_of(first));
+    let number = call_set_up::set_up(b, acts::word_of(first));
     let said = tapes::say(out, 0, number as i64);
     let four = packs::empty();
     Packed { said, four }

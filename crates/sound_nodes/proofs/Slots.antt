@@ -7,15 +7,15 @@ use lib.Dec.{leb, ltb}
 use lib.ListN.{getD}
 use borrow.Author.Tests.{le-leb, lt-leb, lt-ltb, le-ltb}
 use Rattle.kinds.specs.declared.GrowState.{GrowState}
-use Rattle.words.specs.Store.{nodeAt, interfaceAt}
-use Rattle.words.specs.declared.Interface.{Interface}
-use Rattle.words.specs.declared.Node.{Node}
-use Rattle.words.proofs.Laws.{GoodParent, good-node}
+use Rattle.bench_words.specs.Store.{nodeAt, interfaceAt}
+use Rattle.bench_words.specs.declared.Interface.{Interface}
+use Rattle.bench_words.specs.declared.Node.{Node}
+use Rattle.bench_words.proofs.Laws.{GoodParent, good-node}
 use Rattle.ledger_spec.specs.Look.{climb}
-use Rattle.views.specs.View.{valueOf, sumUp, view}
-use Rattle.trees.specs.Climb.{Climbs}
+use Rattle.bench_views.specs.View.{valueOf, sumUp, view}
+use Rattle.bench_trees.specs.Climb.{Climbs}
 use Rattle.sound_words.specs.Below.{allTo, between}
-use Rattle.words.specs.Coding.{blankAt, codedAt}
+use Rattle.bench_words.specs.Coding.{blankAt, codedAt}
 use Rattle.sound_trees.specs.Width.{widthOf}
 use Rattle.sound_rings.specs.Rings.{classTest}
 use Rattle.sound_seats.specs.Seats.{parentTest}

@@ -7,12 +7,12 @@ use lib.Dec.{leb, ltb}
 use lib.ListN.{getD}
 use Rattle.kinds.specs.declared.GrowState.{GrowState}
 use Rattle.kinds.specs.declared.Handle.{Handle}
-use Rattle.words.specs.Store.{nodeAt, interfaceAt}
-use Rattle.words.specs.declared.Node.{Node}
+use Rattle.bench_words.specs.Store.{nodeAt, interfaceAt}
+use Rattle.bench_words.specs.declared.Node.{Node}
 use Rattle.ledger_spec.specs.Look.{climb}
-use Rattle.views.specs.View.{valueOf, sumUp, view}
+use Rattle.bench_views.specs.View.{valueOf, sumUp, view}
 use Rattle.sound_words.specs.Below.{allTo, between}
-use Rattle.words.specs.Coding.{blankAt, codedAt}
+use Rattle.bench_words.specs.Coding.{blankAt, codedAt}
 use Rattle.sound_trees.specs.Width.{widthOf}
 use Rattle.sound_rings.specs.Rings.{classTest}
 use Rattle.sound_seats.specs.Seats.{parentTest}

@@ -1,11 +1,11 @@
 // The slots of a sound bench: each is blank, or is used and holds a node that keeps every rule. Everything here only reads, and any words may be
 // lent whose interfaces are in range. Assumes nothing.
+use bench_words::WORDS;
 use kinds::GrowState;
 use kinds::Handle;
-use words::WORDS;
 ghost use mathlib.Core.Path.{_≡_};
 ghost use Prim.Native.Nat.{_<_, _≤_};
-ghost use Rattle.views.specs.Records.{Steady};
+ghost use Rattle.bench_views.specs.Records.{Steady};
 ghost use Rattle.sound_words.specs.Below.{allTo};
 ghost use Rattle.sound_nodes.specs.Nodes.{Grounds, nearTest, nodeTest, slotTest, slotsTest};
 
@@ -21,7 +21,7 @@ fn ground_of(b: &[u64; WORDS], u: usize) -> Ground
     requires { ⌜ u < 8 ⌝ }
     ensures { λ r. ⌜ Grounds (now (b .entry)) u r ⌝ }
 {
-    let c = trees::climb(b, u);
+    let c = bench_trees::climb(b, u);
     let top = c.top;
     let width = sound_trees::width(b, top);
     Ground {
@@ -43,7 +43,7 @@ fn is_near(g: GrowState, bias: u64, t: u64, w: u64) -> bool
     if 2305843009213693952 < bias {
         return false;
     }
-    let v = trees::valued(g, bias, t);
+    let v = bench_trees::valued(g, bias, t);
     (1152921504606846976 - w <= v) & (v <= 1152921504606846976 + w)
 }
 
@@ -55,11 +55,11 @@ fn is_node(b: &[u64; WORDS], u: usize, s: usize, g: Ground) -> bool
     ensures { λ r. ⌜ r ≡ nodeTest (now (b .entry)) u s ⌝ }
 {
     let k = u * 64 + s;
-    if !words::is_coded(b, k) {
+    if !bench_words::is_coded(b, k) {
         return false;
     }
-    let next = words::load_next(b);
-    let n = words::load_node(b, k);
+    let next = bench_words::load_next(b);
+    let n = bench_words::load_node(b, k);
     let state = n.state;
     let serial = n.serial;
     let h = Handle {
@@ -81,7 +81,7 @@ fn is_slot(b: &[u64; WORDS], u: usize, s: usize, used: u64, g: Ground) -> bool
     requires { ⌜ Grounds (now b) u g ⌝ }
     ensures { λ r. ⌜ r ≡ slotTest (now (b .entry)) used u s ⌝ }
 {
-    if words::is_blank(b, u * 64 + s) {
+    if bench_words::is_blank(b, u * 64 + s) {
         return true;
     }
     if used <= (s as u64) {
@@ -95,7 +95,7 @@ fn are_slots(b: &[u64; WORDS], u: usize) -> bool
     requires { ⌜ u < 8 ⌝ }
     ensures { λ r. ⌜ r ≡ slotsTest (now (b .entry)) u ⌝ }
 {
-    let f = words::load_interface(b, u);
+    let f = bench_words::load_interface(b, u);
     let used = f.used;
     let g = ground_of(b, u);
     let mut s: usize = 0;

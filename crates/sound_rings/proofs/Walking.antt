@@ -12,9 +12,9 @@ use Rattle.kinds.specs.declared.Handle.{Handle}
 use Rattle.kinds.specs.declared.Parent.{Parent}
 use Rattle.kinds.specs.declared.Parent.the-variants.{Inside}
 use Rattle.kinds.specs.declared.Vertex.{Vertex}
-use Rattle.words.specs.declared.Node.{Node}
+use Rattle.bench_words.specs.declared.Node.{Node}
 use Rattle.ledger_spec.proofs.Lists.{and-true}
-use Rattle.views.specs.Canon.{walk}
+use Rattle.bench_views.specs.Canon.{walk}
 use Rattle.sound_words.specs.Below.{allTo, sumTo}
 use Rattle.sound_words.proofs.Belows.{all-none, all-more, all-not, sum-none, sum-more}
 use Rattle.sound_rings.specs.Rings.{isInside, memberOf, memberTest, sizeIn, ringTest, classTest}

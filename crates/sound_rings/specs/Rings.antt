@@ -6,9 +6,9 @@ use Rattle.kinds.specs.Names.{sameHandle}
 use Rattle.kinds.specs.declared.Handle.{Handle}
 use Rattle.kinds.specs.declared.Parent.{Parent}
 use Rattle.kinds.specs.declared.Parent.the-variants.{Outermost, Inside}
-use Rattle.words.specs.declared.Node.{Node}
-use Rattle.views.specs.View.{byClass}
-use Rattle.views.specs.Canon.{walk}
+use Rattle.bench_words.specs.declared.Node.{Node}
+use Rattle.bench_views.specs.View.{byClass}
+use Rattle.bench_views.specs.Canon.{walk}
 use Rattle.sound_words.specs.Below.{allTo, sumTo}
 
 abbrev pub isInside : Parent → Handle → Bool

@@ -1,12 +1,12 @@
 // A node's class: a defect has no circle and size 1; a blossom's circle is walked once, each member linking back to it from its place. Everything
 // here only reads, and any words may be lent. Assumes nothing.
+use bench_words::Node;
+use bench_words::WORDS;
 use kinds::Class;
 use kinds::Handle;
 use kinds::Parent;
-use words::Node;
-use words::WORDS;
 ghost use mathlib.Core.Path.{_≡_};
-ghost use Rattle.words.specs.Store.{nodeAt};
+ghost use Rattle.bench_words.specs.Store.{nodeAt};
 ghost use Rattle.sound_rings.specs.Rings.{isInside, memberOf, ringTest, classTest};
 
 fn is_inside(p: Parent, h: Handle) -> bool
@@ -47,7 +47,7 @@ fn is_ring(b: &[u64; WORDS], h: Handle, n: Node, next: u64) -> bool
         if 512 <= p {
             return false;
         }
-        let m = words::load_node(b, p as usize);
+        let m = bench_words::load_node(b, p as usize);
         if !is_member(m, h, i, next) {
             return false;
         }

@@ -13,13 +13,13 @@ use Rattle.kinds.specs.Names.{sameHandle, nobody}
 use Rattle.kinds.specs.States.{blossomOf}
 use Rattle.kinds.specs.declared.Handle.{Handle}
 use Rattle.kinds.specs.declared.Parent.the-variants.{Outermost, Inside}
-use Rattle.words.specs.Store.{nodeAt, base}
-use Rattle.words.specs.declared.Node.{Node}
-use Rattle.words.proofs.Laws.{GoodHandle, GoodParent}
+use Rattle.bench_words.specs.Store.{nodeAt, base}
+use Rattle.bench_words.specs.declared.Node.{Node}
+use Rattle.bench_words.proofs.Laws.{GoodHandle, GoodParent}
 use Rattle.ledger_spec.specs.Look.{climb}
-use Rattle.views.specs.View.{view}
-use Rattle.views.specs.Canon.{walk}
-use Rattle.trees.specs.Climb.{Climbs}
+use Rattle.bench_views.specs.View.{view}
+use Rattle.bench_views.specs.Canon.{walk}
+use Rattle.bench_trees.specs.Climb.{Climbs}
 use Rattle.sound_seats.specs.Seats.{isStay, aloneTest, seatIn, seatTest, parentTest}
 
 pub past-last : (b : List ℕ) (p : ℕ) → length b ≡ 6273 → 512 ≤ p → 0 ≡ nodeAt b p .next

@@ -10,11 +10,11 @@ use Rattle.kinds.specs.declared.GrowState.the-variants.{Grow, Stay, Shrink}
 use Rattle.kinds.specs.declared.Handle.{Handle}
 use Rattle.kinds.specs.declared.Parent.{Parent}
 use Rattle.kinds.specs.declared.Parent.the-variants.{Outermost, Inside}
-use Rattle.words.specs.Store.{nodeAt}
-use Rattle.words.specs.declared.Node.{Node}
+use Rattle.bench_words.specs.Store.{nodeAt}
+use Rattle.bench_words.specs.declared.Node.{Node}
 use Rattle.ledger_spec.specs.Look.{climb}
-use Rattle.views.specs.View.{view}
-use Rattle.views.specs.Canon.{walk}
+use Rattle.bench_views.specs.View.{view}
+use Rattle.bench_views.specs.Canon.{walk}
 
 abbrev pub isStay : GrowState → Bool
 isStay Grow = false

@@ -1,16 +1,16 @@
 // A node's place: outside any circle it has none; in one it is a staying member that its blossom's circle comes to after so many steps. Everything
 // here only reads, and any words may be lent. Assumes nothing.
+use bench_words::Node;
+use bench_words::WORDS;
 use kinds::GrowState;
 use kinds::Handle;
 use kinds::Parent;
-use words::Node;
-use words::WORDS;
 ghost use mathlib.Core.Path.{_≡_};
 ghost use Prim.Native.Nat.{_<_};
-ghost use Rattle.words.specs.Store.{nodeAt};
-ghost use Rattle.words.proofs.Laws.{GoodHandle, GoodParent};
-ghost use Rattle.views.specs.Records.{Steady};
-ghost use Rattle.views.specs.Canon.{walk};
+ghost use Rattle.bench_words.specs.Store.{nodeAt};
+ghost use Rattle.bench_words.proofs.Laws.{GoodHandle, GoodParent};
+ghost use Rattle.bench_views.specs.Records.{Steady};
+ghost use Rattle.bench_views.specs.Canon.{walk};
 ghost use Rattle.sound_seats.specs.Seats.{isStay, aloneTest, seatTest, parentTest};
 
 fn is_stay(g: GrowState) -> bool
@@ -31,7 +31,7 @@ fn next_of(b: &[u64; WORDS], p: u64) -> u64
     if 512 <= p {
         return 0;
     }
-    let n = words::load_node(b, p as usize);
+    let n = bench_words::load_node(b, p as usize);
     n.next
 }
 
@@ -65,7 +65,7 @@ fn is_seated(b: &[u64; WORDS], k: usize, top: usize, n: Node, q: Handle) -> bool
     requires { ⌜ GoodHandle q ⌝ }
     ensures { λ r. ⌜ r ≡ seatTest (now (b .entry)) k top n q ⌝ }
 {
-    let m = words::load_node(b, (q.unit as usize) * 64 + (q.slot as usize));
+    let m = bench_words::load_node(b, (q.unit as usize) * 64 + (q.slot as usize));
     if 64 < m.count {
         return false;
     }
@@ -76,7 +76,7 @@ fn is_seated(b: &[u64; WORDS], k: usize, top: usize, n: Node, q: Handle) -> bool
     let class = m.class;
     let stays = is_stay(state);
     let ring = class.is_blossom();
-    let c = trees::climb(b, q.unit as usize);
+    let c = bench_trees::climb(b, q.unit as usize);
     let seat = walk(b, m.first, n.place);
     (stays & (n.serial.0 < q.serial.0))
         & (((m.serial.0 == q.serial.0) & ring) & ((c.top == top) & (seat == (k as u64))))

@@ -4,8 +4,8 @@ use mathlib.Core.Path.{_≡_, sym, _∙_, ap}
 use mathlib.Core.Bool.{Bool, true, false, not, _||_}
 use mathlib.Core.List.{List}
 use borrow.Author.Tests.{eq-eqb, ne-eqb}
-use Rattle.words.specs.Store.{nodeAt}
-use Rattle.words.specs.declared.Node.{Node}
+use Rattle.bench_words.specs.Store.{nodeAt}
+use Rattle.bench_words.specs.declared.Node.{Node}
 use Rattle.sound_words.specs.Below.{allTo}
 use Rattle.sound_serials.specs.Different.{serialAt, unlike, onceTest}
 

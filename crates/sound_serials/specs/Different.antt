@@ -5,7 +5,7 @@ use mathlib.Core.Bool.{Bool, true, not, _||_}
 use mathlib.Core.List.{List}
 use lib.Dec.{eqb}
 use lib.ListN.{length, getD}
-use Rattle.words.specs.Store.{nodeAt}
+use Rattle.bench_words.specs.Store.{nodeAt}
 use Rattle.sound_words.specs.Below.{allTo}
 
 abbrev pub serialAt : List ℕ → ℕ → ℕ

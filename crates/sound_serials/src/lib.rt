@@ -1,6 +1,6 @@
 // Whether the serials of present nodes are all different: a blank slot has serial 0, and any other serial stands once. Everything here only
 // reads, and any words may be lent. Assumes nothing.
-use words::WORDS;
+use bench_words::WORDS;
 ghost use mathlib.Core.Path.{_≡_};
 ghost use Prim.Native.Nat.{_<_, _≤_};
 ghost use lib.ListN.{length};
@@ -11,7 +11,7 @@ fn serial_at(b: &[u64; WORDS], k: usize) -> u32
     requires { ⌜ k < 512 ⌝ }
     ensures { λ r. ⌜ r ≡ serialAt (now (b .entry)) k ⌝ }
 {
-    let n = words::load_node(b, k);
+    let n = bench_words::load_node(b, k);
     n.serial.0
 }
 

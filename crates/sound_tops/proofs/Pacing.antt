@@ -6,15 +6,15 @@ use mathlib.Core.List.{List}
 use native.Mathlib.Omega.{arith}
 use lib.Dec.{eqb, leb}
 use borrow.Author.Tests.{eq-eqb, ne-eqb}
-use Rattle.words.specs.Store.{nodeAt, interfaceAt}
-use Rattle.words.specs.declared.Interface.{Interface}
-use Rattle.words.specs.declared.Node.{Node}
-use Rattle.words.specs.declared.Up.{Up}
-use Rattle.words.specs.declared.Up.the-variants.{Top, Under}
+use Rattle.bench_words.specs.Store.{nodeAt, interfaceAt}
+use Rattle.bench_words.specs.declared.Interface.{Interface}
+use Rattle.bench_words.specs.declared.Node.{Node}
+use Rattle.bench_words.specs.declared.Up.{Up}
+use Rattle.bench_words.specs.declared.Up.the-variants.{Top, Under}
 use Rattle.ledger_spec.specs.Look.{climb}
-use Rattle.views.specs.Records.{rateOf, Steady}
-use Rattle.views.specs.View.{over, view}
-use Rattle.trees.specs.Climb.{Climbs}
+use Rattle.bench_views.specs.Records.{rateOf, Steady}
+use Rattle.bench_views.specs.View.{over, view}
+use Rattle.bench_trees.specs.Climb.{Climbs}
 use Rattle.sound_words.specs.Below.{sumTo, between}
 use Rattle.sound_words.proofs.Belows.{sum-none, sum-more}
 use Rattle.sound_trees.specs.Width.{widthOf}

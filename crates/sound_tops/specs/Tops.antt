@@ -3,12 +3,12 @@ use Prim.Native.Nat.{ℕ, _+_, _-_, _*_}
 use mathlib.Core.Bool.{Bool, true, _&&_}
 use mathlib.Core.List.{List}
 use lib.Dec.{eqb}
-use Rattle.words.specs.Codec.{pick}
-use Rattle.words.specs.Store.{nodeAt, interfaceAt}
-use Rattle.words.specs.declared.Interface.{Interface}
+use Rattle.bench_words.specs.Codec.{pick}
+use Rattle.bench_words.specs.Store.{nodeAt, interfaceAt}
+use Rattle.bench_words.specs.declared.Interface.{Interface}
 use Rattle.ledger_spec.specs.Look.{climb}
-use Rattle.views.specs.Records.{rateOf}
-use Rattle.views.specs.View.{over, view}
+use Rattle.bench_views.specs.Records.{rateOf}
+use Rattle.bench_views.specs.View.{over, view}
 use Rattle.sound_words.specs.Below.{sumTo, between}
 use Rattle.sound_trees.specs.Width.{widthOf}
 

@@ -1,10 +1,10 @@
 // The sum and the speed of an interface without a parent: the sum within 512 W, the speed what the nodes of its tree make it. Everything here
 // only reads, and any words may be lent whose interfaces are in range. Assumes nothing.
-use words::Up;
-use words::WORDS;
+use bench_words::Up;
+use bench_words::WORDS;
 ghost use mathlib.Core.Path.{_≡_};
 ghost use Prim.Native.Nat.{_<_, _≤_};
-ghost use Rattle.views.specs.Records.{Steady};
+ghost use Rattle.bench_views.specs.Records.{Steady};
 ghost use Rattle.sound_words.specs.Below.{allTo, sumTo};
 ghost use Rattle.sound_tops.specs.Tops.{rateIn, paceUnder, paceOf, topTest};
 
@@ -17,9 +17,9 @@ fn rates(b: &[u64; WORDS], u: usize, used: usize) -> u64
     let mut total: u64 = 0;
     let mut s: usize = 0;
     while s < used {
-        let n = words::load_node(b, u * 64 + s);
+        let n = bench_words::load_node(b, u * 64 + s);
         let state = n.state;
-        total = total + trees::rate_of(state);
+        total = total + bench_trees::rate_of(state);
         s = s + 1;
     }
     total
@@ -31,11 +31,11 @@ fn pace_under(b: &[u64; WORDS], top: usize, u: usize) -> u64
     requires { ⌜ u < 8 ⌝ }
     ensures { λ r. ⌜ (r ≡ paceUnder (now (b .entry)) top u) × (r ≤ 192) ⌝ }
 {
-    let c = trees::climb(b, u);
+    let c = bench_trees::climb(b, u);
     if c.top != top {
         return 64;
     }
-    let f = words::load_interface(b, u);
+    let f = bench_words::load_interface(b, u);
     rates(b, u, f.used as usize) + (64 - f.used)
 }
 
@@ -58,7 +58,7 @@ fn is_top(b: &[u64; WORDS], u: usize) -> bool
     requires { ⌜ u < 8 ⌝ }
     ensures { λ r. ⌜ r ≡ topTest (now (b .entry)) u ⌝ }
 {
-    let f = words::load_interface(b, u);
+    let f = bench_words::load_interface(b, u);
     let up = f.parent;
     match up {
         Up::Under(_p) => true,

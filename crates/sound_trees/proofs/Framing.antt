@@ -11,12 +11,12 @@ use native.Mathlib.Omega.{arith}
 use lib.Dec.{eqb, leb, ltb}
 use lib.ListN.{length, getD, List·getD-eq-default}
 use borrow.Author.Tests.{eqb-true, eqb-false, eq-eqb, ne-eqb, leb-true, le-leb, ltb-true, lt-ltb, not-true}
-use Rattle.words.specs.Codec.{pick}
-use Rattle.words.specs.Store.{nodeAt, interfaceAt}
-use Rattle.words.specs.declared.Interface.{Interface}
-use Rattle.words.specs.declared.Up.{Up}
-use Rattle.words.specs.declared.Up.the-variants.{Top, Under}
-use Rattle.words.proofs.Laws.{GoodUp, good-interface}
+use Rattle.bench_words.specs.Codec.{pick}
+use Rattle.bench_words.specs.Store.{nodeAt, interfaceAt}
+use Rattle.bench_words.specs.declared.Interface.{Interface}
+use Rattle.bench_words.specs.declared.Up.{Up}
+use Rattle.bench_words.specs.declared.Up.the-variants.{Top, Under}
+use Rattle.bench_words.proofs.Laws.{GoodUp, good-interface}
 use Rattle.ledger_spec.specs.Bench.{Bench, fresh}
 use Rattle.ledger_spec.specs.Bench as plain
 use Rattle.ledger_spec.specs.Look.{interface}
@@ -24,10 +24,10 @@ use Rattle.ledger_spec.specs.Tests.{given}
 use Rattle.ledger_spec.specs.Frame.{Frame}
 use Rattle.ledger_spec.proofs.Lists.{and-true, both-true}
 use Rattle.ledger_spec.proofs.Knit.{some-eq, none-some}
-use Rattle.views.specs.Records.{Steady}
-use Rattle.views.specs.View.{upSeen, halvesSeen, view}
-use Rattle.views.proofs.Views.{interface-in, view-eight, view-parent}
-use Rattle.words.specs.Coding.{spareAt, linkAt}
+use Rattle.bench_views.specs.Records.{Steady}
+use Rattle.bench_views.specs.View.{upSeen, halvesSeen, view}
+use Rattle.bench_views.proofs.Views.{interface-in, view-eight, view-parent}
+use Rattle.bench_words.specs.Coding.{spareAt, linkAt}
 use Rattle.sound_trees.specs.Links.{isUnder, upTest, downTest, interfaceTest}
 
 -- ---- the facts of one interface

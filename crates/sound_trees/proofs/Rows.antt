@@ -6,18 +6,18 @@ use mathlib.Core.List.{List}
 use native.Mathlib.Omega.{arith}
 use lib.Dec.{eqb, leb, ltb}
 use borrow.Author.Tests.{eq-eqb, ne-eqb, le-leb, lt-leb}
-use Rattle.words.specs.Store.{interfaceAt}
-use Rattle.words.specs.declared.Interface.{Interface}
-use Rattle.words.specs.declared.Up.{Up}
-use Rattle.words.specs.declared.Up.the-variants.{Under}
-use Rattle.words.proofs.Laws.{GoodUp, good-interface}
+use Rattle.bench_words.specs.Store.{interfaceAt}
+use Rattle.bench_words.specs.declared.Interface.{Interface}
+use Rattle.bench_words.specs.declared.Up.{Up}
+use Rattle.bench_words.specs.declared.Up.the-variants.{Under}
+use Rattle.bench_words.proofs.Laws.{GoodUp, good-interface}
 use Rattle.ledger_spec.specs.Look.{top}
-use Rattle.views.specs.Records.{Steady}
-use Rattle.views.specs.View.{view}
-use Rattle.views.proofs.Sums.{bounded}
-use Rattle.trees.specs.Climb.{Climbs}
+use Rattle.bench_views.specs.Records.{Steady}
+use Rattle.bench_views.specs.View.{view}
+use Rattle.bench_views.proofs.Sums.{bounded}
+use Rattle.bench_trees.specs.Climb.{Climbs}
 use Rattle.sound_words.specs.Below.{sumTo}
-use Rattle.words.specs.Coding.{spareAt, linkAt}
+use Rattle.bench_words.specs.Coding.{spareAt, linkAt}
 use Rattle.sound_words.proofs.Belows.{sum-none, sum-more}
 use Rattle.sound_trees.specs.Links.{isUnder, upTest, downTest, interfaceTest}
 use Rattle.sound_trees.specs.Width.{progressUnder, widthOf}

@@ -7,8 +7,8 @@ use mathlib.Core.List.{List}
 use lib.Dec.{eqb}
 use lib.ListN.{getD}
 use lib.IntN.{ℤ, pos, natAbs, _+ℤ_}
-use Rattle.words.specs.Codec.{pick}
-use Rattle.words.specs.Store.{nodeAt, interfaceAt}
+use Rattle.bench_words.specs.Codec.{pick}
+use Rattle.bench_words.specs.Store.{nodeAt, interfaceAt}
 use Rattle.ledger_spec.specs.Bench as plain
 use Rattle.ledger_spec.specs.Look.{interface, top}
 use Rattle.ledger_spec.specs.Account.{Σ, gate}
@@ -16,8 +16,8 @@ use Rattle.ledger_spec.specs.Frame.{Frame}
 use Rattle.ledger_spec.specs.Facts.{W}
 use Rattle.ledger_spec.proofs.Sums.{Σ-same}
 use Rattle.ledger_spec.proofs.Bounds.{progressIn, W-under}
-use Rattle.views.specs.View.{view}
-use Rattle.views.proofs.Views.{interface-in}
+use Rattle.bench_views.specs.View.{view}
+use Rattle.bench_views.proofs.Views.{interface-in}
 use Rattle.sound_words.specs.Below.{sumTo}
 use Rattle.sound_trees.specs.Width.{widthOf}
 

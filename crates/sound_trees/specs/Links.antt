@@ -3,12 +3,12 @@ use Prim.Native.Nat.{ℕ, _+_, _-_}
 use mathlib.Core.Bool.{Bool, true, false, not, _&&_, _||_}
 use mathlib.Core.List.{List}
 use lib.Dec.{eqb, leb, ltb}
-use Rattle.words.specs.Codec.{pick}
-use Rattle.words.specs.Store.{interfaceAt}
-use Rattle.words.specs.declared.Interface.{Interface}
-use Rattle.words.specs.declared.Up.{Up}
-use Rattle.words.specs.declared.Up.the-variants.{Top, Under}
-use Rattle.words.specs.Coding.{spareAt, linkAt}
+use Rattle.bench_words.specs.Codec.{pick}
+use Rattle.bench_words.specs.Store.{interfaceAt}
+use Rattle.bench_words.specs.declared.Interface.{Interface}
+use Rattle.bench_words.specs.declared.Up.{Up}
+use Rattle.bench_words.specs.declared.Up.the-variants.{Top, Under}
+use Rattle.bench_words.specs.Coding.{spareAt, linkAt}
 
 abbrev pub isUnder : Up → ℕ → Bool
 isUnder Top u = false

@@ -2,10 +2,10 @@
 use Prim.Native.Nat.{ℕ}
 use mathlib.Core.List.{List}
 use lib.Dec.{eqb}
-use Rattle.words.specs.Codec.{pick}
-use Rattle.words.specs.Store.{interfaceAt}
+use Rattle.bench_words.specs.Codec.{pick}
+use Rattle.bench_words.specs.Store.{interfaceAt}
 use Rattle.ledger_spec.specs.Look.{top}
-use Rattle.views.specs.View.{view}
+use Rattle.bench_views.specs.View.{view}
 use Rattle.sound_words.specs.Below.{sumTo}
 
 -- the progress of u, if it climbs to i

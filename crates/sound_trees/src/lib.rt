@@ -1,12 +1,12 @@
 // The interfaces of a sound bench: their ranges, and links both ways between a parent and its halves; and W, the progress of a whole tree.
 // Everything here only reads, and any words may be lent. Assumes nothing.
-use words::Up;
-use words::WORDS;
+use bench_words::Up;
+use bench_words::WORDS;
 ghost use mathlib.Core.Path.{_≡_};
 ghost use Prim.Native.Nat.{_<_, _≤_};
-ghost use Rattle.words.specs.Store.{interfaceAt};
-ghost use Rattle.words.proofs.Laws.{GoodUp};
-ghost use Rattle.views.specs.Records.{Steady};
+ghost use Rattle.bench_words.specs.Store.{interfaceAt};
+ghost use Rattle.bench_words.proofs.Laws.{GoodUp};
+ghost use Rattle.bench_views.specs.Records.{Steady};
 ghost use Rattle.sound_words.specs.Below.{allTo};
 ghost use Rattle.sound_trees.specs.Links.{isUnder, upTest, downTest, interfaceTest};
 ghost use Rattle.sound_trees.specs.Width.{progressUnder, widthOf};
@@ -29,7 +29,7 @@ fn is_half(b: &[u64; WORDS], p: Up, u: usize) -> bool
     match p {
         Up::Top => true,
         Up::Under(q) => {
-            let f = words::load_interface(b, q as usize);
+            let f = bench_words::load_interface(b, q as usize);
             let n = (u as u64) + 1;
             (u < (q as usize)) & ((f.left == n) | (f.right == n))
         }
@@ -54,8 +54,8 @@ fn are_halves(b: &[u64; WORDS], l: u64, r: u64, u: usize) -> bool
     if r == 0 {
         return false;
     }
-    let f = words::load_interface(b, (l - 1) as usize);
-    let g = words::load_interface(b, (r - 1) as usize);
+    let f = bench_words::load_interface(b, (l - 1) as usize);
+    let g = bench_words::load_interface(b, (r - 1) as usize);
     let p = f.parent;
     let q = g.parent;
     (l != r) & (is_under(p, u) & is_under(q, u))
@@ -65,9 +65,9 @@ fn is_interface(b: &[u64; WORDS], u: usize) -> bool
     requires { ⌜ u < 8 ⌝ }
     ensures { λ r. ⌜ r ≡ interfaceTest (now (b .entry)) u ⌝ }
 {
-    let f = words::load_interface(b, u);
+    let f = bench_words::load_interface(b, u);
     let p = f.parent;
-    let coded = words::is_spare(b, u) & words::is_link(b, u);
+    let coded = bench_words::is_spare(b, u) & bench_words::is_link(b, u);
     let ranged = (f.used <= 64) & (f.progress <= 1099511627776);
     coded & (ranged & (is_half(b, p, u) & are_halves(b, f.left, f.right, u)))
 }
@@ -92,11 +92,11 @@ fn progress_under(b: &[u64; WORDS], top: usize, u: usize) -> u64
     requires { ⌜ u < 8 ⌝ }
     ensures { λ r. ⌜ (r ≡ progressUnder (now (b .entry)) top u) × (r ≤ 1099511627776) ⌝ }
 {
-    let c = trees::climb(b, u);
+    let c = bench_trees::climb(b, u);
     if c.top != top {
         return 0;
     }
-    let f = words::load_interface(b, u);
+    let f = bench_words::load_interface(b, u);
     f.progress
 }
 

@@ -15,15 +15,15 @@ use Rattle.kinds.specs.declared.GrowState.the-variants.{Grow, Stay, Shrink}
 use Rattle.kinds.specs.declared.Handle.{Handle}
 use Rattle.kinds.specs.declared.Parent.{Parent}
 use Rattle.kinds.specs.declared.Parent.the-variants.{Outermost, Inside}
-use Rattle.words.specs.declared.Node.{Node}
-use Rattle.words.specs.declared.Up.{Up}
-use Rattle.words.specs.declared.Up.the-variants.{Top, Under}
-use Rattle.words.specs.Codec.{stateOf, stateWord, handleOf, handleWord, classOf, classWord, parentOf, parentWord, upOf, upWord}
-use Rattle.words.specs.Store.{base, ibase, nodeAt, nodeWords, interfaceAt, interfaceWords}
-use Rattle.words.proofs.Laws.{GoodHandle, GoodParent, GoodClass, GoodUp, good-node, good-interface}
+use Rattle.bench_words.specs.declared.Node.{Node}
+use Rattle.bench_words.specs.declared.Up.{Up}
+use Rattle.bench_words.specs.declared.Up.the-variants.{Top, Under}
+use Rattle.bench_words.specs.Codec.{stateOf, stateWord, handleOf, handleWord, classOf, classWord, parentOf, parentWord, upOf, upWord}
+use Rattle.bench_words.specs.Store.{base, ibase, nodeAt, nodeWords, interfaceAt, interfaceWords}
+use Rattle.bench_words.proofs.Laws.{GoodHandle, GoodParent, GoodClass, GoodUp, good-node, good-interface}
 use Rattle.ledger_spec.proofs.Lists.{and-true, both-true}
-use Rattle.views.specs.Records.{noNode}
-use Rattle.words.specs.Coding.{zeroAt, blankAt, codedAt, spareAt, linkAt}
+use Rattle.bench_views.specs.Records.{noNode}
+use Rattle.bench_words.specs.Coding.{zeroAt, blankAt, codedAt, spareAt, linkAt}
 
 -- ---- a word in range is its own code
 state-code : (w : ℕ) → w ≤ 2 → w ≡ stateWord (stateOf w)

@@ -1,6 +1,6 @@
 // A recording's lines: a letter and numbers in, numbers out. A row has room for what any recorded line holds; what is past it is left out, and
 // then does not compare. Assumes nothing.
-use line_fields::NextLength;
+use text_fields::NextLength;
 ghost use Rattle.tapes.specs.Counts.{Counts};
 
 pub const ROOM: usize = 8192;
@@ -29,7 +29,7 @@ pub fn numbers(s: &[u8], row: &mut [i64; ROOM]) -> usize {
     let mut place: usize = 1;
     let mut n: usize = 0;
     while n < 8192 {
-        match line_fields::next_length(s, place) {
+        match text_fields::next_length(s, place) {
             NextLength::Length(z, e) => {
                 say(row, n, z);
                 place = e;

@@ -1,4 +1,4 @@
-//! The plain model's bench written as the ledger's words, and read off them, by the layout at the head of crates/words/src/lib.rt: plain code, for comparing.
+//! The plain model's bench written as the ledger's words, and read off them, by the layout at the head of crates/bench_words/src/lib.rt: plain code, for comparing.
 //! Words that are not the encoding of a bench are read as none, and are BROKEN.
 use oracle::model::bench::{Bench, Class, Face, Handle, Member, Node, FACES, PROGRESS, SLOTS};
 

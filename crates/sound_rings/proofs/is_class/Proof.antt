@@ -1,7 +1,7 @@
 -- A class is told by its case. Assumes nothing.
 use mathlib.Core.Path.{_≡_}
 use Rattle.kinds.specs.declared.Class.the-variants.{Absent, Blossom, Defect}
-use Rattle.words.specs.Store.{nodeAt}
+use Rattle.bench_words.specs.Store.{nodeAt}
 use Rattle.sound_rings.proofs.Walking.{class-absent, class-ring, class-defect}
 use borrow.Author.Needs.{needs}
 use Rattle.sound_rings.proofs.is_class.Statement.{statement}

@@ -3,7 +3,7 @@ use native.Mathlib.Omega.{arith}
 use borrow.Author.Needs.{needs}
 use Prim.Native.Nat.{_-_}
 use borrow.Author.Tests.{not-true, not-false}
-use Rattle.words.specs.Store.{nodeAt}
+use Rattle.bench_words.specs.Store.{nodeAt}
 use Rattle.sound_rings.proofs.Walking.{Going, ring-none, ring-many, going-starts, going-out, going-fails, little, going-on, going-ends}
 use Rattle.sound_rings.proofs.is_ring.Statement.{statement}
 use Rattle.sound_rings.proofs.is_ring.Tie as tie

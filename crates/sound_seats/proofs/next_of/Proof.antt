@@ -1,6 +1,6 @@
 -- A node that is loaded, or past the last. Assumes nothing.
 use mathlib.Core.Path.{ap}
-use Rattle.words.specs.declared.Node.{Node}
+use Rattle.bench_words.specs.declared.Node.{Node}
 use Rattle.sound_seats.proofs.Seating.{past-last}
 use borrow.Author.Needs.{needs}
 use Rattle.sound_seats.proofs.next_of.Statement.{statement}

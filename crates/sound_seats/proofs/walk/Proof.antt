@@ -2,7 +2,7 @@
 use native.Mathlib.Omega.{arith}
 use borrow.Author.Needs.{needs}
 use Prim.Native.Nat.{_-_}
-use Rattle.words.specs.Store.{nodeAt}
+use Rattle.bench_words.specs.Store.{nodeAt}
 use Rattle.sound_seats.proofs.Seating.{Going, going-starts, going-on, going-ends}
 use Rattle.sound_seats.proofs.walk.Statement.{statement}
 use Rattle.sound_seats.proofs.walk.Tie as tie

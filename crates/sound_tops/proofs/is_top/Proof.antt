@@ -1,6 +1,6 @@
 -- A parent is told by its case. Assumes nothing.
 use mathlib.Core.Path.{_≡_}
-use Rattle.words.specs.declared.Up.the-variants.{Top, Under}
+use Rattle.bench_words.specs.declared.Up.the-variants.{Top, Under}
 use Rattle.sound_tops.proofs.Pacing.{top-under, top-row}
 use borrow.Author.Needs.{needs}
 use Rattle.sound_tops.proofs.is_top.Statement.{statement}

@@ -1,5 +1,5 @@
 -- Each way out is one case of the definition. Assumes nothing.
-use Rattle.words.specs.Store.{interfaceAt}
+use Rattle.bench_words.specs.Store.{interfaceAt}
 use Rattle.sound_trees.proofs.Rows.{down-none, down-high, down-high-right, down-alone, down-both}
 use borrow.Author.Needs.{needs}
 use Rattle.sound_trees.proofs.are_halves.Statement.{statement}

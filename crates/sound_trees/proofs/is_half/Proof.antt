@@ -1,7 +1,7 @@
 -- A parent that is loaded is one of eight. Assumes nothing.
 use mathlib.Core.Path.{_≡_}
-use Rattle.words.specs.declared.Up.the-variants.{Under}
-use Rattle.words.specs.Store.{interfaceAt}
+use Rattle.bench_words.specs.declared.Up.the-variants.{Under}
+use Rattle.bench_words.specs.Store.{interfaceAt}
 use Rattle.sound_trees.proofs.Rows.{good-under, half-known}
 use borrow.Author.Needs.{needs}
 use Rattle.sound_trees.proofs.is_half.Statement.{statement}

@@ -1,6 +1,6 @@
 -- A parent is told by its case. Assumes nothing.
 use mathlib.Core.Path.{_≡_}
-use Rattle.words.specs.declared.Up.the-variants.{Under}
+use Rattle.bench_words.specs.declared.Up.the-variants.{Under}
 use Rattle.sound_trees.proofs.Rows.{under-known}
 use borrow.Author.Needs.{needs}
 use Rattle.sound_trees.proofs.is_under.Statement.{statement}

@@ -1,6 +1,6 @@
 -- A number that is not negative fits the unsigned type. Assumes nothing.
 use borrow.Author.Needs.{needs}
-use Rattle.decimals.proofs.Signs.{plain}
+use Rattle.text_decimals.proofs.Signs.{plain}
 use Rattle.tapes.proofs.natural.Statement.{statement}
 use Rattle.tapes.proofs.natural.Tie as tie
 

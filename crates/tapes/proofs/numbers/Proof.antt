@@ -4,7 +4,7 @@ use Rattle.tapes.proofs.numbers.Statement.{statement}
 use Rattle.tapes.proofs.numbers.Tie as tie
 use Rattle.tapes.proofs.numbers.Reads as reads
 use Rattle.tapes.proofs.numbers.Lts as lts
-use Rattle.line_fields.proofs.next_length.Reads as next-length-reads
+use Rattle.text_fields.proofs.next_length.Reads as next-length-reads
 use Rattle.tapes.proofs.say.Reads as say-reads
 
 abbrev Inv-loop : tie.InvT-loop

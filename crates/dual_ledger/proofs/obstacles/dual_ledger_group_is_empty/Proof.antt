@@ -1,7 +1,7 @@
 -- The read below answers; its number and its value as a word are handed on. Assumes nothing.
 use borrow.Author.Needs.{needs}
 use Rattle.dual_ledger.proofs.Handing.{worded-by}
-use Rattle.answer_words.specs.Forms.{flagWord}
+use Rattle.link_answers.specs.Forms.{flagWord}
 use Rattle.dual_ledger.proofs.obstacles.dual_ledger_group_is_empty.Statement.{statement}
 use Rattle.dual_ledger.proofs.obstacles.dual_ledger_group_is_empty.Tie as tie
 

@@ -1,7 +1,7 @@
 -- The read below answers; its number and its values as words are handed on. Assumes nothing.
 use borrow.Author.Needs.{needs}
 use Rattle.dual_ledger.proofs.Handing.{worded-by}
-use Rattle.answer_words.specs.Forms.{maybeWord}
+use Rattle.link_answers.specs.Forms.{maybeWord}
 use Rattle.dual_ledger.proofs.open_reads.dual_ledger_get_node.Statement.{statement}
 use Rattle.dual_ledger.proofs.open_reads.dual_ledger_get_node.Tie as tie
 

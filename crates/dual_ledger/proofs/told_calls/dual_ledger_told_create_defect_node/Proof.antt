@@ -4,9 +4,9 @@ use mathlib.Core.Path.{refl, _∙_}
 use Rattle.kinds.specs.declared.Notice.the-variants.{DefectAdded}
 use Rattle.ledger_spec.specs.Calls.{Defect}
 use Rattle.ledger_spec.specs.Named.{handleNamed}
-use Rattle.notices.specs.Laid.{only}
-use Rattle.telling.specs.Shown.{refusedBy}
-use Rattle.telling.proofs.Telling.{stops, goes, told-defect, node-made}
+use Rattle.outcome_notices.specs.Laid.{only}
+use Rattle.call_told.specs.Shown.{refusedBy}
+use Rattle.call_told.proofs.Telling.{stops, goes, told-defect, node-made}
 use Rattle.dual_ledger.proofs.Telling.{told-by, one-defect}
 use Rattle.dual_ledger.proofs.told_calls.dual_ledger_told_create_defect_node.Statement.{statement}
 use Rattle.dual_ledger.proofs.told_calls.dual_ledger_told_create_defect_node.Tie as tie

@@ -4,10 +4,10 @@ use mathlib.Core.Path.{refl, _∙_}
 use mir.Facts.{toZ-ofZ}
 use Rattle.kinds.specs.declared.Notice.the-variants.{Grown}
 use Rattle.ledger_spec.specs.Calls.{Grow}
-use Rattle.refusals.proofs.Lengths.{again}
-use Rattle.notices.specs.Laid.{only}
-use Rattle.telling.specs.Shown.{refusedBy}
-use Rattle.telling.proofs.Telling.{stops, goes, told-grown, grow-said}
+use Rattle.refuse_calls.proofs.Lengths.{again}
+use Rattle.outcome_notices.specs.Laid.{only}
+use Rattle.call_told.specs.Shown.{refusedBy}
+use Rattle.call_told.proofs.Telling.{stops, goes, told-grown, grow-said}
 use Rattle.dual_ledger.proofs.Telling.{told-by, one-grown}
 use Rattle.dual_ledger.proofs.told_calls.dual_ledger_told_grow.Statement.{statement}
 use Rattle.dual_ledger.proofs.told_calls.dual_ledger_told_grow.Tie as tie

@@ -5,9 +5,9 @@ use Rattle.kinds.specs.declared.Notice.the-variants.{StateSet}
 use Rattle.ledger_spec.specs.Calls.{SetState}
 use Rattle.ledger_spec.specs.Named.{handleNamed, stateNamed}
 use Rattle.ledger_spec.specs.Notices.{tells}
-use Rattle.notices.specs.Laid.{only}
-use Rattle.telling.specs.Shown.{refusedBy}
-use Rattle.telling.proofs.Telling.{stops, goes}
+use Rattle.outcome_notices.specs.Laid.{only}
+use Rattle.call_told.specs.Shown.{refusedBy}
+use Rattle.call_told.proofs.Telling.{stops, goes}
 use Rattle.dual_ledger.proofs.Settling.{same-state}
 use Rattle.dual_ledger.proofs.Telling.{told-by, one-state}
 use Rattle.dual_ledger.proofs.told_calls.dual_ledger_told_set_grow_state.Statement.{statement}

@@ -1,11 +1,11 @@
 -- The read below answers; its number and its values as words are handed on. Assumes nothing.
 use borrow.Author.Needs.{needs}
 use mathlib.Core.Path.{ap, _∙_}
-use Rattle.views.proofs.Fits.{fit-of}
-use Rattle.views.specs.View.{view}
+use Rattle.bench_views.proofs.Fits.{fit-of}
+use Rattle.bench_views.specs.View.{view}
 use Rattle.ledger_spec.specs.Reads.{belongs}
 use Rattle.dual_ledger.proofs.Handing.{worded-by}
-use Rattle.answer_words.specs.Forms.{flagWord}
+use Rattle.link_answers.specs.Forms.{flagWord}
 use Rattle.dual_ledger.proofs.trusted_reads.dual_ledger_trusted_check_ptr_belonging.Statement.{statement}
 use Rattle.dual_ledger.proofs.trusted_reads.dual_ledger_trusted_check_ptr_belonging.Tie as tie
 

@@ -2,8 +2,8 @@
 use borrow.Author.Needs.{needs}
 use mathlib.Core.Path.{ap, _∙_}
 use Rattle.ledger_spec.specs.Bench.{Handle}
-use Rattle.views.proofs.Fits.{fit-of}
-use Rattle.views.specs.View.{view}
+use Rattle.bench_views.proofs.Fits.{fit-of}
+use Rattle.bench_views.specs.View.{view}
 use Rattle.ledger_spec.specs.Walk.{verticesInto}
 use Rattle.dual_ledger.proofs.trusted_reads.dual_ledger_trusted_get_all_vertices.Statement.{statement}
 use Rattle.dual_ledger.proofs.trusted_reads.dual_ledger_trusted_get_all_vertices.Tie as tie

@@ -1,8 +1,8 @@
 -- The read below answers; its number and its values as words are handed on. Assumes nothing.
 use borrow.Author.Needs.{needs}
-use Rattle.views.proofs.Fits.{fit-of}
+use Rattle.bench_views.proofs.Fits.{fit-of}
 use Rattle.dual_ledger.proofs.Handing.{worded-by}
-use Rattle.answer_words.specs.Forms.{maybeWord}
+use Rattle.link_answers.specs.Forms.{maybeWord}
 use Rattle.dual_ledger.proofs.trusted_reads.dual_ledger_trusted_get_node.Statement.{statement}
 use Rattle.dual_ledger.proofs.trusted_reads.dual_ledger_trusted_get_node.Tie as tie
 

@@ -1,11 +1,11 @@
 -- The read below answers; its number and its values as words are handed on. Assumes nothing.
 use borrow.Author.Needs.{needs}
 use mathlib.Core.Path.{ap, _∙_}
-use Rattle.views.proofs.Fits.{fit-of}
-use Rattle.views.specs.View.{view}
+use Rattle.bench_views.proofs.Fits.{fit-of}
+use Rattle.bench_views.specs.View.{view}
 use Rattle.ledger_spec.specs.Walk.{underOf}
 use Rattle.dual_ledger.proofs.Handing.{worded-by}
-use Rattle.answer_words.specs.Forms.{nodeWord}
+use Rattle.link_answers.specs.Forms.{nodeWord}
 use Rattle.dual_ledger.proofs.trusted_reads.dual_ledger_trusted_get_secondary_ancestor_blossom.Statement.{statement}
 use Rattle.dual_ledger.proofs.trusted_reads.dual_ledger_trusted_get_secondary_ancestor_blossom.Tie as tie
 

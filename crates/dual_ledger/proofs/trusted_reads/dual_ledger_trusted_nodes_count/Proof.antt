@@ -1,5 +1,5 @@
 -- The read below answers; its number and its values as words are handed on. Assumes nothing.
-use Rattle.views.proofs.Fits.{fit-of}
+use Rattle.bench_views.proofs.Fits.{fit-of}
 use Rattle.dual_ledger.proofs.trusted_reads.dual_ledger_trusted_nodes_count.Statement.{statement}
 use Rattle.dual_ledger.proofs.trusted_reads.dual_ledger_trusted_nodes_count.Tie as tie
 

@@ -6,7 +6,7 @@ use borrow.Author.Needs.{needs}
 use lib.ListN.{length, length-map, take}
 use Rattle.ledger_spec.specs.Tests.{any}
 use Rattle.ledger_spec.specs.GroupCalls.{gone, listHandles, stopHandles, groupHandles}
-use Rattle.views.specs.View.{view}
+use Rattle.bench_views.specs.View.{view}
 use Rattle.groups.specs.View.{groupOf}
 use Rattle.groups.specs.declared.Kind.the-variants.{Conflicts}
 use Rattle.groups.proofs.View.{sound-counts}

@@ -2,11 +2,11 @@
 use mathlib.Core.Path.{_≡_, sym}
 use borrow.Author.Needs.{needs}
 use Rattle.ledger_spec.specs.Named.{handleNamed}
-use Rattle.views.specs.View.{view}
-use Rattle.links.specs.declared.Found.the-variants.{At, Stale}
-use Rattle.links.proofs.Finding.{found-at, found-none}
-use Rattle.links.proofs.Rising.{seen-some}
-use Rattle.reads.proofs.Numbers.{stale-yes, stale-no}
+use Rattle.bench_views.specs.View.{view}
+use Rattle.bench_links.specs.declared.Found.the-variants.{At, Stale}
+use Rattle.bench_links.proofs.Finding.{found-at, found-none}
+use Rattle.bench_links.proofs.Rising.{seen-some}
+use Rattle.read_sound.proofs.Numbers.{stale-yes, stale-no}
 use Rattle.group_calls.proofs.presence.is_gone.Statement.{statement}
 use Rattle.group_calls.proofs.presence.is_gone.Tie as tie
 

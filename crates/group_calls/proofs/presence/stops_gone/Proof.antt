@@ -6,7 +6,7 @@ use borrow.Author.Needs.{needs}
 use lib.ListN.{length, take, drop}
 use Rattle.ledger_spec.specs.Tests.{any}
 use Rattle.ledger_spec.specs.GroupCalls.{gone, stopHandles}
-use Rattle.views.specs.View.{view}
+use Rattle.bench_views.specs.View.{view}
 use Rattle.group_handles.proofs.Handles.{stop-turn, stop-end}
 use Rattle.group_calls.proofs.Turns.{or-yes, or-no}
 use Rattle.group_calls.proofs.presence.stops_gone.Statement.{statement}

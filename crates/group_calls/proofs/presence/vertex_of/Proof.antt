@@ -4,7 +4,7 @@ use mathlib.Core.Path.{sym, ap, _∙_}
 use borrow.Author.Needs.{needs}
 use Rattle.kinds.specs.declared.Obstacle.{Obstacle}
 use Rattle.ledger_spec.specs.GroupCalls.{vertexOf}
-use Rattle.views.specs.View.{view}
+use Rattle.bench_views.specs.View.{view}
 use Rattle.group_calls.proofs.presence.vertex_of.Statement.{statement}
 use Rattle.group_calls.proofs.presence.vertex_of.Tie as tie
 

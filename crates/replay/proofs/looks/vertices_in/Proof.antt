@@ -4,7 +4,7 @@ use Rattle.replay.proofs.looks.vertices_in.Statement.{statement}
 use Rattle.replay.proofs.looks.vertices_in.Tie as tie
 use Rattle.replay.proofs.looks.vertices_in.Reads as reads
 use Rattle.replay.proofs.looks.vertices_in.Lts as lts
-use Rattle.asks.proofs.get_all_vertices.Reads as get-all-vertices-reads
+use Rattle.read_any.proofs.get_all_vertices.Reads as get-all-vertices-reads
 use Rattle.replay.proofs.looks.vertex.Reads as vertex-reads
 use Rattle.replay.proofs.nodes.small.Reads as small-reads
 use Rattle.tapes.proofs.say.Reads as say-reads

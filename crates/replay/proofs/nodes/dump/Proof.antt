@@ -4,7 +4,7 @@ use Rattle.replay.proofs.nodes.dump.Statement.{statement}
 use Rattle.replay.proofs.nodes.dump.Tie as tie
 use Rattle.replay.proofs.nodes.dump.Reads as reads
 use Rattle.replay.proofs.nodes.dump.Lts as lts
-use Rattle.asks.proofs.nodes_count.Reads as nodes-count-reads
+use Rattle.read_any.proofs.nodes_count.Reads as nodes-count-reads
 use Rattle.replay.proofs.nodes.slot.Reads as slot-reads
 use Rattle.replay.proofs.nodes.small.Reads as small-reads
 use Rattle.tapes.proofs.say.Reads as say-reads

@@ -1,0 +1,20 @@
+-- The top is what the climb finds. Assumes nothing.
+use Prim.Native.Nat.{ℕ}
+use mathlib.Core.Path.{ap}
+use mathlib.Core.Bool.{not}
+use borrow.Author.Needs.{needs}
+use lib.Dec.{eqb}
+use Rattle.bench_links.proofs.is_foreign.Statement.{statement}
+use Rattle.bench_links.proofs.is_foreign.Tie as tie
+
+cast-from : tie.Need-cast-from
+cast-from c = search needs
+
+climb-requires : tie.Need-climb-requires
+climb-requires c κs = search needs
+
+returns : tie.Need-returns
+returns c = ap (λ (t : ℕ). not (eqb t (c .before .before .before .args .unit))) (c .before .climb .ensures .top)
+
+pub is-foreign-spec : {M : Type 1} → statement M
+is-foreign-spec = tie.close (tie.spec cast-from climb-requires returns)

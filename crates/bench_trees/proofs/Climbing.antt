@@ -1,0 +1,66 @@
+-- One turn of the climb: at an interface without a parent it ends, and else it goes on at the parent with one step less. Assumes nothing.
+use Prim.Native.Nat.{ℕ, suc, _+_, _-_, _*_, _<_, _≤_}
+use mathlib.Core.Path.{_≡_, refl, ap, sym, _∙_}
+use mathlib.Core.List.{List}
+use native.Mathlib.Omega.{arith}
+use lib.ListN.{getD}
+use Rattle.bench_words.specs.Store.{nodeAt, interfaceAt}
+use Rattle.bench_words.specs.declared.Interface.{Interface}
+use Rattle.bench_words.specs.declared.Up.the-variants.{Top, Under}
+use Rattle.ledger_spec.specs.Look.{climb}
+use Rattle.ledger_spec.proofs.Tops.{climb-none, climb-some}
+use Rattle.bench_views.specs.View.{sumUp, view, upSeen}
+use Rattle.bench_views.specs.Records.{Steady}
+use Rattle.bench_views.proofs.Sums.{sumUp-none, bounded, under-eight, ends, goes-on}
+use Rattle.bench_views.proofs.Views.{view-parent}
+use Rattle.bench_trees.specs.Climb.{Climbs}
+
+-- what holds at each turn: t so far, at interface u, with n steps left
+pub record Going (b : List ℕ) (unit t u n : ℕ) : Type 0 where
+  pub low : u < 8
+  pub left : n ≤ 8
+  pub small : t + n * 1099511627776 ≤ 8796093022208
+  pub sum : t + sumUp n (interfaceAt b) u ≡ sumUp 8 (interfaceAt b) unit
+  pub top : climb n (view b) u ≡ climb 8 (view b) unit
+  pub steady : Steady b
+
+module _ (b : List ℕ) (unit t u n : ℕ) (G : Going b unit t u n) (more : 0 < n) (f : Interface) (e : f ≡ interfaceAt b u) where
+  pub little : f .progress ≤ 1099511627776
+  little = bounded u (G .steady) (G .low) e
+
+  pub going-ends : f .parent ≡ Top → Climbs b unit u (t + f .progress)
+  going-ends q =
+      let free = view-parent (getD b 0 0) (interfaceAt b) (nodeAt b) u (G .low) ∙ ap (λ (x : Interface). upSeen (x .parent)) (sym e) ∙ ap upSeen q in
+      let m = little in
+      record {
+        top = sym (climb-none n (view b) u free) ∙ G .top;
+        low = G .low;
+        total = ends n t u (interfaceAt b) (G .sum) more e q;
+        small = omega arith;
+      }
+
+  pub going-on : (p : ℕ) → f .parent ≡ Under p → Going b unit (t + f .progress) p (n - 1)
+  going-on p q =
+      let under = view-parent (getD b 0 0) (interfaceAt b) (nodeAt b) u (G .low) ∙ ap (λ (x : Interface). upSeen (x .parent)) (sym e) ∙ ap upSeen q in
+      let back : suc (n - 1) ≡ n = omega arith in
+      let m = little in
+      record {
+        low = under-eight b u e q;
+        left = omega arith;
+        small = omega arith;
+        sum = goes-on n t u (interfaceAt b) (G .sum) more e q;
+        top = sym (climb-some (n - 1) (view b) u p under) ∙ ap (λ (k : ℕ). climb k (view b) u) back ∙ G .top;
+        steady = G .steady;
+      }
+
+pub going-starts : (b : List ℕ) (unit : ℕ) → unit < 8 → Steady b → Going b unit 0 unit 8
+going-starts b unit l s = record { low = l; left = omega arith; small = omega arith; sum = omega arith; top = refl; steady = s }
+
+pub going-spent : (b : List ℕ) (unit t u n : ℕ) → Going b unit t u n → n ≡ 0 → Climbs b unit u t
+unfolding climb
+going-spent b unit t u n G z = record {
+  top = sym (ap (λ (k : ℕ). climb k (view b) u) z) ∙ G .top;
+  low = G .low;
+  total = omega (arith, G .sum, sumUp-none (interfaceAt b) u, ap (λ (k : ℕ). sumUp k (interfaceAt b) u) z);
+  small = omega (arith, G .small);
+}

@@ -1,0 +1,33 @@
+-- By cases of the state; the ranges keep the sums in 64 bits. Assumes nothing.
+use borrow.Author.Needs.{needs}
+use Rattle.bench_trees.proofs.biased.Statement.{statement}
+use Rattle.bench_trees.proofs.biased.Tie as tie
+
+enum-told : tie.Need-enum-told
+enum-told c = search needs
+
+sub-result : tie.Need-sub-result
+sub-result c = search needs
+
+enum-told-2 : tie.Need-enum-told-2
+enum-told-2 c = search needs
+
+enum-told-3 : tie.Need-enum-told-3
+enum-told-3 c = search needs
+
+add-result : tie.Need-add-result
+add-result c = search needs
+
+returns : tie.Need-returns
+returns c = cc
+
+returns-2 : tie.Need-returns-2
+returns-2 c = search needs
+
+returns-3 : tie.Need-returns-3
+returns-3 c = cc
+
+pub biased-spec : {M : Type 1} → statement M
+biased-spec =
+    tie.close
+    (tie.spec enum-told sub-result enum-told-2 enum-told-3 add-result returns returns-2 returns-3)

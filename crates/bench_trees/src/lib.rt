@@ -1,0 +1,78 @@
+// Up the tree of fused interfaces: its top, and T, the progress of an interface and of all above it; and a node's value by its bias and T.
+// Everything here only reads. Assumes nothing.
+use bench_words::Up;
+use bench_words::WORDS;
+use kinds::GrowState;
+ghost use mathlib.Core.Path.{_≡_};
+ghost use Prim.Native.Nat.{_+_, _<_, _≤_};
+ghost use Rattle.ledger_spec.specs.Look.{top};
+ghost use Rattle.bench_views.specs.Records.{rateOf, Steady};
+ghost use Rattle.bench_views.specs.View.{valueOf, biasOf};
+ghost use Rattle.bench_trees.specs.Climb.{Climbs};
+
+// The value of a node, 2^60 higher than it is.
+pub fn valued(g: GrowState, bias: u64, t: u64) -> u64
+    requires { ⌜ (t ≤ bias) × (bias + t < 18446744073709551616) ⌝ }
+    ensures { λ r. ⌜ r ≡ valueOf g bias t ⌝ }
+{
+    match g {
+        GrowState::Grow => bias + t,
+        GrowState::Stay => bias,
+        GrowState::Shrink => bias - t,
+    }
+}
+
+// The bias that gives a value.
+pub fn biased(g: GrowState, value: u64, t: u64) -> u64
+    requires { ⌜ (t ≤ value) × (value + t < 18446744073709551616) ⌝ }
+    ensures { λ r. ⌜ r ≡ biasOf g value t ⌝ }
+{
+    match g {
+        GrowState::Grow => value - t,
+        GrowState::Stay => value,
+        GrowState::Shrink => value + t,
+    }
+}
+
+// A state's share of the speed, one higher than it is.
+pub fn rate_of(g: GrowState) -> u64
+    ensures { λ r. ⌜ (r ≡ rateOf g) × (r ≤ 2) ⌝ }
+{
+    match g {
+        GrowState::Grow => 2,
+        GrowState::Stay => 1,
+        GrowState::Shrink => 0,
+    }
+}
+
+// The interface without a parent at the top of a tree, and T on the way to it.
+pub struct Climbed {
+    pub top: usize,
+    pub total: u64,
+}
+
+// The loop's own count is the fuel of the definitions.
+pub fn climb(b: &[u64; WORDS], unit: usize) -> Climbed
+    requires { ⌜ unit < 8 ⌝ }
+    requires { ⌜ Steady (now b) ⌝ }
+    ensures { λ r. ⌜ Climbs (now (b .entry)) unit (r .top) (r .total) ⌝ }
+{
+    let mut t: u64 = 0;
+    let mut u = unit;
+    let mut n: usize = 8;
+    while 0 < n {
+        let f = bench_words::load_interface(b, u);
+        t = t + f.progress;
+        n = n - 1;
+        let up = f.parent;
+        match up {
+            Up::Top => {
+                return Climbed { top: u, total: t };
+            }
+            Up::Under(p) => {
+                u = p as usize;
+            }
+        }
+    }
+    Climbed { top: u, total: t }
+}

@@ -1,0 +1,63 @@
+-- Stores keep words coded, and what the view says of the units. Assumes nothing.
+use Prim.Native.Nat.{ℕ, _+_, _-_, _%_, _<_, _≤_}
+use mathlib.Core.Path.{_≡_, ap, sym, _∙_, subst}
+use mathlib.Core.Logic.{by-cases}
+use mathlib.Core.List.{List}
+use native.Mathlib.Decide.{ℕ-discrete}
+use native.Mathlib.Omega.{arith}
+use lib.IntN.{natAbs}
+use lib.ListN.{length, getD, set}
+use lib.Seq.{getD-set-other}
+use Rattle.bench_words.specs.Store.{nodeAt, interfaceAt, storeNode, storeInterface, base, ibase, interfaceWords, nodeWords}
+use Rattle.bench_words.proofs.Laws.{Good, GoodUp, inside, inside-interface, store-out, store-interface-out, load-same, load-other, store-node-interface, interface-same, interface-other, store-interface-node, interface-first, node-first}
+use Rattle.bench_words.specs.declared.Node.{Node}
+use Rattle.bench_words.specs.declared.Interface.{Interface}
+use Rattle.ledger_spec.specs.Bench as plain
+use Rattle.ledger_spec.specs.Look.{interface}
+use Rattle.ledger_spec.specs.Frame.{Frame}
+use Rattle.bench_views.specs.View.{view, upSeen}
+use Rattle.bench_views.specs.Records.{Steady}
+use Rattle.bench_views.specs.Canon.{Coded}
+use Rattle.bench_views.proofs.Views.{interface-in, view-count, view-parent}
+
+pub coded-node : (b : List ℕ) (k : ℕ) (n : Node) → length b ≡ 6273 → k < 512 → Good n → Coded b → Coded (storeNode b k n)
+coded-node b k n len lk g c =
+    record {
+      spare = λ m z l h. store-out b k n len lk m (λ i li e. omega arith) ∙ c .spare m z l h;
+      units = λ u lu j lj.
+          store-out b k n len lk (ibase u + (1 + j)) (λ i li e. omega arith) ∙ c .units u lu j lj ∙ ap (λ (x : Interface). getD (interfaceWords x) j 0) (sym (store-node-interface b k n len lk u lu));
+      nodes = λ i li j lj. by-cases (ℕ-discrete i k)
+          (λ (e : i ≡ k). subst (λ (x : ℕ). getD (storeNode b k n) (base x + (1 + j)) 0 ≡ getD (nodeWords (nodeAt (storeNode b k n) x)) j 0) (sym e) (inside b k n len lk j lj ∙ ap (λ (x : Node). getD (nodeWords x) j 0) (sym (load-same b k n len lk g))))
+          (λ (ne : i ≡ k → ⊥). store-out b k n len lk (base i + (1 + j)) (λ f lf e. omega arith) ∙ c .nodes i li j lj ∙ ap (λ (x : Node). getD (nodeWords x) j 0) (sym (load-other b k n len lk i ne)));
+    }
+
+pub coded-interface : (b : List ℕ) (u : ℕ) (n : Interface) → length b ≡ 6273 → u < 8 → GoodUp (n .parent) → Coded b → Coded (storeInterface b u n)
+coded-interface b u n len lu g c =
+    record {
+      spare = λ m z l h. store-interface-out b u n len lu m (λ i li e. far m z l h i li e) ∙ c .spare m z l h;
+      units = λ v lv j lj. by-cases (ℕ-discrete v u)
+          (λ (e : v ≡ u). subst (λ (x : ℕ). getD (storeInterface b u n) (ibase x + (1 + j)) 0 ≡ getD (interfaceWords (interfaceAt (storeInterface b u n) x)) j 0) (sym e) (inside-interface b u n len lu j lj ∙ ap (λ (x : Interface). getD (interfaceWords x) j 0) (sym (interface-same b u n len lu g))))
+          (λ (ne : v ≡ u → ⊥). store-interface-out b u n len lu (ibase v + (1 + j)) (λ f lf e. omega arith) ∙ c .units v lv j lj ∙ ap (λ (x : Interface). getD (interfaceWords x) j 0) (sym (interface-other b u n len lu v ne)));
+      nodes = λ i li j lj. store-interface-out b u n len lu (base i + (1 + j)) (λ f lf e. omega arith) ∙ c .nodes i li j lj ∙ ap (λ (x : Node). getD (nodeWords x) j 0) (sym (store-interface-node b u n len lu i));
+    }
+  where
+    far : (m : ℕ) → 0 < m → m ≤ 128 → 7 ≤ (m - 1) % 16 → (i : ℕ) → i < 7 → m ≡ ibase u + (1 + i) → ⊥
+    far m z l h i li e = omega arith
+
+pub coded-first : (b : List ℕ) (x : ℕ) → Coded b → Coded (set b 0 x)
+coded-first b x c =
+    record {
+      spare = λ m z l h. getD-set-other b 0 m x 0 (λ e. omega arith) ∙ c .spare m z l h;
+      units = λ u lu j lj. getD-set-other b 0 (ibase u + (1 + j)) x 0 (λ e. omega arith) ∙ c .units u lu j lj ∙ ap (λ (w : Interface). getD (interfaceWords w) j 0) (sym (interface-first b x u));
+      nodes = λ i li j lj. getD-set-other b 0 (base i + (1 + j)) x 0 (λ e. omega arith) ∙ c .nodes i li j lj ∙ ap (λ (w : Node). getD (nodeWords w) j 0) (sym (node-first b x i));
+    }
+
+-- the ranges that a call's work asks of the words, from the view
+pub steady-of : (b : List ℕ) → length b ≡ 6273 → Frame (view b) → ((u : ℕ) → u < 8 → length (interface (view b) u .slots) ≤ 64) → ((u : ℕ) → u < 8 → natAbs (interface (view b) u .progress) ≤ 1099511627776) → Steady b
+steady-of b len F slots progress =
+    record {
+      len = len;
+      slots = λ u lu. omega (arith, slots u lu, view-count (getD b 0 0) (interfaceAt b) (nodeAt b) u lu);
+      progress = λ u lu. subst (λ (f : plain.Interface). natAbs (f .progress) ≤ 1099511627776) (interface-in (getD b 0 0) (interfaceAt b) (nodeAt b) u lu) (progress u lu);
+      rising = λ u p lu e. F .rising u p (view-parent (getD b 0 0) (interfaceAt b) (nodeAt b) u lu ∙ ap upSeen e) .0;
+    }

@@ -1,0 +1,249 @@
+-- The view over units and nodes as functions: its parts, and what makes it the bench that a step of the ledger gives. Assumes nothing.
+use Prim.Native.Nat.{ℕ, zero, suc, _+_, _-_, _*_, _<_, _≤_}
+use mathlib.Core.Path.{_≡_, refl, ap, ap₂, sym, _∙_}
+use mathlib.Core.Logic.{_≢_, by-cases}
+use mathlib.Core.Option.{Option, none, some}
+use mathlib.Core.List.{List, [], _∷_, _++_, map}
+use mathlib.Core.Bool.{Bool}
+use native.Mathlib.Decide.{ℕ-discrete}
+use native.Mathlib.Omega.{arith}
+use lib.Dec.{eqb}
+use borrow.Author.Tests.{eq-eqb, ne-eqb}
+use lib.ListN.{length, getD, set, List·getD-eq-default}
+use lib.Seq.{ext-getD}
+use lib.IntN.{ℤ, pos, _+ℤ_, _-ℤ_, _*ℤ_}
+use Rattle.bench_words.specs.Codec.{pick}
+use Rattle.bench_words.proofs.Laws.{GoodUp}
+use Rattle.kinds.specs.declared.Class.{Class}
+use Rattle.kinds.specs.declared.Class.the-variants.{Absent, Blossom, Defect}
+use Rattle.bench_words.specs.declared.Node.{Node}
+use Rattle.bench_words.specs.declared.Interface.{Interface}
+use Rattle.bench_words.specs.declared.Up.{Up}
+use Rattle.bench_words.specs.declared.Up.the-variants.{Top, Under}
+use Rattle.ledger_spec.specs.Bench.{rate, Member, Bench, fresh}
+use Rattle.ledger_spec.specs.Bench as plain
+use Rattle.ledger_spec.specs.Look.{interface, slotOf, top, climb}
+use Rattle.ledger_spec.specs.Change.{share, place, push, faster}
+use Rattle.ledger_spec.specs.Deeds.{growBy, growSlot}
+use Rattle.ledger_spec.proofs.Tops.{climb-none, climb-some}
+use Rattle.ledger_spec.proofs.Readings.{place-field, place-else, place-here, place-slow, place-fast, place-length, push-field, push-else, push-here, push-slow, push-fast, push-length}
+use Rattle.ledger_spec.proofs.TreeReadings.{grow-field, grow-under, grow-else, grow-sum, grow-sum-else, grow-length, grow-progress, grow-progress-else}
+use Rattle.bench_views.specs.Tab.{tab}
+use Rattle.bench_views.specs.View.{off, upSeen, halvesSeen, sumUp, over, slotSeen, slotIn, interfaceIn, viewIn, circleOf}
+use Rattle.bench_views.specs.Records.{withSpeed, withUsed, withGrowth}
+use Rattle.bench_views.proofs.Tabs.{length-tab, getD-tab, tab-same, tab-set, tab-snoc, tab-map}
+use Rattle.bench_views.proofs.Offsets.{value-grown}
+
+-- ---- the parts of a view
+module _ (n : ℕ) (U : ℕ → Interface) (A : ℕ → Node) where
+  pub interface-in : (v : ℕ) → v < 8 → interface (viewIn n U A) v ≡ interfaceIn U A v
+  unfolding viewIn
+  interface-in v l = getD-tab (interfaceIn U A) 8 v fresh l
+
+  pub view-eight : length (viewIn n U A .interfaces) ≡ 8
+  unfolding viewIn
+  view-eight = length-tab (interfaceIn U A) 0 8
+
+  pub view-next : viewIn n U A .next ≡ n
+  unfolding viewIn
+  view-next = refl
+
+  pub view-count : (v : ℕ) → v < 8 → length (interface (viewIn n U A) v .slots) ≡ U v .used
+  view-count v l = ap (λ (f : plain.Interface). length (f .slots)) (interface-in v l) ∙ length-tab (slotIn U A v) 0 (U v .used)
+
+  pub view-slot : (v s : ℕ) → v < 8 → s < U v .used → slotOf (viewIn n U A) v s ≡ slotIn U A v s
+  view-slot v s l k = ap (λ (f : plain.Interface). getD (f .slots) s none) (interface-in v l) ∙ getD-tab (slotIn U A v) (U v .used) s none k
+
+  pub view-past : (v s : ℕ) → v < 8 → U v .used ≤ s → slotOf (viewIn n U A) v s ≡ none
+  view-past v s l k =
+      let e : length (interface (viewIn n U A) v .slots) ≤ s = omega (arith, view-count v l) in
+      List·getD-eq-default (interface (viewIn n U A) v .slots) none e
+
+  pub view-out : (v s : ℕ) → 8 ≤ v → slotOf (viewIn n U A) v s ≡ none
+  view-out v s l =
+      let e : length (viewIn n U A .interfaces) ≤ v = omega (arith, view-eight) in
+      ap (λ (f : plain.Interface). getD (f .slots) s none) (List·getD-eq-default (viewIn n U A .interfaces) fresh e)
+
+  pub view-parent : (v : ℕ) → v < 8 → interface (viewIn n U A) v .parent ≡ upSeen (U v .parent)
+  view-parent v l = ap (λ (f : plain.Interface). f .parent) (interface-in v l)
+
+  -- a bench with the same parts
+  pub view-is : (B : Bench) → B .next ≡ n → length (B .interfaces) ≡ 8 → ((v : ℕ) → v < 8 → interfaceIn U A v ≡ interface B v) → viewIn n U A ≡ B
+  unfolding viewIn
+  view-is B e l h =
+      let fs : tab (interfaceIn U A) 0 8 ≡ B .interfaces =
+      ext-getD fresh (tab (interfaceIn U A) 0 8) (B .interfaces) (length-tab (interfaceIn U A) 0 8 ∙ sym l)
+      (λ v lv. let l8 : v < 8 = rw (length-tab (interfaceIn U A) 0 8) at lv in getD-tab (interfaceIn U A) 8 v fresh l8 ∙ h v l8) in
+      λ i. record { next = sym e i; interfaces = fs i }
+
+pub interface-is : (f g : plain.Interface) → f .slots ≡ g .slots → f .progress ≡ g .progress → f .sum ≡ g .sum → f .speed ≡ g .speed → f .parent ≡ g .parent → f .halves ≡ g .halves → f ≡ g
+interface-is f g a b c d e h = λ i. record { slots = a i; progress = b i; sum = c i; speed = d i; parent = e i; halves = h i }
+
+-- ---- a slot changed
+module _ (n : ℕ) (U U' : ℕ → Interface) (A A' : ℕ → Node) (u s t sp : ℕ) (y : Option plain.Node)
+    (lu : u < 8) (ls : s < U u .used) (lt : t < 8) (tops : top (viewIn n U A) u ≡ t)
+    (here : U' t ≡ withSpeed (U t) sp) (there : (v : ℕ) → v < 8 → v ≢ t → U' v ≡ U v) where
+  pub unit-kept : {X : Type 0} (φ : Interface → X) → ((x : Interface) (z : ℕ) → φ (withSpeed x z) ≡ φ x) → (v : ℕ) → v < 8 → φ (U' v) ≡ φ (U v)
+  unit-kept φ e v lv = by-cases (ℕ-discrete v t) (λ (q : v ≡ t). rw (q, here) (e (U t) sp)) (λ (q : v ≡ t → ⊥). rw (there v lv q))
+
+  module _ (fast : off 1024 sp ≡ off 1024 (U t .speed) +ℤ (share y -ℤ share (slotIn U A u s)))
+      (slot-here : slotIn U' A' u s ≡ y)
+      (slot-there : (v r : ℕ) → v < 8 → r < U v .used → (v ≡ u → r ≡ s → ⊥) → slotIn U' A' v r ≡ slotIn U A v r) where
+    abbrev B₀ : Bench
+    B₀ = viewIn n U A
+
+    slots-now : (v : ℕ) → v < 8 → tab (slotIn U' A' v) 0 (U' v .used) ≡ interface (place B₀ u s y) v .slots
+    slots-now v lv = ap (λ (k : ℕ). tab (slotIn U' A' v) 0 k) (unit-kept (λ x. x .used) (λ x z. refl) v lv)
+        ∙ by-cases (ℕ-discrete v u)
+        (λ (e : v ≡ u). rw e (tab-set (slotIn U A u) (slotIn U' A' u) (U u .used) s y none ls slot-here (λ r lr ne. slot-there u r lu lr (λ a b. ne b))
+        ∙ sym (place-here B₀ u s y (omega (arith, view-eight n U A)) ∙ ap (λ (f : plain.Interface). set (f .slots) s y) (interface-in n U A u lu))))
+        (λ (ne : v ≡ u → ⊥). tab-same (slotIn U' A' v) (slotIn U A v) (U v .used) none (λ r lr. slot-there v r lv lr (λ a b. ne a))
+        ∙ sym (place-else B₀ u s y v ne ∙ ap (λ (f : plain.Interface). f .slots) (interface-in n U A v lv)))
+
+    speed-now : (v : ℕ) → v < 8 → off 1024 (U' v .speed) ≡ interface (place B₀ u s y) v .speed
+    speed-now v lv = by-cases (ℕ-discrete v t)
+        (λ (e : v ≡ t). rw (e, here)
+        (fast
+        ∙ sym (ap (λ (w : ℕ). interface (place B₀ u s y) w .speed) (sym tops)
+        ∙ place-fast B₀ u s y (omega (arith, view-eight n U A, tops))
+        ∙ ap₂ (λ (x z : ℤ). x +ℤ z) (ap (λ (w : ℕ). interface B₀ w .speed) tops ∙ ap (λ (f : plain.Interface). f .speed) (interface-in n U A t lt)) (ap (λ (o : Option plain.Node). share y -ℤ share o) (view-slot n U A u s lu ls)))))
+        (λ (ne : v ≡ t → ⊥). rw (there v lv ne) (sym (place-slow B₀ u s y v (λ e. ne (e ∙ tops)) ∙ ap (λ (f : plain.Interface). f .speed) (interface-in n U A v lv))))
+
+    field : {X : Type 0} (φ : plain.Interface → X) (v : ℕ) → v < 8 → ((f : plain.Interface) (l : List (Option plain.Node)) → φ (record { slots = l; progress = f .progress; sum = f .sum; speed = f .speed; parent = f .parent; halves = f .halves }) ≡ φ f)
+        → ((f : plain.Interface) (x : ℤ) → φ (record { slots = f .slots; progress = f .progress; sum = f .sum; speed = x; parent = f .parent; halves = f .halves }) ≡ φ f)
+        → φ (interfaceIn U A v) ≡ φ (interface (place B₀ u s y) v)
+    field φ v lv p q = sym (place-field B₀ u s y φ p q v ∙ ap φ (interface-in n U A v lv))
+
+    pub place-view : viewIn n U' A' ≡ place B₀ u s y
+    unfolding place faster
+    place-view = view-is n U' A' (place B₀ u s y) (view-next n U A) (place-length B₀ u s y ∙ view-eight n U A)
+        (λ v lv. interface-is (interfaceIn U' A' v) (interface (place B₀ u s y) v)
+        (slots-now v lv)
+        (ap (λ (x : ℕ). pos x) (unit-kept (λ x. x .progress) (λ x z. refl) v lv) ∙ field (λ f. f .progress) v lv (λ f l. refl) (λ f x. refl))
+        (ap (off 4611686018427387904) (unit-kept (λ x. x .sum) (λ x z. refl) v lv) ∙ field (λ f. f .sum) v lv (λ f l. refl) (λ f x. refl))
+        (speed-now v lv)
+        (ap upSeen (unit-kept (λ x. x .parent) (λ x z. refl) v lv) ∙ field (λ f. f .parent) v lv (λ f l. refl) (λ f x. refl))
+        (ap₂ halvesSeen (unit-kept (λ x. x .left) (λ x z. refl) v lv) (unit-kept (λ x. x .right) (λ x z. refl) v lv) ∙ field (λ f. f .halves) v lv (λ f l. refl) (λ f x. refl)))
+
+-- ---- a slot added
+module _ (n : ℕ) (U U' : ℕ → Interface) (A A' : ℕ → Node) (u sp : ℕ) (x : plain.Node) (lu : u < 8)
+    (here : U' u ≡ withUsed (U u) (suc (U u .used)) sp) (there : (v : ℕ) → v < 8 → v ≢ u → U' v ≡ U v) where
+  pub unit-held : {X : Type 0} (φ : Interface → X) → ((y : Interface) (m z : ℕ) → φ (withUsed y m z) ≡ φ y) → (v : ℕ) → v < 8 → φ (U' v) ≡ φ (U v)
+  unit-held φ e v lv = by-cases (ℕ-discrete v u) (λ (q : v ≡ u). rw (q, here) (e (U u) (suc (U u .used)) sp)) (λ (q : v ≡ u → ⊥). rw (there v lv q))
+
+  module _ (fast : off 1024 sp ≡ off 1024 (U u .speed) +ℤ rate (x .state))
+      (slot-new : slotIn U' A' u (U u .used) ≡ some x)
+      (slot-old : (v r : ℕ) → v < 8 → r < U v .used → slotIn U' A' v r ≡ slotIn U A v r) where
+    abbrev W : Bench
+    W = viewIn n U A
+
+    slots-more : (v : ℕ) → v < 8 → tab (slotIn U' A' v) 0 (U' v .used) ≡ interface (push W u x) v .slots
+    slots-more v lv = by-cases (ℕ-discrete v u)
+        (λ (e : v ≡ u). rw (e, here)
+        (tab-snoc (slotIn U' A' u) (U u .used)
+        ∙ ap₂ (λ (l : List (Option plain.Node)) (o : Option plain.Node). l ++ (o ∷ [])) (tab-same (slotIn U' A' u) (slotIn U A u) (U u .used) none (λ r lr. slot-old u r lu lr)) slot-new
+        ∙ sym (push-here W u x (omega (arith, view-eight n U A)) ∙ ap (λ (f : plain.Interface). f .slots ++ (some x ∷ [])) (interface-in n U A u lu))))
+        (λ (ne : v ≡ u → ⊥). ap (λ (y : Interface). tab (slotIn U' A' v) 0 (y .used)) (there v lv ne)
+        ∙ tab-same (slotIn U' A' v) (slotIn U A v) (U v .used) none (λ r lr. slot-old v r lv lr)
+        ∙ sym (push-else W u x v ne ∙ ap (λ (f : plain.Interface). f .slots) (interface-in n U A v lv)))
+
+    speed-more : (v : ℕ) → v < 8 → off 1024 (U' v .speed) ≡ interface (push W u x) v .speed
+    speed-more v lv = by-cases (ℕ-discrete v u)
+        (λ (e : v ≡ u). rw (e, here) (fast ∙ sym (push-fast W u x (omega (arith, view-eight n U A)) ∙ ap (λ (f : plain.Interface). f .speed +ℤ rate (x .state)) (interface-in n U A u lu))))
+        (λ (ne : v ≡ u → ⊥). rw (there v lv ne) (sym (push-slow W u x v ne ∙ ap (λ (f : plain.Interface). f .speed) (interface-in n U A v lv))))
+
+    held : {X : Type 0} (φ : plain.Interface → X) (v : ℕ) → v < 8 → ((f : plain.Interface) (l : List (Option plain.Node)) → φ (record { slots = l; progress = f .progress; sum = f .sum; speed = f .speed; parent = f .parent; halves = f .halves }) ≡ φ f)
+        → ((f : plain.Interface) (x : ℤ) → φ (record { slots = f .slots; progress = f .progress; sum = f .sum; speed = x; parent = f .parent; halves = f .halves }) ≡ φ f)
+        → φ (interfaceIn U A v) ≡ φ (interface (push W u x) v)
+    held φ v lv p q = sym (push-field W u x φ p q v ∙ ap φ (interface-in n U A v lv))
+
+    pub push-view : viewIn (suc n) U' A' ≡ push W u x
+    unfolding push faster
+    push-view = view-is (suc n) U' A' (push W u x) (ap suc (view-next n U A)) (push-length W u x ∙ view-eight n U A)
+        (λ v lv. interface-is (interfaceIn U' A' v) (interface (push W u x) v)
+        (slots-more v lv)
+        (ap (λ (y : ℕ). pos y) (unit-held (λ y. y .progress) (λ y m z. refl) v lv) ∙ held (λ f. f .progress) v lv (λ f l. refl) (λ f y. refl))
+        (ap (off 4611686018427387904) (unit-held (λ y. y .sum) (λ y m z. refl) v lv) ∙ held (λ f. f .sum) v lv (λ f l. refl) (λ f y. refl))
+        (speed-more v lv)
+        (ap upSeen (unit-held (λ y. y .parent) (λ y m z. refl) v lv) ∙ held (λ f. f .parent) v lv (λ f l. refl) (λ f y. refl))
+        (ap₂ halvesSeen (unit-held (λ y. y .left) (λ y m z. refl) v lv) (unit-held (λ y. y .right) (λ y m z. refl) v lv) ∙ held (λ f. f .halves) v lv (λ f l. refl) (λ f y. refl)))
+
+-- ---- growth
+pub slot-grown : (k : Node) (t l : ℕ) (ms : List Member) → ((k .class ≡ Absent → ⊥) → t + l ≤ k .bias) → slotSeen k (t + l) ms ≡ growSlot (pos l) (slotSeen k t ms)
+unfolding slotSeen growSlot
+slot-grown k t l ms h = go (k .class) refl
+  where
+    go : (c : Class) → k .class ≡ c → slotSeen k (t + l) ms ≡ growSlot (pos l) (slotSeen k t ms)
+    go Absent e = rw e
+    go Blossom e = rw e (rw (value-grown 1152921504606846976 (k .state) (k .bias) t l (h (λ a. let z : Absent ≡ Blossom = sym a ∙ e in let z2 : _≡_ {A = ℕ} 0 1 = cc in omega arith))))
+    go (Defect v) e = rw e (rw (value-grown 1152921504606846976 (k .state) (k .bias) t l (h (λ a. let z : Absent ≡ Defect v = sym a ∙ e in let z2 : _≡_ {A = ℕ} 0 1 = cc in omega arith))))
+
+module _ (n : ℕ) (U U' : ℕ → Interface) (A : ℕ → Node) (u l s' : ℕ) (lu : u < 8)
+    (root : U u .parent ≡ Top)
+    (good : (v : ℕ) → v < 8 → GoodUp (U v .parent)) (rising : (v p : ℕ) → v < 8 → U v .parent ≡ Under p → v < p)
+    (here : U' u ≡ withGrowth (U u) (U u .progress + l) s') (there : (v : ℕ) → v < 8 → v ≢ u → U' v ≡ U v) where
+  abbrev G : Bench
+  G = viewIn n U A
+
+  -- the sum above a unit grows if it stands under u
+  pub sums-grow : (m v : ℕ) → v < 8 → 8 ≤ m + v → sumUp m U' v ≡ sumUp m U v + pick (eqb (climb m G v) u) l 0
+  unfolding sumUp
+  sums-grow zero v lv h = absurd (omega arith)
+  sums-grow (suc m) v lv h =
+      by-cases (ℕ-discrete v u)
+      (λ (e : v ≡ u).
+      let c : climb (suc m) G u ≡ u = climb-none (suc m) G u (view-parent n U A u lu ∙ ap upSeen root) in
+      rw (e, here, root, c, eq-eqb u u refl) (omega arith))
+      (λ (ne : v ≡ u → ⊥). rw (there v lv ne) (go (U v .parent) refl ne (sums-grow m)))
+    where
+      go : (p : Up) → U v .parent ≡ p → (v ≡ u → ⊥) → ((w : ℕ) → w < 8 → 8 ≤ m + w → sumUp m U' w ≡ sumUp m U w + pick (eqb (climb m G w) u) l 0)
+          → U v .progress + over (U v .parent) 0 (sumUp m U') ≡ U v .progress + over (U v .parent) 0 (sumUp m U) + pick (eqb (climb (suc m) G v) u) l 0
+      go Top e ne ih =
+          let c : climb (suc m) G v ≡ v = climb-none (suc m) G v (view-parent n U A v lv ∙ ap upSeen e) in
+          rw (e, c, ne-eqb v u ne) (omega arith)
+      go (Under p) e ne ih =
+          let c : climb (suc m) G v ≡ climb m G p = climb-some m G v p (view-parent n U A v lv ∙ ap upSeen e) in
+          let g : GoodUp (Under p) = rw e at (good v lv) in
+          let r : v < p = rising v p lv e in
+          rw (e, c) (omega (arith, ih p g (omega arith)))
+
+  unit-grown : {X : Type 0} (φ : Interface → X) → ((x : Interface) (p z : ℕ) → φ (withGrowth x p z) ≡ φ x) → (v : ℕ) → v < 8 → φ (U' v) ≡ φ (U v)
+  unit-grown φ e v lv = by-cases (ℕ-discrete v u) (λ (q : v ≡ u). rw (q, here) (e (U u) (U u .progress + l) s')) (λ (q : v ≡ u → ⊥). rw (there v lv q))
+
+  module _ (sums : off 4611686018427387904 s' ≡ off 4611686018427387904 (U u .sum) +ℤ pos l *ℤ off 1024 (U u .speed))
+      (room : (v r : ℕ) → v < 8 → r < U v .used → (A (v * 64 + r) .class ≡ Absent → ⊥) → sumUp 8 U v + l ≤ A (v * 64 + r) .bias) where
+    slots-grown : (v : ℕ) → v < 8 → tab (slotIn U' A v) 0 (U' v .used) ≡ interface (growBy G u (pos l)) v .slots
+    slots-grown v lv = ap (λ (k : ℕ). tab (slotIn U' A v) 0 k) (unit-grown (λ x. x .used) (λ x p z. refl) v lv)
+        ∙ by-cases (ℕ-discrete (climb 8 G v) u)
+        (λ (e : climb 8 G v ≡ u).
+        let q : sumUp 8 U' v ≡ sumUp 8 U v + l = sums-grow 8 v lv (omega arith) ∙ ap (λ (c : Bool). sumUp 8 U v + pick c l 0) (eq-eqb (climb 8 G v) u e) in
+        tab-same (slotIn U' A v) (λ r. growSlot (pos l) (slotIn U A v r)) (U v .used) none
+        (λ r lr. ap (λ (t : ℕ). slotSeen (A (v * 64 + r)) t (circleOf A (v * 64 + r))) q ∙ slot-grown (A (v * 64 + r)) (sumUp 8 U v) l (circleOf A (v * 64 + r)) (room v r lv lr))
+        ∙ sym (tab-map (growSlot (pos l)) (slotIn U A v) (U v .used))
+        ∙ sym (grow-under G u (pos l) v (omega (arith, view-eight n U A)) e ∙ ap (λ (f : plain.Interface). map (growSlot (pos l)) (f .slots)) (interface-in n U A v lv)))
+        (λ (ne : climb 8 G v ≡ u → ⊥).
+        let z : sumUp 8 U v + 0 ≡ sumUp 8 U v = omega arith in
+        let q : sumUp 8 U' v ≡ sumUp 8 U v = sums-grow 8 v lv (omega arith) ∙ ap (λ (c : Bool). sumUp 8 U v + pick c l 0) (ne-eqb (climb 8 G v) u ne) ∙ z in
+        ap (λ (t : ℕ). tab (λ r. slotSeen (A (v * 64 + r)) t (circleOf A (v * 64 + r))) 0 (U v .used)) q
+        ∙ sym (grow-else G u (pos l) v (omega (arith, view-eight n U A)) ne ∙ ap (λ (f : plain.Interface). f .slots) (interface-in n U A v lv)))
+
+    sum-now : (v : ℕ) → v < 8 → off 4611686018427387904 (U' v .sum) ≡ interface (growBy G u (pos l)) v .sum
+    sum-now v lv = by-cases (ℕ-discrete v u)
+        (λ (e : v ≡ u). rw (e, here) (sums ∙ sym (grow-sum G u (pos l) (omega (arith, view-eight n U A)) ∙ ap (λ (f : plain.Interface). f .sum +ℤ pos l *ℤ f .speed) (interface-in n U A u lu))))
+        (λ (ne : v ≡ u → ⊥). rw (there v lv ne) (sym (grow-sum-else G u (pos l) v ne ∙ ap (λ (f : plain.Interface). f .sum) (interface-in n U A v lv))))
+
+    progress-now : (v : ℕ) → v < 8 → pos (U' v .progress) ≡ interface (growBy G u (pos l)) v .progress
+    progress-now v lv = by-cases (ℕ-discrete v u)
+        (λ (e : v ≡ u). rw (e, here) (sym (grow-progress G u (pos l) (omega (arith, view-eight n U A)) ∙ ap (λ (f : plain.Interface). f .progress +ℤ pos l) (interface-in n U A u lu))))
+        (λ (ne : v ≡ u → ⊥). rw (there v lv ne) (sym (grow-progress-else G u (pos l) v ne ∙ ap (λ (f : plain.Interface). f .progress) (interface-in n U A v lv))))
+
+    pub grow-view : viewIn n U' A ≡ growBy G u (pos l)
+    unfolding growBy
+    grow-view = view-is n U' A (growBy G u (pos l)) (view-next n U A) (grow-length G u (pos l) ∙ view-eight n U A)
+        (λ v lv. interface-is (interfaceIn U' A v) (interface (growBy G u (pos l)) v)
+        (slots-grown v lv)
+        (progress-now v lv)
+        (sum-now v lv)
+        (ap (off 1024) (unit-grown (λ x. x .speed) (λ x p z. refl) v lv) ∙ sym (grow-field G u (pos l) (λ f. f .speed) (λ f s. refl) (λ f. refl) v ∙ ap (λ (f : plain.Interface). f .speed) (interface-in n U A v lv)))
+        (ap upSeen (unit-grown (λ x. x .parent) (λ x p z. refl) v lv) ∙ sym (grow-field G u (pos l) (λ f. f .parent) (λ f s. refl) (λ f. refl) v ∙ ap (λ (f : plain.Interface). f .parent) (interface-in n U A v lv)))
+        (ap₂ halvesSeen (unit-grown (λ x. x .left) (λ x p z. refl) v lv) (unit-grown (λ x. x .right) (λ x p z. refl) v lv) ∙ sym (grow-field G u (pos l) (λ f. f .halves) (λ f s. refl) (λ f. refl) v ∙ ap (λ (f : plain.Interface). f .halves) (interface-in n U A v lv))))

@@ -1,0 +1,55 @@
+-- How a state, a class, a handle, a parent and an interface's parent are written as words. Assumes nothing.
+use Prim.Native.Nat.{ℕ, _+_, _-_, _*_, _/_, _%_}
+use mathlib.Core.Bool.{Bool, true, false}
+use lib.Dec.{eqb}
+use Rattle.kinds.specs.declared.GrowState.{GrowState}
+use Rattle.kinds.specs.declared.GrowState.the-variants.{Grow, Stay, Shrink}
+use Rattle.kinds.specs.declared.Class.{Class}
+use Rattle.kinds.specs.declared.Class.the-variants.{Absent, Blossom, Defect}
+use Rattle.kinds.specs.declared.Handle.{Handle}
+use Rattle.kinds.specs.declared.Parent.{Parent}
+use Rattle.kinds.specs.declared.Parent.the-variants.{Outermost, Inside}
+use Rattle.bench_words.specs.declared.Up.{Up}
+use Rattle.bench_words.specs.declared.Up.the-variants.{Top, Under}
+
+-- `if`: the Bool that a test gives picks
+abbrev pub pick {ℓ} : {A : Type ℓ} → Bool → A → A → A
+pick true a b = a
+pick false a b = b
+
+-- 0 stays, so that an empty slot is all zero
+abbrev pub stateOf : ℕ → GrowState
+stateOf w = pick (eqb w 0) Stay (pick (eqb w 1) Grow Shrink)
+
+abbrev pub stateWord : GrowState → ℕ
+stateWord Grow = 1
+stateWord Stay = 0
+stateWord Shrink = 2
+
+abbrev pub handleOf : ℕ → Handle
+handleOf w = record { unit = w % 8; slot = w / 8 % 64; serial = record { 0 = w / 8 / 64 % 4294967296 } }
+
+abbrev pub handleWord : Handle → ℕ
+handleWord h = (h .serial .0 * 64 + h .slot) * 8 + h .unit
+
+abbrev pub classOf : ℕ → Class
+classOf w = pick (eqb w 0) Absent (pick (eqb w 1) Blossom (Defect (record { 0 = (w - 2) % 4294967296 })))
+
+abbrev pub classWord : Class → ℕ
+classWord Absent = 0
+classWord Blossom = 1
+classWord (Defect v) = v .0 + 2
+
+abbrev pub parentOf : ℕ → Parent
+parentOf w = pick (eqb w 0) Outermost (Inside (handleOf (w - 1)))
+
+abbrev pub parentWord : Parent → ℕ
+parentWord Outermost = 0
+parentWord (Inside h) = handleWord h + 1
+
+abbrev pub upOf : ℕ → Up
+upOf w = pick (eqb w 0) Top (Under ((w - 1) % 8))
+
+abbrev pub upWord : Up → ℕ
+upWord Top = 0
+upWord (Under p) = p + 1

@@ -1,0 +1,92 @@
+-- Where a node and an interface lie in the bench's words, and what a load and a store of one is. Assumes nothing.
+use Prim.Native.Nat.{ℕ, suc, _+_, _*_, _%_}
+use mathlib.Core.List.{List, [], _∷_}
+use lib.ListN.{getD, set}
+use Rattle.bench_words.specs.Codec.{stateOf, stateWord, handleOf, handleWord, classOf, classWord, parentOf, parentWord, upOf, upWord}
+use Rattle.bench_words.specs.declared.Node.{Node}
+use Rattle.bench_words.specs.declared.Interface.{Interface}
+
+-- fields stand at base + 1 and on
+abbrev pub base : ℕ → ℕ
+base k = 128 + k * 12
+
+abbrev pub ibase : ℕ → ℕ
+ibase u = u * 16
+
+abbrev pub nodeOf : (s c g p l x a z v n f m : ℕ) → Node
+nodeOf s c g p l x a z v n f m =
+    record {
+      serial = record { 0 = s % 4294967296 };
+      class = classOf c;
+      state = stateOf g;
+      parent = parentOf p;
+      place = l;
+      next = x;
+      left = handleOf a;
+      right = handleOf z;
+      bias = v;
+      size = n;
+      first = f;
+      count = m;
+    }
+
+unfoldable pub nodeAt : List ℕ → ℕ → Node
+nodeAt b k =
+    nodeOf
+    (getD b (base k + 1) 0)
+    (getD b (base k + 2) 0)
+    (getD b (base k + 3) 0)
+    (getD b (base k + 4) 0)
+    (getD b (base k + 5) 0)
+    (getD b (base k + 6) 0)
+    (getD b (base k + 7) 0)
+    (getD b (base k + 8) 0)
+    (getD b (base k + 9) 0)
+    (getD b (base k + 10) 0)
+    (getD b (base k + 11) 0)
+    (getD b (base k + 12) 0)
+
+-- words written one after the other, from `at + f` on
+abbrev pub writes : List ℕ → ℕ → ℕ → List ℕ → List ℕ
+writes b at f [] = b
+writes b at f (w ∷ ws) = writes (set b (at + f) w) at (suc f) ws
+
+abbrev pub nodeWords : Node → List ℕ
+nodeWords n =
+    n .serial .0
+    ∷ classWord (n .class)
+    ∷ stateWord (n .state)
+    ∷ parentWord (n .parent)
+    ∷ n .place
+    ∷ n .next
+    ∷ handleWord (n .left)
+    ∷ handleWord (n .right)
+    ∷ n .bias
+    ∷ n .size
+    ∷ n .first
+    ∷ n .count
+    ∷ []
+
+unfoldable pub storeNode : List ℕ → ℕ → Node → List ℕ
+storeNode b k n = writes b (base k) 1 (nodeWords n)
+
+abbrev pub interfaceOf : (used progress sum speed parent left right : ℕ) → Interface
+interfaceOf used progress sum speed parent left right =
+    record { used = used; progress = progress; sum = sum; speed = speed; parent = upOf parent; left = left; right = right }
+
+unfoldable pub interfaceAt : List ℕ → ℕ → Interface
+interfaceAt b u =
+    interfaceOf
+    (getD b (ibase u + 1) 0)
+    (getD b (ibase u + 2) 0)
+    (getD b (ibase u + 3) 0)
+    (getD b (ibase u + 4) 0)
+    (getD b (ibase u + 5) 0)
+    (getD b (ibase u + 6) 0)
+    (getD b (ibase u + 7) 0)
+
+abbrev pub interfaceWords : Interface → List ℕ
+interfaceWords n = n .used ∷ n .progress ∷ n .sum ∷ n .speed ∷ upWord (n .parent) ∷ n .left ∷ n .right ∷ []
+
+unfoldable pub storeInterface : List ℕ → ℕ → Interface → List ℕ
+storeInterface b u n = writes b (ibase u) 1 (interfaceWords n)

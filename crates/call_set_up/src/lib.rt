@@ -1,0 +1,25 @@
+// Set-up: any words at all become the empty bench, whose first node will have the serial given. 0 is no serial: WORN (15), and the bench as from serial 1.
+// Assumes nothing.
+use bench_words::WORDS;
+ghost use Rattle.call_set_up.specs.Opened.{Opened, OpenedBy};
+
+pub fn set_up(b: &mut [u64; WORDS], first: u32) -> u8
+    ensures { λ r. ⌜ OpenedBy first r (now (b .exit)) ⌝ }
+{
+    if first == 0 {
+        deed_trees::set_up(b, 1);
+        return 15;
+    }
+    deed_trees::set_up(b, first);
+    0
+}
+
+// The same bench, handed out whole.
+pub fn new_bench(first: u32) -> [u64; WORDS]
+    ensures { λ r. ⌜ Opened first r ⌝ }
+{
+    if first == 0 {
+        return deed_trees::new_bench(1);
+    }
+    deed_trees::new_bench(first)
+}

@@ -1,0 +1,67 @@
+// The trusted add blossom, on words that hold a sound bench: the first refusal of document 01's table that applies, or the work. Members and touching
+// handles are lists of any length, of words of any kind. Assumes nothing.
+use bench_words::WORDS;
+use outcomes::Made;
+ghost use mathlib.Core.Path.{_≡_};
+ghost use Prim.Native.Nat.{_<_};
+ghost use Rattle.ledger_spec.specs.Tests.{first};
+ghost use Rattle.ledger_spec.specs.Refuse.{blossomTests};
+ghost use Rattle.ledger_spec.specs.Calls.{Blossom};
+ghost use Rattle.bench_views.specs.Canon.{Canon};
+ghost use Rattle.bench_views.specs.Fit.{SoundWords};
+ghost use Rattle.bench_views.specs.View.{view};
+ghost use Rattle.deed_circles.specs.Given.{handsGiven, pairsGiven};
+ghost use Rattle.refuse_circles.specs.Parts.{roomTests};
+ghost use Rattle.outcomes.specs.Answered.{Answered};
+
+// No room for one more node: every slot used (14), no serial left (15), or 0.
+fn room_number(b: &[u64; WORDS], unit: u8) -> u8
+    requires { ⌜ unit < 8 ⌝ }
+    ensures { λ r. ⌜ r ≡ first (roomTests (view (now (b .entry))) unit) ⌝ }
+{
+    let f = bench_words::load_interface(b, unit as usize);
+    if 64 <= f.used {
+        return 14;
+    }
+    let next = bench_words::load_next(b);
+    if 4294967296 <= next {
+        return 15;
+    }
+    0
+}
+
+// The number that add blossom is refused by, or 0. Only reads.
+pub fn blossom_number(b: &[u64; WORDS], unit: u8, members: &[u64], touching: &[u64]) -> u8
+    requires { ⌜ Canon (now b) ⌝ }
+    ensures { λ r. ⌜ r ≡ first (blossomTests (view (now (b .entry))) unit (handsGiven (now (members .entry))) (pairsGiven (now (touching .entry)))) ⌝ }
+{
+    let named = read_sound::unit_number(b, unit);
+    if named != 0 {
+        return named;
+    }
+    let shape = refuse_circles::shape_number(members, touching);
+    if shape != 0 {
+        return shape;
+    }
+    let nodes = refuse_circles::nodes_number(b, unit, members, touching);
+    if nodes != 0 {
+        return nodes;
+    }
+    if refuse_circles::given_twice(members) {
+        return 13;
+    }
+    room_number(b, unit)
+}
+
+// Makes a blossom of the members, which stay in it, and gives its handle; or refuses, with no word changed.
+pub fn create_blossom(b: &mut [u64; WORDS], unit: u8, members: &[u64], touching: &[u64]) -> Made
+    requires { ⌜ SoundWords (now b) ⌝ }
+    ensures { λ r. ⌜ Answered (now (b .entry)) (Blossom unit (handsGiven (now (members .entry))) (pairsGiven (now (touching .entry)))) (r .number) (r .node) (now (b .exit)) ⌝ }
+{
+    let number = blossom_number(b, unit, members, touching);
+    if number != 0 {
+        return Made::refused(number);
+    }
+    let node = deed_circles::add_blossom(b, unit as usize, members, touching);
+    Made { number: 0, node }
+}

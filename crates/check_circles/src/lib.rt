@@ -1,0 +1,169 @@
+// The members of one circle, checked in circle order: a defect touches by itself (else 2), a blossom by present nodes (else 4) of its outermost blossom
+// (else 3), and strictly by nodes under it (else 6). Everything here only reads. Assumes nothing.
+use bench_links::Found;
+use bench_words::WORDS;
+use kinds::Class;
+use kinds::Handle;
+ghost use mathlib.Core.Path.{_≡_};
+ghost use Prim.Native.Nat.{_<_};
+ghost use Rattle.bench_words.specs.Store.{nodeAt};
+ghost use Rattle.kinds.specs.declared.Class.the-variants.{Blossom};
+ghost use Rattle.ledger_spec.specs.Named.{handleNamed};
+ghost use Rattle.ledger_spec.specs.Walk.{outermost};
+ghost use Rattle.bench_views.specs.Fit.{Fit};
+ghost use Rattle.bench_views.specs.View.{view, handleAt, memberAt};
+ghost use Rattle.bench_links.specs.Find.{Stands};
+ghost use Rattle.bench_vertices.specs.Under.{Placed};
+ghost use Rattle.check_circles.specs.Found.{larger, ownBy, touchVerdict, underVerdict, touchBy, memberBy, Circled};
+
+// A verdict, and the member that it is of; 0 and nobody where nothing was found.
+pub struct Finding {
+    pub verdict: u8,
+    pub node: Handle,
+}
+
+// 4 comes before 3, whichever handle it is of.
+fn larger_of(x: u8, y: u8) -> u8
+    ensures { λ r. ⌜ r ≡ larger x y ⌝ }
+{
+    if x < y {
+        return y;
+    }
+    x
+}
+
+// A defect's two touching handles.
+fn own_verdict(own: Handle, left: Handle, right: Handle, strict: bool) -> u8
+    ensures { λ r. ⌜ r ≡ ownBy strict (handleNamed own) (handleNamed left) (handleNamed right) ⌝ }
+{
+    if strict {
+        return 0;
+    }
+    if left.same(own) {
+        if right.same(own) {
+            return 0;
+        }
+        return 2;
+    }
+    2
+}
+
+// One touching handle of a blossom whose outermost blossom is `outer`.
+fn touch_verdict(b: &[u64; WORDS], outer: Handle, h: Handle) -> u8
+    requires { ⌜ Fit (now b) ⌝ }
+    ensures { λ r. ⌜ r ≡ touchVerdict (view (now (b .entry))) (handleNamed outer) (handleNamed h) ⌝ }
+{
+    let found = bench_links::find(b, h);
+    match found {
+        Found::Stale => 4,
+        Found::At(_) => {
+            let o = bench_links::outermost(b, h);
+            let node = o.node;
+            if node.same(outer) {
+                return 0;
+            }
+            3
+        }
+    }
+}
+
+// The same, strictly.
+fn under_verdict(b: &[u64; WORDS], own: Handle, outer: Handle, h: Handle) -> u8
+    requires { ⌜ Fit (now b) ⌝ }
+    requires { ⌜ Stands (now b) (handleNamed outer) ⌝ }
+    ensures { λ r. ⌜ r ≡ underVerdict (view (now (b .entry))) (handleNamed own) (handleNamed outer) (handleNamed h) ⌝ }
+{
+    if h.same(own) {
+        return 0;
+    }
+    if own.serial.0 <= h.serial.0 {
+        return 6;
+    }
+    if touch_verdict(b, outer, h) != 0 {
+        return 6;
+    }
+    0
+}
+
+fn touch(b: &[u64; WORDS], own: Handle, outer: Handle, h: Handle, strict: bool) -> u8
+    requires { ⌜ Fit (now b) ⌝ }
+    requires { ⌜ Stands (now b) (handleNamed outer) ⌝ }
+    ensures { λ r. ⌜ r ≡ touchBy strict (view (now (b .entry))) (handleNamed own) (handleNamed outer) (handleNamed h) ⌝ }
+{
+    if strict {
+        return under_verdict(b, own, outer, h);
+    }
+    touch_verdict(b, outer, h)
+}
+
+// The member at a position, whose outermost blossom is `outer`.
+fn member_verdict(b: &[u64; WORDS], k: usize, outer: Handle, strict: bool) -> u8
+    requires { ⌜ Fit (now b) ⌝ }
+    requires { ⌜ Placed (now b) k ⌝ }
+    requires { ⌜ Stands (now b) (handleNamed outer) ⌝ }
+    requires { ⌜ handleNamed outer ≡ outermost (view (now b)) (handleAt (nodeAt (now b)) k) ⌝ }
+    ensures { λ r. ⌜ r ≡ memberBy strict (view (now (b .entry))) (memberAt (nodeAt (now (b .entry))) k) ⌝ }
+{
+    let n = bench_words::load_node(b, k);
+    let class = n.class;
+    let serial = n.serial;
+    let left = n.left;
+    let right = n.right;
+    let own = Handle {
+        unit: (k / 64) as u8,
+        slot: (k % 64) as u8,
+        serial,
+    };
+    match class {
+        Class::Absent => 0,
+        Class::Defect(_) => own_verdict(own, left, right, strict),
+        Class::Blossom => {
+            let x = touch(b, own, outer, left, strict);
+            let y = touch(b, own, outer, right, strict);
+            larger_of(x, y)
+        }
+    }
+}
+
+// The handle of the node at a position.
+fn handle_at(b: &[u64; WORDS], k: usize) -> Handle
+    requires { ⌜ k < 512 ⌝ }
+    ensures { λ r. ⌜ handleNamed r ≡ handleAt (nodeAt (now (b .entry))) k ⌝ }
+{
+    let n = bench_words::load_node(b, k);
+    let serial = n.serial;
+    Handle {
+        unit: (k / 64) as u8,
+        slot: (k % 64) as u8,
+        serial,
+    }
+}
+
+// The first finding in the circle of the blossom at a position.
+pub fn circle_verdict(b: &[u64; WORDS], k: usize, strict: bool) -> Finding
+    requires { ⌜ Fit (now b) ⌝ }
+    requires { ⌜ Placed (now b) k ⌝ }
+    requires { ⌜ nodeAt (now b) k .class ≡ Blossom ⌝ }
+    ensures { λ r. ⌜ Circled (now (b .entry)) k strict r ⌝ }
+{
+    let n = bench_words::load_node(b, k);
+    let o = bench_links::outermost(b, handle_at(b, k));
+    let outer = o.node;
+    let mut p = n.first;
+    let mut m = n.count;
+    while 0 < m {
+        let q = p as usize;
+        let verdict = member_verdict(b, q, outer, strict);
+        if verdict != 0 {
+            let node = handle_at(b, q);
+            return Finding { verdict, node };
+        }
+        let x = bench_words::load_node(b, q);
+        p = x.next;
+        m = m - 1;
+    }
+    Finding {
+        verdict: 0,
+        node: Handle::nobody(),
+    }
+}

@@ -1,0 +1,121 @@
+-- The loop takes the members in one by one, with the size and the speed so far; then the blossom is pushed. Assumes nothing.
+use Prim.Native.Nat.{_-_}
+use mathlib.Core.Path.{ap}
+use native.Mathlib.Omega.{arith}
+use borrow.Author.Needs.{needs}
+use lib.ListN.{length}
+use Rattle.bench_words.specs.declared.Interface.{Interface}
+use Rattle.deed_circles.proofs.Givens.{ringable}
+use Rattle.deed_circles.proofs.Bodies.{Looping, loop-begins, loop-range, loop-steady, loop-ranged, loop-size, loop-turns, loop-ready, loop-ends}
+use Rattle.deed_circles.proofs.add_blossom.Statement.{statement}
+use Rattle.deed_circles.proofs.add_blossom.Tie as tie
+
+abbrev Inv-loop : tie.InvT-loop
+Inv-loop b₀ unit members touching f next serial q size₀ speed₀ i₀ b size speed i = Looping b₀ unit members touching q b size speed i
+
+abbrev μ-loop : tie.MeasureT-loop
+μ-loop b₀ unit members touching f next serial q size₀ speed₀ i₀ b size speed i = length members - i
+
+load-interface-requires : tie.Need-load-interface-requires Inv-loop μ-loop
+load-interface-requires c κs = let a = c .before .before .before .args in ringable (a .b .now) (a .unit) (a .members .now) (a .touching .now) (c .before .before .before .pre .0) (c .before .before .before .pre .1) .root .low
+
+load-next-requires : tie.Need-load-next-requires Inv-loop μ-loop
+load-next-requires c κs = search needs
+
+cast-t17 : tie.Need-cast-t17 Inv-loop μ-loop
+cast-t17 c = let a = c .before .before .before .before .before .before .args in let r = ringable (a .b .now) (a .unit) (a .members .now) (a .touching .now) (c .before .before .before .before .before .before .pre .0) (c .before .before .before .before .before .before .pre .1) in omega (arith, r .next, c .load-next .ensures)
+
+cast-t18 : tie.Need-cast-t18 Inv-loop μ-loop
+cast-t18 c = let a = c .before .before .before .before .before .before .args in let r = ringable (a .b .now) (a .unit) (a .members .now) (a .touching .now) (c .before .before .before .before .before .before .pre .0) (c .before .before .before .before .before .before .pre .1) in omega (arith, r .root .low)
+
+cast-t19 : tie.Need-cast-t19 Inv-loop μ-loop
+cast-t19 c =
+    let a = c .before .before .before .before .before .before .before .args in
+    let r = ringable (a .b .now) (a .unit) (a .members .now) (a .touching .now) (c .before .before .before .before .before .before .before .pre .0) (c .before .before .before .before .before .before .before .pre .1) in
+    omega (arith, r .room, ap (λ (x : Interface). x .used) (c .before .before .before .load-interface .ensures))
+
+loop-holds : tie.Need-loop-holds Inv-loop μ-loop
+loop-holds c =
+    let a = c .before .before .before .before .before .before .before .args in
+    loop-begins (a .b .now) (a .unit) (a .members .now) (a .touching .now) (c .before .before .before .load-interface .result) (c .before .before .before .before .before .before .before .pre .0) (c .before .before .before .before .before .before .before .pre .1) (c .before .before .before .load-interface .ensures) (c .before .load-next .ensures)
+
+mul-take-in : tie.Need-mul-take-in Inv-loop μ-loop
+mul-take-in c = search needs
+
+shared-slice-read-take-in : tie.Need-shared-slice-read-take-in Inv-loop μ-loop
+shared-slice-read-take-in c = search needs
+
+seat-requires : tie.Need-seat-requires Inv-loop μ-loop
+seat-requires c κs = let r = c .before .before .before .loop .inv .ring in (c .before .before .loop-test .taken, r .many, r .paired)
+
+take-in-requires : tie.Need-take-in-requires Inv-loop μ-loop
+take-in-requires c κs = let l = c .before .before .before .before .loop .inv in (loop-steady l, loop-ranged l (c .before .before .before .loop-test .taken))
+
+add-size : tie.Need-add-size Inv-loop μ-loop
+add-size c = let l = c .before .before .before .before .before .before .loop .inv in omega (arith, loop-range l .2, loop-size l (c .before .take-in .result .size) (c .before .before .before .before .before .loop-test .taken) (c .before .take-in .ensures .1))
+
+add-speed : tie.Need-add-speed Inv-loop μ-loop
+add-speed c = omega (arith, loop-range (c .before .before .before .before .before .before .loop .inv) .1)
+
+sub-speed : tie.Need-sub-speed Inv-loop μ-loop
+sub-speed c = omega (arith, loop-range (c .before .before .before .before .before .before .before .loop .inv) .0, c .before .before .take-in .ensures .3)
+
+add-i : tie.Need-add-i Inv-loop μ-loop
+add-i c = search needs
+
+loop-less : tie.Need-loop-less Inv-loop μ-loop
+loop-less c = search needs
+
+loop-again : tie.Need-loop-again Inv-loop μ-loop
+loop-again c =
+    loop-turns (c .before .before .before .before .before .before .before .loop .inv) (c .before .before .take-in .last .0) (c .before .before .take-in .result .size) (c .before .before .take-in .result .rate) (c .before .before .before .before .before .before .loop-test .taken) (c .before .before .before .seat .ensures) (c .before .before .take-in .ensures .0) (c .before .before .take-in .ensures .1) (c .before .before .take-in .ensures .2)
+
+shared-slice-read-spot : tie.Need-shared-slice-read-spot Inv-loop μ-loop
+shared-slice-read-spot c = omega (arith, c .before .before .loop .inv .ring .some)
+
+spot-requires : tie.Need-spot-requires Inv-loop μ-loop
+spot-requires c κs = search needs
+
+new-blossom-requires : tie.Need-new-blossom-requires Inv-loop μ-loop
+new-blossom-requires c κs =
+    let l = c .before .before .before .loop .inv in
+    omega (arith, l .fit .canon .steady .progress _ (l .ring .root .low), ap (λ (x : Interface). x .progress) (c .before .before .before .before .before .before .before .load-interface .ensures))
+
+add-push : tie.Need-add-push Inv-loop μ-loop
+add-push c = omega (arith, loop-range (c .before .before .before .before .before .loop .inv) .1)
+
+push-requires : tie.Need-push-requires Inv-loop μ-loop
+push-requires c κs = let l = c .before .before .before .before .before .loop .inv in (l .ring .root .low, loop-ready l .0, loop-ready l .1)
+
+returns : tie.Need-returns Inv-loop μ-loop
+returns c =
+    loop-ends (c .before .before .before .before .before .before .loop .inv) (c .before .before .before .before .before .before .before .before .before .before .load-interface .result) (omega arith) (c .before .before .before .before .before .before .before .before .before .before .load-interface .ensures) (c .before .before .before .before .before .before .before .before .load-next .ensures) (c .before .before .before .spot .ensures .0) (c .before .before .new-blossom .ensures) (c .push .ensures)
+
+pub add-blossom-spec : {M : Type 1} → statement M
+add-blossom-spec =
+    tie.close
+    (tie.spec
+    Inv-loop
+    μ-loop
+    load-interface-requires
+    load-next-requires
+    cast-t17
+    cast-t18
+    cast-t19
+    loop-holds
+    mul-take-in
+    shared-slice-read-take-in
+    seat-requires
+    take-in-requires
+    add-size
+    add-speed
+    sub-speed
+    add-i
+    loop-less
+    loop-again
+    shared-slice-read-spot
+    spot-requires
+    new-blossom-requires
+    add-push
+    push-requires
+    returns)

@@ -1,0 +1,175 @@
+// The work of add blossom and expand, over the words that the caller lends, against the plain ledger's own definitions. Members come as packed
+// handles, their touching handles two a member, or none. No refusal is left: each asks that its tests pass on words that fit. Assumes nothing.
+use bench_words::Node;
+use bench_words::WORDS;
+use deed_nodes::Seat;
+use kinds::Class;
+use kinds::GrowState;
+use kinds::Handle;
+use kinds::Parent;
+use kinds::Serial;
+ghost use mathlib.Core.Path.{_≡_};
+ghost use Prim.Native.Nat.{_+_, _*_, _/_, _%_, _<_, _≤_};
+ghost use lib.ListN.{length};
+ghost use Rattle.bench_words.specs.Codec.{handleOf};
+ghost use Rattle.bench_words.specs.Store.{nodeAt, interfaceAt, storeNode};
+ghost use Rattle.ledger_spec.specs.Tests.{first};
+ghost use Rattle.ledger_spec.specs.Refuse.{blossomTests, expandTests};
+ghost use Rattle.ledger_spec.specs.Deeds.{newHandle, addBlossom, removeBlossom};
+ghost use Rattle.ledger_spec.specs.Named.{handleNamed};
+ghost use Rattle.bench_views.specs.Records.{Steady, Ranged, rateOf};
+ghost use Rattle.bench_views.specs.View.{view};
+ghost use Rattle.bench_views.specs.Fit.{Fit, Done};
+ghost use Rattle.deed_circles.specs.Given.{spotOf, handsGiven, pairsGiven, nextSpot, touchWord};
+ghost use Rattle.deed_circles.specs.Members.{seatOf, takenNode, freedNode, blossomNode};
+
+// What a member adds to its blossom: its size, and its share of the speed, one higher than it is.
+struct Share {
+    size: u64,
+    rate: u64,
+}
+
+// The position that a packed handle names.
+pub fn spot(w: u64) -> usize
+    ensures { λ r. ⌜ (r ≡ spotOf w) × (r < 512) ⌝ }
+{
+    (w % 8 * 64 + w / 8 % 64) as usize
+}
+
+// The position of the member after member i, or 0.
+fn following(members: &[u64], i: usize) -> u64
+    requires { ⌜ i < length (now members) ⌝ }
+    ensures { λ r. ⌜ r ≡ nextSpot (now (members .entry)) i ⌝ }
+{
+    if i + 1 < members.len() {
+        return spot(members[i + 1]) as u64;
+    }
+    0
+}
+
+// A touching handle of member i, the first or the second: itself where none are given.
+fn touch(members: &[u64], touching: &[u64], i: usize, d: usize) -> Handle
+    requires { ⌜ (i < length (now members)) × (d < 2) × (length (now members) ≤ 64) × ((length (now touching) ≡ 0 → ⊥) → length (now touching) ≡ length (now members) * 2) ⌝ }
+    ensures { λ r. ⌜ r ≡ handleOf (touchWord (now (members .entry)) (now (touching .entry)) i d) ⌝ }
+{
+    if touching.len() == 0 {
+        return bench_words::handle_of(members[i]);
+    }
+    bench_words::handle_of(touching[i * 2 + d])
+}
+
+// The seat of member i in the circle of q.
+fn seat(members: &[u64], touching: &[u64], i: usize, q: Handle) -> Seat
+    requires { ⌜ (i < length (now members)) × (length (now members) ≤ 64) × ((length (now touching) ≡ 0 → ⊥) → length (now touching) ≡ length (now members) * 2) ⌝ }
+    ensures { λ r. ⌜ r ≡ seatOf (now (members .entry)) (now (touching .entry)) q i ⌝ }
+{
+    let next = following(members, i);
+    let left = touch(members, touching, i, 0);
+    let right = touch(members, touching, i, 1);
+    Seat {
+        parent: Parent::Inside(q),
+        place: i as u64,
+        next,
+        left,
+        right,
+    }
+}
+
+// The member that word w names stays, in its seat; what it adds.
+fn take_in(b: &mut [u64; WORDS], w: u64, seat: Seat) -> Share
+    requires { ⌜ Steady (now b) × Ranged (nodeAt (now b) (spotOf w)) ⌝ }
+    ensures { λ r. ⌜ (now (b .exit) ≡ storeNode (now (b .entry)) (spotOf w) (takenNode (interfaceAt (now (b .entry))) (nodeAt (now (b .entry))) (spotOf w) seat)) × (r .size ≡ nodeAt (now (b .entry)) (spotOf w) .size) × (r .rate ≡ rateOf (nodeAt (now (b .entry)) (spotOf w) .state)) × (r .rate ≤ 2) ⌝ }
+{
+    let k = spot(w);
+    let up = bench_trees::climb(b, k / 64);
+    let n = bench_words::load_node(b, k);
+    let old = n.state;
+    let m = deed_nodes::remark(n, up.total, GrowState::Stay, seat);
+    bench_words::store_node(b, k, m);
+    let rate = bench_trees::rate_of(old);
+    Share { size: n.size, rate }
+}
+
+// A new blossom, growing from value 0 at T = t.
+fn new_blossom(serial: Serial, first: u64, count: u64, size: u64, t: u64) -> Node
+    requires { ⌜ t ≤ 1099511627776 ⌝ }
+    ensures { λ r. ⌜ r ≡ blossomNode (serial .0) first count size t ⌝ }
+{
+    let nobody = Handle::nobody();
+    Node {
+        serial,
+        class: Class::Blossom,
+        state: GrowState::Grow,
+        parent: Parent::Outermost,
+        place: 0,
+        next: 0,
+        left: nobody,
+        right: nobody,
+        bias: 1152921504606846976 - t,
+        size,
+        first,
+        count,
+    }
+}
+
+// Adds a blossom: its members stay and get their seats; then the blossom, growing from value 0. Gives its handle.
+pub fn add_blossom(b: &mut [u64; WORDS], unit: usize, members: &[u64], touching: &[u64]) -> Handle
+    requires { ⌜ Fit (now b) × (first (blossomTests (view (now b)) unit (handsGiven (now members)) (pairsGiven (now touching))) ≡ 0) ⌝ }
+    ensures { λ r. ⌜ Done (now (b .exit)) (addBlossom (view (now (b .entry))) unit (handsGiven (now (members .entry))) (pairsGiven (now (touching .entry)))) × (handleNamed r ≡ newHandle (view (now (b .entry))) unit) ⌝ }
+{
+    let f = bench_words::load_interface(b, unit);
+    let next = bench_words::load_next(b);
+    let serial = Serial(next as u32);
+    let q = Handle {
+        unit: unit as u8,
+        slot: f.used as u8,
+        serial,
+    };
+    let mut size: u64 = 0;
+    let mut speed = f.speed;
+    let mut i: usize = 0;
+    while i < members.len() {
+        let s = take_in(b, members[i], seat(members, touching, i, q));
+        size = size + s.size;
+        speed = speed + 1 - s.rate;
+        i = i + 1;
+    }
+    let first = spot(members[0]) as u64;
+    let n = new_blossom(serial, first, i as u64, size, f.progress);
+    deed_nodes::push(b, unit, n, speed + 1);
+    q
+}
+
+// The member at a position loses its seat and grows; the position of the next.
+fn release(b: &mut [u64; WORDS], at: u64) -> u64
+    requires { ⌜ (at < 512) × Steady (now b) × Ranged (nodeAt (now b) at) ⌝ }
+    ensures { λ r. ⌜ (now (b .exit) ≡ storeNode (now (b .entry)) at (freedNode (interfaceAt (now (b .entry))) (nodeAt (now (b .entry))) at)) × (r ≡ nodeAt (now (b .entry)) at .next) ⌝ }
+{
+    let k = at as usize;
+    let up = bench_trees::climb(b, k / 64);
+    let n = bench_words::load_node(b, k);
+    let m = deed_nodes::remark(n, up.total, GrowState::Grow, deed_nodes::no_seat());
+    bench_words::store_node(b, k, m);
+    n.next
+}
+
+// Expands a blossom: it leaves, and its members, which stayed, grow. The sum of its tree, whose top is `unit`, stays.
+pub fn remove_blossom(b: &mut [u64; WORDS], unit: usize, h: Handle)
+    requires { ⌜ Fit (now b) × (first (expandTests (view (now b)) unit (handleNamed h)) ≡ 0) ⌝ }
+    ensures { λ _. ⌜ Done (now (b .exit)) (removeBlossom (view (now (b .entry))) (handleNamed h)) ⌝ }
+{
+    let k = (h.unit as usize) * 64 + (h.slot as usize);
+    let n = bench_words::load_node(b, k);
+    let f = bench_words::load_interface(b, unit);
+    let count = n.count;
+    let mut at = n.first;
+    let mut i: u64 = 0;
+    while i < count {
+        at = release(b, at);
+        i = i + 1;
+    }
+    let old = n.state;
+    let loss = bench_trees::rate_of(old);
+    bench_words::store_node(b, k, deed_nodes::no_node());
+    deed_nodes::pace(b, unit, f.speed + 1 + count - loss);
+}

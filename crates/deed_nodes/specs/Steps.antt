@@ -1,0 +1,63 @@
+-- What the calls' work does to a node and to the words. Assumes nothing.
+use Prim.Native.Nat.{ℕ, suc, _+_, _-_, _*_}
+use mathlib.Core.List.{List}
+use lib.ListN.{getD, set}
+use Rattle.kinds.specs.Names.{nobody}
+use Rattle.kinds.specs.declared.GrowState.{GrowState}
+use Rattle.kinds.specs.declared.GrowState.the-variants.{Grow as Growing}
+use Rattle.kinds.specs.declared.Class.the-variants.{Defect}
+use Rattle.kinds.specs.declared.Parent.the-variants.{Outermost}
+use Rattle.kinds.specs.declared.Vertex.{Vertex}
+use Rattle.bench_words.specs.Store.{interfaceAt, storeNode, storeInterface}
+use Rattle.bench_words.specs.declared.Node.{Node}
+use Rattle.bench_views.specs.Records.{withSpeed, withUsed}
+use Rattle.bench_views.specs.View.{valueOf, biasOf}
+use Rattle.deed_nodes.specs.declared.Seat.{Seat}
+
+-- the seat of a node without a parent
+abbrev pub noSeat : Seat
+noSeat = record { parent = Outermost; place = 0; next = 0; left = nobody; right = nobody }
+
+-- a node with another state and seat, of the same value at T = t
+abbrev pub remarked : Node → ℕ → GrowState → Seat → Node
+remarked n t g s =
+    record {
+      serial = n .serial;
+      class = n .class;
+      state = g;
+      parent = s .parent;
+      place = s .place;
+      next = s .next;
+      left = s .left;
+      right = s .right;
+      bias = biasOf g (valueOf (n .state) (n .bias) t) t;
+      size = n .size;
+      first = n .first;
+      count = n .count;
+    }
+
+-- a new defect: value 0 at T = t, growing
+abbrev pub defectNode : ℕ → Vertex → ℕ → Node
+defectNode serial v t =
+    record {
+      serial = record { 0 = serial };
+      class = Defect v;
+      state = Growing;
+      parent = Outermost;
+      place = 0;
+      next = 0;
+      left = nobody;
+      right = nobody;
+      bias = 1152921504606846976 - t;
+      size = 1;
+      first = 0;
+      count = 0;
+    }
+
+-- interface u has speed s
+unfoldable pub paced : List ℕ → ℕ → ℕ → List ℕ
+paced b u s = storeInterface b u (withSpeed (interfaceAt b u) s)
+
+-- node n in the next slot of interface u, whose speed then is s; the next serial
+unfoldable pub pushed : List ℕ → ℕ → Node → ℕ → List ℕ
+pushed b u n s = set (storeInterface (storeNode b (u * 64 + interfaceAt b u .used) n) u (withUsed (interfaceAt b u) (suc (interfaceAt b u .used)) s)) 0 (suc (getD b 0 0))

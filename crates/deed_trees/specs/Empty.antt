@@ -1,0 +1,36 @@
+-- An interface as set-up leaves it, one put under a parent, and what emptying slots does to the words. Assumes nothing.
+use Prim.Native.Nat.{ℕ, _+_, _*_, _<_}
+use mathlib.Core.Path.{_≡_}
+use mathlib.Core.Logic.{_≢_}
+use mathlib.Core.List.{List}
+use lib.ListN.{getD}
+use Rattle.bench_words.specs.Store.{nodeAt, interfaceAt}
+use Rattle.bench_words.specs.declared.Interface.{Interface}
+use Rattle.bench_words.specs.declared.Up.the-variants.{Top, Under}
+use Rattle.bench_views.specs.Records.{Steady, noNode}
+use Rattle.bench_views.specs.Canon.{Coded}
+
+abbrev pub noInterface : Interface
+noInterface = record { used = 0; progress = 0; sum = 4611686018427387904; speed = 1024; parent = Top; left = 0; right = 0 }
+
+abbrev pub withUp : Interface → ℕ → Interface
+withUp f p = record { used = f .used; progress = f .progress; sum = f .sum; speed = f .speed; parent = Under p; left = f .left; right = f .right }
+
+-- b' is b with the first n slots of interface u empty
+pub record Emptied (b : List ℕ) (u : ℕ) (b' : List ℕ) (n : ℕ) : Type 0 where
+  pub steady : Steady b'
+  pub coded : Coded b'
+  pub next : getD b' 0 0 ≡ getD b 0 0
+  pub interfaces : (v : ℕ) → v < 8 → interfaceAt b' v ≡ interfaceAt b v
+  pub gone : (s : ℕ) → s < n → nodeAt b' (u * 64 + s) ≡ noNode
+  pub kept : (k : ℕ) → ((s : ℕ) → s < n → k ≢ u * 64 + s) → nodeAt b' k ≡ nodeAt b k
+
+-- b' is b with interface u as set-up leaves it, and the slots that it used empty
+pub record Reset (b : List ℕ) (u : ℕ) (b' : List ℕ) : Type 0 where
+  pub steady : Steady b'
+  pub coded : Coded b'
+  pub serial : getD b' 0 0 ≡ getD b 0 0
+  pub here : interfaceAt b' u ≡ noInterface
+  pub there : (v : ℕ) → v < 8 → v ≢ u → interfaceAt b' v ≡ interfaceAt b v
+  pub gone : (s : ℕ) → s < interfaceAt b u .used → nodeAt b' (u * 64 + s) ≡ noNode
+  pub kept : (k : ℕ) → ((s : ℕ) → s < interfaceAt b u .used → k ≢ u * 64 + s) → nodeAt b' k ≡ nodeAt b k

@@ -1,0 +1,87 @@
+-- The numbers of add defect and grow: the interface's own tests, then the room left in it. Assumes nothing.
+use Prim.Native.Nat.{ℕ, _+_, _<_, _≤_}
+use mathlib.Core.Path.{_≡_, ap, ap₂, sym, _∙_}
+use mathlib.Core.Logic.{_≢_}
+use mathlib.Core.Bool.{Bool, true, false, _||_}
+use mathlib.Core.List.{List, [], _∷_}
+use native.Mathlib.Omega.{arith}
+use lib.Dec.{leb, ltb}
+use lib.IntN.{ℤ, pos, _+ℤ_}
+use lib.ListN.{length, getD}
+use lib.Signed.{ltZ}
+use borrow.Author.Tests.{le-leb, lt-leb, lt-ltb, le-ltb}
+use Rattle.bench_words.specs.Store.{nodeAt, interfaceAt}
+use Rattle.bench_words.specs.declared.Interface.{Interface}
+use Rattle.ledger_spec.specs.Bench as plain
+use Rattle.ledger_spec.specs.Look.{interface}
+use Rattle.ledger_spec.specs.Tests.{first, full, worn}
+use Rattle.ledger_spec.specs.Refuse.{unitTests, defectTests, growTests}
+use Rattle.ledger_spec.proofs.Passed.{Failed, passed}
+use Rattle.ledger_spec.proofs.Accepted.{clear-passed}
+use Rattle.bench_views.specs.View.{view}
+use Rattle.bench_views.proofs.Views.{interface-in, view-count, view-next}
+use Rattle.read_sound.proofs.Numbers.{first-yes, first-no, first-none}
+use Rattle.refuse_calls.proofs.Firsts.{refused-by, decided-by}
+
+module _ (b : List ℕ) (u n : ℕ) (e : n ≡ first (unitTests (view b) u)) where
+  pub unit-low : n ≡ 0 → u < 8
+  unit-low z = clear-passed (view b) u (sym e ∙ z) .low
+
+  pub unit-failed : n ≡ 0 → Failed (unitTests (view b) u)
+  unfolding unitTests
+  unit-failed z = passed (unitTests (view b) u) tt (sym e ∙ z)
+
+  pub defect-no : n ≢ 0 → n ≡ first (defectTests (view b) u)
+  unfolding unitTests defectTests
+  defect-no q = refused-by (unitTests (view b) u) ((full (view b) u, 14) ∷ (worn (view b), 15) ∷ []) n e q
+
+  pub grow-no : (l : ℤ) → n ≢ 0 → n ≡ first (growTests (view b) u l)
+  unfolding unitTests growTests
+  grow-no l q = refused-by (unitTests (view b) u) ((ltZ l (pos 0) || ltZ (pos 1099511627776) (interface (view b) u .progress +ℤ l), 5) ∷ []) n e q
+
+  -- ---- defect
+  module _ (z : n ≡ 0) (f : Interface) (i : f ≡ interfaceAt b u) where
+    slots-are : length (interface (view b) u .slots) ≡ f .used
+    slots-are = view-count (getD b 0 0) (interfaceAt b) (nodeAt b) u (unit-low z) ∙ ap (λ (x : Interface). x .used) (sym i)
+
+    defect-rest : (k : ℕ) → k ≡ first ((full (view b) u, 14) ∷ (worn (view b), 15) ∷ []) → k ≡ first (defectTests (view b) u)
+    unfolding unitTests defectTests
+    defect-rest k r = decided-by (unitTests (view b) u) ((full (view b) u, 14) ∷ (worn (view b), 15) ∷ []) (unit-failed z) k r
+
+    pub defect-full : 64 ≤ f .used → 14 ≡ first (defectTests (view b) u)
+    defect-full l = defect-rest 14 (sym (first-yes (full (view b) u) 14 ((worn (view b), 15) ∷ []) (ap (leb 64) slots-are ∙ le-leb 64 (f .used) l)))
+
+    module _ (l : f .used < 64) (m : ℕ) (j : m ≡ getD b 0 0) where
+      next-is : view b .next ≡ m
+      next-is = view-next (getD b 0 0) (interfaceAt b) (nodeAt b) ∙ sym j
+
+      room : first ((full (view b) u, 14) ∷ (worn (view b), 15) ∷ []) ≡ first ((worn (view b), 15) ∷ [])
+      room = first-no (full (view b) u) 14 ((worn (view b), 15) ∷ []) (ap (leb 64) slots-are ∙ lt-leb 64 (f .used) l)
+
+      pub defect-worn : 4294967296 ≤ m → 15 ≡ first (defectTests (view b) u)
+      defect-worn w = defect-rest 15 (sym (room ∙ first-yes (worn (view b)) 15 [] (ap (leb 4294967296) next-is ∙ le-leb 4294967296 m w)))
+
+      pub defect-fine : m < 4294967296 → 0 ≡ first (defectTests (view b) u)
+      defect-fine w = defect-rest 0 (sym (room ∙ first-no (worn (view b)) 15 [] (ap (leb 4294967296) next-is ∙ lt-leb 4294967296 m w) ∙ first-none))
+
+  -- ---- grow
+  module _ (z : n ≡ 0) where
+    grow-rest : (l : ℤ) (k : ℕ) → k ≡ first ((ltZ l (pos 0) || ltZ (pos 1099511627776) (interface (view b) u .progress +ℤ l), 5) ∷ []) → k ≡ first (growTests (view b) u l)
+    unfolding unitTests growTests
+    grow-rest l k r = decided-by (unitTests (view b) u) ((ltZ l (pos 0) || ltZ (pos 1099511627776) (interface (view b) u .progress +ℤ l), 5) ∷ []) (unit-failed z) k r
+
+    pub grow-back : (l : ℤ) → ltZ l (pos 0) ≡ true → 5 ≡ first (growTests (view b) u l)
+    grow-back l t = grow-rest l 5 (sym (first-yes (ltZ l (pos 0) || ltZ (pos 1099511627776) (interface (view b) u .progress +ℤ l)) 5 [] (ap (λ (c : Bool). c || ltZ (pos 1099511627776) (interface (view b) u .progress +ℤ l)) t)))
+
+    module _ (f : Interface) (i : f ≡ interfaceAt b u) (x : ℕ) (l : ℤ) (p : l ≡ pos x) where
+      progress-is : interface (view b) u .progress +ℤ l ≡ pos (f .progress + x)
+      progress-is = ap₂ _+ℤ_ (ap (λ (g : plain.Interface). g .progress) (interface-in (getD b 0 0) (interfaceAt b) (nodeAt b) u (unit-low z)) ∙ ap (λ (g : Interface). pos (g .progress)) (sym i)) p
+
+      limit : (c : Bool) → ltb 1099511627776 (f .progress + x) ≡ c → (ltZ l (pos 0) || ltZ (pos 1099511627776) (interface (view b) u .progress +ℤ l)) ≡ c
+      limit c t = ap₂ (λ (y w : ℤ). ltZ y (pos 0) || ltZ (pos 1099511627776) w) p progress-is ∙ ap₂ _||_ (le-ltb x 0 (omega arith)) t
+
+      pub grow-far : 1099511627776 < f .progress + x → 5 ≡ first (growTests (view b) u l)
+      grow-far w = grow-rest l 5 (sym (first-yes (ltZ l (pos 0) || ltZ (pos 1099511627776) (interface (view b) u .progress +ℤ l)) 5 [] (limit true (lt-ltb 1099511627776 (f .progress + x) w))))
+
+      pub grow-fine : f .progress + x ≤ 1099511627776 → 0 ≡ first (growTests (view b) u l)
+      grow-fine w = grow-rest l 0 (sym (first-no (ltZ l (pos 0) || ltZ (pos 1099511627776) (interface (view b) u .progress +ℤ l)) 5 [] (limit false (le-ltb 1099511627776 (f .progress + x) w)) ∙ first-none))

@@ -1,0 +1,47 @@
+-- The number is that of the first test that holds. Assumes nothing.
+use borrow.Author.Needs.{needs}
+use Rattle.bench_views.specs.View.{view}
+use Rattle.refuse_calls.proofs.Fuses.{fuse-low, fuse-out, fuse-child, fuse-order, fuse-used, fuse-fine}
+use Rattle.refuse_calls.proofs.fuse_number.Statement.{statement}
+use Rattle.refuse_calls.proofs.fuse_number.Tie as tie
+
+any-outside-requires : tie.Need-any-outside-requires
+any-outside-requires c κs = search needs
+
+returns : tie.Need-returns
+returns c = fuse-out (view (c .before .before .args .b .now)) (c .before .before .args .parent) (c .before .before .args .left) (c .before .before .args .right) (c .before .any-outside .result) (c .before .any-outside .ensures) (c .if1 .taken)
+
+any-child-requires : tie.Need-any-child-requires
+any-child-requires c κs = fuse-low (view (c .before .before .args .b .now)) (c .before .before .args .parent) (c .before .before .args .left) (c .before .before .args .right) (c .before .any-outside .result) (c .before .any-outside .ensures) (c .if1 .left)
+
+returns-2 : tie.Need-returns-2
+returns-2 c = fuse-child (view (c .before .before .before .before .args .b .now)) (c .before .before .before .before .args .parent) (c .before .before .before .before .args .left) (c .before .before .before .before .args .right) (c .before .before .before .any-outside .result) (c .before .before .before .any-outside .ensures) (c .before .before .if1 .left) (c .before .any-child .result) (c .before .any-child .ensures) (c .if2 .taken)
+
+out-of-order-requires : tie.Need-out-of-order-requires
+out-of-order-requires c κs = search needs
+
+returns-3 : tie.Need-returns-3
+returns-3 c = fuse-order (view (c .before .before .before .before .before .before .args .b .now)) (c .before .before .before .before .before .before .args .parent) (c .before .before .before .before .before .before .args .left) (c .before .before .before .before .before .before .args .right) (c .before .before .before .before .before .any-outside .result) (c .before .before .before .before .before .any-outside .ensures) (c .before .before .before .before .if1 .left) (c .before .before .before .any-child .result) (c .before .before .before .any-child .ensures) (c .before .before .if2 .left) (c .before .out-of-order .result) (c .before .out-of-order .ensures) (c .if3 .taken)
+
+is-used-requires : tie.Need-is-used-requires
+is-used-requires c κs = fuse-low (view (c .before .before .before .before .before .before .args .b .now)) (c .before .before .before .before .before .before .args .parent) (c .before .before .before .before .before .before .args .left) (c .before .before .before .before .before .before .args .right) (c .before .before .before .before .before .any-outside .result) (c .before .before .before .before .before .any-outside .ensures) (c .before .before .before .before .if1 .left) .0
+
+returns-4 : tie.Need-returns-4
+returns-4 c = fuse-used (view (c .before .before .before .before .before .before .before .before .args .b .now)) (c .before .before .before .before .before .before .before .before .args .parent) (c .before .before .before .before .before .before .before .before .args .left) (c .before .before .before .before .before .before .before .before .args .right) (c .before .before .before .before .before .before .before .any-outside .result) (c .before .before .before .before .before .before .before .any-outside .ensures) (c .before .before .before .before .before .before .if1 .left) (c .before .before .before .before .before .any-child .result) (c .before .before .before .before .before .any-child .ensures) (c .before .before .before .before .if2 .left) (c .before .before .before .out-of-order .result) (c .before .before .before .out-of-order .ensures) (c .before .before .if3 .left) (c .before .is-used .result) (c .before .is-used .ensures) (c .if4 .taken)
+
+returns-5 : tie.Need-returns-5
+returns-5 c = fuse-fine (view (c .before .before .before .before .before .before .before .before .args .b .now)) (c .before .before .before .before .before .before .before .before .args .parent) (c .before .before .before .before .before .before .before .before .args .left) (c .before .before .before .before .before .before .before .before .args .right) (c .before .before .before .before .before .before .before .any-outside .result) (c .before .before .before .before .before .before .before .any-outside .ensures) (c .before .before .before .before .before .before .if1 .left) (c .before .before .before .before .before .any-child .result) (c .before .before .before .before .before .any-child .ensures) (c .before .before .before .before .if2 .left) (c .before .before .before .out-of-order .result) (c .before .before .before .out-of-order .ensures) (c .before .before .if3 .left) (c .before .is-used .result) (c .before .is-used .ensures) (c .if4 .left)
+
+pub fuse-number-spec : {M : Type 1} → statement M
+fuse-number-spec =
+    tie.close
+    (tie.spec
+    any-outside-requires
+    returns
+    any-child-requires
+    returns-2
+    out-of-order-requires
+    returns-3
+    is-used-requires
+    returns-4
+    returns-5)

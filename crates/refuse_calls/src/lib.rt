@@ -1,0 +1,200 @@
+// The number that each call is refused by, 0 where it is accepted: its tests in rising order of their numbers, the first that holds. Everything here
+// only reads, and none scans the slots. (Add blossom's is where its lists are.) Assumes nothing.
+use bench_links::Found;
+use bench_words::Up;
+use bench_words::WORDS;
+use kinds::Handle;
+use kinds::Parent;
+ghost use mathlib.Core.Path.{_≡_};
+ghost use mathlib.Core.Bool.{_||_};
+ghost use Prim.Native.Nat.{_<_};
+ghost use lib.Dec.{eqb, leb};
+ghost use Rattle.ledger_spec.specs.Look.{interface};
+ghost use Rattle.ledger_spec.specs.Named.{handleNamed};
+ghost use Rattle.ledger_spec.specs.Tests.{first, outside, child, used};
+ghost use Rattle.ledger_spec.specs.Refuse.{defectTests, stateTests, expandTests, growTests, fuseTests};
+ghost use Rattle.bench_views.specs.Records.{Steady};
+ghost use Rattle.bench_views.specs.Canon.{Canon};
+ghost use Rattle.bench_views.specs.View.{view};
+ghost use Rattle.refuse_calls.specs.Named.{namedTests};
+
+// UNIT, CHILD, FULL (14), WORN (15).
+pub fn defect_number(b: &[u64; WORDS], unit: u8) -> u8
+    ensures { λ r. ⌜ r ≡ first (defectTests (view (now (b .entry))) unit) ⌝ }
+{
+    let number = read_sound::unit_number(b, unit);
+    if number != 0 {
+        return number;
+    }
+    let f = bench_words::load_interface(b, unit as usize);
+    if 64 <= f.used {
+        return 14;
+    }
+    let next = bench_words::load_next(b);
+    if 4294967296 <= next {
+        return 15;
+    }
+    0
+}
+
+// UNIT, CHILD, LENGTH (5): a length below 0, or one past the progress limit.
+pub fn grow_number(b: &[u64; WORDS], unit: u8, length: i64) -> u8
+    requires { ⌜ Steady (now b) ⌝ }
+    ensures { λ r. ⌜ r ≡ first (growTests (view (now (b .entry))) unit length) ⌝ }
+{
+    let number = read_sound::unit_number(b, unit);
+    if number != 0 {
+        return number;
+    }
+    if length < 0 {
+        return 5;
+    }
+    let f = bench_words::load_interface(b, unit as usize);
+    if 1099511627776 < f.progress + (length as u64) {
+        return 5;
+    }
+    0
+}
+
+// UNIT, CHILD, STALE (8), FOREIGN (9): what a call on a node may be refused by first.
+pub fn named_number(b: &[u64; WORDS], unit: u8, h: Handle) -> u8
+    requires { ⌜ Canon (now b) ⌝ }
+    ensures { λ r. ⌜ r ≡ first (namedTests (view (now (b .entry))) unit (handleNamed h)) ⌝ }
+{
+    let number = read_sound::unit_number(b, unit);
+    if number != 0 {
+        return number;
+    }
+    let found = bench_links::find(b, h);
+    match found {
+        Found::Stale => 8,
+        Found::At(_) => {
+            if bench_links::is_foreign(b, unit, h) {
+                return 9;
+            }
+            0
+        }
+    }
+}
+
+// And MEMBER (11).
+pub fn state_number(b: &[u64; WORDS], unit: u8, h: Handle) -> u8
+    requires { ⌜ Canon (now b) ⌝ }
+    ensures { λ r. ⌜ r ≡ first (stateTests (view (now (b .entry))) unit (handleNamed h)) ⌝ }
+{
+    let number = named_number(b, unit, h);
+    if number != 0 {
+        return number;
+    }
+    let node = bench_words::load_node(b, (h.unit as usize) * 64 + (h.slot as usize));
+    let parent = node.parent;
+    match parent {
+        Parent::Outermost => 0,
+        Parent::Inside(_) => 11,
+    }
+}
+
+// And DEFECT (10) before MEMBER.
+pub fn expand_number(b: &[u64; WORDS], unit: u8, h: Handle) -> u8
+    requires { ⌜ Canon (now b) ⌝ }
+    ensures { λ r. ⌜ r ≡ first (expandTests (view (now (b .entry))) unit (handleNamed h)) ⌝ }
+{
+    let number = named_number(b, unit, h);
+    if number != 0 {
+        return number;
+    }
+    let n = bench_words::load_node(b, (h.unit as usize) * 64 + (h.slot as usize));
+    let class = n.class;
+    if !class.is_blossom() {
+        return 10;
+    }
+    let parent = n.parent;
+    match parent {
+        Parent::Outermost => 0,
+        Parent::Inside(_) => 11,
+    }
+}
+
+fn any_outside(p: u8, l: u8, r: u8) -> bool
+    ensures { λ a. ⌜ a ≡ (outside p || (outside l || outside r)) ⌝ }
+{
+    if 8 <= p {
+        return true;
+    }
+    if 8 <= l {
+        return true;
+    }
+    8 <= r
+}
+
+fn is_child(b: &[u64; WORDS], unit: u8) -> bool
+    requires { ⌜ unit < 8 ⌝ }
+    ensures { λ a. ⌜ a ≡ child (view (now (b .entry))) unit ⌝ }
+{
+    let f = bench_words::load_interface(b, unit as usize);
+    let up = f.parent;
+    match up {
+        Up::Top => false,
+        Up::Under(_) => true,
+    }
+}
+
+fn any_child(b: &[u64; WORDS], p: u8, l: u8, r: u8) -> bool
+    requires { ⌜ (p < 8) × (l < 8) × (r < 8) ⌝ }
+    ensures { λ a. ⌜ a ≡ (child (view (now (b .entry))) p || (child (view (now (b .entry))) l || child (view (now (b .entry))) r)) ⌝ }
+{
+    if is_child(b, p) {
+        return true;
+    }
+    if is_child(b, l) {
+        return true;
+    }
+    is_child(b, r)
+}
+
+// The halves are two, and numbered below their parent.
+fn out_of_order(p: u8, l: u8, r: u8) -> bool
+    ensures { λ a. ⌜ a ≡ (eqb l r || (leb p l || leb p r)) ⌝ }
+{
+    if l == r {
+        return true;
+    }
+    if p <= l {
+        return true;
+    }
+    p <= r
+}
+
+// Has nodes, has grown, or has been fused.
+fn is_used(b: &[u64; WORDS], unit: u8) -> bool
+    requires { ⌜ unit < 8 ⌝ }
+    ensures { λ a. ⌜ a ≡ used (interface (view (now (b .entry))) unit) ⌝ }
+{
+    let f = bench_words::load_interface(b, unit as usize);
+    if f.used != 0 {
+        return true;
+    }
+    if f.progress != 0 {
+        return true;
+    }
+    f.left != 0
+}
+
+// UNIT, CHILD, ORDER (16), USED (17).
+pub fn fuse_number(b: &[u64; WORDS], parent: u8, left: u8, right: u8) -> u8
+    ensures { λ r. ⌜ r ≡ first (fuseTests (view (now (b .entry))) parent left right) ⌝ }
+{
+    if any_outside(parent, left, right) {
+        return 3;
+    }
+    if any_child(b, parent, left, right) {
+        return 4;
+    }
+    if out_of_order(parent, left, right) {
+        return 16;
+    }
+    if is_used(b, parent) {
+        return 17;
+    }
+    0
+}

@@ -1,0 +1,57 @@
+-- A call's answer on sound words is the line's: BROKEN does not come up, and what the line shows is read off the words after the call. Assumes nothing.
+use Prim.Native.Nat.{ℕ}
+use mathlib.Core.Path.{_≡_, refl, sym, _∙_, ap}
+use mathlib.Core.Bool.{true}
+use mathlib.Core.List.{List}
+use lib.IntN.{pos}
+use Rattle.kinds.specs.declared.Handle.{Handle}
+use Rattle.ledger_spec.specs.Bench.{Bench}
+use Rattle.ledger_spec.specs.Bench as plain
+use Rattle.ledger_spec.specs.Calls.{Reply as Done, Call, perform}
+use Rattle.ledger_spec.specs.Answers.{Answer, whole, ask}
+use Rattle.ledger_spec.specs.Sound.{sound}
+use Rattle.ledger_spec.specs.Check.{checkOf}
+use Rattle.ledger_spec.specs.Grammar.{Line, K, wrong}
+use Rattle.ledger_spec.specs.Lines.{Said, shown, calls, checks, says}
+use Rattle.ledger_laws.proofs.Answered.{answer-true}
+use Rattle.ledger_laws.proofs.Asked.{ask-true}
+use Rattle.bench_views.specs.View.{view}
+use Rattle.bench_views.specs.Fit.{SoundWords}
+use Rattle.outcomes.specs.Answered.{Answered}
+use Rattle.text_numbers.specs.declared.Reply.{Reply}
+use Rattle.text_numbers.specs.Numbers.{numbersOf}
+use Rattle.text_calls.specs.Turned.{Turned}
+
+-- what a line says, of a reply
+abbrev toldOf : ℕ → Done → Said
+toldOf u d = record { numbers = shown (d .number) (d .node .serial) (d .bench) u; bench = d .bench }
+
+sound-calls : (b : Bench) → sound b ≡ true → (u : ℕ) (c : Call) → calls b u c ≡ toldOf u (perform b c)
+unfolding calls whole
+sound-calls b s u c = ap (λ (a : Answer). record { numbers = shown (a .number) (a .node .serial) (a .bench) u; bench = a .bench }) (answer-true b c s)
+
+module _ (b : List ℕ) (W : SoundWords b) where
+  -- a line that is a call, answered by the code's call of the same reply
+  pub turned : (l : Line) (u : ℕ) (c : Call) → says (view b) l ≡ calls (view b) u c → (d : Call) → perform (view b) d ≡ perform (view b) c
+      → (n : ℕ) (h : Handle) (b′ : List ℕ) → Answered b d n h b′ → (r : Reply) → numbersOf r ≡ shown n (h .serial .0) (view b′) u → Turned b l r b′
+  turned l u c e d q n h b′ A r t =
+      let p : says (view b) l ≡ toldOf u (perform (view b) d) = e ∙ sound-calls (view b) (W .sound) u c ∙ ap (toldOf u) (sym q) in
+      record {
+        numbers = t
+            ∙ (λ i. shown (A .number i) (A .node i .serial) (A .seen i) u)
+            ∙ sym (ap (λ (s : Said). s .numbers) p);
+        words = A .words;
+        seen = A .seen ∙ sym (ap (λ (s : Said). s .bench) p);
+      }
+
+  -- a check
+  pub turned-check : (u n v : ℕ) (i : ℕ) → (n, (v, i)) ≡ checkOf (view b) u → (r : Reply) → numbersOf r ≡ shown n v (view b) u → Turned b (K u) r b
+  unfolding says checks
+  turned-check u n v i e r t =
+      let p : (n, (v, i)) ≡ ask (view b) (0, 0) (checkOf (view b) u) = e ∙ sym (ask-true (view b) (0, 0) (checkOf (view b) u) (W .sound)) in
+      record { numbers = t ∙ ap (λ (x : ℕ × (ℕ × ℕ)). shown (x .0) (x .1 .0) (view b) u) p; words = W; seen = refl }
+
+  -- a line that is not of the grammar
+  pub turned-wrong : (r : Reply) → numbersOf r ≡ (1, 0, pos 0, pos 0) → Turned b wrong r b
+  unfolding says
+  turned-wrong r t = record { numbers = t; words = W; seen = refl }
