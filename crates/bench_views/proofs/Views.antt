@@ -30,9 +30,10 @@ use Rattle.ledger_spec.proofs.Readings.{place-field, place-else, place-here, pl
 use Rattle.ledger_spec.proofs.TreeReadings.{grow-field, grow-under, grow-else, grow-sum, grow-sum-else, grow-length, grow-progress, grow-progress-else}
 use Rattle.bench_views.specs.Tab.{tab}
 use Rattle.bench_views.specs.View.{off, upSeen, halvesSeen, sumUp, over, slotSeen, slotIn, interfaceIn, viewIn, circleOf}
-use Rattle.bench_views.specs.Records.{withSpeed, withUsed, withGrowth}
+use Rattle.bench_views.specs.Records.{withUsed, withGrowth}
 use Rattle.bench_views.proofs.Tabs.{length-tab, getD-tab, tab-same, tab-set, tab-snoc, tab-map}
 use Rattle.bench_views.proofs.Offsets.{value-grown}
+use Rattle.bench_words.specs.Store.{setSpeed}
 
 -- ---- the parts of a view
 module _ (n : ℕ) (U : ℕ → Interface) (A : ℕ → Node) where
@@ -82,8 +83,8 @@ interface-is f g a b c d e h = λ i. record { slots = a i; progress = b i; sum =
 -- ---- a slot changed
 module _ (n : ℕ) (U U' : ℕ → Interface) (A A' : ℕ → Node) (u s t sp : ℕ) (y : Option plain.Node)
     (lu : u < 8) (ls : s < U u .used) (lt : t < 8) (tops : top (viewIn n U A) u ≡ t)
-    (here : U' t ≡ withSpeed (U t) sp) (there : (v : ℕ) → v < 8 → v ≢ t → U' v ≡ U v) where
-  pub unit-kept : {X : Type 0} (φ : Interface → X) → ((x : Interface) (z : ℕ) → φ (withSpeed x z) ≡ φ x) → (v : ℕ) → v < 8 → φ (U' v) ≡ φ (U v)
+    (here : U' t ≡ setSpeed (U t) sp) (there : (v : ℕ) → v < 8 → v ≢ t → U' v ≡ U v) where
+  pub unit-kept : {X : Type 0} (φ : Interface → X) → ((x : Interface) (z : ℕ) → φ (setSpeed x z) ≡ φ x) → (v : ℕ) → v < 8 → φ (U' v) ≡ φ (U v)
   unit-kept φ e v lv = by-cases (ℕ-discrete v t) (λ (q : v ≡ t). rw (q, here) (e (U t) sp)) (λ (q : v ≡ t → ⊥). rw (there v lv q))
 
   module _ (fast : off 1024 sp ≡ off 1024 (U t .speed) +ℤ (share y -ℤ share (slotIn U A u s)))
@@ -109,8 +110,8 @@ module _ (n : ℕ) (U U' : ℕ → Interface) (A A' : ℕ → Node) (u s t sp : 
         ∙ ap₂ (λ (x z : ℤ). x +ℤ z) (ap (λ (w : ℕ). interface B₀ w .speed) tops ∙ ap (λ (f : plain.Interface). f .speed) (interface-in n U A t lt)) (ap (λ (o : Option plain.Node). share y -ℤ share o) (view-slot n U A u s lu ls)))))
         (λ (ne : v ≡ t → ⊥). rw (there v lv ne) (sym (place-slow B₀ u s y v (λ e. ne (e ∙ tops)) ∙ ap (λ (f : plain.Interface). f .speed) (interface-in n U A v lv))))
 
-    field : {X : Type 0} (φ : plain.Interface → X) (v : ℕ) → v < 8 → ((f : plain.Interface) (l : List (Option plain.Node)) → φ (record { slots = l; progress = f .progress; sum = f .sum; speed = f .speed; parent = f .parent; halves = f .halves }) ≡ φ f)
-        → ((f : plain.Interface) (x : ℤ) → φ (record { slots = f .slots; progress = f .progress; sum = f .sum; speed = x; parent = f .parent; halves = f .halves }) ≡ φ f)
+    field : {X : Type 0} (φ : plain.Interface → X) (v : ℕ) → v < 8 → ((f : plain.Interface) (l : List (Option plain.Node)) → φ (plain.withSlots f l) ≡ φ f)
+        → ((f : plain.Interface) (x : ℤ) → φ (plain.withSpeed f x) ≡ φ f)
         → φ (interfaceIn U A v) ≡ φ (interface (place B₀ u s y) v)
     field φ v lv p q = sym (place-field B₀ u s y φ p q v ∙ ap φ (interface-in n U A v lv))
 
@@ -152,8 +153,8 @@ module _ (n : ℕ) (U U' : ℕ → Interface) (A A' : ℕ → Node) (u sp : ℕ)
         (λ (e : v ≡ u). rw (e, here) (fast ∙ sym (push-fast W u x (omega (arith, view-eight n U A)) ∙ ap (λ (f : plain.Interface). f .speed +ℤ rate (x .state)) (interface-in n U A u lu))))
         (λ (ne : v ≡ u → ⊥). rw (there v lv ne) (sym (push-slow W u x v ne ∙ ap (λ (f : plain.Interface). f .speed) (interface-in n U A v lv))))
 
-    held : {X : Type 0} (φ : plain.Interface → X) (v : ℕ) → v < 8 → ((f : plain.Interface) (l : List (Option plain.Node)) → φ (record { slots = l; progress = f .progress; sum = f .sum; speed = f .speed; parent = f .parent; halves = f .halves }) ≡ φ f)
-        → ((f : plain.Interface) (x : ℤ) → φ (record { slots = f .slots; progress = f .progress; sum = f .sum; speed = x; parent = f .parent; halves = f .halves }) ≡ φ f)
+    held : {X : Type 0} (φ : plain.Interface → X) (v : ℕ) → v < 8 → ((f : plain.Interface) (l : List (Option plain.Node)) → φ (plain.withSlots f l) ≡ φ f)
+        → ((f : plain.Interface) (x : ℤ) → φ (plain.withSpeed f x) ≡ φ f)
         → φ (interfaceIn U A v) ≡ φ (interface (push W u x) v)
     held φ v lv p q = sym (push-field W u x φ p q v ∙ ap φ (interface-in n U A v lv))
 

@@ -1,4 +1,4 @@
--- Records of the words with one field changed, an empty slot, and the ranges that words of a bench keep. Assumes nothing.
+-- Records of the words with two fields changed, an empty slot, and the ranges that words of a bench keep. Assumes nothing.
 use Prim.Native.Nat.{ℕ, _<_, _≤_}
 use mathlib.Core.Path.{_≡_}
 use mathlib.Core.List.{List}
@@ -8,7 +8,7 @@ use Rattle.kinds.specs.declared.GrowState.{GrowState}
 use Rattle.kinds.specs.declared.GrowState.the-variants.{Grow as Growing, Stay, Shrink}
 use Rattle.kinds.specs.declared.Class.the-variants.{Absent}
 use Rattle.kinds.specs.declared.Parent.the-variants.{Outermost}
-use Rattle.bench_words.specs.Store.{interfaceAt}
+use Rattle.bench_words.specs.Store.{interfaceAt, setUsed, setProgress, setSum, setSpeed}
 use Rattle.bench_words.specs.declared.Node.{Node}
 use Rattle.bench_words.specs.declared.Interface.{Interface}
 use Rattle.bench_words.specs.declared.Up.the-variants.{Under}
@@ -19,14 +19,12 @@ rateOf Growing = 2
 rateOf Stay = 1
 rateOf Shrink = 0
 
-abbrev pub withSpeed : Interface → ℕ → Interface
-withSpeed u s = record { used = u .used; progress = u .progress; sum = u .sum; speed = s; parent = u .parent; left = u .left; right = u .right }
-
+-- with so many slots used and a speed; with a progress and a sum
 abbrev pub withUsed : Interface → ℕ → ℕ → Interface
-withUsed u n s = record { used = n; progress = u .progress; sum = u .sum; speed = s; parent = u .parent; left = u .left; right = u .right }
+withUsed f n s = setSpeed (setUsed f n) s
 
 abbrev pub withGrowth : Interface → ℕ → ℕ → Interface
-withGrowth u p s = record { used = u .used; progress = p; sum = s; speed = u .speed; parent = u .parent; left = u .left; right = u .right }
+withGrowth f p s = setSum (setProgress f p) s
 
 -- an empty slot: all words zero
 abbrev pub noNode : Node

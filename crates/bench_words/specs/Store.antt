@@ -5,6 +5,8 @@ use lib.ListN.{getD, set}
 use Rattle.bench_words.specs.Codec.{stateOf, stateWord, handleOf, handleWord, classOf, classWord, parentOf, parentWord, upOf, upWord}
 use Rattle.bench_words.specs.declared.Node.{Node}
 use Rattle.bench_words.specs.declared.Interface.{Interface}
+use Rattle.bench_words.specs.declared.Up.{Up}
+use Rattle.bench_words.specs.declared.Up.the-variants.{Top}
 
 -- fields stand at base + 1 and on
 abbrev pub base : ℕ → ℕ
@@ -87,6 +89,29 @@ interfaceAt b u =
 
 abbrev pub interfaceWords : Interface → List ℕ
 interfaceWords n = n .used ∷ n .progress ∷ n .sum ∷ n .speed ∷ upWord (n .parent) ∷ n .left ∷ n .right ∷ []
+
+-- ---- an interface with one field changed, and one as set-up leaves it: what every other definition makes one by, so that a new field is said in this file alone
+
+abbrev pub setUsed : Interface → ℕ → Interface
+setUsed f x = record { used = x; progress = f .progress; sum = f .sum; speed = f .speed; parent = f .parent; left = f .left; right = f .right }
+
+abbrev pub setProgress : Interface → ℕ → Interface
+setProgress f x = record { used = f .used; progress = x; sum = f .sum; speed = f .speed; parent = f .parent; left = f .left; right = f .right }
+
+abbrev pub setSum : Interface → ℕ → Interface
+setSum f x = record { used = f .used; progress = f .progress; sum = x; speed = f .speed; parent = f .parent; left = f .left; right = f .right }
+
+abbrev pub setSpeed : Interface → ℕ → Interface
+setSpeed f x = record { used = f .used; progress = f .progress; sum = f .sum; speed = x; parent = f .parent; left = f .left; right = f .right }
+
+abbrev pub setParent : Interface → Up → Interface
+setParent f x = record { used = f .used; progress = f .progress; sum = f .sum; speed = f .speed; parent = x; left = f .left; right = f .right }
+
+abbrev pub setHalves : Interface → ℕ → ℕ → Interface
+setHalves f x y = record { used = f .used; progress = f .progress; sum = f .sum; speed = f .speed; parent = f .parent; left = x; right = y }
+
+abbrev pub noInterface : Interface
+noInterface = record { used = 0; progress = 0; sum = 4611686018427387904; speed = 1024; parent = Top; left = 0; right = 0 }
 
 unfoldable pub storeInterface : List ℕ → ℕ → Interface → List ℕ
 storeInterface b u n = writes b (ibase u) 1 (interfaceWords n)

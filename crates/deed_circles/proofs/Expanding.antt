@@ -13,13 +13,13 @@ use Rattle.kinds.specs.declared.Class.the-variants.{Absent, Blossom, Defect}
 use Rattle.kinds.specs.declared.Handle.{Handle as Packed}
 use Rattle.kinds.specs.declared.Parent.the-variants.{Outermost, Inside}
 use Rattle.kinds.specs.declared.Vertex.{Vertex}
-use Rattle.bench_words.specs.Store.{nodeAt, interfaceAt, storeNode}
+use Rattle.bench_words.specs.Store.{nodeAt, interfaceAt, storeNode, setSpeed}
 use Rattle.bench_words.proofs.Laws.{Good, good-interface}
 use Rattle.bench_words.specs.declared.Node.{Node}
 use Rattle.bench_words.specs.declared.Interface.{Interface}
 use Rattle.ledger_spec.specs.Bench.{Handle}
 use Rattle.ledger_spec.specs.Deeds.{removeBlossom}
-use Rattle.bench_views.specs.Records.{withSpeed, noNode}
+use Rattle.bench_views.specs.Records.{noNode}
 use Rattle.bench_views.specs.View.{view, viewIn, sumUp}
 use Rattle.bench_views.specs.Canon.{walk, Seated, Alone, Canon}
 use Rattle.bench_views.specs.Fit.{Fit, Done}
@@ -96,12 +96,12 @@ module _ (b : List ℕ) (t : ℕ) (h : Handle) (F : Fit b) (X : Expandable b t h
           ∙ sym (turn-done at T Growing (λ i. noSeat) (A₁ b t h F X) m (apart b t h F X) m i (omega arith) l) ∙ ap (to₁ b t h F X m) (sym e)
       go (no ne) (not-at f) = node-old j ne f ∙ sym (turn-off at T Growing (λ i. noSeat) (A₁ b t h F X) m j f ∙ gone-else b t h F X j ne)
 
-  part : {Y : Type 0} (φ : Interface → Y) → ((x : Interface) (z : ℕ) → φ (withSpeed x z) ≡ φ x) → (v : ℕ) → v < 8 → φ (interfaceAt b₂ v) ≡ φ (interfaceAt b v)
+  part : {Y : Type 0} (φ : Interface → Y) → ((x : Interface) (z : ℕ) → φ (setSpeed x z) ≡ φ x) → (v : ℕ) → v < 8 → φ (interfaceAt b₂ v) ≡ φ (interfaceAt b v)
   part φ e v lv = put-unit b₁ k noNode t s (G .steady) lk lt good-none φ e v lv ∙ ap φ (G .interfaces v lv)
 
   interface-now : (v : ℕ) → v < 8 → interfaceAt b₂ v ≡ pacing (interfaceAt b) t s v
   interface-now v lv = by-cases (ℕ-discrete v t)
-      (λ (e : v ≡ t). rw e (put-unit-here b₁ k noNode t s (G .steady) lk lt good-none ∙ ap (λ (f : Interface). withSpeed f s) (G .interfaces t lt) ∙ sym (pacing-here (interfaceAt b) t s)))
+      (λ (e : v ≡ t). rw e (put-unit-here b₁ k noNode t s (G .steady) lk lt good-none ∙ ap (λ (f : Interface). setSpeed f s) (G .interfaces t lt) ∙ sym (pacing-here (interfaceAt b) t s)))
       (λ (ne : v ≡ t → ⊥). put-unit-there b₁ k noNode t s (G .steady) lk lt good-none v lv ne ∙ G .interfaces v lv ∙ sym (pacing-else (interfaceAt b) t s v ne))
 
   seen : view b₂ ≡ removeBlossom (view b) h

@@ -23,7 +23,7 @@ use Rattle.ledger_spec.specs.Look.{climb, interface}
 use Rattle.ledger_spec.specs.Change.{mark, markAll}
 use Rattle.ledger_spec.specs.Named.{stateNamed, parentNamed}
 use Rattle.ledger_spec.proofs.Tops.{climb-same}
-use Rattle.bench_views.specs.Records.{withSpeed, rateOf}
+use Rattle.bench_views.specs.Records.{rateOf}
 use Rattle.bench_views.specs.Tab.{tab}
 use Rattle.bench_views.specs.View.{off, upSeen, halvesSeen, sumUp, slotSeen, interfaceIn, viewIn, circleOf, valueOf}
 use Rattle.bench_views.proofs.Sums.{sumUp-same}
@@ -31,13 +31,14 @@ use Rattle.bench_views.proofs.Views.{interface-in, view-next, view-parent, view
 use Rattle.deed_nodes.specs.Steps.{remarked}
 use Rattle.deed_nodes.specs.declared.Seat.{Seat}
 use Rattle.deed_nodes.proofs.Puts.{mark-in}
+use Rattle.bench_words.specs.Store.{setSpeed}
 
 -- ---- one node, one speed instead of another
 unfoldable pub instead : (ℕ → Node) → ℕ → Node → ℕ → Node
 instead A k x j = pick (eqb j k) x (A j)
 
 unfoldable pub pacing : (ℕ → Interface) → ℕ → ℕ → ℕ → Interface
-pacing U t s v = pick (eqb v t) (withSpeed (U t) s) (U v)
+pacing U t s v = pick (eqb v t) (setSpeed (U t) s) (U v)
 
 pub instead-here : (A : ℕ → Node) (k : ℕ) (x : Node) (j : ℕ) → j ≡ k → instead A k x j ≡ x
 unfolding instead
@@ -48,7 +49,7 @@ unfolding instead
 instead-else A k x j e = rw (ne-eqb j k e)
 
 module _ (U : ℕ → Interface) (t s : ℕ) where
-  pub pacing-here : pacing U t s t ≡ withSpeed (U t) s
+  pub pacing-here : pacing U t s t ≡ setSpeed (U t) s
   unfolding pacing
   pacing-here = rw (eq-eqb t t refl)
 
@@ -56,7 +57,7 @@ module _ (U : ℕ → Interface) (t s : ℕ) where
   unfolding pacing
   pacing-else v e = rw (ne-eqb v t e)
 
-  pub pacing-part : {X : Type 0} (φ : Interface → X) → ((x : Interface) (z : ℕ) → φ (withSpeed x z) ≡ φ x) → (v : ℕ) → φ (pacing U t s v) ≡ φ (U v)
+  pub pacing-part : {X : Type 0} (φ : Interface → X) → ((x : Interface) (z : ℕ) → φ (setSpeed x z) ≡ φ x) → (v : ℕ) → φ (pacing U t s v) ≡ φ (U v)
   pacing-part φ e v = by-cases (ℕ-discrete v t) (λ (q : v ≡ t). rw (q, pacing-here) (e (U t) s)) (λ (q : v ≡ t → ⊥). rw (pacing-else v q))
 
 pub pacing-self : (U : ℕ → Interface) (t : ℕ) → pacing U t (U t .speed) ≡ U
@@ -196,7 +197,7 @@ module _ (at T : ℕ → ℕ) (g : GrowState) (seat : ℕ → Seat) (A : ℕ →
           mark-in n W (pacing U t (sp (suc i))) (to i) (to (suc i)) (k / 64) (k % 64) t (sp (suc i))
           (λ v lv. rw (parents v) (good v lv)) (λ v lv. rw (used v) (few v lv)) (low i l) (rw (used (k / 64)) (slot i l)) lt
           (climb-in n n U W A (to i) (λ v lv. parents v) 8 (k / 64) ∙ under i l)
-          (pacing-here U t (sp (suc i)) ∙ sym (ap (λ (x : Interface). withSpeed x (sp (suc i))) (pacing-here U t (sp i))))
+          (pacing-here U t (sp (suc i)) ∙ sym (ap (λ (x : Interface). setSpeed x (sp (suc i))) (pacing-here U t (sp i))))
           (λ v lv ne. pacing-else U t (sp (suc i)) v ne ∙ sym (pacing-else U t (sp i) v ne))
           (λ j ne. turn-else i j (λ e. ne (e ∙ sym back)))
           (λ v r lv lr e.

@@ -13,7 +13,7 @@ use Rattle.kinds.specs.declared.Class.the-variants.{Defect}
 use Rattle.kinds.specs.declared.Handle.{Handle as Packed}
 use Rattle.kinds.specs.declared.Parent.the-variants.{Outermost}
 use Rattle.kinds.specs.declared.Vertex.{Vertex}
-use Rattle.bench_words.specs.Store.{nodeAt, interfaceAt, storeNode, storeInterface}
+use Rattle.bench_words.specs.Store.{nodeAt, interfaceAt, storeNode, storeInterface, setSpeed}
 use Rattle.bench_words.specs.declared.Node.{Node}
 use Rattle.bench_words.specs.declared.Interface.{Interface}
 use Rattle.ledger_spec.specs.Change.{mark}
@@ -21,7 +21,7 @@ use Rattle.ledger_spec.specs.Deeds.{newHandle, addDefect}
 use Rattle.ledger_spec.specs.Named.{stateNamed, handleNamed}
 use Rattle.ledger_spec.specs.Tests.{first}
 use Rattle.ledger_spec.specs.Refuse.{defectTests, stateTests}
-use Rattle.bench_views.specs.Records.{withSpeed, withUsed, rateOf, Steady, Ranged}
+use Rattle.bench_views.specs.Records.{withUsed, rateOf, Steady, Ranged}
 use Rattle.bench_views.specs.View.{sumUp, view}
 use Rattle.bench_views.specs.Fit.{Fit, Done}
 use Rattle.bench_trees.specs.Climb.{Climbs}
@@ -32,7 +32,7 @@ use Rattle.deed_nodes.proofs.Needs.{open-paced, settable, pushable}
 use Rattle.deed_nodes.proofs.Setting.{set-done}
 use Rattle.deed_nodes.proofs.Adding.{new-handle, defect-added}
 
-pub pace-by : (b : List ℕ) (u s : ℕ) (U : Interface) {b' : List ℕ} → U ≡ interfaceAt b u → b' ≡ storeInterface b u (withSpeed U s) → b' ≡ paced b u s
+pub pace-by : (b : List ℕ) (u s : ℕ) (U : Interface) {b' : List ℕ} → U ≡ interfaceAt b u → b' ≡ storeInterface b u (setSpeed U s) → b' ≡ paced b u s
 unfolding paced
 pace-by b u s U e e' = simp (e', e)
 

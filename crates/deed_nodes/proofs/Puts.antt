@@ -19,13 +19,14 @@ use Rattle.ledger_spec.specs.Bench as plain
 use Rattle.ledger_spec.specs.Look.{top}
 use Rattle.ledger_spec.specs.Change.{share, place, mark, restate}
 use Rattle.ledger_spec.specs.Named.{stateNamed, parentNamed}
-use Rattle.bench_views.specs.Records.{withSpeed, rateOf}
+use Rattle.bench_views.specs.Records.{rateOf}
 use Rattle.bench_views.specs.View.{off, sumUp, slotSeen, slotIn, viewIn, circleOf, valueOf, biasOf}
 use Rattle.bench_views.proofs.Offsets.{off-both, rates}
 use Rattle.bench_views.proofs.Sums.{sumUp-same}
 use Rattle.bench_views.proofs.Views.{view-slot, unit-kept, place-view}
 use Rattle.deed_nodes.specs.Steps.{remarked}
 use Rattle.deed_nodes.specs.declared.Seat.{Seat}
+use Rattle.bench_words.specs.Store.{setSpeed}
 
 -- ---- values
 pub value-back : (g : GrowState) (v t : ℕ) → t ≤ v → valueOf g (biasOf g v t) t ≡ v
@@ -86,10 +87,10 @@ speed-turns x y a b e =
 module _ (n : ℕ) (U U' : ℕ → Interface) (A A' : ℕ → Node) (u s t sp : ℕ)
     (good : (v : ℕ) → v < 8 → GoodUp (U v .parent)) (few : (v : ℕ) → v < 8 → U v .used ≤ 64)
     (lu : u < 8) (ls : s < U u .used) (lt : t < 8) (tops : top (viewIn n U A) u ≡ t)
-    (here : U' t ≡ withSpeed (U t) sp) (there : (v : ℕ) → v < 8 → v ≢ t → U' v ≡ U v)
+    (here : U' t ≡ setSpeed (U t) sp) (there : (v : ℕ) → v < 8 → v ≢ t → U' v ≡ U v)
     (others : (j : ℕ) → j ≢ u * 64 + s → A' j ≡ A j)
     (circles : (v r : ℕ) → v < 8 → r < U v .used → A' (v * 64 + r) .class ≡ Blossom → circleOf A' (v * 64 + r) ≡ circleOf A (v * 64 + r)) where
-  kept : {X : Type 0} (φ : Interface → X) → ((x : Interface) (z : ℕ) → φ (withSpeed x z) ≡ φ x) → (v : ℕ) → v < 8 → φ (U' v) ≡ φ (U v)
+  kept : {X : Type 0} (φ : Interface → X) → ((x : Interface) (z : ℕ) → φ (setSpeed x z) ≡ φ x) → (v : ℕ) → v < 8 → φ (U' v) ≡ φ (U v)
   kept = unit-kept n U U' A A' u s t sp none lu ls lt tops here there
 
   sums : (v : ℕ) → v < 8 → sumUp 8 U' v ≡ sumUp 8 U v

@@ -8,14 +8,14 @@ use native.Mathlib.Decide.{ℕ-discrete}
 use native.Mathlib.Omega.{arith}
 use lib.ListN.{getD}
 use Rattle.kinds.specs.declared.GrowState.{GrowState}
-use Rattle.bench_words.specs.Store.{nodeAt, interfaceAt, storeNode}
+use Rattle.bench_words.specs.Store.{nodeAt, interfaceAt, storeNode, setSpeed}
 use Rattle.bench_words.proofs.Laws.{Good, good-node, good-interface}
 use Rattle.bench_words.specs.declared.Node.{Node}
 use Rattle.bench_words.specs.declared.Interface.{Interface}
 use Rattle.ledger_spec.specs.Bench.{Handle}
 use Rattle.ledger_spec.specs.Change.{mark}
 use Rattle.ledger_spec.specs.Named.{stateNamed}
-use Rattle.bench_views.specs.Records.{rateOf, withSpeed}
+use Rattle.bench_views.specs.Records.{rateOf}
 use Rattle.bench_views.specs.View.{viewIn, view, sumUp, circleOf}
 use Rattle.bench_views.specs.Fit.{Fit, Done}
 use Rattle.bench_views.proofs.Sums.{sumUp-le}
@@ -53,7 +53,7 @@ module _ (b : List ℕ) (u : ℕ) (h : Handle) (g : GrowState) (s : ℕ) (F : Fi
   node-there : (j : ℕ) → j ≢ k₀ → nodeAt b₁ j ≡ nodeAt b j
   node-there = put-node-there b k₀ n₁ u s (F .canon .steady) (S .stands .low) (S .root .low) good₁
 
-  part : {X : Type 0} (φ : Interface → X) → ((x : Interface) (z : ℕ) → φ (withSpeed x z) ≡ φ x) → (v : ℕ) → v < 8 → φ (interfaceAt b₁ v) ≡ φ (interfaceAt b v)
+  part : {X : Type 0} (φ : Interface → X) → ((x : Interface) (z : ℕ) → φ (setSpeed x z) ≡ φ x) → (v : ℕ) → v < 8 → φ (interfaceAt b₁ v) ≡ φ (interfaceAt b v)
   part = put-unit b k₀ n₁ u s (F .canon .steady) (S .stands .low) (S .root .low) good₁
 
   -- a node without a parent has no links to lose

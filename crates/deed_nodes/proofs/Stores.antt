@@ -7,11 +7,11 @@ use native.Mathlib.Decide.{ℕ-discrete}
 use native.Mathlib.Omega.{arith}
 use lib.ListN.{length, getD, length-set}
 use lib.Seq.{getD-set-same}
-use Rattle.bench_words.specs.Store.{nodeAt, interfaceAt, storeNode, storeInterface}
+use Rattle.bench_words.specs.Store.{nodeAt, interfaceAt, storeNode, storeInterface, setSpeed}
 use Rattle.bench_words.proofs.Laws.{Good, GoodUp, good-interface, load-same, load-other, length-store, store-out, store-node-interface, interface-same, interface-other, store-interface-out, store-interface-node, length-store-interface, interface-first, node-first}
 use Rattle.bench_words.specs.declared.Node.{Node}
 use Rattle.bench_words.specs.declared.Interface.{Interface}
-use Rattle.bench_views.specs.Records.{withSpeed, withUsed, Steady}
+use Rattle.bench_views.specs.Records.{withUsed, Steady}
 use Rattle.bench_views.specs.Canon.{Coded}
 use Rattle.bench_views.proofs.Codes.{coded-node, coded-interface, coded-first}
 use Rattle.deed_nodes.specs.Steps.{paced, pushed}
@@ -67,36 +67,36 @@ module _ (b : List ℕ) (k : ℕ) (n : Node) (t s : ℕ) (st : Steady b) (lk : k
 
   pub put-next : getD B₂ 0 0 ≡ getD b 0 0
   unfolding paced
-  put-next = stored-next B₁ t (withSpeed (interfaceAt B₁ t) s) len₁ lt (good-interface B₁ t) ∙ node-next b k n lk good (st .len)
+  put-next = stored-next B₁ t (setSpeed (interfaceAt B₁ t) s) len₁ lt (good-interface B₁ t) ∙ node-next b k n lk good (st .len)
 
-  pub put-unit-here : interfaceAt B₂ t ≡ withSpeed (interfaceAt b t) s
+  pub put-unit-here : interfaceAt B₂ t ≡ setSpeed (interfaceAt b t) s
   unfolding paced
-  put-unit-here = interface-same B₁ t (withSpeed (interfaceAt B₁ t) s) len₁ lt (good-interface B₁ t) ∙ ap (λ (x : Interface). withSpeed x s) (store-node-interface b k n (st .len) lk t lt)
+  put-unit-here = interface-same B₁ t (setSpeed (interfaceAt B₁ t) s) len₁ lt (good-interface B₁ t) ∙ ap (λ (x : Interface). setSpeed x s) (store-node-interface b k n (st .len) lk t lt)
 
   pub put-unit-there : (v : ℕ) → v < 8 → v ≢ t → interfaceAt B₂ v ≡ interfaceAt b v
   unfolding paced
-  put-unit-there v lv ne = interface-other B₁ t (withSpeed (interfaceAt B₁ t) s) len₁ lt v ne ∙ store-node-interface b k n (st .len) lk v lv
+  put-unit-there v lv ne = interface-other B₁ t (setSpeed (interfaceAt B₁ t) s) len₁ lt v ne ∙ store-node-interface b k n (st .len) lk v lv
 
-  pub put-unit : {X : Type 0} (φ : Interface → X) → ((x : Interface) (z : ℕ) → φ (withSpeed x z) ≡ φ x) → (v : ℕ) → v < 8 → φ (interfaceAt B₂ v) ≡ φ (interfaceAt b v)
+  pub put-unit : {X : Type 0} (φ : Interface → X) → ((x : Interface) (z : ℕ) → φ (setSpeed x z) ≡ φ x) → (v : ℕ) → v < 8 → φ (interfaceAt B₂ v) ≡ φ (interfaceAt b v)
   put-unit φ e v lv = by-cases (ℕ-discrete v t) (λ (q : v ≡ t). rw (q, put-unit-here) (e (interfaceAt b t) s)) (λ (q : v ≡ t → ⊥). rw (put-unit-there v lv q))
 
   pub put-node-here : nodeAt B₂ k ≡ n
   unfolding paced
-  put-node-here = store-interface-node B₁ t (withSpeed (interfaceAt B₁ t) s) len₁ lt k ∙ load-same b k n (st .len) lk good
+  put-node-here = store-interface-node B₁ t (setSpeed (interfaceAt B₁ t) s) len₁ lt k ∙ load-same b k n (st .len) lk good
 
   pub put-node-there : (j : ℕ) → j ≢ k → nodeAt B₂ j ≡ nodeAt b j
   unfolding paced
-  put-node-there j ne = store-interface-node B₁ t (withSpeed (interfaceAt B₁ t) s) len₁ lt j ∙ load-other b k n (st .len) lk j ne
+  put-node-there j ne = store-interface-node B₁ t (setSpeed (interfaceAt B₁ t) s) len₁ lt j ∙ load-other b k n (st .len) lk j ne
 
   pub put-steady : Steady B₂
   unfolding paced
   put-steady =
       let s₁ = node-steady b k n lk good st in
-      stored-steady B₁ t (withSpeed (interfaceAt B₁ t) s) len₁ lt (good-interface B₁ t) s₁ (s₁ .slots t lt) (s₁ .progress t lt) refl
+      stored-steady B₁ t (setSpeed (interfaceAt B₁ t) s) len₁ lt (good-interface B₁ t) s₁ (s₁ .slots t lt) (s₁ .progress t lt) refl
 
   pub put-coded : Coded b → Coded B₂
   unfolding paced
-  put-coded c = coded-interface B₁ t (withSpeed (interfaceAt B₁ t) s) len₁ lt (good-interface B₁ t) (coded-node b k n (st .len) lk good c)
+  put-coded c = coded-interface B₁ t (setSpeed (interfaceAt B₁ t) s) len₁ lt (good-interface B₁ t) (coded-node b k n (st .len) lk good c)
 
 -- ---- a node pushed
 module _ (b : List ℕ) (u : ℕ) (n : Node) (s : ℕ) (st : Steady b) (lu : u < 8) (room : interfaceAt b u .used < 64) (good : Good n) where

@@ -8,9 +8,9 @@ use Rattle.kinds.specs.declared.GrowState.the-variants.{Grow as Growing}
 use Rattle.kinds.specs.declared.Class.the-variants.{Defect}
 use Rattle.kinds.specs.declared.Parent.the-variants.{Outermost}
 use Rattle.kinds.specs.declared.Vertex.{Vertex}
-use Rattle.bench_words.specs.Store.{interfaceAt, storeNode, storeInterface}
+use Rattle.bench_words.specs.Store.{interfaceAt, storeNode, storeInterface, setSpeed}
 use Rattle.bench_words.specs.declared.Node.{Node}
-use Rattle.bench_views.specs.Records.{withSpeed, withUsed}
+use Rattle.bench_views.specs.Records.{withUsed}
 use Rattle.bench_views.specs.View.{valueOf, biasOf}
 use Rattle.deed_nodes.specs.declared.Seat.{Seat}
 
@@ -56,7 +56,7 @@ defectNode serial v t =
 
 -- interface u has speed s
 unfoldable pub paced : List ℕ → ℕ → ℕ → List ℕ
-paced b u s = storeInterface b u (withSpeed (interfaceAt b u) s)
+paced b u s = storeInterface b u (setSpeed (interfaceAt b u) s)
 
 -- node n in the next slot of interface u, whose speed then is s; the next serial
 unfoldable pub pushed : List ℕ → ℕ → Node → ℕ → List ℕ

@@ -9,7 +9,7 @@ use lib.IntN.{pos}
 use lib.ListN.{length, getD, set, length-set, replicate, length-replicate, getD-replicate, List·getD-eq-default}
 use lib.Seq.{getD-set-same, getD-set-other}
 use Rattle.kinds.specs.declared.Class.the-variants.{Absent}
-use Rattle.bench_words.specs.Store.{base, ibase, nodeAt, interfaceAt, storeInterface, interfaceOf, interfaceWords, nodeWords}
+use Rattle.bench_words.specs.Store.{base, ibase, nodeAt, interfaceAt, storeInterface, interfaceOf, interfaceWords, nodeWords, noInterface}
 use Rattle.bench_words.proofs.Laws.{interface-same, interface-other, store-interface-node, length-store-interface, interface-first, node-first}
 use Rattle.bench_words.specs.declared.Node.{Node}
 use Rattle.bench_words.specs.declared.Interface.{Interface}
@@ -25,7 +25,6 @@ use Rattle.bench_views.proofs.Offsets.{off-zero}
 use Rattle.bench_views.proofs.Views.{interface-is, view-is}
 use Rattle.bench_views.proofs.Codes.{coded-interface, coded-first}
 use Rattle.deed_nodes.proofs.Keeps.{not-blossom}
-use Rattle.deed_trees.specs.Empty.{noInterface}
 use Rattle.deed_trees.proofs.Cleared.{not-inside}
 
 -- ---- words erased one by one

@@ -13,7 +13,7 @@ use Rattle.kinds.specs.declared.Class.the-variants.{Absent, Blossom}
 use Rattle.kinds.specs.declared.Handle.{Handle as Packed}
 use Rattle.kinds.specs.declared.Parent.{Parent}
 use Rattle.kinds.specs.declared.Parent.the-variants.{Outermost, Inside}
-use Rattle.bench_words.specs.Store.{nodeAt, interfaceAt}
+use Rattle.bench_words.specs.Store.{nodeAt, interfaceAt, noInterface}
 use Rattle.bench_words.proofs.Laws.{GoodUp, good-interface}
 use Rattle.bench_words.specs.declared.Node.{Node}
 use Rattle.bench_words.specs.declared.Interface.{Interface}
@@ -38,7 +38,6 @@ use Rattle.bench_views.proofs.Circles.{same-eq, circle-same}
 use Rattle.bench_views.proofs.Rings.{Ringed, ringed, ring-near, slot-held}
 use Rattle.deed_nodes.proofs.Puts.{slot-like}
 use Rattle.deed_nodes.proofs.Keeps.{not-blossom, used-slot, ringed-walk, Intact, intact-chain, intact-seat}
-use Rattle.deed_trees.specs.Empty.{noInterface}
 use Rattle.deed_trees.proofs.Wiping.{climb-up, Wiping}
 
 pub not-inside : {p : Parent} {q : Packed} → p ≡ Outermost → p ≡ Inside q → ⊥

@@ -5,7 +5,7 @@ use mathlib.Core.Logic.{by-cases}
 use mathlib.Core.List.{List}
 use native.Mathlib.Decide.{ℕ-discrete}
 use native.Mathlib.Omega.{arith}
-use Rattle.bench_words.specs.Store.{interfaceAt, storeNode, storeInterface}
+use Rattle.bench_words.specs.Store.{interfaceAt, storeNode, storeInterface, noInterface}
 use Rattle.bench_words.proofs.Laws.{Good, load-same, load-other, store-node-interface, interface-same, interface-other, store-interface-node, length-store-interface}
 use Rattle.bench_words.specs.declared.Node.{Node}
 use Rattle.bench_words.specs.declared.Interface.{Interface}
@@ -15,7 +15,7 @@ use Rattle.bench_views.specs.Records.{Steady, noNode}
 use Rattle.bench_views.specs.Canon.{Coded}
 use Rattle.bench_views.proofs.Codes.{coded-node, coded-interface}
 use Rattle.deed_nodes.proofs.Stores.{node-next, node-steady, stored-next}
-use Rattle.deed_trees.specs.Empty.{noInterface, Emptied, Reset}
+use Rattle.deed_trees.specs.Empty.{Emptied, Reset}
 
 good-none : Good noNode
 good-none = record { serial = omega arith; class = tt; parent = tt; left = (omega arith, omega arith, omega arith); right = (omega arith, omega arith, omega arith) }

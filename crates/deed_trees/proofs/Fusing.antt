@@ -31,7 +31,7 @@ use Rattle.bench_views.proofs.Views.{interface-in, interface-is, view-is, view-
 use Rattle.bench_views.proofs.Codes.{coded-interface}
 use Rattle.deed_nodes.proofs.Needs.{Paced, open-top, open-paced}
 use Rattle.deed_nodes.proofs.Keeps.{sim-self, canon-like}
-use Rattle.deed_trees.specs.Empty.{withUp}
+use Rattle.deed_trees.specs.Empty.{withUp, fusedWords}
 use Rattle.deed_trees.proofs.Fuses.{off-join, fuse-sums}
 
 -- ---- the words
@@ -70,7 +70,7 @@ module _ (b : List ℕ) (p l r : ℕ) (F : Fit b) (T : first (fuseTests (view b)
   no-slots = sym (view-count (getD b 0 0) U (nodeAt b) p p<8) ∙ ap length (S .no-slots)
 
   abbrev f₀ : Interface
-  f₀ = record { used = 0; progress = 0; sum = U l .sum + U r .sum - 4611686018427387904; speed = U l .speed + U r .speed - 1024; parent = Top; left = l + 1; right = r + 1 }
+  f₀ = fusedWords (U l) (U r) l r
 
   abbrev b₁ : List ℕ
   b₁ = storeInterface b l (withUp (U l) p)
@@ -162,7 +162,7 @@ module _ (b : List ℕ) (p l r : ℕ) (F : Fit b) (T : first (fuseTests (view b)
       ∙ sym (join-slots B p l r joining v ∙ is (λ f. f .slots) v lv)
 
   -- a field of the ledger's that shows a part of the words'
-  field : {X Y : Type 0} (φ : Interface → Y) (show : Y → X) (ψ : plain.Interface → X) → ((f : Interface) (q : ℕ) → φ (withUp f q) ≡ φ f) → ((f : plain.Interface) (q : ℕ) → ψ (record { slots = f .slots; progress = f .progress; sum = f .sum; speed = f .speed; parent = some q; halves = f .halves }) ≡ ψ f)
+  field : {X Y : Type 0} (φ : Interface → Y) (show : Y → X) (ψ : plain.Interface → X) → ((f : Interface) (q : ℕ) → φ (withUp f q) ≡ φ f) → ((f : plain.Interface) (q : ℕ) → ψ (plain.withParent f (some q)) ≡ ψ f)
       → ((v : ℕ) → v < 8 → ψ (interface B v) ≡ show (φ (U v))) → show (φ f₀) ≡ ψ (interface J p) → (v : ℕ) → v < 8 → show (φ (U₃ v)) ≡ ψ (interface J v)
   field φ show ψ e e' seen at-p v lv = by-cases (ℕ-discrete v p)
       (λ (q : v ≡ p). rw (q, here-p) at-p)
@@ -263,7 +263,7 @@ module _ (b : List ℕ) (p l r : ℕ) (F : Fit b) (T : first (fuseTests (view b)
       })
 
   pub join-by : (L R : Interface) {c₁ c₂ c₃ : List ℕ} → L ≡ U l → R ≡ U r → c₁ ≡ storeInterface b l (withUp (U l) p) → c₂ ≡ storeInterface c₁ r (withUp (interfaceAt c₁ r) p)
-      → c₃ ≡ storeInterface c₂ p (record { used = 0; progress = 0; sum = L .sum + R .sum - 4611686018427387904; speed = L .speed + R .speed - 1024; parent = Top; left = l + 1; right = r + 1 }) → Done c₃ J
+      → c₃ ≡ storeInterface c₂ p (fusedWords L R l r) → Done c₃ J
   join-by L R {c₃ = c₃} eL eR e₁ e₂ e₃ =
       let q : c₃ ≡ b₃ = simp (e₃, e₂, e₁, eL, eR) in
       rw q fused

@@ -8,7 +8,7 @@ use mathlib.Core.List.{List}
 use native.Mathlib.Decide.{ℕ-discrete, decLt}
 use native.Mathlib.Omega.{arith}
 use lib.ListN.{getD, List·getD-eq-default}
-use Rattle.bench_words.specs.Store.{nodeAt, interfaceAt}
+use Rattle.bench_words.specs.Store.{nodeAt, interfaceAt, noInterface}
 use Rattle.bench_words.specs.declared.Interface.{Interface}
 use Rattle.ledger_spec.specs.Bench.{Bench, fresh}
 use Rattle.ledger_spec.specs.Bench as plain
@@ -24,7 +24,7 @@ use Rattle.bench_views.specs.Canon.{Coded}
 use Rattle.bench_views.specs.Fit.{Fit}
 use Rattle.bench_views.proofs.Views.{view-eight, view-parent}
 use Rattle.bench_trees.specs.Climb.{Climbs}
-use Rattle.deed_trees.specs.Empty.{noInterface, Reset}
+use Rattle.deed_trees.specs.Empty.{Reset}
 
 -- ---- climbs
 -- a climb goes up

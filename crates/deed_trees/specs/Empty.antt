@@ -1,20 +1,21 @@
--- An interface as set-up leaves it, one put under a parent, and what emptying slots does to the words. Assumes nothing.
-use Prim.Native.Nat.{ℕ, _+_, _*_, _<_}
+-- An interface put under a parent, the parent of a fuse, and what emptying slots does to the words. Assumes nothing.
+use Prim.Native.Nat.{ℕ, _+_, _-_, _*_, _<_}
 use mathlib.Core.Path.{_≡_}
 use mathlib.Core.Logic.{_≢_}
 use mathlib.Core.List.{List}
 use lib.ListN.{getD}
-use Rattle.bench_words.specs.Store.{nodeAt, interfaceAt}
+use Rattle.bench_words.specs.Store.{nodeAt, interfaceAt, setSum, setSpeed, setParent, setHalves, noInterface}
 use Rattle.bench_words.specs.declared.Interface.{Interface}
-use Rattle.bench_words.specs.declared.Up.the-variants.{Top, Under}
+use Rattle.bench_words.specs.declared.Up.the-variants.{Under}
 use Rattle.bench_views.specs.Records.{Steady, noNode}
 use Rattle.bench_views.specs.Canon.{Coded}
 
-abbrev pub noInterface : Interface
-noInterface = record { used = 0; progress = 0; sum = 4611686018427387904; speed = 1024; parent = Top; left = 0; right = 0 }
-
 abbrev pub withUp : Interface → ℕ → Interface
-withUp f p = record { used = f .used; progress = f .progress; sum = f .sum; speed = f .speed; parent = Under p; left = f .left; right = f .right }
+withUp f p = setParent f (Under p)
+
+-- the parent of a fuse, from its halves l and r, whose interfaces are L and R
+abbrev pub fusedWords : Interface → Interface → ℕ → ℕ → Interface
+fusedWords L R l r = setHalves (setSpeed (setSum noInterface (L .sum + R .sum - 4611686018427387904)) (L .speed + R .speed - 1024)) (l + 1) (r + 1)
 
 -- b' is b with the first n slots of interface u empty
 pub record Emptied (b : List ℕ) (u : ℕ) (b' : List ℕ) (n : ℕ) : Type 0 where

@@ -6,7 +6,7 @@ use bench_words::WORDS;
 ghost use mathlib.Core.Path.{_≡_};
 ghost use Prim.Native.Nat.{ℕ, _+_, _*_, _<_, _≤_};
 ghost use lib.ListN.{length, getD};
-ghost use Rattle.bench_words.specs.Store.{interfaceAt, storeInterface};
+ghost use Rattle.bench_words.specs.Store.{interfaceAt, storeInterface, noInterface};
 ghost use Rattle.ledger_spec.specs.Bench.{setUp};
 ghost use Rattle.ledger_spec.specs.Tests.{first as numberOf};
 ghost use Rattle.ledger_spec.specs.Refuse.{fuseTests, unitTests};
@@ -15,7 +15,7 @@ ghost use Rattle.bench_views.specs.Records.{Steady};
 ghost use Rattle.bench_views.specs.View.{view};
 ghost use Rattle.bench_views.specs.Canon.{Coded};
 ghost use Rattle.bench_views.specs.Fit.{Fit, Done};
-ghost use Rattle.deed_trees.specs.Empty.{noInterface, withUp, Emptied, Reset};
+ghost use Rattle.deed_trees.specs.Empty.{withUp, Emptied, Reset};
 
 // An interface as set-up leaves it.
 fn no_interface() -> Interface

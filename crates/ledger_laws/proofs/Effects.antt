@@ -10,7 +10,7 @@ use lib.IntN.{ℤ, pos, _+ℤ_, _-ℤ_, _*ℤ_}
 use Rattle.ledger_spec.specs.Bench.{Handle, State, rate, stays, grows, Node, Bench, fresh}
 use Rattle.ledger_spec.specs.Look.{interface, slotOf, nodeAt, top}
 use Rattle.ledger_spec.specs.Change.{share, restate, withNode, mark}
-use Rattle.ledger_spec.specs.Deeds.{newHandle, members, addDefect, addBlossom, removeBlossom, growSlot, growBy}
+use Rattle.ledger_spec.specs.Deeds.{newHandle, members, addDefect, addBlossom, removeBlossom, growSlot, growBy, fusedParent}
 use Rattle.ledger_spec.specs.Calls.{nobody, Defect, Blossom, Expand, SetState, Grow, Fuse, Clear}
 use Rattle.ledger_spec.specs.Answers.{answer}
 use Rattle.ledger_spec.specs.Knit.{In}
@@ -194,7 +194,7 @@ pub record FuseLeaves (b : Bench) (p l r : ℕ) (h : Handle) (b′ : Bench) : Ty
   pub left : interface b′ l .parent ≡ some p
   pub right : interface b′ r .parent ≡ some p
   pub parent : (w : ℕ) → w ≢ l → w ≢ r → interface b′ w .parent ≡ interface b w .parent
-  pub top : interface b′ p ≡ record { slots = interface b p .slots; progress = pos 0; sum = interface b l .sum +ℤ interface b r .sum; speed = interface b l .speed +ℤ interface b r .speed; parent = none; halves = some (l, r) }
+  pub top : interface b′ p ≡ fusedParent b p l r
   pub sum : (w : ℕ) → w ≢ p → interface b′ w .sum ≡ interface b w .sum
   pub speed : (w : ℕ) → w ≢ p → interface b′ w .speed ≡ interface b w .speed
   pub progress : (w : ℕ) → w ≢ p → interface b′ w .progress ≡ interface b w .progress

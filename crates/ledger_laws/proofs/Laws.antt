@@ -11,9 +11,8 @@ use lib.Dec.{eqb}
 use lib.ListN.{length}
 use lib.Seq.{ext-getD}
 use lib.IntN.{ℤ, _+ℤ_, _*ℤ_, +ℤ-assoc}
-use Rattle.ledger_spec.specs.Bench.{Node, rate, Interface, Bench, fresh}
+use Rattle.ledger_spec.specs.Bench.{Node, rate, Interface, Bench, fresh, withProgress, withSum, withSlots}
 use Rattle.ledger_spec.specs.Look.{interface, top}
-use Rattle.ledger_spec.specs.Change.{withSlots}
 use Rattle.ledger_spec.specs.Deeds.{growSlot, growBy, join}
 use Rattle.ledger_spec.specs.Account.{Alike}
 use Rattle.ledger_spec.specs.Frame.{Frame}
@@ -39,9 +38,9 @@ slots-twice a c [] = refl
 slots-twice a c (x ∷ xs) = ap₂ _∷_ (slot-twice a c x) (slots-twice a c xs)
 
 grown-twice : (a c : ℤ) (x y : Bool) (f : Interface) → atTop y c (inTree x c (atTop y a (inTree x a f))) ≡ atTop y (a +ℤ c) (inTree x (a +ℤ c) f)
-grown-twice a c true true f = λ i. record { slots = slots-twice a c (f .slots) i; progress = +ℤ-assoc (f .progress) a c i; sum = twice-more (f .sum) a c (f .speed) i; speed = f .speed; parent = f .parent; halves = f .halves }
+grown-twice a c true true f = λ i. withSum (withProgress (withSlots f (slots-twice a c (f .slots) i)) (+ℤ-assoc (f .progress) a c i)) (twice-more (f .sum) a c (f .speed) i)
 grown-twice a c true false f = ap (withSlots f) (slots-twice a c (f .slots))
-grown-twice a c false true f = λ i. record { slots = f .slots; progress = +ℤ-assoc (f .progress) a c i; sum = twice-more (f .sum) a c (f .speed) i; speed = f .speed; parent = f .parent; halves = f .halves }
+grown-twice a c false true f = λ i. withSum (withProgress f (+ℤ-assoc (f .progress) a c i)) (twice-more (f .sum) a c (f .speed) i)
 grown-twice a c false false f = refl
 
 -- the whole bench, of any bench

@@ -8,9 +8,9 @@ use native.Mathlib.Decide.{ℕ-discrete, decLt}
 use lib.Dec.{eqb}
 use lib.ListN.{length, set, length-set, List·getD-eq-default}
 use lib.IntN.{ℤ, _+ℤ_, _-ℤ_}
-use Rattle.ledger_spec.specs.Bench.{Handle, State, rate, Node, Interface, Bench, fresh, setUp}
+use Rattle.ledger_spec.specs.Bench.{Handle, State, rate, Node, Interface, Bench, fresh, setUp, withSlots}
 use Rattle.ledger_spec.specs.Look.{interface, slotOf, top}
-use Rattle.ledger_spec.specs.Change.{share, withSlots, withInterface, faster, place, push, restate, mark, markAll}
+use Rattle.ledger_spec.specs.Change.{share, withInterface, faster, place, push, restate, mark, markAll}
 use Rattle.ledger_spec.specs.Deeds.{growSlot, growBy, join, wipe}
 use Rattle.ledger_spec.specs.Account.{over, gate, ratesIn}
 use Rattle.ledger_spec.specs.Frame.{Frame}

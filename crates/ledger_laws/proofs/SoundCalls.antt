@@ -14,7 +14,7 @@ use lib.Signed.{ltZ}
 use Rattle.ledger_spec.specs.Bench.{Handle, State, stays, grows, Node, Interface, Bench, fresh, setUp}
 use Rattle.ledger_spec.specs.Look.{interface, slotOf, nodeAt, top}
 use Rattle.ledger_spec.specs.Change.{place, mark, markAll}
-use Rattle.ledger_spec.specs.Deeds.{newHandle, members, addDefect, addBlossom, removeBlossom, growBy, join, wipe}
+use Rattle.ledger_spec.specs.Deeds.{newHandle, members, addDefect, addBlossom, removeBlossom, growBy, fusedParent, join, wipe}
 use Rattle.ledger_spec.specs.Frame.{Frame}
 use Rattle.ledger_spec.specs.Knit.{Sewn}
 use Rattle.ledger_spec.specs.Facts.{W, Sound}
@@ -175,7 +175,7 @@ module _ (b : Bench) (S : Sound b) (p l r : ℕ) (f : Fusable b p l r) where
   abbrev F : Frame b
   F = S .frame
 
-  at-p : {X : Type 0} (φ : Interface → X) (w : ℕ) → w ≡ p → φ (interface j w) ≡ φ (record { slots = interface b p .slots; progress = pos 0; sum = interface b l .sum +ℤ interface b r .sum; speed = interface b l .speed +ℤ interface b r .speed; parent = none; halves = some (l, r) })
+  at-p : {X : Type 0} (φ : Interface → X) (w : ℕ) → w ≡ p → φ (interface j w) ≡ φ (fusedParent b p l r)
   at-p φ w e = ap (λ (z : ℕ). φ (interface j z)) e ∙ ap φ (join-p b p l r (joins F f))
 
   progress-else : (w : ℕ) → w ≢ p → interface j w .progress ≡ interface b w .progress

@@ -10,9 +10,9 @@ use native.Mathlib.Decide.{ℕ-discrete, decLt}
 use lib.ListN.{getD, length, set, length-set, length-append, List·getD-eq-default}
 use lib.Seq.{getD-set-same, getD-set-other, set-out, getD-append-seam}
 use lib.IntN.{ℤ, _+ℤ_, _-ℤ_}
-use Rattle.ledger_spec.specs.Bench.{Handle, State, rate, Node, Interface, Bench, fresh}
+use Rattle.ledger_spec.specs.Bench.{Handle, State, rate, Node, Interface, Bench, fresh, withSlots, withSpeed}
 use Rattle.ledger_spec.specs.Look.{interface, slotOf, top}
-use Rattle.ledger_spec.specs.Change.{share, withInterface, withSlots, withSpeed, faster, place, push, restate, mark, markAll}
+use Rattle.ledger_spec.specs.Change.{share, withInterface, faster, place, push, restate, mark, markAll}
 use Rattle.ledger_spec.specs.Knit.{In, here, there}
 use Rattle.ledger_spec.proofs.Interfaces.{put-here, put-else, put-kept}
 

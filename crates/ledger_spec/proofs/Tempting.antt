@@ -8,9 +8,9 @@ use mathlib.Core.Option.{none, some}
 use mathlib.Core.List.{List, [], _∷_}
 use lib.ListN.{replicate}
 use lib.IntN.{pos}
-use Rattle.ledger_spec.specs.Bench.{Handle, Bench, fresh, setUp}
+use Rattle.ledger_spec.specs.Bench.{Handle, Bench, fresh, setUp, withSlots}
 use Rattle.ledger_spec.specs.Look.{interface}
-use Rattle.ledger_spec.specs.Change.{withSlots, withInterface}
+use Rattle.ledger_spec.specs.Change.{withInterface}
 use Rattle.ledger_spec.specs.Calls.{Call, Defect, Blossom, Expand, Grow, Fuse, Clear, perform}
 use Rattle.ledger_spec.specs.Reads.{handleOf, valueOf}
 use Rattle.ledger_spec.specs.Sound.{sound}

@@ -12,10 +12,10 @@ use lib.Dec.{eqb}
 use borrow.Author.Tests.{eqb-true, eqb-false}
 use lib.ListN.{getD, length, set, length-set, length-map, List·getD-eq-default, List·getD-map}
 use lib.IntN.{ℤ, pos, _+ℤ_, _*ℤ_}
-use Rattle.ledger_spec.specs.Bench.{rate, Node, Interface, Bench, fresh}
+use Rattle.ledger_spec.specs.Bench.{rate, Node, Interface, Bench, fresh, withSlots, withParent}
 use Rattle.ledger_spec.specs.Look.{interface, slotOf, top}
-use Rattle.ledger_spec.specs.Change.{withInterface, withSlots, withParent}
-use Rattle.ledger_spec.specs.Deeds.{growSlot, across, booked, growBy, join, wipe}
+use Rattle.ledger_spec.specs.Change.{withInterface}
+use Rattle.ledger_spec.specs.Deeds.{growSlot, across, booked, growBy, fusedParent, join, wipe}
 use Rattle.ledger_spec.specs.Frame.{Frame}
 use Rattle.ledger_spec.proofs.Interfaces.{nil-of, put-here, put-else, put-kept, across-yes, across-no, across-kept, across-length}
 use Rattle.ledger_spec.proofs.Tops.{climb-same, fused-l, fused-r, fused-else, cleared-under, cleared-else}
@@ -153,19 +153,19 @@ joins F f = record { inside = omega (arith, F .eight, f .p<8); l<p = f .l<p; r<p
 
 module _ (b : Bench) (p l r : ℕ) (j : Joins b p l r) where
   abbrev b₁ : Bench
-  b₁ = withInterface b l (withParent (interface b l) p)
+  b₁ = withInterface b l (withParent (interface b l) (some p))
 
   abbrev b₂ : Bench
-  b₂ = withInterface b₁ r (withParent (interface b r) p)
+  b₂ = withInterface b₁ r (withParent (interface b r) (some p))
 
   l<n : l < length (b .interfaces)
   l<n = omega arith
 
   r<n₁ : r < length (b₁ .interfaces)
-  r<n₁ = omega (arith, length-set (b .interfaces) l (withParent (interface b l) p))
+  r<n₁ = omega (arith, length-set (b .interfaces) l (withParent (interface b l) (some p)))
 
   p<n₂ : p < length (b₂ .interfaces)
-  p<n₂ = omega (arith, length-set (b .interfaces) l (withParent (interface b l) p), length-set (b₁ .interfaces) r (withParent (interface b r) p))
+  p<n₂ = omega (arith, length-set (b .interfaces) l (withParent (interface b l) (some p)), length-set (b₁ .interfaces) r (withParent (interface b r) (some p)))
 
   l≢p : l ≢ p
   l≢p e = omega arith
@@ -186,7 +186,7 @@ module _ (b : Bench) (p l r : ℕ) (j : Joins b p l r) where
   join-else w x y z = put-else (λ f. f) b₂ p _ w x ∙ put-else (λ f. f) b₁ r _ w z ∙ put-else (λ f. f) b l _ w y
 
   -- of l and r only the parent changes
-  pub join-kept : {X : Type 0} (φ : Interface → X) → ((f : Interface) (q : ℕ) → φ (withParent f q) ≡ φ f) → (w : ℕ) → w ≢ p → φ (interface (join b p l r) w) ≡ φ (interface b w)
+  pub join-kept : {X : Type 0} (φ : Interface → X) → ((f : Interface) (q : ℕ) → φ (withParent f (some q)) ≡ φ f) → (w : ℕ) → w ≢ p → φ (interface (join b p l r) w) ≡ φ (interface b w)
   unfolding join
   join-kept φ e w x = put-else φ b₂ p _ w x ∙ put-kept φ b₁ r _ (e (interface b r) p ∙ sym (put-kept φ b l _ (e (interface b l) p) r)) w ∙ put-kept φ b l _ (e (interface b l) p) w
 
@@ -198,7 +198,7 @@ module _ (b : Bench) (p l r : ℕ) (j : Joins b p l r) where
   unfolding join
   join-r = put-else (λ f. f .parent) b₂ p _ r r≢p ∙ put-here (λ f. f .parent) b₁ r _ r<n₁
 
-  pub join-p : interface (join b p l r) p ≡ record { slots = interface b p .slots; progress = pos 0; sum = interface b l .sum +ℤ interface b r .sum; speed = interface b l .speed +ℤ interface b r .speed; parent = none; halves = some (l, r) }
+  pub join-p : interface (join b p l r) p ≡ fusedParent b p l r
   unfolding join
   join-p = put-here (λ f. f) b₂ p _ p<n₂
 

@@ -53,5 +53,25 @@ pub record Bench : Type 0 where
 abbrev pub fresh : Interface
 fresh = record { slots = []; progress = pos 0; sum = pos 0; speed = pos 0; parent = none; halves = none }
 
+-- ---- an interface with one field changed: what every other definition makes one by, so that a new field is said in this file alone
+
+abbrev pub withSlots : Interface → List (Option Node) → Interface
+withSlots f x = record { slots = x; progress = f .progress; sum = f .sum; speed = f .speed; parent = f .parent; halves = f .halves }
+
+abbrev pub withProgress : Interface → ℤ → Interface
+withProgress f x = record { slots = f .slots; progress = x; sum = f .sum; speed = f .speed; parent = f .parent; halves = f .halves }
+
+abbrev pub withSum : Interface → ℤ → Interface
+withSum f x = record { slots = f .slots; progress = f .progress; sum = x; speed = f .speed; parent = f .parent; halves = f .halves }
+
+abbrev pub withSpeed : Interface → ℤ → Interface
+withSpeed f x = record { slots = f .slots; progress = f .progress; sum = f .sum; speed = x; parent = f .parent; halves = f .halves }
+
+abbrev pub withParent : Interface → Option ℕ → Interface
+withParent f x = record { slots = f .slots; progress = f .progress; sum = f .sum; speed = f .speed; parent = x; halves = f .halves }
+
+abbrev pub withHalves : Interface → Option (ℕ × ℕ) → Interface
+withHalves f x = record { slots = f .slots; progress = f .progress; sum = f .sum; speed = f .speed; parent = f .parent; halves = x }
+
 abbrev pub setUp : ℕ → Bench
 setUp first = record { next = first; interfaces = replicate 8 fresh }

@@ -5,7 +5,7 @@ use mathlib.Core.Option.{Option, none, some}
 use mathlib.Core.List.{List, [], _∷_, _++_}
 use lib.ListN.{set}
 use lib.IntN.{ℤ, pos, _+ℤ_, _-ℤ_}
-use Rattle.ledger_spec.specs.Bench.{Handle, State, rate, Node, Interface, Bench}
+use Rattle.ledger_spec.specs.Bench.{Handle, State, rate, Node, Interface, Bench, withSlots, withSpeed}
 use Rattle.ledger_spec.specs.Look.{interface, slotOf, top}
 
 -- what a slot adds to the speed, and its value
@@ -17,16 +17,7 @@ abbrev pub worth : Option Node → ℤ
 worth none = pos 0
 worth (some n) = n .value
 
--- a interface with other slots; with a sum, speed and progress; with links
-abbrev pub withSlots : Interface → List (Option Node) → Interface
-withSlots f s = record { slots = s; progress = f .progress; sum = f .sum; speed = f .speed; parent = f .parent; halves = f .halves }
-
-abbrev pub withSpeed : Interface → ℤ → Interface
-withSpeed f v = record { slots = f .slots; progress = f .progress; sum = f .sum; speed = v; parent = f .parent; halves = f .halves }
-
-abbrev pub withParent : Interface → ℕ → Interface
-withParent f p = record { slots = f .slots; progress = f .progress; sum = f .sum; speed = f .speed; parent = some p; halves = f .halves }
-
+-- a node with a state and a parent; a bench with an interface
 abbrev pub withNode : Node → State → Option Handle → Node
 withNode n s p = record { serial = n .serial; class = n .class; state = s; parent = p; value = n .value; size = n .size }
 

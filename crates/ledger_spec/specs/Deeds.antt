@@ -3,15 +3,14 @@ use Prim.Native.Nat.{ℕ, suc, _+_}
 use mathlib.Core.Bool.{true, false}
 use mathlib.Core.Option.{Option, none, some}
 use mathlib.Core.List.{List, [], _∷_, map}
-use lib.ListN.{length}
 use lib.Dec.{eqb}
 use lib.IntN.{ℤ, pos, _+ℤ_, _*ℤ_}
-use Rattle.ledger_spec.specs.Bench.{Handle, grows, stays, rate, Member, defect, blossom, Node, Interface, Bench, fresh}
-use Rattle.ledger_spec.specs.Look.{interface, nodeAt, top}
-use Rattle.ledger_spec.specs.Change.{withInterface, withSlots, withParent, place, push, markAll}
+use Rattle.ledger_spec.specs.Bench.{Handle, grows, stays, rate, Member, defect, blossom, Node, Interface, Bench, fresh, withSlots, withProgress, withSum, withSpeed, withParent, withHalves}
+use Rattle.ledger_spec.specs.Look.{interface, freeSlot, nodeAt, top}
+use Rattle.ledger_spec.specs.Change.{withInterface, place, push, markAll}
 
 abbrev pub newHandle : Bench → ℕ → Handle
-newHandle b u = record { unit = u; slot = length (interface b u .slots); serial = b .next }
+newHandle b u = record { unit = u; slot = freeSlot b u; serial = b .next }
 
 unfoldable pub addDefect : Bench → ℕ → ℕ → Bench
 addDefect b u v = push b u (record { serial = b .next; class = defect v; state = grows; parent = none; value = pos 0; size = 1 })
@@ -52,17 +51,23 @@ across f b u k [] = []
 across f b u k (x ∷ xs) = elim (eqb (top b k) u) [ true ↦ f x | false ↦ x ] ∷ across f b u (suc k) xs
 
 abbrev pub booked : Interface → ℤ → Interface
-booked f l = record { slots = f .slots; progress = f .progress +ℤ l; sum = f .sum +ℤ l *ℤ f .speed; speed = f .speed; parent = f .parent; halves = f .halves }
+booked f l = withSum (withProgress f (f .progress +ℤ l)) (f .sum +ℤ l *ℤ f .speed)
 
 unfoldable pub growBy : Bench → ℕ → ℤ → Bench
 growBy b u l =
     let b₁ : Bench = record { next = b .next; interfaces = across (λ f. withSlots f (map (growSlot l) (f .slots))) b u 0 (b .interfaces) } in
     withInterface b₁ u (booked (interface b₁ u) l)
 
+-- the parent of a fuse: both sums and both speeds, progress 0, no parent, and the two as its halves
+abbrev pub fusedParent : Bench → ℕ → ℕ → ℕ → Interface
+fusedParent b p l r =
+    withHalves
+    (withSpeed (withSum (withProgress (withParent (interface b p) none) (pos 0)) (interface b l .sum +ℤ interface b r .sum)) (interface b l .speed +ℤ interface b r .speed))
+    (some (l, r))
+
 unfoldable pub join : Bench → ℕ → ℕ → ℕ → Bench
 join b p l r =
-    withInterface (withInterface (withInterface b l (withParent (interface b l) p)) r (withParent (interface b r) p)) p
-    (record { slots = interface b p .slots; progress = pos 0; sum = interface b l .sum +ℤ interface b r .sum; speed = interface b l .speed +ℤ interface b r .speed; parent = none; halves = some (l, r) })
+    withInterface (withInterface (withInterface b l (withParent (interface b l) (some p))) r (withParent (interface b r) (some p))) p (fusedParent b p l r)
 
 unfoldable pub wipe : Bench → ℕ → Bench
 wipe b u = record { next = b .next; interfaces = across (λ f. fresh) b u 0 (b .interfaces) }

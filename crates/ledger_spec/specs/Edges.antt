@@ -12,7 +12,7 @@ use Rattle.kinds.specs.declared.Stop.{Stop}
 use Rattle.kinds.specs.declared.MaybePair.the-variants.{NoPair}
 use Rattle.kinds.specs.declared.Obstacle.{Obstacle}
 use Rattle.kinds.specs.declared.Obstacle.the-variants.{TouchingVirtual, BlossomNeedExpand, VertexShrinkStop}
-use Rattle.ledger_spec.specs.Bench.{Handle, grows, defect, Bench, setUp}
+use Rattle.ledger_spec.specs.Bench.{Handle, grows, defect, Bench, fresh, setUp, withSlots, withSpeed}
 use Rattle.ledger_spec.specs.Change.{withInterface}
 use Rattle.ledger_spec.specs.Calls.{Call, Defect, Blossom, Expand, Grow, Fuse}
 use Rattle.ledger_spec.specs.Reads.{handleOf, valueOf}
@@ -78,7 +78,7 @@ expanded = Defect 0 3 ∷ Blossom 0 (record { unit = 0; slot = 0; serial = 1 } �
 
 -- a bench made by hand: a defect of this value where nothing has grown yet
 abbrev pub worthAtOnce : ℤ → Bench
-worthAtOnce v = withInterface (setUp 2) 0 (record { slots = some (record { serial = 1; class = defect 3; state = grows; parent = none; value = v; size = 1 }) ∷ []; progress = pos 0; sum = pos 0; speed = pos 1; parent = none; halves = none })
+worthAtOnce v = withInterface (setUp 2) 0 (withSpeed (withSlots fresh (some (record { serial = 1; class = defect 3; state = grows; parent = none; value = v; size = 1 }) ∷ [])) (pos 1))
 
 -- two obstacles for a list, and stops at 4 and 9
 abbrev pub c1 : Obstacle

@@ -3,7 +3,7 @@ use Prim.Native.Nat.{ℕ, zero, suc, _+_}
 use mathlib.Core.Bool.{Bool, true, false, _&&_}
 use mathlib.Core.Option.{Option, none, some}
 use mathlib.Core.List.{List, [], _∷_, _++_}
-use lib.ListN.{getD}
+use lib.ListN.{length, getD}
 use lib.Dec.{eqb}
 use Rattle.ledger_spec.specs.Bench.{Handle, Node, Interface, Bench, fresh}
 
@@ -12,6 +12,10 @@ interface b u = getD (b .interfaces) u fresh
 
 abbrev pub slotOf : Bench → ℕ → ℕ → Option Node
 slotOf b u s = getD (interface b u .slots) s none
+
+-- the slot that the next node of an interface takes: the one after the used ones
+abbrev pub freeSlot : Bench → ℕ → ℕ
+freeSlot b u = length (interface b u .slots)
 
 -- what a slot holds, if it has that serial
 unfoldable pub ifSerial : ℕ → Option Node → Option Node

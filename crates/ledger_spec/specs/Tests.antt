@@ -3,11 +3,10 @@ use Prim.Native.Nat.{ℕ, _^_}
 use mathlib.Core.Bool.{Bool, true, false, _||_, not}
 use mathlib.Core.Option.{Option, none, some}
 use mathlib.Core.List.{List, [], _∷_}
-use lib.ListN.{length}
 use lib.Dec.{eqb, leb}
 use lib.IntN.{natAbs}
 use Rattle.ledger_spec.specs.Bench.{Handle, Node, Interface, Bench, defect, blossom}
-use Rattle.ledger_spec.specs.Look.{interface, nodeAt, top, sameHandle}
+use Rattle.ledger_spec.specs.Look.{interface, freeSlot, nodeAt, top, sameHandle}
 
 unfoldable pub first : List (Bool × ℕ) → ℕ
 first [] = 0
@@ -53,7 +52,7 @@ twice (h ∷ hs) = any (sameHandle h) hs || twice hs
 
 -- 14, 15
 abbrev pub full : Bench → ℕ → Bool
-full b u = leb 64 (length (interface b u .slots))
+full b u = leb 64 (freeSlot b u)
 
 abbrev pub worn : Bench → Bool
 worn b = leb (2 ^ 32) (b .next)

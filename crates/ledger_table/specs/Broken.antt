@@ -8,9 +8,9 @@ use mathlib.Core.List.{List, [], _∷_, _++_, map}
 use lib.Dec.{eqb}
 use lib.ListN.{getD, set, replicate, take}
 use lib.IntN.{ℤ, pos, negsuc}
-use Rattle.ledger_spec.specs.Bench.{Handle, State, grows, stays, shrinks, Member, Class, blossom, Node, Interface, Bench, setUp}
+use Rattle.ledger_spec.specs.Bench.{Handle, State, grows, stays, shrinks, Member, Class, blossom, Node, Interface, Bench, setUp, withSlots, withProgress, withSum, withSpeed, withParent, withHalves}
 use Rattle.ledger_spec.specs.Look.{interface}
-use Rattle.ledger_spec.specs.Change.{withSlots, withSpeed, withInterface}
+use Rattle.ledger_spec.specs.Change.{withInterface}
 use Rattle.ledger_spec.specs.Calls.{Grow}
 use Rattle.ledger_spec.specs.Sound.{sound}
 use Rattle.ledger_spec.specs.Answers.{answer}
@@ -30,19 +30,19 @@ abbrev pub face : ℕ → (Interface → Interface) → Bench → Bench
 face u f b = withInterface b u (f (interface b u))
 
 abbrev pub progress : ℤ → Interface → Interface
-progress p f = record { slots = f .slots; progress = p; sum = f .sum; speed = f .speed; parent = f .parent; halves = f .halves }
+progress p f = withProgress f p
 
 abbrev pub sum : ℤ → Interface → Interface
-sum s f = record { slots = f .slots; progress = f .progress; sum = s; speed = f .speed; parent = f .parent; halves = f .halves }
+sum s f = withSum f s
 
 abbrev pub speed : ℤ → Interface → Interface
 speed v f = withSpeed f v
 
 abbrev pub parent : Option ℕ → Interface → Interface
-parent p f = record { slots = f .slots; progress = f .progress; sum = f .sum; speed = f .speed; parent = p; halves = f .halves }
+parent p f = withParent f p
 
 abbrev pub halves : Option (ℕ × ℕ) → Interface → Interface
-halves h f = record { slots = f .slots; progress = f .progress; sum = f .sum; speed = f .speed; parent = f .parent; halves = h }
+halves h f = withHalves f h
 
 abbrev pub empties : ℕ → Interface → Interface
 empties n f = withSlots f (f .slots ++ replicate n none)
