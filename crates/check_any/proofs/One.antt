@@ -16,8 +16,9 @@ use Rattle.sound_bench.specs.Sound.{soundWords}
 use Rattle.sound_bench.proofs.Theorem.{sound-says, sound-holds}
 use Rattle.check_sound.specs.declared.Checked.{Checked}
 use Rattle.check_sound.specs.Judged.{shownCheck}
-use Rattle.sound_lent.specs.Verdict.{asked}
+use Rattle.sound_lent.specs.Verdict.{asked, readWords}
 use Rattle.sound_lent.proofs.Asking.{asked-by}
+use Rattle.ledger_spec.specs.Answers.{checkRead, strictRead}
 
 -- an answer is what it shows
 pub one-answer : (r s : Checked) → shownCheck r ≡ shownCheck s → r ≡ s
@@ -50,10 +51,10 @@ not-two b u = go (outside u) (child b u)
     go false false e = omega arith
 
 module _ (b : List ℕ) (u : ℕ) where
-  pub check-broken : asked b (0, 0) (checkOf (view b) u) .0 ≡ 2 → SoundWords b → ⊥
+  pub check-broken : readWords b (checkRead (view b) u) .0 ≡ 2 → SoundWords b → ⊥
   unfolding checkOf
   check-broken = two-broken b (0, 0) (checkOf (view b) u) (λ e. not-two (view b) u (sym (said-number (first (unitTests (view b) u)) _ (0, 0)) ∙ e))
 
-  pub strict-broken : asked b (0, 0) (strictOf (view b) u) .0 ≡ 2 → SoundWords b → ⊥
+  pub strict-broken : readWords b (strictRead (view b) u) .0 ≡ 2 → SoundWords b → ⊥
   unfolding strictOf
   strict-broken = two-broken b (0, 0) (strictOf (view b) u) (λ e. not-two (view b) u (sym (said-number (first (unitTests (view b) u)) _ (0, 0)) ∙ e))

@@ -4,10 +4,10 @@ use bench_words::WORDS;
 use check_sound::Checked;
 use kinds::NodeIndex;
 ghost use mathlib.Core.Path.{_≡_};
-ghost use Rattle.ledger_spec.specs.Check.{checkOf, strictOf};
 ghost use Rattle.bench_views.specs.View.{view};
 ghost use Rattle.check_sound.specs.Judged.{shownCheck};
-ghost use Rattle.sound_lent.specs.Verdict.{asked};
+ghost use Rattle.sound_lent.specs.Verdict.{readWords};
+ghost use Rattle.ledger_spec.specs.Answers.{checkRead, strictRead};
 
 fn broken() -> Checked
     ensures { λ r. ⌜ shownCheck r ≡ (2, (0, 0)) ⌝ }
@@ -20,7 +20,7 @@ fn broken() -> Checked
 }
 
 pub fn sanity_check(b: &[u64; WORDS], unit: u8) -> Checked
-    ensures { λ r. ⌜ shownCheck r ≡ asked (now (b .entry)) (0, 0) (checkOf (view (now (b .entry))) unit) ⌝ }
+    ensures { λ r. ⌜ shownCheck r ≡ readWords (now (b .entry)) (checkRead (view (now (b .entry))) unit) ⌝ }
 {
     if !sound_lent::is_bench(b) {
         return broken();
@@ -29,7 +29,7 @@ pub fn sanity_check(b: &[u64; WORDS], unit: u8) -> Checked
 }
 
 pub fn strict_check(b: &[u64; WORDS], unit: u8) -> Checked
-    ensures { λ r. ⌜ shownCheck r ≡ asked (now (b .entry)) (0, 0) (strictOf (view (now (b .entry))) unit) ⌝ }
+    ensures { λ r. ⌜ shownCheck r ≡ readWords (now (b .entry)) (strictRead (view (now (b .entry))) unit) ⌝ }
 {
     if !sound_lent::is_bench(b) {
         return broken();

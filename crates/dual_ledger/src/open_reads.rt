@@ -3,17 +3,11 @@
 use bench_words::WORDS;
 use kinds::NodeIndex;
 ghost use mathlib.Core.Path.{_≡_};
-ghost use mathlib.Core.Bool.{false};
-ghost use mathlib.Core.Option.{none};
-ghost use lib.IntN.{pos};
-ghost use Rattle.ledger_spec.specs.Calls.{nobody};
-ghost use Rattle.ledger_spec.specs.Reads.{sumOf, speedOf, countOf, handleOf, valueOf, belongs};
-ghost use Rattle.ledger_spec.specs.Walk.{outerOf, underOf, firstVertex, verticesInto};
-ghost use Rattle.ledger_spec.specs.Check.{checkOf, strictOf};
 ghost use Rattle.deed_circles.specs.Given.{handGiven};
 ghost use Rattle.bench_views.specs.View.{view};
-ghost use Rattle.sound_lent.specs.Verdict.{asked};
 ghost use Rattle.link_answers.specs.Forms.{nodeWord, maybeWord, flagWord, signedWord, outerWords, worded};
+ghost use Rattle.sound_lent.specs.Verdict.{readWords};
+ghost use Rattle.ledger_spec.specs.Answers.{sumRead, speedRead, countRead, indexRead, belongsRead, valueRead, outerRead, belowRead, firstRead, verticesRead, checkRead, strictRead};
 
 #[no_mangle]
 pub extern "C" fn dual_ledger_sum_dual_variables(
@@ -21,7 +15,7 @@ pub extern "C" fn dual_ledger_sum_dual_variables(
     unit: u8,
     sum: &mut u64,
 ) -> u8
-    ensures { λ r. ⌜ (r, now (sum .exit)) ≡ worded signedWord (asked (now (bench .entry)) (pos 0) (sumOf (view (now (bench .entry))) unit)) ⌝ }
+    ensures { λ r. ⌜ (r, now (sum .exit)) ≡ worded signedWord (readWords (now (bench .entry)) (sumRead (view (now (bench .entry))) unit)) ⌝ }
 {
     let a = read_any::sum_dual_variables(bench, unit);
     *sum = link_answers::signed_word(a.weight);
@@ -30,7 +24,7 @@ pub extern "C" fn dual_ledger_sum_dual_variables(
 
 #[no_mangle]
 pub extern "C" fn dual_ledger_sum_grow_speed(bench: &[u64; WORDS], unit: u8, speed: &mut u64) -> u8
-    ensures { λ r. ⌜ (r, now (speed .exit)) ≡ worded signedWord (asked (now (bench .entry)) (pos 0) (speedOf (view (now (bench .entry))) unit)) ⌝ }
+    ensures { λ r. ⌜ (r, now (speed .exit)) ≡ worded signedWord (readWords (now (bench .entry)) (speedRead (view (now (bench .entry))) unit)) ⌝ }
 {
     let a = read_any::sum_grow_speed(bench, unit);
     *speed = link_answers::signed_word(a.weight);
@@ -39,7 +33,7 @@ pub extern "C" fn dual_ledger_sum_grow_speed(bench: &[u64; WORDS], unit: u8, spe
 
 #[no_mangle]
 pub extern "C" fn dual_ledger_nodes_count(bench: &[u64; WORDS], unit: u8, count: &mut u64) -> u8
-    ensures { λ r. ⌜ (r, now (count .exit)) ≡ asked (now (bench .entry)) 0 (countOf (view (now (bench .entry))) unit) ⌝ }
+    ensures { λ r. ⌜ (r, now (count .exit)) ≡ readWords (now (bench .entry)) (countRead (view (now (bench .entry))) unit) ⌝ }
 {
     let a = read_any::nodes_count(bench, unit);
     *count = a.count;
@@ -53,7 +47,7 @@ pub extern "C" fn dual_ledger_get_node(
     index: u32,
     node: &mut u64,
 ) -> u8
-    ensures { λ r. ⌜ (r, now (node .exit)) ≡ worded maybeWord (asked (now (bench .entry)) none (handleOf (view (now (bench .entry))) unit index)) ⌝ }
+    ensures { λ r. ⌜ (r, now (node .exit)) ≡ worded maybeWord (readWords (now (bench .entry)) (indexRead (view (now (bench .entry))) unit index)) ⌝ }
 {
     let a = read_any::get_node(bench, unit, NodeIndex(index));
     let found = a.node;
@@ -68,7 +62,7 @@ pub extern "C" fn dual_ledger_check_ptr_belonging(
     node: u64,
     inside: &mut u64,
 ) -> u8
-    ensures { λ r. ⌜ (r, now (inside .exit)) ≡ worded flagWord (asked (now (bench .entry)) false (belongs (view (now (bench .entry))) unit (handGiven node))) ⌝ }
+    ensures { λ r. ⌜ (r, now (inside .exit)) ≡ worded flagWord (readWords (now (bench .entry)) (belongsRead (view (now (bench .entry))) unit (handGiven node))) ⌝ }
 {
     let h = link_answers::hand(node);
     let a = read_any::check_ptr_belonging(bench, unit, h);
@@ -82,7 +76,7 @@ pub extern "C" fn dual_ledger_get_dual_variable(
     node: u64,
     value: &mut u64,
 ) -> u8
-    ensures { λ r. ⌜ (r, now (value .exit)) ≡ worded signedWord (asked (now (bench .entry)) (pos 0) (valueOf (view (now (bench .entry))) (handGiven node))) ⌝ }
+    ensures { λ r. ⌜ (r, now (value .exit)) ≡ worded signedWord (readWords (now (bench .entry)) (valueRead (view (now (bench .entry))) (handGiven node))) ⌝ }
 {
     let h = link_answers::hand(node);
     let a = read_any::get_dual_variable(bench, h);
@@ -97,7 +91,7 @@ pub extern "C" fn dual_ledger_get_ancestor_blossom(
     ancestor: &mut u64,
     links: &mut u64,
 ) -> u8
-    ensures { λ r. ⌜ (r, (now (ancestor .exit), now (links .exit))) ≡ worded outerWords (asked (now (bench .entry)) (nobody, 0) (outerOf (view (now (bench .entry))) (handGiven node))) ⌝ }
+    ensures { λ r. ⌜ (r, (now (ancestor .exit), now (links .exit))) ≡ worded outerWords (readWords (now (bench .entry)) (outerRead (view (now (bench .entry))) (handGiven node))) ⌝ }
 {
     let h = link_answers::hand(node);
     let a = read_any::get_ancestor_blossom(bench, h);
@@ -113,7 +107,7 @@ pub extern "C" fn dual_ledger_get_secondary_ancestor_blossom(
     node: u64,
     second: &mut u64,
 ) -> u8
-    ensures { λ r. ⌜ (r, now (second .exit)) ≡ worded nodeWord (asked (now (bench .entry)) nobody (underOf (view (now (bench .entry))) (handGiven node))) ⌝ }
+    ensures { λ r. ⌜ (r, now (second .exit)) ≡ worded nodeWord (readWords (now (bench .entry)) (belowRead (view (now (bench .entry))) (handGiven node))) ⌝ }
 {
     let h = link_answers::hand(node);
     let a = read_any::get_secondary_ancestor_blossom(bench, h);
@@ -128,7 +122,7 @@ pub extern "C" fn dual_ledger_get_representative_vertex(
     node: u64,
     vertex: &mut u32,
 ) -> u8
-    ensures { λ r. ⌜ (r, now (vertex .exit)) ≡ asked (now (bench .entry)) 0 (firstVertex (view (now (bench .entry))) (handGiven node)) ⌝ }
+    ensures { λ r. ⌜ (r, now (vertex .exit)) ≡ readWords (now (bench .entry)) (firstRead (view (now (bench .entry))) (handGiven node)) ⌝ }
 {
     let h = link_answers::hand(node);
     let a = read_any::get_representative_vertex(bench, h);
@@ -143,7 +137,7 @@ pub extern "C" fn dual_ledger_get_all_vertices(
     out: &mut [u32],
     count: &mut u64,
 ) -> u8
-    ensures { λ r. ⌜ (r, (now (count .exit), now (out .exit))) ≡ asked (now (bench .entry)) (0, now (out .entry)) (verticesInto (view (now (bench .entry))) (handGiven node) (now (out .entry))) ⌝ }
+    ensures { λ r. ⌜ (r, (now (count .exit), now (out .exit))) ≡ readWords (now (bench .entry)) (verticesRead (view (now (bench .entry))) (handGiven node) (now (out .entry))) ⌝ }
 {
     let h = link_answers::hand(node);
     let a = read_any::get_all_vertices(bench, h, out);
@@ -158,7 +152,7 @@ pub extern "C" fn dual_ledger_sanity_check(
     verdict: &mut u64,
     index: &mut u64,
 ) -> u8
-    ensures { λ r. ⌜ (r, (now (verdict .exit), now (index .exit))) ≡ asked (now (bench .entry)) (0, 0) (checkOf (view (now (bench .entry))) unit) ⌝ }
+    ensures { λ r. ⌜ (r, (now (verdict .exit), now (index .exit))) ≡ readWords (now (bench .entry)) (checkRead (view (now (bench .entry))) unit) ⌝ }
 {
     let a = check_any::sanity_check(bench, unit);
     *verdict = a.verdict as u64;
@@ -173,7 +167,7 @@ pub extern "C" fn dual_ledger_strict_check(
     verdict: &mut u64,
     index: &mut u64,
 ) -> u8
-    ensures { λ r. ⌜ (r, (now (verdict .exit), now (index .exit))) ≡ asked (now (bench .entry)) (0, 0) (strictOf (view (now (bench .entry))) unit) ⌝ }
+    ensures { λ r. ⌜ (r, (now (verdict .exit), now (index .exit))) ≡ readWords (now (bench .entry)) (strictRead (view (now (bench .entry))) unit) ⌝ }
 {
     let a = check_any::strict_check(bench, unit);
     *verdict = a.verdict as u64;

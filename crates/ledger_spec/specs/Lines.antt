@@ -10,9 +10,8 @@ use Rattle.ledger_spec.specs.Look.{interface}
 use Rattle.ledger_spec.specs.Tests.{outside, child}
 use Rattle.ledger_spec.specs.Calls.{Call, Defect, Blossom, Expand, SetState, Grow, Fuse, Clear}
 use Rattle.ledger_spec.specs.Reads.{gather}
-use Rattle.ledger_spec.specs.Check.{checkOf}
 use Rattle.ledger_spec.specs.SoundTree.{units}
-use Rattle.ledger_spec.specs.Answers.{answer, ask}
+use Rattle.ledger_spec.specs.Answers.{answer, read, checkRead}
 use Rattle.ledger_spec.specs.Grammar.{Line, D, B, E, S, G, F, C, K, wrong}
 
 -- the present node with a serial, or a handle of interface 8, which names none
@@ -42,7 +41,7 @@ calls b u c = record { numbers = shown (answer b c .number) (answer b c .node .s
 
 -- the check's verdict stands where another line has the serial
 unfoldable pub checks : Bench → ℕ → Said
-checks b u = record { numbers = shown (ask b (0, 0) (checkOf b u) .0) (ask b (0, 0) (checkOf b u) .1 .0) b u; bench = b }
+checks b u = record { numbers = shown (read b (checkRead b u) .0) (read b (checkRead b u) .1 .0) b u; bench = b }
 
 unfoldable pub says : Bench → Line → Said
 says b (D u v) = calls b u (Defect u v)

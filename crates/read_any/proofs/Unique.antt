@@ -2,17 +2,12 @@
 -- field of the result. Assumes nothing.
 use Prim.Native.Nat.{ℕ}
 use mathlib.Core.Path.{_≡_, refl, sym, ap, _∙_}
-use mathlib.Core.Bool.{false}
 use mathlib.Core.Option.{Option, none, some}
 use mathlib.Core.List.{List}
-use lib.IntN.{pos}
 use Rattle.kinds.specs.declared.Handle.{Handle as Packed}
 use Rattle.kinds.specs.declared.MaybeNode.{MaybeNode}
 use Rattle.kinds.specs.declared.MaybeNode.the-variants.{NoNode, Node}
 use Rattle.ledger_spec.specs.Bench.{Handle}
-use Rattle.ledger_spec.specs.Calls.{nobody}
-use Rattle.ledger_spec.specs.Reads.{sumOf, speedOf, countOf, handleOf, valueOf, belongs}
-use Rattle.ledger_spec.specs.Walk.{outerOf, underOf, firstVertex, verticesInto}
 use Rattle.bench_views.specs.View.{view}
 use Rattle.read_sound.specs.Shown.{maybe, shownWeight, shownCount, shownBelongs, shownNode, shownAncestor, shownSecond, shownVertex, shownVertices}
 use Rattle.read_sound.specs.declared.Weighed.{Weighed}
@@ -22,7 +17,8 @@ use Rattle.read_sound.specs.declared.Indexed.{Indexed}
 use Rattle.read_sound.specs.declared.Ancestor.{Ancestor}
 use Rattle.read_sound.specs.declared.Second.{Second}
 use Rattle.read_sound.specs.declared.Represented.{Represented}
-use Rattle.sound_lent.specs.Verdict.{asked}
+use Rattle.sound_lent.specs.Verdict.{readWords}
+use Rattle.ledger_spec.specs.Answers.{sumRead, speedRead, countRead, indexRead, belongsRead, valueRead, outerRead, belowRead, firstRead, verticesRead}
 
 -- ---- what is shown of an answer determines it
 abbrev packed : Handle → Packed
@@ -63,33 +59,33 @@ vertex-same r s e = λ i. record { number = e i .0; vertex = record { 0 = e i .1
 -- ---- the reads, of any words b
 module _ (b : List ℕ) where
   module _ (u : ℕ) where
-    pub only-sum-dual-variables : (r s : Weighed) → shownWeight r ≡ asked b (pos 0) (sumOf (view b) u) → shownWeight s ≡ asked b (pos 0) (sumOf (view b) u) → r ≡ s
+    pub only-sum-dual-variables : (r s : Weighed) → shownWeight r ≡ readWords b (sumRead (view b) u) → shownWeight s ≡ readWords b (sumRead (view b) u) → r ≡ s
     only-sum-dual-variables r s p q = weight-same r s (p ∙ sym q)
 
-    pub only-sum-grow-speed : (r s : Weighed) → shownWeight r ≡ asked b (pos 0) (speedOf (view b) u) → shownWeight s ≡ asked b (pos 0) (speedOf (view b) u) → r ≡ s
+    pub only-sum-grow-speed : (r s : Weighed) → shownWeight r ≡ readWords b (speedRead (view b) u) → shownWeight s ≡ readWords b (speedRead (view b) u) → r ≡ s
     only-sum-grow-speed r s p q = weight-same r s (p ∙ sym q)
 
-    pub only-nodes-count : (r s : Counted) → shownCount r ≡ asked b 0 (countOf (view b) u) → shownCount s ≡ asked b 0 (countOf (view b) u) → r ≡ s
+    pub only-nodes-count : (r s : Counted) → shownCount r ≡ readWords b (countRead (view b) u) → shownCount s ≡ readWords b (countRead (view b) u) → r ≡ s
     only-nodes-count r s p q = count-same r s (p ∙ sym q)
 
-    pub only-get-node : (k : ℕ) (r s : Indexed) → shownNode r ≡ asked b none (handleOf (view b) u k) → shownNode s ≡ asked b none (handleOf (view b) u k) → r ≡ s
+    pub only-get-node : (k : ℕ) (r s : Indexed) → shownNode r ≡ readWords b (indexRead (view b) u k) → shownNode s ≡ readWords b (indexRead (view b) u k) → r ≡ s
     only-get-node k r s p q = index-same r s (p ∙ sym q)
 
-    pub only-check-ptr-belonging : (h : Handle) (r s : Belongs) → shownBelongs r ≡ asked b false (belongs (view b) u h) → shownBelongs s ≡ asked b false (belongs (view b) u h) → r ≡ s
+    pub only-check-ptr-belonging : (h : Handle) (r s : Belongs) → shownBelongs r ≡ readWords b (belongsRead (view b) u h) → shownBelongs s ≡ readWords b (belongsRead (view b) u h) → r ≡ s
     only-check-ptr-belonging h r s p q = belongs-same r s (p ∙ sym q)
 
   module _ (h : Handle) where
-    pub only-get-dual-variable : (r s : Weighed) → shownWeight r ≡ asked b (pos 0) (valueOf (view b) h) → shownWeight s ≡ asked b (pos 0) (valueOf (view b) h) → r ≡ s
+    pub only-get-dual-variable : (r s : Weighed) → shownWeight r ≡ readWords b (valueRead (view b) h) → shownWeight s ≡ readWords b (valueRead (view b) h) → r ≡ s
     only-get-dual-variable r s p q = weight-same r s (p ∙ sym q)
 
-    pub only-get-ancestor-blossom : (r s : Ancestor) → shownAncestor r ≡ asked b (nobody, 0) (outerOf (view b) h) → shownAncestor s ≡ asked b (nobody, 0) (outerOf (view b) h) → r ≡ s
+    pub only-get-ancestor-blossom : (r s : Ancestor) → shownAncestor r ≡ readWords b (outerRead (view b) h) → shownAncestor s ≡ readWords b (outerRead (view b) h) → r ≡ s
     only-get-ancestor-blossom r s p q = ancestor-same r s (p ∙ sym q)
 
-    pub only-get-secondary-ancestor-blossom : (r s : Second) → shownSecond r ≡ asked b nobody (underOf (view b) h) → shownSecond s ≡ asked b nobody (underOf (view b) h) → r ≡ s
+    pub only-get-secondary-ancestor-blossom : (r s : Second) → shownSecond r ≡ readWords b (belowRead (view b) h) → shownSecond s ≡ readWords b (belowRead (view b) h) → r ≡ s
     only-get-secondary-ancestor-blossom r s p q = second-same r s (p ∙ sym q)
 
-    pub only-get-representative-vertex : (r s : Represented) → shownVertex r ≡ asked b 0 (firstVertex (view b) h) → shownVertex s ≡ asked b 0 (firstVertex (view b) h) → r ≡ s
+    pub only-get-representative-vertex : (r s : Represented) → shownVertex r ≡ readWords b (firstRead (view b) h) → shownVertex s ≡ readWords b (firstRead (view b) h) → r ≡ s
     only-get-representative-vertex r s p q = vertex-same r s (p ∙ sym q)
 
-    pub only-get-all-vertices : (out : List ℕ) (r s : Counted) (x y : List ℕ) → shownVertices r x ≡ asked b (0, out) (verticesInto (view b) h out) → shownVertices s y ≡ asked b (0, out) (verticesInto (view b) h out) → (r ≡ s) × (x ≡ y)
+    pub only-get-all-vertices : (out : List ℕ) (r s : Counted) (x y : List ℕ) → shownVertices r x ≡ readWords b (verticesRead (view b) h out) → shownVertices s y ≡ readWords b (verticesRead (view b) h out) → (r ≡ s) × (x ≡ y)
     only-get-all-vertices out r s x y p q = let e = p ∙ sym q in ((λ i. record { number = e i .0; count = e i .1 .0 }), (λ i. e i .1 .1))

@@ -13,19 +13,14 @@ use read_sound::Represented;
 use read_sound::Second;
 use read_sound::Weighed;
 ghost use mathlib.Core.Path.{_≡_};
-ghost use mathlib.Core.Bool.{false};
-ghost use mathlib.Core.Option.{none};
-ghost use lib.IntN.{pos};
 ghost use Rattle.ledger_spec.specs.Named.{handleNamed};
-ghost use Rattle.ledger_spec.specs.Calls.{nobody};
-ghost use Rattle.ledger_spec.specs.Reads.{sumOf, speedOf, countOf, handleOf, valueOf, belongs};
-ghost use Rattle.ledger_spec.specs.Walk.{outerOf, underOf, firstVertex, verticesInto};
 ghost use Rattle.bench_views.specs.View.{view};
 ghost use Rattle.read_sound.specs.Shown.{shownWeight, shownCount, shownBelongs, shownNode, shownAncestor, shownSecond, shownVertex, shownVertices};
-ghost use Rattle.sound_lent.specs.Verdict.{asked};
+ghost use Rattle.sound_lent.specs.Verdict.{readWords};
+ghost use Rattle.ledger_spec.specs.Answers.{sumRead, speedRead, countRead, indexRead, belongsRead, valueRead, outerRead, belowRead, firstRead, verticesRead};
 
 pub fn sum_dual_variables(b: &[u64; WORDS], unit: u8) -> Weighed
-    ensures { λ r. ⌜ shownWeight r ≡ asked (now (b .entry)) (pos 0) (sumOf (view (now (b .entry))) unit) ⌝ }
+    ensures { λ r. ⌜ shownWeight r ≡ readWords (now (b .entry)) (sumRead (view (now (b .entry))) unit) ⌝ }
 {
     if !sound_lent::is_bench(b) {
         return Weighed {
@@ -37,7 +32,7 @@ pub fn sum_dual_variables(b: &[u64; WORDS], unit: u8) -> Weighed
 }
 
 pub fn sum_grow_speed(b: &[u64; WORDS], unit: u8) -> Weighed
-    ensures { λ r. ⌜ shownWeight r ≡ asked (now (b .entry)) (pos 0) (speedOf (view (now (b .entry))) unit) ⌝ }
+    ensures { λ r. ⌜ shownWeight r ≡ readWords (now (b .entry)) (speedRead (view (now (b .entry))) unit) ⌝ }
 {
     if !sound_lent::is_bench(b) {
         return Weighed {
@@ -50,7 +45,7 @@ pub fn sum_grow_speed(b: &[u64; WORDS], unit: u8) -> Weighed
 
 // How many slots the tree has, used or emptied.
 pub fn nodes_count(b: &[u64; WORDS], unit: u8) -> Counted
-    ensures { λ r. ⌜ shownCount r ≡ asked (now (b .entry)) 0 (countOf (view (now (b .entry))) unit) ⌝ }
+    ensures { λ r. ⌜ shownCount r ≡ readWords (now (b .entry)) (countRead (view (now (b .entry))) unit) ⌝ }
 {
     if !sound_lent::is_bench(b) {
         return Counted {
@@ -63,7 +58,7 @@ pub fn nodes_count(b: &[u64; WORDS], unit: u8) -> Counted
 
 // The handle at an index of the tree, nothing if its slot was emptied, RANGE (18) at or past the count.
 pub fn get_node(b: &[u64; WORDS], unit: u8, index: NodeIndex) -> Indexed
-    ensures { λ r. ⌜ shownNode r ≡ asked (now (b .entry)) none (handleOf (view (now (b .entry))) unit (index .0)) ⌝ }
+    ensures { λ r. ⌜ shownNode r ≡ readWords (now (b .entry)) (indexRead (view (now (b .entry))) unit (index .0)) ⌝ }
 {
     if !sound_lent::is_bench(b) {
         return Indexed {
@@ -76,7 +71,7 @@ pub fn get_node(b: &[u64; WORDS], unit: u8, index: NodeIndex) -> Indexed
 
 // Whether a node stands in the interface's tree: no in place of STALE and FOREIGN.
 pub fn check_ptr_belonging(b: &[u64; WORDS], unit: u8, h: Handle) -> Belongs
-    ensures { λ r. ⌜ shownBelongs r ≡ asked (now (b .entry)) false (belongs (view (now (b .entry))) unit (handleNamed h)) ⌝ }
+    ensures { λ r. ⌜ shownBelongs r ≡ readWords (now (b .entry)) (belongsRead (view (now (b .entry))) unit (handleNamed h)) ⌝ }
 {
     if !sound_lent::is_bench(b) {
         return Belongs {
@@ -88,7 +83,7 @@ pub fn check_ptr_belonging(b: &[u64; WORDS], unit: u8, h: Handle) -> Belongs
 }
 
 pub fn get_dual_variable(b: &[u64; WORDS], h: Handle) -> Weighed
-    ensures { λ r. ⌜ shownWeight r ≡ asked (now (b .entry)) (pos 0) (valueOf (view (now (b .entry))) (handleNamed h)) ⌝ }
+    ensures { λ r. ⌜ shownWeight r ≡ readWords (now (b .entry)) (valueRead (view (now (b .entry))) (handleNamed h)) ⌝ }
 {
     if !sound_lent::is_bench(b) {
         return Weighed {
@@ -101,7 +96,7 @@ pub fn get_dual_variable(b: &[u64; WORDS], h: Handle) -> Weighed
 
 // The outermost blossom of a node, a node without a parent being its own, and how many links lead to it.
 pub fn get_ancestor_blossom(b: &[u64; WORDS], h: Handle) -> Ancestor
-    ensures { λ r. ⌜ shownAncestor r ≡ asked (now (b .entry)) (nobody, 0) (outerOf (view (now (b .entry))) (handleNamed h)) ⌝ }
+    ensures { λ r. ⌜ shownAncestor r ≡ readWords (now (b .entry)) (outerRead (view (now (b .entry))) (handleNamed h)) ⌝ }
 {
     if !sound_lent::is_bench(b) {
         return Ancestor {
@@ -115,7 +110,7 @@ pub fn get_ancestor_blossom(b: &[u64; WORDS], h: Handle) -> Ancestor
 
 // The node below the outermost blossom, TOP (12) of a node without a parent.
 pub fn get_secondary_ancestor_blossom(b: &[u64; WORDS], h: Handle) -> Second
-    ensures { λ r. ⌜ shownSecond r ≡ asked (now (b .entry)) nobody (underOf (view (now (b .entry))) (handleNamed h)) ⌝ }
+    ensures { λ r. ⌜ shownSecond r ≡ readWords (now (b .entry)) (belowRead (view (now (b .entry))) (handleNamed h)) ⌝ }
 {
     if !sound_lent::is_bench(b) {
         return Second {
@@ -128,7 +123,7 @@ pub fn get_secondary_ancestor_blossom(b: &[u64; WORDS], h: Handle) -> Second
 
 // The first vertex under a node.
 pub fn get_representative_vertex(b: &[u64; WORDS], h: Handle) -> Represented
-    ensures { λ r. ⌜ shownVertex r ≡ asked (now (b .entry)) 0 (firstVertex (view (now (b .entry))) (handleNamed h)) ⌝ }
+    ensures { λ r. ⌜ shownVertex r ≡ readWords (now (b .entry)) (firstRead (view (now (b .entry))) (handleNamed h)) ⌝ }
 {
     if !sound_lent::is_bench(b) {
         return Represented {
@@ -142,7 +137,7 @@ pub fn get_representative_vertex(b: &[u64; WORDS], h: Handle) -> Represented
 // All vertices under a node, depth first in circle order, into the front of a slice; SMALL (19) where it is shorter than the defect size. Entries past
 // the vertices stay as they are.
 pub fn get_all_vertices(b: &[u64; WORDS], h: Handle, out: &mut [u32]) -> Counted
-    ensures { λ r. ⌜ shownVertices r (now (out .exit)) ≡ asked (now (b .entry)) (0, now (out .entry)) (verticesInto (view (now (b .entry))) (handleNamed h) (now (out .entry))) ⌝ }
+    ensures { λ r. ⌜ shownVertices r (now (out .exit)) ≡ readWords (now (b .entry)) (verticesRead (view (now (b .entry))) (handleNamed h) (now (out .entry))) ⌝ }
 {
     if !sound_lent::is_bench(b) {
         return Counted {

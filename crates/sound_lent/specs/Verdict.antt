@@ -3,6 +3,7 @@ use Prim.Native.Nat.{ℕ}
 use mathlib.Core.Path.{_≡_}
 use mathlib.Core.Bool.{Bool, true}
 use mathlib.Core.List.{List}
+use Rattle.ledger_spec.specs.Answers.{Read}
 use Rattle.bench_words.specs.Codec.{pick}
 use Rattle.bench_views.specs.Fit.{SoundWords}
 use Rattle.sound_bench.specs.Sound.{soundWords}
@@ -14,3 +15,7 @@ pub record Verdict (b : List ℕ) (s : Bool) : Type 0 where
 -- a read r of words b, where z is its answer's value if refused: the read's own answer where the words hold a sound bench, else BROKEN
 unfoldable pub asked : {A : Type 0} → List ℕ → A → ℕ × A → ℕ × A
 asked b z r = pick (soundWords b) r (2, z)
+
+-- a read of any words, with its zero (crate ledger_spec, Answers)
+abbrev pub readWords : {A : Type 0} → List ℕ → Read A → ℕ × A
+readWords b r = asked b (r .zero) (r .own)

@@ -2,14 +2,13 @@
 use borrow.Author.Needs.{needs}
 use mathlib.Core.Path.{ap, _∙_}
 use Rattle.bench_views.specs.View.{view}
-use Rattle.sound_lent.specs.Verdict.{asked}
 use Rattle.ledger_spec.specs.Bench.{Handle}
-use Rattle.ledger_spec.specs.Walk.{underOf}
-use Rattle.ledger_spec.specs.Calls.{nobody}
 use Rattle.dual_ledger.proofs.Handing.{worded-by}
 use Rattle.link_answers.specs.Forms.{nodeWord}
 use Rattle.dual_ledger.proofs.open_reads.dual_ledger_get_secondary_ancestor_blossom.Statement.{statement}
 use Rattle.dual_ledger.proofs.open_reads.dual_ledger_get_secondary_ancestor_blossom.Tie as tie
+use Rattle.sound_lent.specs.Verdict.{readWords}
+use Rattle.ledger_spec.specs.Answers.{belowRead}
 
 hand-requires : tie.Need-hand-requires
 hand-requires c κs = search needs
@@ -21,7 +20,7 @@ node-word-requires : tie.Need-node-word-requires
 node-word-requires c κs = search needs
 
 returns : tie.Need-returns
-returns c = worded-by nodeWord (c .before .before .get-secondary-ancestor-blossom .ensures ∙ ap (λ (h : Handle). asked (c .before .before .before .before .args .bench .now) nobody (underOf (view (c .before .before .before .before .args .bench .now)) h)) (c .before .before .before .hand .ensures)) (c .node-word .ensures)
+returns c = worded-by nodeWord (c .before .before .get-secondary-ancestor-blossom .ensures ∙ ap (λ (h : Handle). readWords (c .before .before .before .before .args .bench .now) (belowRead (view (c .before .before .before .before .args .bench .now)) h)) (c .before .before .before .hand .ensures)) (c .node-word .ensures)
 
 pub dual-ledger-get-secondary-ancestor-blossom-spec : {M : Type 1} → statement M
 dual-ledger-get-secondary-ancestor-blossom-spec = tie.close (tie.spec hand-requires get-secondary-ancestor-blossom-requires node-word-requires returns)
