@@ -8,6 +8,7 @@ use Rattle.kinds.specs.declared.GrowState.{GrowState}
 use Rattle.kinds.specs.declared.GrowState.the-variants.{Grow as Growing, Stay, Shrink}
 use Rattle.kinds.specs.declared.Class.the-variants.{Absent}
 use Rattle.kinds.specs.declared.Parent.the-variants.{Outermost}
+use Rattle.ledger_spec.specs.Numbers.{progressLimit}
 use Rattle.bench_words.specs.Store.{interfaceAt, setUsed, setProgress, setSum, setSpeed}
 use Rattle.bench_words.specs.declared.Node.{Node}
 use Rattle.bench_words.specs.declared.Interface.{Interface}
@@ -48,7 +49,7 @@ noNode =
 pub record Steady (b : List ℕ) : Type 0 where
   pub len : length b ≡ 6273
   pub slots : (u : ℕ) → u < 8 → interfaceAt b u .used ≤ 64
-  pub progress : (u : ℕ) → u < 8 → interfaceAt b u .progress ≤ 1099511627776
+  pub progress : (u : ℕ) → u < 8 → interfaceAt b u .progress ≤ progressLimit
   pub rising : (u p : ℕ) → u < 8 → interfaceAt b u .parent ≡ Under p → u < p
 
 pub record Ranged (n : Node) : Type 0 where

@@ -5,7 +5,7 @@ use mathlib.Core.Option.{Option, none, some}
 use lib.Dec.{eqb}
 use lib.ListN.{getD}
 use lib.IntN.{ℤ, pos, _-ℤ_}
-use Rattle.bench_words.specs.Codec.{pick}
+use Rattle.bench_words.specs.Codec.{valueOffset, sumOffset, speedOffset, pick}
 use Rattle.bench_words.specs.Store.{nodeAt, interfaceAt}
 use Rattle.kinds.specs.declared.GrowState.{GrowState}
 use Rattle.kinds.specs.declared.GrowState.the-variants.{Grow as Growing, Stay, Shrink}
@@ -69,7 +69,7 @@ circleOf A k = follow (A k .count) A (A k .first)
 
 -- ---- a slot, an interface, the bench
 abbrev pub nodeSeen : Node → ℕ → plain.Class → plain.Node
-nodeSeen n t c = record { serial = n .serial .0; class = c; state = stateNamed (n .state); parent = parentNamed (n .parent); value = off 1152921504606846976 (valueOf (n .state) (n .bias) t); size = n .size }
+nodeSeen n t c = record { serial = n .serial .0; class = c; state = stateNamed (n .state); parent = parentNamed (n .parent); value = off valueOffset (valueOf (n .state) (n .bias) t); size = n .size }
 
 abbrev pub byClass : {A : Type 0} → Class → A → A → (Vertex → A) → A
 byClass Absent a b d = a
@@ -87,8 +87,8 @@ interfaceIn U A u =
     record {
       slots = tab (slotIn U A u) 0 (U u .used);
       progress = pos (U u .progress);
-      sum = off 4611686018427387904 (U u .sum);
-      speed = off 1024 (U u .speed);
+      sum = off sumOffset (U u .sum);
+      speed = off speedOffset (U u .speed);
       parent = upSeen (U u .parent);
       halves = halvesSeen (U u .left) (U u .right);
     }

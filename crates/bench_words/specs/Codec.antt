@@ -12,6 +12,20 @@ use Rattle.kinds.specs.declared.Parent.the-variants.{Outermost, Inside}
 use Rattle.bench_words.specs.declared.Up.{Up}
 use Rattle.bench_words.specs.declared.Up.the-variants.{Top, Under}
 
+-- ---- limits by name: the first word that is no handle's; how much higher than they are a value, a sum and a speed stand in the words
+
+abbrev pub pastHandles : ℕ
+pastHandles = 2199023255552
+
+abbrev pub valueOffset : ℕ
+valueOffset = 1152921504606846976
+
+abbrev pub sumOffset : ℕ
+sumOffset = 4611686018427387904
+
+abbrev pub speedOffset : ℕ
+speedOffset = 1024
+
 -- `if`: the Bool that a test gives picks
 abbrev pub pick {ℓ} : {A : Type ℓ} → Bool → A → A → A
 pick true a b = a

@@ -4,6 +4,7 @@ use mathlib.Core.Bool.{Bool, _&&_}
 use mathlib.Core.List.{List}
 use lib.Dec.{eqb, leb, ltb}
 use lib.ListN.{getD}
+use Rattle.bench_words.specs.Codec.{pastHandles}
 use Rattle.bench_words.specs.Store.{base, ibase}
 
 abbrev pub zeroAt : List ℕ → ℕ → Bool
@@ -27,7 +28,7 @@ codedAt b k =
     ltb (getD b (base k + 1) 0) 4294967296
     && (ltb (getD b (base k + 2) 0) 4294967298
     && (leb (getD b (base k + 3) 0) 2
-    && (leb (getD b (base k + 4) 0) 2199023255552 && (ltb (getD b (base k + 7) 0) 2199023255552 && ltb (getD b (base k + 8) 0) 2199023255552))))
+    && (leb (getD b (base k + 4) 0) pastHandles && (ltb (getD b (base k + 7) 0) pastHandles && ltb (getD b (base k + 8) 0) pastHandles))))
 
 -- the words of interface u that have no meaning yet
 unfoldable pub spareAt : List ℕ → ℕ → Bool

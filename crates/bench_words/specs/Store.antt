@@ -2,7 +2,7 @@
 use Prim.Native.Nat.{ℕ, suc, _+_, _*_, _%_}
 use mathlib.Core.List.{List, [], _∷_}
 use lib.ListN.{getD, set}
-use Rattle.bench_words.specs.Codec.{stateOf, stateWord, handleOf, handleWord, classOf, classWord, parentOf, parentWord, upOf, upWord}
+use Rattle.bench_words.specs.Codec.{sumOffset, speedOffset, stateOf, stateWord, handleOf, handleWord, classOf, classWord, parentOf, parentWord, upOf, upWord}
 use Rattle.bench_words.specs.declared.Node.{Node}
 use Rattle.bench_words.specs.declared.Interface.{Interface}
 use Rattle.bench_words.specs.declared.Up.{Up}
@@ -111,7 +111,7 @@ abbrev pub setHalves : Interface → ℕ → ℕ → Interface
 setHalves f x y = record { used = f .used; progress = f .progress; sum = f .sum; speed = f .speed; parent = f .parent; left = x; right = y }
 
 abbrev pub noInterface : Interface
-noInterface = record { used = 0; progress = 0; sum = 4611686018427387904; speed = 1024; parent = Top; left = 0; right = 0 }
+noInterface = record { used = 0; progress = 0; sum = sumOffset; speed = speedOffset; parent = Top; left = 0; right = 0 }
 
 unfoldable pub storeInterface : List ℕ → ℕ → Interface → List ℕ
 storeInterface b u n = writes b (ibase u) 1 (interfaceWords n)

@@ -3,12 +3,13 @@ use Prim.Native.Nat.{ℕ, _+_, _/_, _%_, _≤_}
 use mathlib.Core.Path.{_≡_}
 use mathlib.Core.List.{List}
 use lib.IntN.{_+ℤ_}
+use Rattle.bench_words.specs.Codec.{sumOffset}
 use Rattle.ledger_spec.specs.Look.{slotOf}
 use Rattle.ledger_spec.specs.Change.{worth}
 use Rattle.bench_views.specs.View.{off, view}
 
 -- a value lies within 8 times the progress limit
 pub record Added (b : List ℕ) (k sum r : ℕ) : Type 0 where
-  pub value : off 4611686018427387904 r ≡ off 4611686018427387904 sum +ℤ worth (slotOf (view b) (k / 64) (k % 64))
+  pub value : off sumOffset r ≡ off sumOffset sum +ℤ worth (slotOf (view b) (k / 64) (k % 64))
   pub most : r ≤ sum + 8796093022208
   pub least : sum ≤ r + 8796093022208

@@ -6,7 +6,7 @@ use Rattle.kinds.specs.declared.GrowState.the-variants.{Grow as Growing, Stay}
 use Rattle.kinds.specs.declared.Class.the-variants.{Blossom}
 use Rattle.kinds.specs.declared.Handle.{Handle as Packed}
 use Rattle.kinds.specs.declared.Parent.the-variants.{Outermost, Inside}
-use Rattle.bench_words.specs.Codec.{handleOf}
+use Rattle.bench_words.specs.Codec.{valueOffset, handleOf}
 use Rattle.bench_words.specs.declared.Node.{Node}
 use Rattle.bench_words.specs.declared.Interface.{Interface}
 use Rattle.bench_views.specs.View.{sumUp}
@@ -38,7 +38,7 @@ blossomNode serial first count size t =
       next = 0;
       left = nobody;
       right = nobody;
-      bias = 1152921504606846976 - t;
+      bias = valueOffset - t;
       size = size;
       first = first;
       count = count;

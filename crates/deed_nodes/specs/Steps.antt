@@ -2,6 +2,7 @@
 use Prim.Native.Nat.{ℕ, suc, _+_, _-_, _*_}
 use mathlib.Core.List.{List}
 use lib.ListN.{getD, set}
+use Rattle.bench_words.specs.Codec.{valueOffset}
 use Rattle.kinds.specs.Names.{nobody}
 use Rattle.kinds.specs.declared.GrowState.{GrowState}
 use Rattle.kinds.specs.declared.GrowState.the-variants.{Grow as Growing}
@@ -48,7 +49,7 @@ defectNode serial v t =
       next = 0;
       left = nobody;
       right = nobody;
-      bias = 1152921504606846976 - t;
+      bias = valueOffset - t;
       size = 1;
       first = 0;
       count = 0;

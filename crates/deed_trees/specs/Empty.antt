@@ -4,6 +4,7 @@ use mathlib.Core.Path.{_≡_}
 use mathlib.Core.Logic.{_≢_}
 use mathlib.Core.List.{List}
 use lib.ListN.{getD}
+use Rattle.bench_words.specs.Codec.{sumOffset, speedOffset}
 use Rattle.bench_words.specs.Store.{nodeAt, interfaceAt, setSum, setSpeed, setParent, setHalves, noInterface}
 use Rattle.bench_words.specs.declared.Interface.{Interface}
 use Rattle.bench_words.specs.declared.Up.the-variants.{Under}
@@ -15,7 +16,7 @@ withUp f p = setParent f (Under p)
 
 -- the parent of a fuse, from its halves l and r, whose interfaces are L and R
 abbrev pub fusedWords : Interface → Interface → ℕ → ℕ → Interface
-fusedWords L R l r = setHalves (setSpeed (setSum noInterface (L .sum + R .sum - 4611686018427387904)) (L .speed + R .speed - 1024)) (l + 1) (r + 1)
+fusedWords L R l r = setHalves (setSpeed (setSum noInterface (L .sum + R .sum - sumOffset)) (L .speed + R .speed - speedOffset)) (l + 1) (r + 1)
 
 -- b' is b with the first n slots of interface u empty
 pub record Emptied (b : List ℕ) (u : ℕ) (b' : List ℕ) (n : ℕ) : Type 0 where

@@ -5,6 +5,7 @@ use mathlib.Core.Bool.{Bool, true, false}
 use mathlib.Core.Option.{Option, none}
 use mathlib.Core.List.{List, []}
 use lib.IntN.{ℤ, pos}
+use Rattle.ledger_spec.specs.Numbers.{BROKEN}
 use Rattle.ledger_spec.specs.Bench.{Handle, Bench}
 use Rattle.ledger_spec.specs.Calls.{Reply, nobody, Call, perform}
 use Rattle.ledger_spec.specs.Notices.{Notice, tells}
@@ -28,14 +29,14 @@ unfoldable pub whole : Reply → List Notice → Answer
 whole r ns = record { number = r .number; node = r .node; notices = told (r .number) ns; bench = r .bench }
 
 unfoldable pub broken : Bench → Answer
-broken b = record { number = 2; node = nobody; notices = []; bench = b }
+broken b = record { number = BROKEN; node = nobody; notices = []; bench = b }
 
 unfoldable pub answer : Bench → Call → Answer
 answer b c = elim (sound b) [ true ↦ whole (perform b c) (tells b c) | false ↦ broken b ]
 
 -- a read r of a bench, where z is its answer's value if refused
 unfoldable pub ask : {A : Type 0} → Bench → A → ℕ × A → ℕ × A
-ask b z r = elim (sound b) [ true ↦ r | false ↦ (2, z) ]
+ask b z r = elim (sound b) [ true ↦ r | false ↦ (BROKEN, z) ]
 
 -- ---- each read, whole: what it answers of a sound bench, and the value that its refusals have, BROKEN among them
 

@@ -1,10 +1,11 @@
 -- What a sound bench is, as facts: `sound b ≡ true` says all of this and no more (proofs: Says, Holds). Assumes nothing.
-use Prim.Native.Nat.{ℕ, _*_, _≤_, _<_, _^_}
+use Prim.Native.Nat.{ℕ, _*_, _≤_, _<_}
 use mathlib.Core.Path.{_≡_}
 use mathlib.Core.Option.{none, some}
 use mathlib.Core.List.{List}
 use lib.ListN.{length}
 use lib.IntN.{pos, natAbs}
+use Rattle.ledger_spec.specs.Numbers.{progressLimit, serialLimit, slotLimit, circleLimit}
 use Rattle.ledger_spec.specs.Bench.{Handle, Member, defect, blossom, Node, Bench}
 use Rattle.ledger_spec.specs.Look.{interface, slotOf, top, tree}
 use Rattle.ledger_spec.specs.Deeds.{sizes}
@@ -26,7 +27,7 @@ pub record Touching (b : Bench) (t : Handle) : Type 0 where
 -- a blossom's circle and size
 pub record Circle (b : Bench) (n : Node) (ms : List Member) : Type 0 where
   pub least : 1 ≤ length ms
-  pub most : length ms ≤ 64
+  pub most : length ms ≤ circleLimit
   pub size : n .size ≡ sizes b (nodes ms)
   pub touching : (m : Member) → In m ms → Touching b (m .touch .0) × Touching b (m .touch .1)
 
@@ -37,10 +38,10 @@ pub record Ring (b : Bench) (n : Node) : Type 0 where
 
 pub record Sound (b : Bench) : Type 0 where
   pub frame : Frame b
-  pub few : (u : ℕ) → length (interface b u .slots) ≤ 64
+  pub few : (u : ℕ) → length (interface b u .slots) ≤ slotLimit
   pub forward : (u : ℕ) → interface b u .progress ≡ pos (natAbs (interface b u .progress))
-  pub limit : (u : ℕ) → natAbs (interface b u .progress) ≤ 2 ^ 40
-  pub worn : b .next ≤ 2 ^ 32
+  pub limit : (u : ℕ) → natAbs (interface b u .progress) ≤ progressLimit
+  pub worn : b .next ≤ serialLimit
   pub sewn : Sewn b
   pub rings : (u s : ℕ) (n : Node) → slotOf b u s ≡ some n → Ring b n
   pub values : (u s : ℕ) (n : Node) → slotOf b u s ≡ some n → natAbs (n .value) ≤ W b (top b u)

@@ -12,6 +12,7 @@ use Rattle.kinds.specs.declared.MaybePair.{MaybePair}
 use Rattle.kinds.specs.declared.MaybePair.the-variants.{NoPair, WithPair}
 use Rattle.kinds.specs.declared.Obstacle.{Obstacle}
 use Rattle.kinds.specs.declared.Obstacle.the-variants.{NonZeroGrow, Conflicting, TouchingVirtual, BlossomNeedExpand, VertexShrinkStop}
+use Rattle.ledger_spec.specs.Numbers.{BROKEN, STALE, KIND, ROOM, NOTHING}
 use Rattle.ledger_spec.specs.Bench.{Bench}
 use Rattle.ledger_spec.specs.Tests.{first, any, given, stale}
 use Rattle.ledger_spec.specs.Reads.{said}
@@ -36,7 +37,7 @@ active (growth l f) = cond (eqZ l largest) f true
 active (conflicts l s) = true
 
 unfoldable pub groupTests : Group → List (Bool × ℕ)
-groupTests g = (not (soundGroup g), 2) ∷ []
+groupTests g = (not (soundGroup g), BROKEN) ∷ []
 
 unfoldable pub isEmpty : Group → ℕ × Bool
 isEmpty g = said (first (groupTests g)) (isLargest g) false
@@ -50,14 +51,14 @@ lengthIn (growth l f) = some l
 lengthIn (conflicts l s) = none
 
 unfoldable pub growthOf : Group → ℕ × Option ℤ
-growthOf g = said (first ((not (soundGroup g), 2) ∷ (isLargest g, 21) ∷ [])) (lengthIn g) none
+growthOf g = said (first ((not (soundGroup g), BROKEN) ∷ (isLargest g, NOTHING) ∷ [])) (lengthIn g) none
 
 abbrev pub topIn : Group → Option Obstacle
 topIn (growth l f) = none
 topIn (conflicts l s) = topOf l s
 
 unfoldable pub takeTests : Group → List (Bool × ℕ)
-takeTests g = (not (soundGroup g), 2) ∷ (isGrowth g, 10) ∷ []
+takeTests g = (not (soundGroup g), BROKEN) ∷ (isGrowth g, KIND) ∷ []
 
 unfoldable pub peek : Group → ℕ × Option Obstacle
 peek g = said (first (takeTests g)) (topIn g) none
@@ -114,13 +115,13 @@ orElse (some q) g = q
 unfoldable pub add : Bench → Group → Obstacle → ℕ × Group
 add b g o =
     said
-    (first ((not (sound b && soundGroup g), 2) ∷ (any (gone b) (handlesOf o), 8) ∷ (not (given (added g o (vertexOf b o))), 20) ∷ []))
+    (first ((not (sound b && soundGroup g), BROKEN) ∷ (any (gone b) (handlesOf o), STALE) ∷ (not (given (added g o (vertexOf b o))), ROOM) ∷ []))
     (orElse (added g o (vertexOf b o)) g)
     g
 
 unfoldable pub extend : Bench → Group → Group → ℕ × Group
 extend b g h =
     said
-    (first ((not (sound b && (soundGroup g && soundGroup h)), 2) ∷ (any (gone b) (groupHandles h), 8) ∷ (not (given (extended g h)), 20) ∷ []))
+    (first ((not (sound b && (soundGroup g && soundGroup h)), BROKEN) ∷ (any (gone b) (groupHandles h), STALE) ∷ (not (given (extended g h)), ROOM) ∷ []))
     (orElse (extended g h) g)
     g

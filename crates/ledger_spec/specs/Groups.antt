@@ -16,6 +16,7 @@ use Rattle.kinds.specs.declared.MaybePair.{MaybePair}
 use Rattle.kinds.specs.declared.MaybePair.the-variants.{NoPair, WithPair}
 use Rattle.kinds.specs.declared.Obstacle.{Obstacle}
 use Rattle.kinds.specs.declared.Obstacle.the-variants.{NonZeroGrow, Conflicting, TouchingVirtual, BlossomNeedExpand, VertexShrinkStop}
+use Rattle.ledger_spec.specs.Numbers.{groupLimit}
 
 pub data Group : Type 0 where
   growth : (length : ℤ) (flag : Bool) → Group
@@ -46,7 +47,7 @@ rising v (s ∷ ss) = isStop (s .obstacle) && (leb v (s .vertex .0) && rising (s
 
 unfoldable pub soundGroup : Group → Bool
 soundGroup (growth l f) = true
-soundGroup (conflicts l s) = leb (length l) 128 && (leb (length s) 128 && (allListable l && rising 0 s))
+soundGroup (conflicts l s) = leb (length l) groupLimit && (leb (length s) groupLimit && (allListable l && rising 0 s))
 
 -- ---- add: none where list or stops would pass 128
 
@@ -55,7 +56,7 @@ abbrev pub Lists : Type 0
 Lists = List Entry × List Stop
 
 unfoldable pub roomFor : List Entry → List Stop → Option Lists
-roomFor l s = cond (leb (length l) 128 && leb (length s) 128) (some (l, s)) none
+roomFor l s = cond (leb (length l) groupLimit && leb (length s) groupLimit) (some (l, s)) none
 
 -- the stops at the front whose vertex is below v, and the others
 unfoldable pub frontOf : ℕ → List Stop → List Stop

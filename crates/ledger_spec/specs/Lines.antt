@@ -5,6 +5,7 @@ use mathlib.Core.Option.{Option, none, some}
 use mathlib.Core.List.{List, [], _∷_, map}
 use lib.Dec.{eqb}
 use lib.IntN.{ℤ, pos}
+use Rattle.ledger_spec.specs.Numbers.{LINE, UNIT}
 use Rattle.ledger_spec.specs.Bench.{Handle, Node, Bench}
 use Rattle.ledger_spec.specs.Look.{interface}
 use Rattle.ledger_spec.specs.Tests.{outside, child}
@@ -27,7 +28,7 @@ named b k = seek k (gather b units)
 
 -- speed and sum of the interface after the call (for F the parent's): both 0 for UNIT and an interface with a parent
 unfoldable pub shown : ℕ → ℕ → Bench → ℕ → ℕ × ℕ × ℤ × ℤ
-shown number serial b u = elim (eqb number 3 || (outside u || child b u))
+shown number serial b u = elim (eqb number UNIT || (outside u || child b u))
     [ true ↦ (number, serial, pos 0, pos 0) | false ↦ (number, serial, interface b u .speed, interface b u .sum) ]
 
 -- a line's four numbers, and the bench after it
@@ -52,4 +53,4 @@ says b (G u l) = calls b u (Grow u l)
 says b (F p l r) = calls b p (Fuse p l r)
 says b (C u) = calls b u (Clear u)
 says b (K u) = checks b u
-says b wrong = record { numbers = (1, 0, pos 0, pos 0); bench = b }
+says b wrong = record { numbers = (LINE, 0, pos 0, pos 0); bench = b }

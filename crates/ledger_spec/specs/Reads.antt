@@ -7,6 +7,7 @@ use mathlib.Core.List.{List, [], _∷_, _++_}
 use lib.ListN.{length, getD}
 use lib.Dec.{leb}
 use lib.IntN.{ℤ, pos}
+use Rattle.ledger_spec.specs.Numbers.{UNIT, CHILD, STALE, RANGE}
 use Rattle.ledger_spec.specs.Bench.{Handle, Node, Bench}
 use Rattle.ledger_spec.specs.Look.{interface, nodeAt, tree}
 use Rattle.ledger_spec.specs.Change.{worth}
@@ -45,7 +46,7 @@ unfoldable pub countOf : Bench → ℕ → ℕ × ℕ
 countOf b u = said (first (unitTests b u)) (length (slotsOf b u)) 0
 
 unfoldable pub indexTests : Bench → ℕ → ℕ → List (Bool × ℕ)
-indexTests b u k = (outside u, 3) ∷ (child b u, 4) ∷ (leb (length (slotsOf b u)) k, 18) ∷ []
+indexTests b u k = (outside u, UNIT) ∷ (child b u, CHILD) ∷ (leb (length (slotsOf b u)) k, RANGE) ∷ []
 
 -- index to handle, or nothing where the slot was emptied
 unfoldable pub handleOf : Bench → ℕ → ℕ → ℕ × Option Handle
@@ -54,7 +55,7 @@ handleOf b u k = said (first (indexTests b u k)) (asHandle (getD (slotsOf b u) k
 -- ---- nodes
 
 unfoldable pub nodeTests : Bench → Handle → List (Bool × ℕ)
-nodeTests b h = (stale b h, 8) ∷ []
+nodeTests b h = (stale b h, STALE) ∷ []
 
 unfoldable pub valueOf : Bench → Handle → ℕ × ℤ
 valueOf b h = said (first (nodeTests b h)) (worth (nodeAt b h)) (pos 0)

@@ -1,12 +1,13 @@
 -- A sound bench, as a test that computes: the rules of document 01's section, of the plain bench. Slots past the used ones are empty by form,
 -- and there is no cached progress to go wrong. Assumes nothing.
-use Prim.Native.Nat.{ℕ, _*_, _^_}
+use Prim.Native.Nat.{ℕ, _*_}
 use mathlib.Core.Bool.{Bool, true, false, _&&_}
 use mathlib.Core.Option.{Option, none, some}
 use mathlib.Core.List.{List, [], _∷_, map}
 use lib.ListN.{length}
 use lib.Dec.{eqb, leb, ltb}
 use lib.IntN.{ℤ, pos, _+ℤ_, _-ℤ_, natAbs}
+use Rattle.ledger_spec.specs.Numbers.{serialLimit, circleLimit}
 use Rattle.ledger_spec.specs.Bench.{Handle, State, grows, stays, shrinks, Member, Class, defect, blossom, Node, Bench}
 use Rattle.ledger_spec.specs.Look.{interface, nodeAt, top, tree, sameHandle}
 use Rattle.ledger_spec.specs.Change.{share}
@@ -29,7 +30,7 @@ soundTouch b t = (leb (t .unit) 7 && leb (t .slot) 63) && ltb (t .serial) (b .ne
 
 unfoldable pub soundClass : Bench → Handle → Class → ℕ → Bool
 soundClass b h (defect v) size = eqb size 1
-soundClass b h (blossom ms) size = ((leb 1 (length ms) && leb (length ms) 64) && eqb size (sizes b (map (λ (m : Member). m .node) ms)))
+soundClass b h (blossom ms) size = ((leb 1 (length ms) && leb (length ms) circleLimit) && eqb size (sizes b (map (λ (m : Member). m .node) ms)))
     && all (λ (m : Member). sameParent (nodeAt b (m .node)) h && (soundTouch b (m .touch .0) && soundTouch b (m .touch .1))) ms
 
 -- a node's parent: a blossom of higher serial in the same tree, which has it in its circle exactly once
@@ -67,5 +68,5 @@ different [] = true
 different (x ∷ xs) = eqb (tally (eqb x) xs) 0 && different xs
 
 unfoldable pub sound : Bench → Bool
-sound b = ((leb 1 (b .next) && leb (b .next) (2 ^ 32)) && eqb (length (b .interfaces)) 8)
+sound b = ((leb 1 (b .next) && leb (b .next) serialLimit) && eqb (length (b .interfaces)) 8)
     && ((all (soundInterface b) units && all (soundTop b) units) && different (serials (gather b units)))

@@ -1,5 +1,5 @@
 -- A sound bench, first half: the interfaces and how they are linked into trees, as tests that compute. Assumes nothing.
-use Prim.Native.Nat.{ℕ, suc, _+_, _^_}
+use Prim.Native.Nat.{ℕ, suc, _+_}
 use mathlib.Core.Bool.{Bool, true, false, not, _&&_, _||_}
 use mathlib.Core.Option.{Option, none, some}
 use mathlib.Core.List.{List, [], _∷_}
@@ -7,6 +7,7 @@ use lib.ListN.{length}
 use lib.Dec.{eqb, leb, ltb}
 use lib.IntN.{pos, natAbs}
 use lib.Signed.{leZ}
+use Rattle.ledger_spec.specs.Numbers.{progressLimit, slotLimit}
 use Rattle.ledger_spec.specs.Bench.{Bench}
 use Rattle.ledger_spec.specs.Look.{interface}
 
@@ -41,7 +42,7 @@ linksDown b u = elim (interface b u .halves) [
 ]
 
 unfoldable pub soundInterface : Bench → ℕ → Bool
-soundInterface b u = (leb (length (interface b u .slots)) 64 && (leZ (pos 0) (interface b u .progress) && leZ (interface b u .progress) (pos (2 ^ 40))))
+soundInterface b u = (leb (length (interface b u .slots)) slotLimit && (leZ (pos 0) (interface b u .progress) && leZ (interface b u .progress) (pos progressLimit)))
     && (linksUp b u && linksDown b u)
 
 -- W: the progress of an interface and of all below it

@@ -1,10 +1,11 @@
 -- The tests behind the refusal numbers of document 01's table, each of one thing: an interface's number, a handle, a list. Assumes nothing.
-use Prim.Native.Nat.{ℕ, _^_}
+use Prim.Native.Nat.{ℕ}
 use mathlib.Core.Bool.{Bool, true, false, _||_, not}
 use mathlib.Core.Option.{Option, none, some}
 use mathlib.Core.List.{List, [], _∷_}
 use lib.Dec.{eqb, leb}
 use lib.IntN.{natAbs}
+use Rattle.ledger_spec.specs.Numbers.{slotLimit, serialLimit}
 use Rattle.ledger_spec.specs.Bench.{Handle, Node, Interface, Bench, defect, blossom}
 use Rattle.ledger_spec.specs.Look.{interface, freeSlot, nodeAt, top, sameHandle}
 
@@ -24,14 +25,14 @@ abbrev pub empty : {A : Type 0} → List A → Bool
 empty [] = true
 empty (x ∷ xs) = false
 
--- 3, 4: the interface's number, its parent
+-- UNIT, CHILD: the interface's number, its parent
 abbrev pub outside : ℕ → Bool
 outside u = leb 8 u
 
 abbrev pub child : Bench → ℕ → Bool
 child b u = given (interface b u .parent)
 
--- 8, 9, 10, 11: of a handle
+-- STALE, FOREIGN, KIND, INSIDE: of a handle; TWICE: of several
 abbrev pub stale : Bench → Handle → Bool
 stale b h = not (given (nodeAt b h))
 
@@ -50,12 +51,12 @@ unfoldable pub twice : List Handle → Bool
 twice [] = false
 twice (h ∷ hs) = any (sameHandle h) hs || twice hs
 
--- 14, 15
+-- FULL, WORN, USED
 abbrev pub full : Bench → ℕ → Bool
-full b u = leb 64 (freeSlot b u)
+full b u = leb slotLimit (freeSlot b u)
 
 abbrev pub worn : Bench → Bool
-worn b = leb (2 ^ 32) (b .next)
+worn b = leb serialLimit (b .next)
 
 abbrev pub used : Interface → Bool
 used f = not (empty (f .slots)) || (not (eqb (natAbs (f .progress)) 0) || given (f .halves))

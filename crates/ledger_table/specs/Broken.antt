@@ -1,6 +1,6 @@
 -- The sound bench, rule by rule: a bench made by calls, one thing in it changed, and whether it is still sound. Each rule of document 01's section is
 -- broken and, where it has a limit, kept just at it; BROKEN is what every call then answers. Assumes nothing.
-use Prim.Native.Nat.{ℕ, suc, _^_}
+use Prim.Native.Nat.{ℕ, suc}
 use mathlib.Core.Path.{_≡_, refl}
 use mathlib.Core.Bool.{Bool, true, false, not}
 use mathlib.Core.Option.{Option, none, some}
@@ -8,6 +8,7 @@ use mathlib.Core.List.{List, [], _∷_, _++_, map}
 use lib.Dec.{eqb}
 use lib.ListN.{getD, set, replicate, take}
 use lib.IntN.{ℤ, pos, negsuc}
+use Rattle.ledger_spec.specs.Numbers.{progressLimit, BROKEN}
 use Rattle.ledger_spec.specs.Bench.{Handle, State, grows, stays, shrinks, Member, Class, blossom, Node, Interface, Bench, setUp, withSlots, withProgress, withSum, withSpeed, withParent, withHalves}
 use Rattle.ledger_spec.specs.Look.{interface}
 use Rattle.ledger_spec.specs.Change.{withInterface}
@@ -98,7 +99,7 @@ rows =
     ∷ (next 7, true) ∷ (next 6, false) ∷ (next 0, false) ∷ (next 4294967296, true) ∷ (next 4294967297, false)
     -- used slots, progress
     ∷ (face 1 (empties 63), true) ∷ (face 1 (empties 64), false) ∷ (face 7 (empties 64), true) ∷ (face 7 (empties 65), false)
-    ∷ (face 7 (progress (pos (2 ^ 40))), true) ∷ (face 7 (progress (pos (suc (2 ^ 40)))), false) ∷ (face 7 (progress (negsuc 0)), false)
+    ∷ (face 7 (progress (pos progressLimit)), true) ∷ (face 7 (progress (pos (suc progressLimit))), false) ∷ (face 7 (progress (negsuc 0)), false)
     ∷ (face 0 (progress (pos 1)), true) ∷ (face 0 (progress (pos 0)), false) ∷ (face 0 (progress (pos 100)), true) ∷ (face 1 (progress (negsuc 0)), false)
     -- children
     ∷ (face 2 (halves none), false) ∷ (face 2 (halves (some (1, 0))), true) ∷ (face 2 (halves (some (0, 0))), false)
@@ -134,7 +135,7 @@ verdicts = refl
 
 -- what a call answers then: 2 exactly where the bench is not sound
 abbrev pub isTwo : ℕ → Bool
-isTwo n = not (eqb n 2)
+isTwo n = not (eqb n BROKEN)
 
 pub broken : map (λ (r : (Bench → Bench) × Bool). isTwo (answer (r .0 made) (Grow 2 (pos 0)) .number)) rows ≡ map (λ (r : (Bench → Bench) × Bool). r .1) rows
 unfolding run ran made

@@ -3,6 +3,7 @@ use Prim.Native.Nat.{ℕ, zero, suc, _+_, _-_, _*_}
 use mathlib.Core.Bool.{Bool, true, false}
 use mathlib.Core.Option.{Option, none, some}
 use lib.IntN.{ℤ, pos, negsuc}
+use Rattle.bench_words.specs.Codec.{pastHandles}
 use Rattle.ledger_spec.specs.Bench.{Handle, State, grows, stays, shrinks}
 
 abbrev pub nodeWord : Handle → ℕ
@@ -14,7 +15,7 @@ outerWords r = (nodeWord (r .0), r .1)
 
 -- 2^41 where there is none: no handle of a bench is written so
 abbrev pub maybeWord : Option Handle → ℕ
-maybeWord none = 2199023255552
+maybeWord none = pastHandles
 maybeWord (some h) = nodeWord h
 
 abbrev pub flagWord : Bool → ℕ

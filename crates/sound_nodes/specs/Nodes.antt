@@ -5,6 +5,7 @@ use mathlib.Core.Bool.{Bool, _&&_, _||_}
 use mathlib.Core.List.{List}
 use lib.Dec.{leb, ltb}
 use lib.ListN.{getD}
+use Rattle.bench_words.specs.Codec.{valueOffset}
 use Rattle.kinds.specs.declared.GrowState.{GrowState}
 use Rattle.kinds.specs.declared.Handle.{Handle}
 use Rattle.bench_words.specs.Store.{nodeAt, interfaceAt}
@@ -27,7 +28,7 @@ pub record Grounds (b : List ℕ) (u : ℕ) (g : Ground) : Type 0 where
   pub narrow : g .width ≤ 8796093022208
 
 unfoldable pub nearTest : GrowState → ℕ → ℕ → ℕ → Bool
-nearTest g bias t w = leb 576460752303423488 bias && (leb bias 2305843009213693952 && between 1152921504606846976 w (valueOf g bias t))
+nearTest g bias t w = leb 576460752303423488 bias && (leb bias 2305843009213693952 && between valueOffset w (valueOf g bias t))
 
 abbrev pub handleIn : ℕ → ℕ → Node → Handle
 handleIn u s n = record { unit = u; slot = s; serial = n .serial }

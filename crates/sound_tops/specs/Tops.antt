@@ -3,7 +3,7 @@ use Prim.Native.Nat.{ℕ, _+_, _-_, _*_}
 use mathlib.Core.Bool.{Bool, true, _&&_}
 use mathlib.Core.List.{List}
 use lib.Dec.{eqb}
-use Rattle.bench_words.specs.Codec.{pick}
+use Rattle.bench_words.specs.Codec.{sumOffset, pick}
 use Rattle.bench_words.specs.Store.{nodeAt, interfaceAt}
 use Rattle.bench_words.specs.declared.Interface.{Interface}
 use Rattle.ledger_spec.specs.Look.{climb}
@@ -26,7 +26,7 @@ paceOf b i = sumTo (paceUnder b i) 8
 
 -- the interface f with number i: a sum within 512 W, and the tree's speed
 unfoldable pub topIn : List ℕ → ℕ → Interface → Bool
-topIn b i f = over (f .parent) (between 4611686018427387904 (widthOf b i * 512) (f .sum) && eqb (f .speed) (512 + paceOf b i)) (λ p. true)
+topIn b i f = over (f .parent) (between sumOffset (widthOf b i * 512) (f .sum) && eqb (f .speed) (512 + paceOf b i)) (λ p. true)
 
 abbrev pub topTest : List ℕ → ℕ → Bool
 topTest b i = topIn b i (interfaceAt b i)

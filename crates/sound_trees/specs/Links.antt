@@ -3,6 +3,7 @@ use Prim.Native.Nat.{ℕ, _+_, _-_}
 use mathlib.Core.Bool.{Bool, true, false, not, _&&_, _||_}
 use mathlib.Core.List.{List}
 use lib.Dec.{eqb, leb, ltb}
+use Rattle.ledger_spec.specs.Numbers.{progressLimit}
 use Rattle.bench_words.specs.Codec.{pick}
 use Rattle.bench_words.specs.Store.{interfaceAt}
 use Rattle.bench_words.specs.declared.Interface.{Interface}
@@ -25,5 +26,5 @@ downTest U l r u = pick (eqb l 0) (eqb r 0) (leb l u && (leb r u && (not (eqb r 
 
 unfoldable pub interfaceTest : List ℕ → ℕ → Bool
 interfaceTest b u = (spareAt b u && linkAt b u)
-    && ((leb (interfaceAt b u .used) 64 && leb (interfaceAt b u .progress) 1099511627776)
+    && ((leb (interfaceAt b u .used) 64 && leb (interfaceAt b u .progress) progressLimit)
     && (upTest (interfaceAt b) (interfaceAt b u .parent) u && downTest (interfaceAt b) (interfaceAt b u .left) (interfaceAt b u .right) u))
