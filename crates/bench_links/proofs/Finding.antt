@@ -17,7 +17,7 @@ use Rattle.kinds.specs.declared.Class.{Class}
 use Rattle.kinds.specs.declared.Class.the-variants.{Absent, Blossom, Defect}
 use Rattle.ledger_spec.specs.Bench.{Handle}
 use Rattle.ledger_spec.specs.Bench as plain
-use Rattle.ledger_spec.specs.Look.{slotOf, ifSerial, nodeAt as nodeNamed}
+use Rattle.ledger_spec.specs.Look.{slotOf, ifSerial, nodeNamed}
 use Rattle.ledger_spec.specs.Named.{handleNamed}
 use Rattle.ledger_spec.proofs.Knit.{none-some}
 use Rattle.ledger_spec.proofs.Passed.{has-node}

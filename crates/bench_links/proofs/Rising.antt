@@ -12,9 +12,9 @@ use Rattle.kinds.specs.declared.Handle.{Handle as Code}
 use Rattle.kinds.specs.declared.Parent.the-variants.{Outermost, Inside}
 use Rattle.ledger_spec.specs.Bench.{Handle, Bench}
 use Rattle.ledger_spec.specs.Bench as plain
-use Rattle.ledger_spec.specs.Look.{slotOf, top, nodeAt as nodeNamed}
+use Rattle.ledger_spec.specs.Look.{slotOf, top, nodeNamed}
 use Rattle.ledger_spec.specs.Named.{handleNamed, parentNamed}
-use Rattle.ledger_spec.specs.Walk.{parentOf, outerFrom, linksFrom, underFrom}
+use Rattle.ledger_spec.specs.Walk.{parentIn, outerFrom, linksFrom, belowFrom}
 use Rattle.ledger_spec.specs.Knit.{Up}
 use Rattle.ledger_spec.proofs.Chains.{outer-none, outer-some, links-none, links-some, under-none, under-some}
 use Rattle.bench_views.specs.View.{view, sumUp, circleOf, nodeSeen}
@@ -28,17 +28,17 @@ use Rattle.bench_links.proofs.Finding.{stands-by}
 
 -- no link is followed exactly from a node without a parent
 module _ (B : Bench) (h : Handle) where
-  pub no-link : linksFrom 512 B h ≡ 0 → parentOf (nodeNamed B h) ≡ none
-  no-link z = go (parentOf (nodeNamed B h)) refl
+  pub no-link : linksFrom 512 B h ≡ 0 → parentIn (nodeNamed B h) ≡ none
+  no-link z = go (parentIn (nodeNamed B h)) refl
     where
-      go : (o : Option Handle) → parentOf (nodeNamed B h) ≡ o → parentOf (nodeNamed B h) ≡ none
+      go : (o : Option Handle) → parentIn (nodeNamed B h) ≡ o → parentIn (nodeNamed B h) ≡ none
       go none e = e
       go (some p) e = absurd (omega (arith, z, links-some B 511 h p e))
 
-  pub some-link : (linksFrom 512 B h ≡ 0 → ⊥) → (p : Handle) × (parentOf (nodeNamed B h) ≡ some p)
-  some-link z = go (parentOf (nodeNamed B h)) refl
+  pub some-link : (linksFrom 512 B h ≡ 0 → ⊥) → (p : Handle) × (parentIn (nodeNamed B h) ≡ some p)
+  some-link z = go (parentIn (nodeNamed B h)) refl
     where
-      go : (o : Option Handle) → parentOf (nodeNamed B h) ≡ o → (p : Handle) × (parentOf (nodeNamed B h) ≡ some p)
+      go : (o : Option Handle) → parentIn (nodeNamed B h) ≡ o → (p : Handle) × (parentIn (nodeNamed B h) ≡ some p)
       go none e = absurd (z (links-none B 512 h e))
       go (some p) e = (p, e)
 
@@ -53,8 +53,8 @@ module _ (b : List ℕ) (h : Handle) (S : Stands b h) where
   pub seen-some : (n : plain.Node) × (nodeNamed (view b) h ≡ some n)
   seen-some = (nodeSeen here (sumUp 8 (interfaceAt b) (h .unit)) (seen-node .0), seen-node .1)
 
-  pub parent-seen : parentOf (nodeNamed (view b) h) ≡ parentNamed (here .parent)
-  parent-seen = ap parentOf (seen-node .1)
+  pub parent-seen : parentIn (nodeNamed (view b) h) ≡ parentNamed (here .parent)
+  parent-seen = ap parentIn (seen-node .1)
 
   -- a parent is present too
   pub stands-parent : Fit b → (q : Code) → here .parent ≡ Inside q → Stands b (handleNamed q)
@@ -71,7 +71,7 @@ pub record Going (b : List ℕ) (h at under : Handle) (links : ℕ) : Type 0 whe
   pub stands : Stands b at
   pub few : links ≤ 512
   pub node : outerFrom (512 - links) (view b) at ≡ outerFrom 512 (view b) h
-  pub below : underFrom (512 - links) (view b) under at ≡ underFrom 512 (view b) h h
+  pub below : belowFrom (512 - links) (view b) under at ≡ belowFrom 512 (view b) h h
   pub counted : links + linksFrom (512 - links) (view b) at ≡ linksFrom 512 (view b) h
 
 pub going-starts : (b : List ℕ) (h : Handle) → Fit b → Stands b h → Going b h h h 0
@@ -82,20 +82,20 @@ module _ (b : List ℕ) (h at under : Handle) (links : ℕ) (G : Going b h at un
   spot-low = let S = G .stands in omega arith
 
   pub going-spent : 512 ≤ links → (r : Outer) → handleNamed (r .node) ≡ at → handleNamed (r .under) ≡ under → r .links ≡ links → Outers b h r
-  unfolding outerFrom underFrom linksFrom
+  unfolding outerFrom belowFrom linksFrom
   going-spent l r e f g =
       let few = G .few in
       let z : 512 - links ≡ 0 = omega arith in
       record {
         node = e ∙ sym (ap (λ (k : ℕ). outerFrom k (view b) at) z) ∙ G .node;
-        under = f ∙ sym (ap (λ (k : ℕ). underFrom k (view b) under at) z) ∙ G .below;
+        under = f ∙ sym (ap (λ (k : ℕ). belowFrom k (view b) under at) z) ∙ G .below;
         links = omega (arith, g, ap (λ (k : ℕ). linksFrom k (view b) at) z, G .counted);
         few = omega (arith, g, few);
         stands = rw e (G .stands);
       }
 
   module _ (n : Node) (e : n ≡ nodeAt b (spot at)) where
-    parent-now : parentOf (nodeNamed (view b) at) ≡ parentNamed (n .parent)
+    parent-now : parentIn (nodeNamed (view b) at) ≡ parentNamed (n .parent)
     parent-now = parent-seen b at (G .stands) ∙ ap (λ (x : Node). parentNamed (x .parent)) (sym e)
 
     pub going-ends : n .parent ≡ Outermost → (r : Outer) → handleNamed (r .node) ≡ at → handleNamed (r .under) ≡ under → r .links ≡ links → Outers b h r
@@ -118,6 +118,6 @@ module _ (b : List ℕ) (h at under : Handle) (links : ℕ) (G : Going b h at un
           stands = stands-parent b at (G .stands) (G .fit) q (sym (ap (λ (x : Node). x .parent) e) ∙ p);
           few = omega arith;
           node = sym (outer-some (view b) (512 - (links + 1)) at (handleNamed q) up) ∙ ap (λ (k : ℕ). outerFrom k (view b) at) back ∙ G .node;
-          below = sym (under-some (view b) (512 - (links + 1)) under at (handleNamed q) up) ∙ ap (λ (k : ℕ). underFrom k (view b) under at) back ∙ G .below;
+          below = sym (under-some (view b) (512 - (links + 1)) under at (handleNamed q) up) ∙ ap (λ (k : ℕ). belowFrom k (view b) under at) back ∙ G .below;
           counted = omega (arith, links-some (view b) (512 - (links + 1)) at (handleNamed q) up, ap (λ (k : ℕ). linksFrom k (view b) at) back, G .counted);
         }

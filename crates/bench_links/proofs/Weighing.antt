@@ -17,9 +17,9 @@ use Rattle.kinds.specs.declared.GrowState.{GrowState}
 use Rattle.kinds.specs.declared.GrowState.the-variants.{Grow, Stay, Shrink}
 use Rattle.ledger_spec.specs.Bench.{Handle}
 use Rattle.ledger_spec.specs.Bench as plain
-use Rattle.ledger_spec.specs.Look.{interface, nodeAt as nodeNamed}
+use Rattle.ledger_spec.specs.Look.{interface, nodeNamed}
 use Rattle.ledger_spec.specs.Change.{worth}
-use Rattle.bench_views.specs.View.{off, view, valueOf, sumUp}
+use Rattle.bench_views.specs.View.{off, view, valueBy, sumUp}
 use Rattle.bench_views.specs.Records.{Ranged}
 use Rattle.bench_views.specs.Fit.{Fit}
 use Rattle.bench_views.proofs.Views.{interface-in}
@@ -50,7 +50,7 @@ module _ (b : List ℕ) (F : Fit b) (u : ℕ) (lu : u < 8) (free : interface (vi
   speed-small = let r = off-range 1023 (f .speed) 512 (rw speed-seen (F .speed u lu free)) in omega arith
 
 -- ---- a node
-value-most : (g : GrowState) (x t : ℕ) → valueOf g x t ≤ x + t
+value-most : (g : GrowState) (x t : ℕ) → valueBy g x t ≤ x + t
 value-most Grow x t = omega arith
 value-most Stay x t = omega arith
 value-most Shrink x t = omega arith
@@ -63,8 +63,8 @@ module _ (b : List ℕ) (h : Handle) (S : Stands b h) (n : Node) (e : n ≡ node
     pub bias-room : (t ≤ n .bias) × (n .bias + t < 18446744073709551616)
     bias-room = let r = bias-near in (omega arith, omega arith)
 
-    pub value-small : valueOf (n .state) (n .bias) t < 9223372036854775808
+    pub value-small : valueBy (n .state) (n .bias) t < 9223372036854775808
     value-small = let r = bias-near in omega (arith, value-most (n .state) (n .bias) t)
 
-  pub value-seen : t ≡ sumUp 8 (interfaceAt b) (h .unit) → off 1152921504606846976 (valueOf (n .state) (n .bias) t) ≡ worth (nodeNamed (view b) h)
+  pub value-seen : t ≡ sumUp 8 (interfaceAt b) (h .unit) → off 1152921504606846976 (valueBy (n .state) (n .bias) t) ≡ worth (nodeNamed (view b) h)
   value-seen q = rw (e, q) (sym (ap worth (seen-node b h S .1)))

@@ -8,7 +8,7 @@ use Rattle.bench_words.specs.Store.{nodeAt, interfaceAt}
 use Rattle.kinds.specs.declared.Class.{Class}
 use Rattle.kinds.specs.declared.Class.the-variants.{Absent, Blossom, Defect}
 use Rattle.ledger_spec.specs.Bench.{Handle}
-use Rattle.ledger_spec.specs.Look.{nodeAt as nodeNamed}
+use Rattle.ledger_spec.specs.Look.{nodeNamed}
 use Rattle.bench_views.specs.View.{view, slotSeen, sumUp, circleOf}
 use Rattle.bench_links.specs.declared.Found.{Found}
 use Rattle.bench_links.specs.declared.Found.the-variants.{At, Stale}

@@ -8,7 +8,7 @@ ghost use mathlib.Core.Path.{_≡_};
 ghost use mathlib.Core.Option.{none};
 ghost use Prim.Native.Nat.{_<_};
 ghost use Rattle.ledger_spec.specs.Named.{handleNamed};
-ghost use Rattle.ledger_spec.specs.Look.{interface, nodeAt};
+ghost use Rattle.ledger_spec.specs.Look.{interface, nodeNamed};
 ghost use Rattle.ledger_spec.specs.Tests.{foreign};
 ghost use Rattle.ledger_spec.specs.Change.{worth};
 ghost use Rattle.bench_views.specs.Canon.{Canon};
@@ -134,7 +134,7 @@ pub fn lowered(x: u64, c: u64) -> i64
 pub fn value(b: &[u64; WORDS], h: Handle) -> i64
     requires { ⌜ Fit (now b) ⌝ }
     requires { ⌜ Stands (now b) (handleNamed h) ⌝ }
-    ensures { λ r. ⌜ r ≡ worth (nodeAt (view (now (b .entry))) (handleNamed h)) ⌝ }
+    ensures { λ r. ⌜ r ≡ worth (nodeNamed (view (now (b .entry))) (handleNamed h)) ⌝ }
 {
     let unit = h.unit as usize;
     let c = bench_trees::climb(b, unit);

@@ -11,7 +11,7 @@ use Rattle.bench_words.specs.Store.{nodeAt, interfaceAt}
 use Rattle.bench_words.specs.declared.Interface.{Interface}
 use Rattle.ledger_spec.specs.Bench.{Handle}
 use Rattle.ledger_spec.specs.Bench as plain
-use Rattle.ledger_spec.specs.Look.{slotOf, nodeAt as nodeNamed}
+use Rattle.ledger_spec.specs.Look.{slotOf, nodeNamed}
 use Rattle.ledger_spec.proofs.Knit.{none-some}
 use Rattle.bench_views.specs.View.{view, nodeSeen, sumUp, circleOf}
 use Rattle.bench_views.specs.Fit.{Fit}

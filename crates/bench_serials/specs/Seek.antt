@@ -5,7 +5,7 @@ use mathlib.Core.Option.{none}
 use mathlib.Core.List.{List}
 use lib.ListN.{set}
 use Rattle.ledger_spec.specs.Bench.{Handle}
-use Rattle.ledger_spec.specs.Look.{nodeAt}
+use Rattle.ledger_spec.specs.Look.{nodeNamed}
 use Rattle.ledger_spec.specs.Lines.{named}
 use Rattle.bench_views.specs.View.{view}
 use Rattle.bench_links.specs.declared.Found.{Found}
@@ -23,12 +23,12 @@ sought n Stale = handle 8 0 n
 -- a node with the serial n stands in interface u, or none does
 abbrev pub Scans : List ℕ → ℕ → ℕ → Found → Type 0
 Scans b u n (At k) = Held b (handle (k / 64) (k % 64) n) k
-Scans b u n Stale = (s : ℕ) → nodeAt (view b) (handle u s n) ≡ none
+Scans b u n Stale = (s : ℕ) → nodeNamed (view b) (handle u s n) ≡ none
 
 -- the same of all interfaces
 abbrev pub ScansAll : List ℕ → ℕ → Found → Type 0
 ScansAll b n (At k) = Held b (handle (k / 64) (k % 64) n) k
-ScansAll b n Stale = (u s : ℕ) → nodeAt (view b) (handle u s n) ≡ none
+ScansAll b n Stale = (u s : ℕ) → nodeNamed (view b) (handle u s n) ≡ none
 
 pub record Seeks (b : List ℕ) (n : ℕ) (r : Found) : Type 0 where
   pub same : sought n r ≡ named (view b) n

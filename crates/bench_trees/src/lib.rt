@@ -7,13 +7,13 @@ ghost use mathlib.Core.Path.{_≡_};
 ghost use Prim.Native.Nat.{_+_, _<_, _≤_};
 ghost use Rattle.ledger_spec.specs.Look.{top};
 ghost use Rattle.bench_views.specs.Records.{rateOf, Steady};
-ghost use Rattle.bench_views.specs.View.{valueOf, biasOf};
+ghost use Rattle.bench_views.specs.View.{valueBy, biasOf};
 ghost use Rattle.bench_trees.specs.Climb.{Climbs};
 
 // The value of a node, 2^60 higher than it is.
 pub fn valued(g: GrowState, bias: u64, t: u64) -> u64
     requires { ⌜ (t ≤ bias) × (bias + t < 18446744073709551616) ⌝ }
-    ensures { λ r. ⌜ r ≡ valueOf g bias t ⌝ }
+    ensures { λ r. ⌜ r ≡ valueBy g bias t ⌝ }
 {
     match g {
         GrowState::Grow => bias + t,

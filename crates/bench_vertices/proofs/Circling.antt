@@ -12,7 +12,7 @@ use Rattle.bench_words.specs.declared.Node.{Node}
 use Rattle.kinds.specs.declared.Class.the-variants.{Absent, Blossom, Defect}
 use Rattle.kinds.specs.declared.Vertex.{Vertex}
 use Rattle.ledger_spec.specs.Bench.{Handle, Member, defect, blossom}
-use Rattle.ledger_spec.specs.Look.{nodeAt as nodeNamed}
+use Rattle.ledger_spec.specs.Look.{nodeNamed}
 use Rattle.ledger_spec.specs.Walk.{each, verticesOf}
 use Rattle.ledger_spec.specs.Knit.{In, here, there, nodes}
 use Rattle.ledger_spec.proofs.Lists.{map-in}

@@ -7,7 +7,7 @@ use lib.ListN.{length, drop}
 use lib.Seq.{sets-eq}
 use Rattle.bench_words.specs.Store.{nodeAt, interfaceAt}
 use Rattle.ledger_spec.specs.Bench.{Handle}
-use Rattle.ledger_spec.specs.Look.{nodeAt as nodeNamed}
+use Rattle.ledger_spec.specs.Look.{nodeNamed}
 use Rattle.ledger_spec.specs.Deeds.{sizeOf}
 use Rattle.ledger_spec.specs.Walk.{verticesOf}
 use Rattle.ledger_spec.proofs.Walks.{as-many}

@@ -7,7 +7,7 @@ use Rattle.ledger_spec.proofs.Ints.{*ℤ-dist-l}
 use Rattle.ledger_spec.specs.Bench.{rate}
 use Rattle.kinds.specs.declared.GrowState.{GrowState}
 use Rattle.kinds.specs.declared.GrowState.the-variants.{Grow as Growing, Stay, Shrink}
-use Rattle.bench_views.specs.View.{off, valueOf}
+use Rattle.bench_views.specs.View.{off, valueBy}
 use Rattle.ledger_spec.specs.Named.{stateNamed}
 use Rattle.bench_views.specs.Records.{rateOf}
 
@@ -53,7 +53,7 @@ sum-grown c d s l p h =
     off-both c s (l * p) (l * d) h
     ∙ ap (λ (z : ℤ). off c s +ℤ z) (ap (λ (z : ℤ). pos (l * p) +ℤ z) (neg-mul l d) ∙ sym (*ℤ-dist-l (pos l) (pos p) (negℤ (pos d))))
 
-pub value-grown : (c : ℕ) (g : GrowState) (b t l : ℕ) → t + l ≤ b → off c (valueOf g b (t + l)) ≡ off c (valueOf g b t) +ℤ pos l *ℤ rate (stateNamed g)
+pub value-grown : (c : ℕ) (g : GrowState) (b t l : ℕ) → t + l ≤ b → off c (valueBy g b (t + l)) ≡ off c (valueBy g b t) +ℤ pos l *ℤ rate (stateNamed g)
 value-grown c Growing b t l h =
     let e : b + (t + l) ≡ b + t + l = omega arith in
     let one : l * 1 ≡ l = omega arith in

@@ -14,7 +14,7 @@ use Rattle.kinds.specs.declared.Class.the-variants.{Absent}
 use Rattle.bench_words.specs.Store.{nodeAt, interfaceAt}
 use Rattle.ledger_spec.specs.Bench as plain
 use Rattle.bench_views.specs.Records.{Steady, Ranged}
-use Rattle.bench_views.specs.View.{off, valueOf, sumUp, circleOf, view}
+use Rattle.bench_views.specs.View.{off, valueBy, sumUp, circleOf, view}
 use Rattle.bench_views.specs.Canon.{Within}
 use Rattle.bench_views.proofs.Sums.{sumUp-le}
 use Rattle.bench_views.proofs.Rings.{slot-held}
@@ -28,7 +28,7 @@ off-range c x m = go (ltb x (suc c)) refl
     go true e h = let l = ltb-true x (suc c) e in (omega arith, omega arith)
     go false e h = let l = ltb-false x (suc c) e in (omega arith, omega arith)
 
-bias-range : (g : GrowState) (b t : ℕ) → t ≤ 8796093022208 → 1152921504606846976 ≤ valueOf g b t + 8796093022208 → valueOf g b t ≤ 1152921504606846976 + 8796093022208
+bias-range : (g : GrowState) (b t : ℕ) → t ≤ 8796093022208 → 1152921504606846976 ≤ valueBy g b t + 8796093022208 → valueBy g b t ≤ 1152921504606846976 + 8796093022208
     → (576460752303423488 ≤ b) × (b ≤ 2305843009213693952)
 bias-range Growing b t l x y = (omega arith, omega arith)
 bias-range Stay b t l x y = (omega arith, omega arith)
@@ -40,6 +40,6 @@ ranged b st near v s lv ls p =
     let t = sumUp 8 (interfaceAt b) v in
     let held = slot-held n t (circleOf (nodeAt b) (v * 64 + s)) p in
     let seen = view-slot (getD b 0 0) (interfaceAt b) (nodeAt b) v s lv ls ∙ held .1 in
-    let x = off-range 1152921504606846975 (valueOf (n .state) (n .bias) t) 8796093022208 (near v s _ seen) in
+    let x = off-range 1152921504606846975 (valueBy (n .state) (n .bias) t) 8796093022208 (near v s _ seen) in
     let y = bias-range (n .state) (n .bias) t (omega (arith, sumUp-le b st 8 v lv)) (x .0) (x .1) in
     record { least = y .0; most = y .1 }

@@ -28,7 +28,7 @@ use Rattle.ledger_spec.specs.Bench as plain
 use Rattle.ledger_spec.specs.Look.{interface, slotOf}
 use Rattle.ledger_spec.proofs.Knit.{none-some}
 use Rattle.bench_words.proofs.Laws.{good-interface}
-use Rattle.bench_views.specs.View.{off, upSeen, halvesSeen, valueOf, sumUp, follow, circleOf, memberAt, slotSeen, nodeSeen, byClass, interfaceIn, view}
+use Rattle.bench_views.specs.View.{off, upSeen, halvesSeen, valueBy, sumUp, follow, circleOf, memberAt, slotSeen, nodeSeen, byClass, interfaceIn, view}
 use Rattle.ledger_spec.specs.Named.{stateNamed, handleNamed, parentNamed}
 use Rattle.bench_views.specs.Canon.{Within, walk, Seated, Canon}
 use Rattle.bench_views.proofs.Sums.{sumUp-le, sumUp-same}
@@ -72,7 +72,7 @@ link-inj Outermost (Inside q) e = absurd (let z : _≡_ {A = ℕ} 0 1 = cc in om
 link-inj (Inside p) Outermost e = absurd (let z : _≡_ {A = ℕ} 0 1 = cc in omega arith)
 link-inj (Inside p) (Inside q) e = ap Inside (hand-inj p q (some-inj e))
 
-bias-inj : (g : GrowState) (a b t : ℕ) → t ≤ a → t ≤ b → valueOf g a t ≡ valueOf g b t → a ≡ b
+bias-inj : (g : GrowState) (a b t : ℕ) → t ≤ a → t ≤ b → valueBy g a t ≡ valueBy g b t → a ≡ b
 bias-inj Growing a b t l m e = omega arith
 bias-inj Stay a b t l m e = e
 bias-inj Shrink a b t l m e = omega arith
@@ -146,7 +146,7 @@ pub record Alike (n n' : Node) (t : ℕ) (ms ms' : List Member) : Type 0 where
   pub class : n .class ≡ n' .class
   pub state : n .state ≡ n' .state
   pub parent : n .parent ≡ n' .parent
-  pub value : valueOf (n .state) (n .bias) t ≡ valueOf (n' .state) (n' .bias) t
+  pub value : valueBy (n .state) (n .bias) t ≡ valueBy (n' .state) (n' .bias) t
   pub size : n .size ≡ n' .size
   pub ring : n .class ≡ Blossom → ms ≡ ms'
 
@@ -329,7 +329,7 @@ module _ (b b' : List ℕ) (C : Canon b) (C' : Canon b') (near : Within (view b)
           let tl : t ≤ 8796093022208 = omega (arith, sumUp-le b (C .steady) 8 v lv) in
           let x = ranged b (C .steady) near v s lv ls (w .present) in
           let y = ranged b' (C' .steady) (subst Within e near) v s lv (subst (λ (x : Interface). s < x .used) (interface-same v lv) ls) here' in
-          let bi : nodeAt b k .bias ≡ nodeAt b' k .bias = bias-inj (nodeAt b k .state) (nodeAt b k .bias) (nodeAt b' k .bias) t (omega (arith, x .least)) (omega (arith, y .least)) (w .value ∙ ap (λ (g : GrowState). valueOf g (nodeAt b' k .bias) t) (sym (w .state))) in
+          let bi : nodeAt b k .bias ≡ nodeAt b' k .bias = bias-inj (nodeAt b k .state) (nodeAt b k .bias) (nodeAt b' k .bias) t (omega (arith, x .least)) (omega (arith, y .least)) (w .value ∙ ap (λ (g : GrowState). valueBy g (nodeAt b' k .bias) t) (sym (w .state))) in
           let h = heads v s lv ls lk (nodeAt b k .class) refl (sym (w .class)) (w .present) in
           let li = links k lk (nodeAt b k .parent) refl (sym (w .parent)) in
           λ i. record {

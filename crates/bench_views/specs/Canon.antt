@@ -9,7 +9,7 @@ use Rattle.kinds.specs.declared.Handle.{Handle as Packed}
 use Rattle.kinds.specs.declared.Vertex.{Vertex}
 use Rattle.kinds.specs.declared.Parent.the-variants.{Outermost, Inside}
 use Rattle.bench_words.specs.declared.Node.{Node}
-use Rattle.kinds.specs.Names.{nobody}
+use Rattle.kinds.specs.Names.{noCode}
 use lib.IntN.{natAbs}
 use mathlib.Core.Option.{some}
 use Rattle.ledger_spec.specs.Bench.{Bench}
@@ -38,8 +38,8 @@ pub record Seated (b : List ℕ) (k : ℕ) (q : Packed) : Type 0 where
 pub record Alone (n : Node) : Type 0 where
   pub place : n .place ≡ 0
   pub next : n .next ≡ 0
-  pub left : n .left ≡ nobody
-  pub right : n .right ≡ nobody
+  pub left : n .left ≡ noCode
+  pub right : n .right ≡ noCode
 
 -- every word is the code of what is loaded from it, and those of no record are zero
 pub record Coded (b : List ℕ) : Type 0 where

@@ -3,7 +3,7 @@ use Prim.Native.Nat.{ℕ, _<_, _≤_}
 use mathlib.Core.Path.{_≡_}
 use mathlib.Core.List.{List}
 use lib.ListN.{length}
-use Rattle.kinds.specs.Names.{nobody}
+use Rattle.kinds.specs.Names.{noCode}
 use Rattle.kinds.specs.declared.GrowState.{GrowState}
 use Rattle.kinds.specs.declared.GrowState.the-variants.{Grow as Growing, Stay, Shrink}
 use Rattle.kinds.specs.declared.Class.the-variants.{Absent}
@@ -37,8 +37,8 @@ noNode =
       parent = Outermost;
       place = 0;
       next = 0;
-      left = nobody;
-      right = nobody;
+      left = noCode;
+      right = noCode;
       bias = 0;
       size = 0;
       first = 0;

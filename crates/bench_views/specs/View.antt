@@ -33,10 +33,10 @@ abbrev pub halvesSeen : ℕ → ℕ → Option (ℕ × ℕ)
 halvesSeen l r = pick (eqb l 0) none (some (l - 1, r - 1))
 
 -- ---- values
-abbrev pub valueOf : GrowState → ℕ → ℕ → ℕ
-valueOf Growing b t = b + t
-valueOf Stay b t = b
-valueOf Shrink b t = b - t
+abbrev pub valueBy : GrowState → ℕ → ℕ → ℕ
+valueBy Growing b t = b + t
+valueBy Stay b t = b
+valueBy Shrink b t = b - t
 
 abbrev pub biasOf : GrowState → ℕ → ℕ → ℕ
 biasOf Growing v t = v - t
@@ -69,7 +69,7 @@ circleOf A k = follow (A k .count) A (A k .first)
 
 -- ---- a slot, an interface, the bench
 abbrev pub nodeSeen : Node → ℕ → plain.Class → plain.Node
-nodeSeen n t c = record { serial = n .serial .0; class = c; state = stateNamed (n .state); parent = parentNamed (n .parent); value = off valueOffset (valueOf (n .state) (n .bias) t); size = n .size }
+nodeSeen n t c = record { serial = n .serial .0; class = c; state = stateNamed (n .state); parent = parentNamed (n .parent); value = off valueOffset (valueBy (n .state) (n .bias) t); size = n .size }
 
 abbrev pub byClass : {A : Type 0} → Class → A → A → (Vertex → A) → A
 byClass Absent a b d = a

@@ -7,7 +7,7 @@ use lib.IntN.{ℤ, pos, natAbs}
 use mir.Syntax.{w64}
 use mir.Val.{SFits}
 use mir.Facts.{toZ-ofZ}
-use Rattle.kinds.specs.Names.{nobody}
+use Rattle.kinds.specs.Names.{noCode}
 use Rattle.kinds.specs.declared.Handle.{Handle}
 use Rattle.ledger_spec.specs.Tests.{first}
 use Rattle.ledger_spec.specs.Refuse.{growTests}
@@ -32,8 +32,8 @@ module _ (b : List ℕ) (W : SoundWords b) (c : Call) (n : ℕ) (e : n ≡ first
   pub goes : n ≡ 0 → Done b′ (deedOf (view b) c) → (h : Handle) → handleNamed h ≡ nodeOf (view b) c → Answered b c 0 h b′
   goes z D h k = did b c W b′ h (sym e ∙ z) D k
 
-  pub goes-bare : n ≡ 0 → Done b′ (deedOf (view b) c) → handleNamed nobody ≡ nodeOf (view b) c → (m : Made) → m ≡ refusedBy 0 → Answered b c (m .number) (m .node) b′
-  goes-bare z D k m r = subst (λ (x : Made). Answered b c (x .number) (x .node) b′) (sym r) (goes z D nobody k)
+  pub goes-bare : n ≡ 0 → Done b′ (deedOf (view b) c) → handleNamed noCode ≡ nodeOf (view b) c → (m : Made) → m ≡ refusedBy 0 → Answered b c (m .number) (m .node) b′
+  goes-bare z D k m r = subst (λ (x : Made). Answered b c (x .number) (x .node) b′) (sym r) (goes z D noCode k)
 
 pub fits : (b : List ℕ) → SoundWords b → (m n : ℕ) → n ≡ m → n ≡ 0 → Fit b × (m ≡ 0)
 fits b W m n e z = (fit-of b W, sym e ∙ z)

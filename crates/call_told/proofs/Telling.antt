@@ -9,7 +9,7 @@ use lib.IntN.{ℤ}
 use mir.Syntax.{w64}
 use mir.Val.{SFits}
 use mir.Facts.{toZ-ofZ}
-use Rattle.kinds.specs.Names.{nobody}
+use Rattle.kinds.specs.Names.{noCode}
 use Rattle.kinds.specs.declared.Handle.{Handle}
 use Rattle.ledger_spec.specs.Bench as plain
 use Rattle.ledger_spec.specs.Tests.{first}
@@ -96,7 +96,7 @@ module _ (b : List ℕ) (W : SoundWords b) (c : Call) (n : ℕ) (h : Handle) (b�
 -- ---- a call whose number was asked before
 module _ (b : List ℕ) (W : SoundWords b) (c : Call) (k : ℕ) (e : k ≡ first (testsOf (view b) c)) where
   pub stops-early : k ≢ 0 → (b′ : List ℕ) → b′ ≡ b → (r : Answer) → r ≡ refusedBy k → Told b c r b′
-  stops-early q b′ same r f = stops b W c k nobody b′ (answers.refused b c W b′ k q e same) q r f
+  stops-early q b′ same r f = stops b W c k noCode b′ (answers.refused b c W b′ k q e same) q r f
 
   pub zero-again : k ≡ 0 → (n : ℕ) (h : Handle) (b′ : List ℕ) → Answered b c n h b′ → n ≡ 0
   zero-again z n h b′ A = A .number ∙ answers.reply-number (view b) c ∙ sym e ∙ z

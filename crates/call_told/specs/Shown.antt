@@ -1,7 +1,7 @@
 -- The plain ledger's answer as the value that the code gives. Assumes nothing.
 use Prim.Native.Nat.{ℕ}
 use mathlib.Core.List.{[]}
-use Rattle.kinds.specs.Names.{nobody}
+use Rattle.kinds.specs.Names.{noCode}
 use Rattle.ledger_spec.specs.Answers.{Answer as Plain}
 use Rattle.outcome_notices.specs.Laid.{packed, laid}
 use Rattle.call_told.specs.declared.Answer.{Answer}
@@ -11,4 +11,4 @@ shown a = record { number = a .number; node = packed (a .node); notices = laid (
 
 -- neither a node nor a notice
 abbrev pub refusedBy : ℕ → Answer
-refusedBy n = record { number = n; node = nobody; notices = laid [] }
+refusedBy n = record { number = n; node = noCode; notices = laid [] }

@@ -7,12 +7,12 @@ use mathlib.Core.List.{List, [], _∷_}
 use native.Mathlib.Omega.{arith}
 use Rattle.bench_words.specs.Store.{nodeAt, interfaceAt}
 use Rattle.bench_words.specs.declared.Node.{Node}
-use Rattle.kinds.specs.Names.{nobody}
+use Rattle.kinds.specs.Names.{noCode}
 use Rattle.kinds.specs.declared.Class.the-variants.{Blossom}
 use Rattle.kinds.specs.declared.Handle.{Handle as Code}
 use Rattle.ledger_spec.specs.Bench.{Handle, Member, Bench}
 use Rattle.ledger_spec.specs.Named.{handleNamed}
-use Rattle.ledger_spec.specs.Walk.{parentOf, outermost}
+use Rattle.ledger_spec.specs.Walk.{parentIn, outermost}
 use Rattle.ledger_spec.specs.Knit.{In, here, there, nodes}
 use Rattle.ledger_spec.proofs.Lists.{map-in}
 use Rattle.ledger_spec.proofs.Walks.{Inner, inner}
@@ -35,7 +35,7 @@ circle-bad : (s : Bool) (b : Bench) (m : Member) (ms : List Member) (k : ℕ) �
 unfolding circleBy
 circle-bad s b m ms k e = rw (e, circleBy)
 
-circle-none : (s : Bool) (b : Bench) → circleBy s b [] ≡ (0, handleNamed nobody)
+circle-none : (s : Bool) (b : Bench) → circleBy s b [] ≡ (0, handleNamed noCode)
 unfolding circleBy
 circle-none s b = refl
 
@@ -47,7 +47,7 @@ module _ (b : List ℕ) (F : Fit b) (k : ℕ) (P : Placed b k) (e : nodeAt b k .
       let m = map-in (λ (x : Member). x .node) (circleOf (nodeAt b) k) i in
       let N : Inner (view b) (handleAt (nodeAt b) k) (m .0 .node) = inner (view b) (F .facts) (handleAt (nodeAt b) k) (B .node) (circleOf (nodeAt b) k) (shown b F k P ∙ B .shown) (B .class) (m .0) (m .1) in
       sym (ap (outermost (view b)) (m .2) ∙ sym (outer-more (view b) (F .facts) (m .0 .node) (N .node) (N .is) 513 (omega arith))
-      ∙ outer-some (view b) 512 (m .0 .node) (handleAt (nodeAt b) k) (ap parentOf (N .is) ∙ N .parent))
+      ∙ outer-some (view b) 512 (m .0 .node) (handleAt (nodeAt b) k) (ap parentIn (N .is) ∙ N .parent))
 
 -- ---- what holds at each turn: m members from position p on are left
 pub record Going (b : List ℕ) (k : ℕ) (s : Bool) (p m : ℕ) : Type 0 where
@@ -58,7 +58,7 @@ pub going-starts : (b : List ℕ) (k : ℕ) (s : Bool) (n : Node) → n ≡ node
 going-starts b k s n e = subst (λ (x : Node). Going b k s (x .first) (x .count)) (sym e) (record { left = refl; inside = λ x i. i })
 
 module _ (b : List ℕ) (F : Fit b) (k : ℕ) (P : Placed b k) (e : nodeAt b k .class ≡ Blossom) (s : Bool) (p m : ℕ) (G : Going b k s p m) where
-  pub going-ends : m ≡ 0 → (r : Finding) → r .verdict ≡ 0 → r .node ≡ nobody → Circled b k s r
+  pub going-ends : m ≡ 0 → (r : Finding) → r .verdict ≡ 0 → r .node ≡ noCode → Circled b k s r
   going-ends z r v n = record {
     found = ap (λ (x : ℕ). (x, handleNamed (r .node))) v ∙ ap (λ (x : Code). (0, handleNamed x)) n ∙ sym (circle-none s (view b)) ∙ sym (ap (circleBy s (view b)) (follow-none (nodeAt b) m p z)) ∙ G .left;
     stands = λ q. absurd (q v);

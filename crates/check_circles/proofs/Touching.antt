@@ -7,12 +7,12 @@ use native.Mathlib.Omega.{arith}
 use borrow.Author.Tests.{le-ltb, lt-ltb}
 use lib.Dec.{eqb}
 use Rattle.kinds.specs.declared.Handle.{Handle as Code}
-use Rattle.kinds.specs.Names.{sameHandle as sameCode}
+use Rattle.kinds.specs.Names.{sameCode}
 use Rattle.ledger_spec.specs.Bench.{Handle, Member, Node, Bench}
-use Rattle.ledger_spec.specs.Look.{nodeAt, sameHandle}
+use Rattle.ledger_spec.specs.Look.{nodeNamed, sameHandle}
 use Rattle.ledger_spec.specs.Named.{handleNamed}
-use Rattle.ledger_spec.specs.Tests.{stale, given, isDefect}
-use Rattle.ledger_spec.specs.Walk.{parentOf, outermost}
+use Rattle.ledger_spec.specs.Tests.{stale, isSome, isDefect}
+use Rattle.ledger_spec.specs.Walk.{parentIn, outermost}
 use Rattle.ledger_spec.specs.Check.{memberVerdict, isUnder}
 use Rattle.ledger_spec.proofs.Knit.{none-some, same-handle}
 use Rattle.ledger_spec.proofs.Chains.{outer-none}
@@ -50,18 +50,18 @@ module _ (m x y : Handle) where
 
 -- ---- a touching handle
 module _ (b : Bench) (o t : Handle) where
-  pub touch-gone : nodeAt b t ≡ none → 4 ≡ touchVerdict b o t
+  pub touch-gone : nodeNamed b t ≡ none → 4 ≡ touchVerdict b o t
   unfolding touchVerdict
-  touch-gone e = rw (ap (λ (x : Option Node). not (given x)) e, touchVerdict)
+  touch-gone e = rw (ap (λ (x : Option Node). not (isSome x)) e, touchVerdict)
 
-  module _ (n : Node) (e : nodeAt b t ≡ some n) where
+  module _ (n : Node) (e : nodeNamed b t ≡ some n) where
     pub touch-near : sameHandle (outermost b t) o ≡ true → 0 ≡ touchVerdict b o t
     unfolding touchVerdict
-    touch-near f = rw (ap (λ (x : Option Node). not (given x)) e, f, touchVerdict)
+    touch-near f = rw (ap (λ (x : Option Node). not (isSome x)) e, f, touchVerdict)
 
     pub touch-far : sameHandle (outermost b t) o ≡ false → 3 ≡ touchVerdict b o t
     unfolding touchVerdict
-    touch-far f = rw (ap (λ (x : Option Node). not (given x)) e, f, touchVerdict)
+    touch-far f = rw (ap (λ (x : Option Node). not (isSome x)) e, f, touchVerdict)
 
 -- ---- strictly
 abbrev six : Bool → ℕ
@@ -90,19 +90,19 @@ module _ (b : Bench) (m o t : Handle) where
       unfolding underVerdict
       by-outer = rw (e, lt-ltb (t .serial) (m .serial) l, underVerdict) (and-yes (sameHandle (outermost b t) o))
 
-      module _ (n : Node) (p : nodeAt b o ≡ some n) where
+      module _ (n : Node) (p : nodeNamed b o ≡ some n) where
         -- what is gone is its own outermost blossom, which o is not
-        apart : nodeAt b t ≡ none → sameHandle (outermost b t) o ≡ false
+        apart : nodeNamed b t ≡ none → sameHandle (outermost b t) o ≡ false
         apart z = go (sameHandle (outermost b t) o) refl
           where
             go : (c : Bool) → sameHandle (outermost b t) o ≡ c → sameHandle (outermost b t) o ≡ false
-            go true f = absurd (none-some (ap (nodeAt b) (sym (same-handle (outermost b t) o f) ∙ outer-none b 512 t (ap parentOf z)) ∙ z) p)
+            go true f = absurd (none-some (ap (nodeNamed b) (sym (same-handle (outermost b t) o f) ∙ outer-none b 512 t (ap parentIn z)) ∙ z) p)
             go false f = f
 
         pub under-by : (k : ℕ) → k ≡ touchVerdict b o t → (k ≡ 0 → 0 ≡ underVerdict b m o t) × ((k ≡ 0 → ⊥) → 6 ≡ underVerdict b m o t)
-        under-by k q = go (nodeAt b t) refl
+        under-by k q = go (nodeNamed b t) refl
           where
-            go : (x : Option Node) → nodeAt b t ≡ x → (k ≡ 0 → 0 ≡ underVerdict b m o t) × ((k ≡ 0 → ⊥) → 6 ≡ underVerdict b m o t)
+            go : (x : Option Node) → nodeNamed b t ≡ x → (k ≡ 0 → 0 ≡ underVerdict b m o t) × ((k ≡ 0 → ⊥) → 6 ≡ underVerdict b m o t)
             go none z = (λ r. absurd (omega (arith, r, q, touch-gone b o t z)), λ r. sym (by-outer ∙ rw (apart z)))
             go (some n′) z = near (sameHandle (outermost b t) o) refl
               where
@@ -152,7 +152,7 @@ fours false false false false = refl
 
 -- ---- a member
 module _ (b : Bench) (m : Member) where
-  pub member-own : isDefect (nodeAt b (m .node)) ≡ true → (s : Bool) → ownBy s (m .node) (m .touch .0) (m .touch .1) ≡ memberBy s b m
+  pub member-own : isDefect (nodeNamed b (m .node)) ≡ true → (s : Bool) → ownBy s (m .node) (m .touch .0) (m .touch .1) ≡ memberBy s b m
   unfolding ownBy memberBy
   member-own d true = sym (ap six (strict-defect b m d))
   member-own d false = go (sameHandle (m .touch .0) (m .node) && sameHandle (m .touch .1) (m .node)) refl
@@ -161,7 +161,7 @@ module _ (b : Bench) (m : Member) where
       go true e = sym (member-defect b m d e)
       go false e = sym (member-two b m d e)
 
-  pub member-larger : isDefect (nodeAt b (m .node)) ≡ false → (s : Bool) (o : Handle) → o ≡ outermost b (m .node)
+  pub member-larger : isDefect (nodeNamed b (m .node)) ≡ false → (s : Bool) (o : Handle) → o ≡ outermost b (m .node)
       → larger (touchBy s b (m .node) o (m .touch .0)) (touchBy s b (m .node) o (m .touch .1)) ≡ memberBy s b m
   unfolding touchBy memberBy underVerdict isUnder touchVerdict memberVerdict
   member-larger d true o e = ap (λ (x : Handle). larger (underVerdict b (m .node) x (m .touch .0)) (underVerdict b (m .node) x (m .touch .1))) e

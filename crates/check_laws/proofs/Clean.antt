@@ -13,7 +13,7 @@ use Rattle.ledger_spec.specs.Tests.{any}
 use Rattle.ledger_spec.specs.Calls.{Call}
 use Rattle.ledger_spec.specs.Reads.{slotsOf}
 use Rattle.ledger_spec.specs.Check.{totalOf, verdict}
-use Rattle.ledger_spec.specs.Book.{turns, begun}
+use Rattle.ledger_spec.specs.Book.{turns, newBook}
 use Rattle.ledger_spec.proofs.Ints.{zero-diff, diff-zero}
 use Rattle.ledger_laws.proofs.Five.{found, verdict-found, verdict-zero, verdict-five, five-only, went, five, five-went}
 use Rattle.check_laws.specs.Clean.{Ordered, Clean}
@@ -48,9 +48,9 @@ module _ (b : Bench) (u : ℕ) where
   clean-zero C = verdict-zero b u (ordered-found (C .ordered)) (C .sum)
 
 -- ---- verdict 5, after calls from set-up
-module _ (n : ℕ) (cs : List Call) (i : ℕ) (h : i < 8) (free : interface (turns (begun n) cs .bench) i .parent ≡ none) where
+module _ (n : ℕ) (cs : List Call) (i : ℕ) (h : i < 8) (free : interface (turns (newBook n) cs .bench) i .parent ≡ none) where
   abbrev b : Bench
-  b = turns (begun n) cs .bench
+  b = turns (newBook n) cs .bench
 
   pub five-means : verdict b i .0 ≡ 5 → Ordered b i × (went n cs i h free ≢ pos 0)
   five-means e = (found-ordered b i (five-only b i e .0), five-went n cs i h free e)

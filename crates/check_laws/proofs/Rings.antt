@@ -7,8 +7,8 @@ use mathlib.Core.Option.{Option, none, some}
 use mathlib.Core.List.{List, [], _∷_}
 use native.Mathlib.Omega.{arith}
 use Rattle.ledger_spec.specs.Bench.{Handle, Member, Node, Bench}
-use Rattle.ledger_spec.specs.Look.{nodeAt, sameHandle}
-use Rattle.ledger_spec.specs.Tests.{stale, given, isDefect}
+use Rattle.ledger_spec.specs.Look.{nodeNamed, sameHandle}
+use Rattle.ledger_spec.specs.Tests.{stale, isSome, isDefect}
 use Rattle.ledger_spec.specs.Walk.{outermost}
 use Rattle.ledger_spec.specs.Check.{memberVerdict, circleVerdict}
 use Rattle.ledger_spec.specs.Knit.{In, here, there}
@@ -19,15 +19,15 @@ use Rattle.check_laws.proofs.Steps.{member-defect, member-two, member-f
 
 -- ---- a handle that names no node
 module _ (b : Bench) (t : Handle) where
-  pub present : stale b t ≡ false → (n : Node) × (nodeAt b t ≡ some n)
-  present e = go (nodeAt b t) refl
+  pub present : stale b t ≡ false → (n : Node) × (nodeNamed b t ≡ some n)
+  present e = go (nodeNamed b t) refl
     where
-      go : (o : Option Node) → nodeAt b t ≡ o → (n : Node) × (nodeAt b t ≡ some n)
-      go none q = absurd (true≢false (sym (ap (λ (x : Option Node). not (given x)) q) ∙ e))
+      go : (o : Option Node) → nodeNamed b t ≡ o → (n : Node) × (nodeNamed b t ≡ some n)
+      go none q = absurd (true≢false (sym (ap (λ (x : Option Node). not (isSome x)) q) ∙ e))
       go (some n) q = (n, q)
 
-  not-stale : (n : Node) → nodeAt b t ≡ some n → stale b t ≡ false
-  not-stale n q = ap (λ (x : Option Node). not (given x)) q
+  not-stale : (n : Node) → nodeNamed b t ≡ some n → stale b t ≡ false
+  not-stale n q = ap (λ (x : Option Node). not (isSome x)) q
 
 same-of : {g h : Handle} → g ≡ h → sameHandle g h ≡ true
 same-of {g} {h} e = ap (λ (x : Handle). sameHandle x h) e ∙ same-self h
@@ -46,11 +46,11 @@ module _ (b : Bench) (m : Member) where
   zero-weak : memberVerdict b m ≡ 0 → Weak b m
   zero-weak z = record { defect = λ d. own-of d own refl; blossom = λ d. near-both d gone refl (nearBoth b m) refl }
     where
-      own-of : isDefect (nodeAt b (m .node)) ≡ true → (c : Bool) → own ≡ c → (m .touch .0 ≡ m .node) × (m .touch .1 ≡ m .node)
+      own-of : isDefect (nodeNamed b (m .node)) ≡ true → (c : Bool) → own ≡ c → (m .touch .0 ≡ m .node) × (m .touch .1 ≡ m .node)
       own-of d true e = let s = and-true (sameHandle (m .touch .0) (m .node)) (sameHandle (m .touch .1) (m .node)) e in (same-handle (m .touch .0) (m .node) (s .0), same-handle (m .touch .1) (m .node) (s .1))
       own-of d false e = absurd (omega (arith, z, member-two b m d e))
 
-      near-both : isDefect (nodeAt b (m .node)) ≡ false → (c : Bool) → gone ≡ c → (n : Bool) → nearBoth b m ≡ n → Near b (m .node) (m .touch .0) × Near b (m .node) (m .touch .1)
+      near-both : isDefect (nodeNamed b (m .node)) ≡ false → (c : Bool) → gone ≡ c → (n : Bool) → nearBoth b m ≡ n → Near b (m .node) (m .touch .0) × Near b (m .node) (m .touch .1)
       near-both d true e n f = absurd (omega (arith, z, member-four b m d e))
       near-both d false e false f = absurd (omega (arith, z, member-three b m d e f))
       near-both d false e true f =
@@ -59,9 +59,9 @@ module _ (b : Bench) (m : Member) where
           (near-of (m .touch .0) (g .0) (s .0), near-of (m .touch .1) (g .1) (s .1))
 
   weak-zero : Weak b m → memberVerdict b m ≡ 0
-  weak-zero W = go (isDefect (nodeAt b (m .node))) refl
+  weak-zero W = go (isDefect (nodeNamed b (m .node))) refl
     where
-      go : (c : Bool) → isDefect (nodeAt b (m .node)) ≡ c → memberVerdict b m ≡ 0
+      go : (c : Bool) → isDefect (nodeNamed b (m .node)) ≡ c → memberVerdict b m ≡ 0
       go true d = let w = W .defect d in member-defect b m d (both-true (same-of (w .0)) (same-of (w .1)))
       go false d =
           let w = W .blossom d in

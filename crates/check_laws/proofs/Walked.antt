@@ -10,7 +10,7 @@ use borrow.Author.Tests.{eq-eqb, eqb-true}
 use lib.Dec.{eqb}
 use Rattle.ledger_spec.specs.Bench.{Member, Class, defect, blossom, Node, Bench}
 use Rattle.ledger_spec.specs.Tests.{any}
-use Rattle.ledger_spec.specs.Check.{circleVerdict, walk}
+use Rattle.ledger_spec.specs.Check.{circleVerdict, finding}
 use Rattle.ledger_spec.specs.Knit.{In, here, there}
 use Rattle.ledger_spec.proofs.Lists.{or-false, not-in-nil, in-cases}
 use Rattle.ledger_spec.proofs.Knit.{none-some, some-eq}
@@ -108,7 +108,7 @@ module _ (b : Bench) (t : Entry) (ts : List Entry) (seen : List ℕ) where
 
 -- ---- the walk
 module _ (b : Bench) (whole : List Entry) where
-  pub walk-tidy : (ts : List Entry) (seen : List ℕ) (k : ℕ) → walk b whole ts seen k .0 ≡ 0 → Tidy b ts seen
+  pub walk-tidy : (ts : List Entry) (seen : List ℕ) (k : ℕ) → finding b whole ts seen k .0 ≡ 0 → Tidy b ts seen
   walk-tidy [] seen k z = record {
     fresh = λ i v e. absurd (none-some (vertex-past i) e);
     single = λ i j v e f. absurd (none-some (vertex-past i) e);
@@ -116,7 +116,7 @@ module _ (b : Bench) (whole : List Entry) where
   }
   walk-tidy (t ∷ ts) seen k z = go (t .2) refl (walk-tidy ts)
     where
-      go : (o : Option Node) → t .2 ≡ o → ((s : List ℕ) (j : ℕ) → walk b whole ts s j .0 ≡ 0 → Tidy b ts s) → Tidy b (t ∷ ts) seen
+      go : (o : Option Node) → t .2 ≡ o → ((s : List ℕ) (j : ℕ) → finding b whole ts s j .0 ≡ 0 → Tidy b ts s) → Tidy b (t ∷ ts) seen
       go none e ih = tidy-none b t ts seen (vertex-none (t .2) e) (λ n ms q c. absurd (none-some e q)) (ih seen (suc k) (sym (ap (λ (w : ℕ × ℕ). w .0) (walk-empty b whole t ts seen k e)) ∙ z))
       go (some n) e ih = class (n .class) refl
         where
@@ -135,15 +135,15 @@ module _ (b : Bench) (whole : List Entry) where
               ring zero r = tidy-none b t ts seen (vertex-ring (t .2) n ms e c) (λ m ks q d. let x : n ≡ m = some-eq e q in let y : ms ≡ ks = cc in rw (← y) r)
                   (ih seen (suc k) (sym (ap (λ (w : ℕ × ℕ). w .0) (walk-ring b whole t ts seen k n e ms c r)) ∙ z))
 
-  pub tidy-walk : (ts : List Entry) (seen : List ℕ) (k : ℕ) → Tidy b ts seen → walk b whole ts seen k .0 ≡ 0
+  pub tidy-walk : (ts : List Entry) (seen : List ℕ) (k : ℕ) → Tidy b ts seen → finding b whole ts seen k .0 ≡ 0
   tidy-walk [] seen k T = ap (λ (w : ℕ × ℕ). w .0) (walk-none b whole seen k)
   tidy-walk (t ∷ ts) seen k T = go (t .2) refl (tidy-walk ts)
     where
-      go : (o : Option Node) → t .2 ≡ o → ((s : List ℕ) (j : ℕ) → Tidy b ts s → walk b whole ts s j .0 ≡ 0) → walk b whole (t ∷ ts) seen k .0 ≡ 0
+      go : (o : Option Node) → t .2 ≡ o → ((s : List ℕ) (j : ℕ) → Tidy b ts s → finding b whole ts s j .0 ≡ 0) → finding b whole (t ∷ ts) seen k .0 ≡ 0
       go none e ih = ap (λ (w : ℕ × ℕ). w .0) (walk-empty b whole t ts seen k e) ∙ ih seen (suc k) (tidy-rest b t ts seen T)
       go (some n) e ih = class (n .class) refl
         where
-          class : (c : Class) → n .class ≡ c → walk b whole (t ∷ ts) seen k .0 ≡ 0
+          class : (c : Class) → n .class ≡ c → finding b whole (t ∷ ts) seen k .0 ≡ 0
           class (defect v) c = let x = vertex-defect (t .2) n v e c in
               ap (λ (w : ℕ × ℕ). w .0) (walk-new b whole t ts seen k n e v c (T .fresh zero v x)) ∙ ih (v ∷ seen) (suc k) (tidy-seen b t ts seen v x T)
           class (blossom ms) c = ap (λ (w : ℕ × ℕ). w .0) (walk-ring b whole t ts seen k n e ms c (T .rings t (here refl) n ms e c)) ∙ ih seen (suc k) (tidy-rest b t ts seen T)

@@ -6,7 +6,7 @@ use mathlib.Core.Option.{Option, none, some}
 use mathlib.Core.List.{List}
 use lib.ListN.{getD}
 use Rattle.ledger_spec.specs.Bench.{Handle, Member, defect, blossom, Node, Bench}
-use Rattle.ledger_spec.specs.Look.{interface, nodeAt}
+use Rattle.ledger_spec.specs.Look.{interface, nodeNamed}
 use Rattle.ledger_spec.specs.Tests.{isDefect}
 use Rattle.ledger_spec.specs.Walk.{outermost}
 use Rattle.ledger_spec.specs.Reads.{slotsOf}
@@ -28,13 +28,13 @@ vertexAt ts i = vertexOf (getD ts i (0, 0, none) .2)
 -- t is a present node of m's outermost blossom
 pub record Near (b : Bench) (m t : Handle) : Type 0 where
   pub node : Node
-  pub present : nodeAt b t ≡ some node
+  pub present : nodeNamed b t ≡ some node
   pub outer : outermost b t ≡ outermost b m
 
 -- the Rust's weak test of a member: a defect touches by itself, a blossom by nodes near it
 pub record Weak (b : Bench) (m : Member) : Type 0 where
-  pub defect : isDefect (nodeAt b (m .node)) ≡ true → (m .touch .0 ≡ m .node) × (m .touch .1 ≡ m .node)
-  pub blossom : isDefect (nodeAt b (m .node)) ≡ false → Near b (m .node) (m .touch .0) × Near b (m .node) (m .touch .1)
+  pub defect : isDefect (nodeNamed b (m .node)) ≡ true → (m .touch .0 ≡ m .node) × (m .touch .1 ≡ m .node)
+  pub blossom : isDefect (nodeNamed b (m .node)) ≡ false → Near b (m .node) (m .touch .0) × Near b (m .node) (m .touch .1)
 
 -- all but the sum
 pub record Ordered (b : Bench) (u : ℕ) : Type 0 where

@@ -8,7 +8,7 @@ use Rattle.bench_words.specs.declared.Interface.{Interface}
 use Rattle.ledger_spec.specs.Bench.{Bench}
 use Rattle.ledger_spec.specs.Look.{interface}
 use Rattle.ledger_spec.specs.Reads.{slotsOf}
-use Rattle.ledger_spec.specs.Check.{strictWalk, totalOf, verdict, strictVerdict, checkOf, strictOf}
+use Rattle.ledger_spec.specs.Check.{strictFinding, totalOf, verdict, strictVerdict, checkOf, strictOf}
 use Rattle.ledger_laws.proofs.Five.{found, verdict-found, verdict-zero, verdict-five}
 use Rattle.bench_views.specs.View.{off, view}
 use Rattle.check_walks.specs.Walks.{walkBy}
@@ -24,7 +24,7 @@ plain-walk : (b : Bench) (u : ℕ) → walkBy false b (slotsOf b u) (slotsOf b u
 unfolding walkBy
 plain-walk b u = refl
 
-strict-walk : (b : Bench) (u : ℕ) → walkBy true b (slotsOf b u) (slotsOf b u) [] 0 ≡ strictWalk b (slotsOf b u) (slotsOf b u)
+strict-walk : (b : Bench) (u : ℕ) → walkBy true b (slotsOf b u) (slotsOf b u) [] 0 ≡ strictFinding b (slotsOf b u) (slotsOf b u)
 unfolding walkBy
 strict-walk b u = refl
 
@@ -34,10 +34,10 @@ unfolding verdictBy strictVerdict
 either true b u k e = ap pick e
   where
     pick : ℕ → ℕ × ℕ
-    pick j = elim j [ zero ↦ strictWalk b (slotsOf b u) (slotsOf b u) | suc i ↦ verdict b u ]
+    pick j = elim j [ zero ↦ strictFinding b (slotsOf b u) (slotsOf b u) | suc i ↦ verdict b u ]
 either false b u k e = refl
 
-after-zero : (b : Bench) (u : ℕ) → verdict b u .0 ≡ 0 → strictVerdict b u ≡ strictWalk b (slotsOf b u) (slotsOf b u)
+after-zero : (b : Bench) (u : ℕ) → verdict b u .0 ≡ 0 → strictVerdict b u ≡ strictFinding b (slotsOf b u) (slotsOf b u)
 unfolding strictVerdict
 after-zero b u e = rw (e, strictVerdict)
 

@@ -7,7 +7,7 @@ use lib.IntN.{pos}
 use Rattle.ledger_spec.specs.Bench.{Handle, shrinks}
 use Rattle.ledger_spec.specs.Calls.{Call, Defect, Blossom, Expand, SetState, Grow, Fuse}
 use Rattle.ledger_spec.specs.Check.{checkOf, strictOf}
-use Rattle.ledger_spec.specs.Book.{turns, begun}
+use Rattle.ledger_spec.specs.Book.{turns, newBook}
 use Rattle.ledger_spec.specs.Opened.{run}
 
 -- the node of serial k in a slot of interface 0, and of interface 1
@@ -75,10 +75,10 @@ strictTable =
     ∷ ([], 8, (3, (0, 0)))
     ∷ []
 
-pub examples : map (λ (e : List Call × ℕ × (ℕ × (ℕ × ℕ))). checkOf (turns (begun 1) (e .0) .bench) (e .1)) table ≡ map (λ (e : List Call × ℕ × (ℕ × (ℕ × ℕ))). e .2) table
+pub examples : map (λ (e : List Call × ℕ × (ℕ × (ℕ × ℕ))). checkOf (turns (newBook 1) (e .0) .bench) (e .1)) table ≡ map (λ (e : List Call × ℕ × (ℕ × (ℕ × ℕ))). e .2) table
 unfolding run
 examples = refl
 
-pub strict-examples : map (λ (e : List Call × ℕ × (ℕ × (ℕ × ℕ))). strictOf (turns (begun 1) (e .0) .bench) (e .1)) strictTable ≡ map (λ (e : List Call × ℕ × (ℕ × (ℕ × ℕ))). e .2) strictTable
+pub strict-examples : map (λ (e : List Call × ℕ × (ℕ × (ℕ × ℕ))). strictOf (turns (newBook 1) (e .0) .bench) (e .1)) strictTable ≡ map (λ (e : List Call × ℕ × (ℕ × (ℕ × ℕ))). e .2) strictTable
 unfolding run
 strict-examples = refl

@@ -18,7 +18,7 @@ use Rattle.ledger_spec.specs.Reads.{slotsOf}
 use Rattle.ledger_spec.specs.Check.{totalOf}
 use Rattle.check_laws.specs.Clean.{Entry}
 use Rattle.check_laws.proofs.Steps.{total-none, total-more}
-use Rattle.bench_views.specs.View.{off, valueOf, sumUp, circleOf, slotSeen, nodeSeen, view}
+use Rattle.bench_views.specs.View.{off, valueBy, sumUp, circleOf, slotSeen, nodeSeen, view}
 use Rattle.bench_views.specs.Records.{Ranged}
 use Rattle.bench_views.specs.Fit.{Fit}
 use Rattle.bench_views.proofs.Views.{view-slot}
@@ -62,16 +62,16 @@ module _ (b : List ℕ) (F : Fit b) (k : ℕ) (lu : k / 64 < 8) (ls : k % 64 < i
     pub bias-room : (t ≤ n .bias) × (n .bias + t < 18446744073709551616)
     bias-room = let r = bias-near in let s = small in (omega arith, omega arith)
 
-    worth-is : worth (slotOf (view b) (k / 64) (k % 64)) ≡ off 1152921504606846976 (valueOf (n .state) (n .bias) t)
-    worth-is = ap worth held ∙ ap (λ (x : ℕ). off 1152921504606846976 (valueOf (n .state) (n .bias) x)) (sym p)
+    worth-is : worth (slotOf (view b) (k / 64) (k % 64)) ≡ off 1152921504606846976 (valueBy (n .state) (n .bias) t)
+    worth-is = ap worth held ∙ ap (λ (x : ℕ). off 1152921504606846976 (valueBy (n .state) (n .bias) x)) (sym p)
 
-    pub value-near : (1152921504606846976 ≤ valueOf (n .state) (n .bias) t + 8796093022208) × (valueOf (n .state) (n .bias) t ≤ 1152921504606846976 + 8796093022208)
-    value-near = off-range 1152921504606846975 (valueOf (n .state) (n .bias) t) 8796093022208 (subst (λ (z : ℤ). natAbs z ≤ 8796093022208) (sym (ap worth held) ∙ worth-is) (F .within (k / 64) (k % 64) _ held))
+    pub value-near : (1152921504606846976 ≤ valueBy (n .state) (n .bias) t + 8796093022208) × (valueBy (n .state) (n .bias) t ≤ 1152921504606846976 + 8796093022208)
+    value-near = off-range 1152921504606846975 (valueBy (n .state) (n .bias) t) 8796093022208 (subst (λ (z : ℤ). natAbs z ≤ 8796093022208) (sym (ap worth held) ∙ worth-is) (F .within (k / 64) (k % 64) _ held))
 
-    pub added-value : (sum : ℕ) → 2305843009213693952 ≤ sum → Added b k sum (sum + valueOf (n .state) (n .bias) t - 1152921504606846976)
+    pub added-value : (sum : ℕ) → 2305843009213693952 ≤ sum → Added b k sum (sum + valueBy (n .state) (n .bias) t - 1152921504606846976)
     unfolding off
     added-value sum l = record {
-      value = off-both 4611686018427387904 sum (valueOf (n .state) (n .bias) t) 1152921504606846976 (omega arith) ∙ ap (λ (z : ℤ). off 4611686018427387904 sum +ℤ z) (sym worth-is);
+      value = off-both 4611686018427387904 sum (valueBy (n .state) (n .bias) t) 1152921504606846976 (omega arith) ∙ ap (λ (z : ℤ). off 4611686018427387904 sum +ℤ z) (sym worth-is);
       most = let v = value-near in omega arith;
       least = let v = value-near in omega arith;
     }

@@ -16,7 +16,7 @@ use Rattle.ledger_spec.specs.Bench as plain
 use Rattle.ledger_spec.specs.Named.{handleNamed}
 use Rattle.ledger_spec.specs.Tests.{any}
 use Rattle.ledger_spec.specs.Reads.{slotsOf}
-use Rattle.ledger_spec.specs.Check.{indexIn, memberVerdict, strictMember, circleVerdict, strictCircle, walk}
+use Rattle.ledger_spec.specs.Check.{indexIn, memberVerdict, strictMember, circleVerdict, strictCircle, finding}
 use Rattle.check_laws.specs.Clean.{Entry}
 use Rattle.check_laws.proofs.Steps.{strict-on, strict-bad, walk-empty, walk-again, walk-new, walk-ring, walk-bad, strict-empty, strict-vertex, strict-ring, strict-six}
 use Rattle.bench_views.specs.View.{view, nodeSeen, slotSeen, sumUp, circleOf}
@@ -105,7 +105,7 @@ module _ (b : Bench) (whole : List Entry) (t : Entry) (ts : List Entry) (seen : 
         p : circleBy false b ms ≡ circleVerdict b ms
         p = plain-circle b ms
 
-        go : (j : ℕ) → circleVerdict b ms .0 ≡ j → walk b whole (t ∷ ts) seen k ≡ (circleBy false b ms .0, indexIn whole 0 (circleBy false b ms .1))
+        go : (j : ℕ) → circleVerdict b ms .0 ≡ j → finding b whole (t ∷ ts) seen k ≡ (circleBy false b ms .0, indexIn whole 0 (circleBy false b ms .1))
         go zero j = absurd (z (ap (λ (r : ℕ × Handle). r .0) p ∙ j))
         go (suc i) j = walk-bad b whole t ts seen k n e ms c i j ∙ ap (λ (x : ℕ). (x, indexIn whole 0 (circleVerdict b ms .1))) (sym j) ∙ sym (ap (λ (r : ℕ × Handle). (r .0, indexIn whole 0 (r .1))) p)
 

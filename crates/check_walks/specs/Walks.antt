@@ -7,7 +7,7 @@ use mathlib.Core.List.{List, [], _∷_}
 use lib.ListN.{getD}
 use Rattle.ledger_spec.specs.Bench.{Bench}
 use Rattle.ledger_spec.specs.Reads.{slotsOf}
-use Rattle.ledger_spec.specs.Check.{walk, strictWalk}
+use Rattle.ledger_spec.specs.Check.{finding, strictFinding}
 use Rattle.check_laws.specs.Clean.{Entry}
 use Rattle.bench_views.specs.View.{view}
 use Rattle.check_seen.specs.Met.{known, Keeps}
@@ -15,8 +15,8 @@ use Rattle.check_walks.specs.declared.Judged.{Judged}
 use Rattle.check_walks.specs.declared.Step.{Step}
 
 unfoldable pub walkBy : Bool → Bench → List Entry → List Entry → List ℕ → ℕ → ℕ × ℕ
-walkBy true b whole ts seen k = strictWalk b whole ts
-walkBy false b whole ts seen k = walk b whole ts seen k
+walkBy true b whole ts seen k = strictFinding b whole ts
+walkBy false b whole ts seen k = finding b whole ts seen k
 
 -- the slot at index k, with the first n vertices met: a finding, or the walk goes on behind it
 pub record Steps (b : List ℕ) (unit : ℕ) (s : Bool) (k : ℕ) (met : List ℕ) (n : ℕ) (met′ : List ℕ) (r : Step) : Type 0 where

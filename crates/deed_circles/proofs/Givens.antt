@@ -172,7 +172,7 @@ module _ (b : List ℕ) (u : ℕ) (ms ts : List ℕ) (F : Fit b) (P : BlossomPas
         under = λ i l. ap (λ (h : Handle). climb 8 (view b) (h .unit)) (sym (is-hand i l)) ∙ named i l .near;
         free = λ i l.
             let g = given-in ms i l in
-            stands-free (does-stand i l) (ap (look.nodeAt (view b)) (sym (is-hand i l)) ∙ P .member (handGiven (getD ms i 0)) g .is) (P .orphan (handGiven (getD ms i 0)) g);
+            stands-free (does-stand i l) (ap (look.nodeNamed (view b)) (sym (is-hand i l)) ∙ P .member (handGiven (getD ms i 0)) g .is) (P .orphan (handGiven (getD ms i 0)) g);
         apart = is-apart;
         touch = is-touch;
       }

@@ -128,7 +128,7 @@ module _ (b : List ℕ) (t : ℕ) (h : Handle) (F : Fit b) (X : Expandable b t h
       let z : m ≡ m - 0 = omega arith in
       ap (λ (x : ℕ). nodes (follow x (nodeAt b) f)) z ∙ e
 
-  members-seen : members (look.nodeAt (view b) h) ≡ nodes (circleOf (nodeAt b) k)
+  members-seen : members (look.nodeNamed (view b) h) ≡ nodes (circleOf (nodeAt b) k)
   members-seen =
       let B = slot-blossom (nodeAt b k) (sumUp 8 (interfaceAt b) (h .unit)) (circleOf (nodeAt b) k) (X .class) in
       let n : X .stands .node ≡ B .node = some-eq (X .stands .seen) (B .shown) in

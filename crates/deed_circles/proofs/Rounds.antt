@@ -25,7 +25,7 @@ use Rattle.ledger_spec.specs.Named.{stateNamed, parentNamed}
 use Rattle.ledger_spec.proofs.Tops.{climb-same}
 use Rattle.bench_views.specs.Records.{rateOf}
 use Rattle.bench_views.specs.Tab.{tab}
-use Rattle.bench_views.specs.View.{off, upSeen, halvesSeen, sumUp, slotSeen, interfaceIn, viewIn, circleOf, valueOf}
+use Rattle.bench_views.specs.View.{off, upSeen, halvesSeen, sumUp, slotSeen, interfaceIn, viewIn, circleOf, valueBy}
 use Rattle.bench_views.proofs.Sums.{sumUp-same}
 use Rattle.bench_views.proofs.Views.{interface-in, view-next, view-parent, view-eight, view-is}
 use Rattle.deed_nodes.specs.Steps.{remarked}
@@ -178,7 +178,7 @@ module _ (at T : ℕ → ℕ) (g : GrowState) (seat : ℕ → Seat) (A : ℕ →
     module _ (n : ℕ) (U : ℕ → Interface) (t : ℕ) (sp : ℕ → ℕ) (good : (v : ℕ) → v < 8 → GoodUp (U v .parent)) (few : (v : ℕ) → v < 8 → U v .used ≤ 64) (lt : t < 8)
         (low : (i : ℕ) → i < m → at i / 64 < 8) (slot : (i : ℕ) → i < m → at i % 64 < U (at i / 64) .used) (under : (i : ℕ) → i < m → climb 8 (viewIn n U A) (at i / 64) ≡ t)
         (total : (i : ℕ) → i < m → T i ≡ sumUp 8 U (at i / 64)) (present : (i : ℕ) → i < m → A (at i) .class ≡ Absent → ⊥)
-        (least : (i : ℕ) → i < m → T i ≤ valueOf (A (at i) .state) (A (at i) .bias) (T i))
+        (least : (i : ℕ) → i < m → T i ≤ valueBy (A (at i) .state) (A (at i) .bias) (T i))
         (speed : (i : ℕ) → i < m → sp (suc i) + rateOf (A (at i) .state) ≡ sp i + rateOf g)
         (circles : (i v r : ℕ) → i ≤ m → v < 8 → r < U v .used → to i (v * 64 + r) .class ≡ Blossom → circleOf (to i) (v * 64 + r) ≡ circleOf A (v * 64 + r)) where
       abbrev pub seen : ℕ → Bench

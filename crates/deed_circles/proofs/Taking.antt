@@ -214,7 +214,7 @@ module _ (b : List ℕ) (u : ℕ) (ms ts : List ℕ) (F : Fit b) (R : Ringable b
       let s = R .stands i l in
       ap (λ (x : List ℕ). sizes (view b) (handsGiven x)) (drop-cons ms i 0 l)
       ∙ ap (λ (x : ℕ). x + sizes (view b) (handsGiven (drop (suc i) ms)))
-      (ap (λ (h : Handle). sizeOf (look.nodeAt (view b) h)) (given-fine (getD ms i 0) (R .sure i l)) ∙ ap sizeOf (s .named) ∙ s .shows .size)
+      (ap (λ (h : Handle). sizeOf (look.nodeNamed (view b) h)) (given-fine (getD ms i 0) (R .sure i l)) ∙ ap sizeOf (s .named) ∙ s .shows .size)
 
   size-rest : (i : ℕ) → i ≤ length ms → sizeTo b ms ts q₀ i + sizes (view b) (handsGiven (drop i ms)) ≡ sizes (view b) (handsGiven ms)
   unfolding sizeTo

@@ -1,7 +1,7 @@
 -- A node as it is taken into a circle, and as it is let out of one; and a new blossom. Assumes nothing.
 use Prim.Native.Nat.{ℕ, _-_, _/_}
 use mathlib.Core.List.{List}
-use Rattle.kinds.specs.Names.{nobody}
+use Rattle.kinds.specs.Names.{noCode}
 use Rattle.kinds.specs.declared.GrowState.the-variants.{Grow as Growing, Stay}
 use Rattle.kinds.specs.declared.Class.the-variants.{Blossom}
 use Rattle.kinds.specs.declared.Handle.{Handle as Packed}
@@ -36,8 +36,8 @@ blossomNode serial first count size t =
       parent = Outermost;
       place = 0;
       next = 0;
-      left = nobody;
-      right = nobody;
+      left = noCode;
+      right = noCode;
       bias = valueOffset - t;
       size = size;
       first = first;

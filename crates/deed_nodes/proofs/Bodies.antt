@@ -6,7 +6,7 @@ use mathlib.Core.List.{List}
 use native.Mathlib.Numerals.{add-one}
 use native.Mathlib.Omega.{arith}
 use lib.ListN.{getD, set}
-use Rattle.kinds.specs.Names.{nobody}
+use Rattle.kinds.specs.Names.{noCode}
 use Rattle.kinds.specs.declared.GrowState.{GrowState}
 use Rattle.kinds.specs.declared.GrowState.the-variants.{Grow as Growing}
 use Rattle.kinds.specs.declared.Class.the-variants.{Defect}
@@ -95,7 +95,7 @@ module _ (b : List ℕ) (u : ℕ) (v : Vertex) (F : Fit b) (t : first (defectTes
       let P = pushable b u F t in
       record { top = P .root .low; room = P .room; next = P .next; short = F .canon .steady .progress u (P .root .low); fast = open-paced b F u (P .root) .fast }
 
-  pub defect-by : (U : Interface) {x : ℕ} {none : Packed} {b' : List ℕ} → v .0 < 4294967296 → U ≡ interfaceAt b u → x ≡ getD b 0 0 → none ≡ nobody
+  pub defect-by : (U : Interface) {x : ℕ} {none : Packed} {b' : List ℕ} → v .0 < 4294967296 → U ≡ interfaceAt b u → x ≡ getD b 0 0 → none ≡ noCode
       → b' ≡ pushed b u (record { serial = record { 0 = x }; class = Defect v; state = Growing; parent = Outermost; place = 0; next = 0; left = none; right = none; bias = 1152921504606846976 - U .progress; size = 1; first = 0; count = 0 }) (U .speed + 1)
       → Done b' (addDefect (view b) u (v .0)) × (handleNamed (record { unit = u; slot = U .used; serial = record { 0 = x } }) ≡ newHandle (view b) u)
   defect-by U {x} {b' = b'} fits eU ex en e' =

@@ -79,7 +79,7 @@ pub record Stands (b : List ℕ) (h : Handle) : Type 0 where
   pub slot : h .slot < interfaceAt b (h .unit) .used
   pub low : h .unit * 64 + h .slot < 512
   pub node : plain.Node
-  pub named : look.nodeAt (view b) h ≡ some node
+  pub named : look.nodeNamed (view b) h ≡ some node
   pub seen : slotIn (interfaceAt b) (nodeAt b) (h .unit) (h .slot) ≡ some node
   pub shows : Shows (nodeAt b (h .unit * 64 + h .slot)) node
   pub serial : nodeAt b (h .unit * 64 + h .slot) .serial .0 ≡ h .serial
@@ -115,7 +115,7 @@ parent-none : (p : Parent) → parentNamed p ≡ none → p ≡ Outermost
 parent-none Outermost e = refl
 parent-none (Inside q) e = absurd (none-some e refl)
 
-pub stands-free : {b : List ℕ} {h : Handle} {n : plain.Node} → Stands b h → look.nodeAt (view b) h ≡ some n → n .parent ≡ none → nodeAt b (h .unit * 64 + h .slot) .parent ≡ Outermost
+pub stands-free : {b : List ℕ} {h : Handle} {n : plain.Node} → Stands b h → look.nodeNamed (view b) h ≡ some n → n .parent ≡ none → nodeAt b (h .unit * 64 + h .slot) .parent ≡ Outermost
 stands-free {b} {h} s e o = parent-none (nodeAt b (h .unit * 64 + h .slot) .parent) (sym (s .shows .parent) ∙ ap (λ (x : plain.Node). x .parent) (some-eq (s .named) e) ∙ o)
 
 not-both : {c : plain.Class} {v : ℕ} {ms : List Member} → c ≡ defect v → c ≡ blossom ms → ⊥
@@ -133,7 +133,7 @@ kind n t ms ns m h q = go (n .class) refl
         let d : m .class ≡ defect (v .0) = cc in
         absurd (not-both d q)
 
-pub stands-blossom : {b : List ℕ} {h : Handle} {n : plain.Node} {ms : List Member} → Stands b h → look.nodeAt (view b) h ≡ some n → n .class ≡ blossom ms → nodeAt b (h .unit * 64 + h .slot) .class ≡ Blossom
+pub stands-blossom : {b : List ℕ} {h : Handle} {n : plain.Node} {ms : List Member} → Stands b h → look.nodeNamed (view b) h ≡ some n → n .class ≡ blossom ms → nodeAt b (h .unit * 64 + h .slot) .class ≡ Blossom
 stands-blossom {b} {h} {ms = ms} s e r =
     kind (nodeAt b (h .unit * 64 + h .slot)) (sumUp 8 (interfaceAt b) (h .unit)) (circleOf (nodeAt b) (h .unit * 64 + h .slot)) ms (s .node) (s .seen) (ap (λ (x : plain.Node). x .class) (some-eq (s .named) e) ∙ r)
 

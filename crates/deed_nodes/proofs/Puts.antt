@@ -20,7 +20,7 @@ use Rattle.ledger_spec.specs.Look.{top}
 use Rattle.ledger_spec.specs.Change.{share, place, mark, restate}
 use Rattle.ledger_spec.specs.Named.{stateNamed, parentNamed}
 use Rattle.bench_views.specs.Records.{rateOf}
-use Rattle.bench_views.specs.View.{off, sumUp, slotSeen, slotIn, viewIn, circleOf, valueOf, biasOf}
+use Rattle.bench_views.specs.View.{off, sumUp, slotSeen, slotIn, viewIn, circleOf, valueBy, biasOf}
 use Rattle.bench_views.proofs.Offsets.{off-both, rates}
 use Rattle.bench_views.proofs.Sums.{sumUp-same}
 use Rattle.bench_views.proofs.Views.{view-slot, unit-kept, place-view}
@@ -29,17 +29,17 @@ use Rattle.deed_nodes.specs.declared.Seat.{Seat}
 use Rattle.bench_words.specs.Store.{setSpeed}
 
 -- ---- values
-pub value-back : (g : GrowState) (v t : ℕ) → t ≤ v → valueOf g (biasOf g v t) t ≡ v
+pub value-back : (g : GrowState) (v t : ℕ) → t ≤ v → valueBy g (biasOf g v t) t ≡ v
 value-back Growing v t l = omega arith
 value-back Stay v t l = refl
 value-back Shrink v t l = omega arith
 
-pub value-low : (g : GrowState) (b t : ℕ) → 576460752303423488 ≤ b → t ≤ 8796093022208 → t ≤ valueOf g b t
+pub value-low : (g : GrowState) (b t : ℕ) → 576460752303423488 ≤ b → t ≤ 8796093022208 → t ≤ valueBy g b t
 value-low Growing b t l h = omega arith
 value-low Stay b t l h = omega arith
 value-low Shrink b t l h = omega arith
 
-pub value-high : (g : GrowState) (b t : ℕ) → b ≤ 2305843009213693952 → t ≤ 8796093022208 → valueOf g b t + t < 18446744073709551616
+pub value-high : (g : GrowState) (b t : ℕ) → b ≤ 2305843009213693952 → t ≤ 8796093022208 → valueBy g b t + t < 18446744073709551616
 value-high Growing b t l h = omega arith
 value-high Stay b t l h = omega arith
 value-high Shrink b t l h = omega arith
@@ -68,15 +68,15 @@ slot-share n t ms h = go (n .class) refl
     go Blossom e = rw e
     go (Defect v) e = rw e
 
-slot-marked : (n : Node) (t : ℕ) (ms : List Member) (g : GrowState) (x : Seat) → t ≤ valueOf (n .state) (n .bias) t
+slot-marked : (n : Node) (t : ℕ) (ms : List Member) (g : GrowState) (x : Seat) → t ≤ valueBy (n .state) (n .bias) t
     → slotSeen (remarked n t g x) t ms ≡ restate (slotSeen n t ms) (stateNamed g) (parentNamed (x .parent))
 unfolding slotSeen
 slot-marked n t ms g x low = go (n .class) refl
   where
     go : (c : Class) → n .class ≡ c → slotSeen (remarked n t g x) t ms ≡ restate (slotSeen n t ms) (stateNamed g) (parentNamed (x .parent))
     go Absent e = rw e
-    go Blossom e = rw e (rw (value-back g (valueOf (n .state) (n .bias) t) t low))
-    go (Defect v) e = rw e (rw (value-back g (valueOf (n .state) (n .bias) t) t low))
+    go Blossom e = rw e (rw (value-back g (valueBy (n .state) (n .bias) t) t low))
+    go (Defect v) e = rw e (rw (value-back g (valueBy (n .state) (n .bias) t) t low))
 
 pub speed-turns : (x y a b : ℕ) → y + b ≡ x + a → off 1024 y ≡ off 1024 x +ℤ (pos a -ℤ pos b)
 speed-turns x y a b e =
@@ -108,7 +108,7 @@ module _ (n : ℕ) (U U' : ℕ → Interface) (A A' : ℕ → Node) (u s t sp : 
       ∙ slot-like (A (v * 64 + r)) (sumUp 8 U v) (circleOf A' (v * 64 + r)) (circleOf A (v * 64 + r)) (λ c. circles v r lv lr (ap (λ (m : Node). m .class) same ∙ c)))
 
   pub mark-in : (g : GrowState) (x : Seat) (serial : ℕ) → A' (u * 64 + s) ≡ remarked (A (u * 64 + s)) (sumUp 8 U u) g x → (A (u * 64 + s) .class ≡ Absent → ⊥)
-      → sumUp 8 U u ≤ valueOf (A (u * 64 + s) .state) (A (u * 64 + s) .bias) (sumUp 8 U u) → sp + rateOf (A (u * 64 + s) .state) ≡ U t .speed + rateOf g
+      → sumUp 8 U u ≤ valueBy (A (u * 64 + s) .state) (A (u * 64 + s) .bias) (sumUp 8 U u) → sp + rateOf (A (u * 64 + s) .state) ≡ U t .speed + rateOf g
       → viewIn n U' A' ≡ mark (viewIn n U A) (record { unit = u; slot = s; serial = serial }) (stateNamed g) (parentNamed (x .parent))
   unfolding mark
   mark-in g x serial new present low speed =

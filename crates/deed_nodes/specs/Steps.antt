@@ -3,7 +3,7 @@ use Prim.Native.Nat.{ℕ, suc, _+_, _-_, _*_}
 use mathlib.Core.List.{List}
 use lib.ListN.{getD, set}
 use Rattle.bench_words.specs.Codec.{valueOffset}
-use Rattle.kinds.specs.Names.{nobody}
+use Rattle.kinds.specs.Names.{noCode}
 use Rattle.kinds.specs.declared.GrowState.{GrowState}
 use Rattle.kinds.specs.declared.GrowState.the-variants.{Grow as Growing}
 use Rattle.kinds.specs.declared.Class.the-variants.{Defect}
@@ -12,12 +12,12 @@ use Rattle.kinds.specs.declared.Vertex.{Vertex}
 use Rattle.bench_words.specs.Store.{interfaceAt, storeNode, storeInterface, setSpeed}
 use Rattle.bench_words.specs.declared.Node.{Node}
 use Rattle.bench_views.specs.Records.{withUsed}
-use Rattle.bench_views.specs.View.{valueOf, biasOf}
+use Rattle.bench_views.specs.View.{valueBy, biasOf}
 use Rattle.deed_nodes.specs.declared.Seat.{Seat}
 
 -- the seat of a node without a parent
 abbrev pub noSeat : Seat
-noSeat = record { parent = Outermost; place = 0; next = 0; left = nobody; right = nobody }
+noSeat = record { parent = Outermost; place = 0; next = 0; left = noCode; right = noCode }
 
 -- a node with another state and seat, of the same value at T = t
 abbrev pub remarked : Node → ℕ → GrowState → Seat → Node
@@ -31,7 +31,7 @@ remarked n t g s =
       next = s .next;
       left = s .left;
       right = s .right;
-      bias = biasOf g (valueOf (n .state) (n .bias) t) t;
+      bias = biasOf g (valueBy (n .state) (n .bias) t) t;
       size = n .size;
       first = n .first;
       count = n .count;
@@ -47,8 +47,8 @@ defectNode serial v t =
       parent = Outermost;
       place = 0;
       next = 0;
-      left = nobody;
-      right = nobody;
+      left = noCode;
+      right = noCode;
       bias = valueOffset - t;
       size = 1;
       first = 0;

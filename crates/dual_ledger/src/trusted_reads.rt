@@ -3,8 +3,8 @@
 use bench_words::WORDS;
 use kinds::NodeIndex;
 ghost use mathlib.Core.Path.{_≡_};
-ghost use Rattle.ledger_spec.specs.Reads.{sumOf, speedOf, countOf, handleOf, valueOf, belongs};
-ghost use Rattle.ledger_spec.specs.Walk.{outerOf, underOf, firstVertex, verticesInto};
+ghost use Rattle.ledger_spec.specs.Reads.{sumOf, speedOf, countOf, handleAtIndex, valueOf, belongs};
+ghost use Rattle.ledger_spec.specs.Walk.{outerOf, belowOf, firstVertex, verticesInto};
 ghost use Rattle.ledger_spec.specs.Check.{checkOf, strictOf};
 ghost use Rattle.deed_circles.specs.Given.{handGiven};
 ghost use Rattle.bench_views.specs.Fit.{SoundWords};
@@ -61,7 +61,7 @@ pub extern "C" fn dual_ledger_trusted_get_node(
     node: &mut u64,
 ) -> u8
     requires { ⌜ SoundWords (now bench) ⌝ }
-    ensures { λ r. ⌜ (r, now (node .exit)) ≡ worded maybeWord (handleOf (view (now (bench .entry))) unit index) ⌝ }
+    ensures { λ r. ⌜ (r, now (node .exit)) ≡ worded maybeWord (handleAtIndex (view (now (bench .entry))) unit index) ⌝ }
 {
     let a = read_sound::get_node(bench, unit, NodeIndex(index));
     let found = a.node;
@@ -125,7 +125,7 @@ pub extern "C" fn dual_ledger_trusted_get_secondary_ancestor_blossom(
     second: &mut u64,
 ) -> u8
     requires { ⌜ SoundWords (now bench) ⌝ }
-    ensures { λ r. ⌜ (r, now (second .exit)) ≡ worded nodeWord (underOf (view (now (bench .entry))) (handGiven node)) ⌝ }
+    ensures { λ r. ⌜ (r, now (second .exit)) ≡ worded nodeWord (belowOf (view (now (bench .entry))) (handGiven node)) ⌝ }
 {
     let h = link_answers::hand(node);
     let a = read_sound::get_secondary_ancestor_blossom(bench, h);

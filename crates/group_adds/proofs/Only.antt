@@ -4,7 +4,7 @@ use mathlib.Core.Bool.{cond}
 use mathlib.Core.Option.{Option, none, some}
 use Rattle.kinds.specs.declared.Obstacle.{Obstacle}
 use Rattle.kinds.specs.declared.Vertex.{Vertex}
-use Rattle.ledger_spec.specs.Tests.{given}
+use Rattle.ledger_spec.specs.Tests.{isSome}
 use Rattle.ledger_spec.specs.Groups.{Group, added}
 use Rattle.ledger_spec.specs.GroupCalls.{orElse}
 use Rattle.groups.specs.View.{groupOf}
@@ -14,7 +14,7 @@ use Rattle.group_adds.specs.Adds.{changed}
 use Rattle.group_adds.specs.declared.Changed.{Changed}
 
 module _ (g : Code) where
-  pub changed-number : (o : Option Group) → changed o g .number ≡ cond (given o) 0 20
+  pub changed-number : (o : Option Group) → changed o g .number ≡ cond (isSome o) 0 20
   unfolding changed
   changed-number none = refl
   changed-number (some q) = refl

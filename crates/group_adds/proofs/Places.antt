@@ -9,7 +9,7 @@ use borrow.Author.Tests.{ltb-true, ltb-false, eqb-true, eqb-false, lt-ltb, le-lt
 use lib.Dec.{ltb, eqb}
 use lib.ListN.{length, take, drop, length-append}
 use lib.Seq.{take-append-seam, drop-append-seam, drop-drop}
-use Rattle.kinds.specs.Names.{sameHandle}
+use Rattle.kinds.specs.Names.{sameCode}
 use Rattle.kinds.specs.Obstacles.{pairOf}
 use Rattle.kinds.specs.declared.Pair.{Pair}
 use Rattle.kinds.specs.declared.MaybePair.{MaybePair}
@@ -167,7 +167,7 @@ module _ (x y : Stop) (l : List Entry) (f b : List Stop) where
   unfolding meet meetingOf
   keeps NoPair q e = refl
   keeps (WithPair p) NoPair e = absurd (false≢true (ap isKeep e))
-  keeps (WithPair p) (WithPair q) e = go (sameHandle (p .node) (q .node)) e
+  keeps (WithPair p) (WithPair q) e = go (sameCode (p .node) (q .node)) e
     where
       go : (c : Bool) → cond c Keep (Join p q) ≡ Keep → cond c (roomFor l (f ++ y ∷ b)) (roomFor (l ++ record { obstacle = Conflicting p q } ∷ []) (f ++ b)) ≡ roomFor l (f ++ y ∷ b)
       go true k = refl
@@ -177,7 +177,7 @@ module _ (x y : Stop) (l : List Entry) (f b : List Stop) where
   unfolding meet meetingOf
   replaces NoPair q e = absurd (false≢true (ap isReplace e))
   replaces (WithPair p) NoPair e = refl
-  replaces (WithPair p) (WithPair q) e = go (sameHandle (p .node) (q .node)) e
+  replaces (WithPair p) (WithPair q) e = go (sameCode (p .node) (q .node)) e
     where
       go : (c : Bool) → cond c Keep (Join p q) ≡ Replace → cond c (roomFor l (f ++ y ∷ b)) (roomFor (l ++ record { obstacle = Conflicting p q } ∷ []) (f ++ b)) ≡ roomFor l (f ++ x ∷ b)
       go true k = absurd (false≢true (ap isReplace k))
@@ -187,7 +187,7 @@ module _ (x y : Stop) (l : List Entry) (f b : List Stop) where
   unfolding meet meetingOf
   joins NoPair q a c e = absurd (false≢true (sym (ap isKeep e)))
   joins (WithPair p) NoPair a c e = absurd (false≢true (sym (ap isReplace e)))
-  joins (WithPair p) (WithPair q) a c e = go (sameHandle (p .node) (q .node)) e
+  joins (WithPair p) (WithPair q) a c e = go (sameCode (p .node) (q .node)) e
     where
       none : Entry
       none = record { obstacle = Conflicting p q }

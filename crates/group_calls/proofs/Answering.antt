@@ -6,11 +6,11 @@ use mathlib.Core.Option.{Option, none, some}
 use mathlib.Core.List.{List, [], _∷_}
 use borrow.Author.Tests.{not-false}
 use Rattle.kinds.specs.declared.Obstacle.{Obstacle}
-use Rattle.ledger_spec.specs.Tests.{first, any, given}
+use Rattle.ledger_spec.specs.Tests.{first, any, isSome}
 use Rattle.ledger_spec.specs.Reads.{said}
 use Rattle.ledger_spec.specs.Sound.{sound}
 use Rattle.ledger_spec.specs.Groups.{Group, soundGroup, added, extended}
-use Rattle.ledger_spec.specs.GroupCalls.{handlesOf, groupHandles, gone, vertexOf, orElse, add, extend}
+use Rattle.ledger_spec.specs.GroupCalls.{handlesOf, groupHandles, staleCode, vertexOf, orElse, add, extend}
 use Rattle.bench_views.specs.View.{view}
 use Rattle.bench_views.specs.Fit.{Fit}
 use Rattle.bench_views.proofs.Fits.{fit-of}
@@ -30,7 +30,7 @@ refusal n g = record { number = n; group = g }
 
 -- ---- by the three tests: x of BROKEN, y of STALE, and whether there is a group a
 abbrev saidBy : Bool → Bool → Option Group → Group → ℕ × Group
-saidBy x y a z = said (first ((x, 2) ∷ (y, 8) ∷ (not (given a), 20) ∷ [])) (orElse a z) z
+saidBy x y a z = said (first ((x, 2) ∷ (y, 8) ∷ (not (isSome a), 20) ∷ [])) (orElse a z) z
 
 module _ (x y : Bool) (a : Option Group) (z : Group) (g h : Code) where
   broken : x ≡ true → refusal 2 g ≡ whole (saidBy x y a z) g h
@@ -82,7 +82,7 @@ module _ (b : List ℕ) {s : Bool} (v : Verdict b s) where
       unfit = not (sound (view b) && soundGroup (groupOf g))
 
       abbrev missing : Bool
-      missing = any (gone (view b)) (handlesOf o)
+      missing = any (staleCode (view b)) (handlesOf o)
 
       abbrev after : Option Group
       after = added (groupOf g) o (vertexOf (view b) o)
@@ -113,7 +113,7 @@ module _ (b : List ℕ) {s : Bool} (v : Verdict b s) where
       unfit′ = not (sound (view b) && (soundGroup (groupOf g) && soundGroup (groupOf h)))
 
       abbrev missing′ : Bool
-      missing′ = any (gone (view b)) (groupHandles (groupOf h))
+      missing′ = any (staleCode (view b)) (groupHandles (groupOf h))
 
       abbrev after′ : Option Group
       after′ = extended (groupOf g) (groupOf h)

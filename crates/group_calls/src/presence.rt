@@ -17,7 +17,7 @@ ghost use Prim.Native.Nat.{_≤_};
 ghost use lib.ListN.{take};
 ghost use Rattle.ledger_spec.specs.Tests.{any};
 ghost use Rattle.ledger_spec.specs.Groups.{soundGroup};
-ghost use Rattle.ledger_spec.specs.GroupCalls.{gone, handlesOf, listHandles, stopHandles, groupHandles, vertexOf};
+ghost use Rattle.ledger_spec.specs.GroupCalls.{staleCode, handlesOf, listHandles, stopHandles, groupHandles, vertexOf};
 ghost use Rattle.bench_views.specs.Canon.{Canon};
 ghost use Rattle.bench_views.specs.Fit.{Fit};
 ghost use Rattle.bench_views.specs.View.{view};
@@ -25,7 +25,7 @@ ghost use Rattle.groups.specs.View.{groupOf};
 
 fn is_gone(b: &[u64; WORDS], h: Handle) -> bool
     requires { ⌜ Canon (now b) ⌝ }
-    ensures { λ r. ⌜ r ≡ gone (view (now (b .entry))) h ⌝ }
+    ensures { λ r. ⌜ r ≡ staleCode (view (now (b .entry))) h ⌝ }
 {
     let found = bench_links::find(b, h);
     match found {
@@ -36,7 +36,7 @@ fn is_gone(b: &[u64; WORDS], h: Handle) -> bool
 
 fn either_gone(b: &[u64; WORDS], x: Handle, y: Handle) -> bool
     requires { ⌜ Canon (now b) ⌝ }
-    ensures { λ r. ⌜ r ≡ any (gone (view (now (b .entry)))) (x ∷ y ∷ []) ⌝ }
+    ensures { λ r. ⌜ r ≡ any (staleCode (view (now (b .entry)))) (x ∷ y ∷ []) ⌝ }
 {
     if is_gone(b, x) {
         return true;
@@ -46,7 +46,7 @@ fn either_gone(b: &[u64; WORDS], x: Handle, y: Handle) -> bool
 
 pub fn names_gone(b: &[u64; WORDS], o: Obstacle) -> bool
     requires { ⌜ Canon (now b) ⌝ }
-    ensures { λ r. ⌜ r ≡ any (gone (view (now (b .entry)))) (handlesOf o) ⌝ }
+    ensures { λ r. ⌜ r ≡ any (staleCode (view (now (b .entry)))) (handlesOf o) ⌝ }
 {
     let nodes = group_handles::nodes_of(o);
     match nodes {
@@ -71,7 +71,7 @@ pub fn names_gone(b: &[u64; WORDS], o: Obstacle) -> bool
 fn list_gone(b: &[u64; WORDS], list: [Entry; Group::MOST], n: usize) -> bool
     requires { ⌜ Canon (now b) ⌝ }
     requires { ⌜ n ≤ 128 ⌝ }
-    ensures { λ r. ⌜ r ≡ any (gone (view (now (b .entry)))) (listHandles (take n list)) ⌝ }
+    ensures { λ r. ⌜ r ≡ any (staleCode (view (now (b .entry)))) (listHandles (take n list)) ⌝ }
 {
     let mut i: usize = 0;
     while i < n {
@@ -88,7 +88,7 @@ fn list_gone(b: &[u64; WORDS], list: [Entry; Group::MOST], n: usize) -> bool
 fn stops_gone(b: &[u64; WORDS], stops: [Stop; Group::MOST], n: usize) -> bool
     requires { ⌜ Canon (now b) ⌝ }
     requires { ⌜ n ≤ 128 ⌝ }
-    ensures { λ r. ⌜ r ≡ any (gone (view (now (b .entry)))) (stopHandles (take n stops)) ⌝ }
+    ensures { λ r. ⌜ r ≡ any (staleCode (view (now (b .entry)))) (stopHandles (take n stops)) ⌝ }
 {
     let mut i: usize = 0;
     while i < n {
@@ -105,7 +105,7 @@ fn stops_gone(b: &[u64; WORDS], stops: [Stop; Group::MOST], n: usize) -> bool
 pub fn group_gone(b: &[u64; WORDS], g: Group) -> bool
     requires { ⌜ Canon (now b) ⌝ }
     requires { ⌜ soundGroup (groupOf g) ≡ true ⌝ }
-    ensures { λ r. ⌜ r ≡ any (gone (view (now (b .entry)))) (groupHandles (groupOf g)) ⌝ }
+    ensures { λ r. ⌜ r ≡ any (staleCode (view (now (b .entry)))) (groupHandles (groupOf g)) ⌝ }
 {
     let kind = g.kind;
     match kind {

@@ -6,7 +6,7 @@ use mathlib.Core.Option.{some}
 use lib.Dec.{leb}
 use lib.IntN.{ℤ}
 use lib.ListN.{length}
-use Rattle.ledger_spec.specs.Groups.{Group, growth, conflicts, soundGroup, allListable, rising, grouped, roomFor, andThen, addStops, extended}
+use Rattle.ledger_spec.specs.Groups.{Group, growth, conflicts, soundGroup, allListable, risingFrom, grouped, roomFor, andThen, addStops, extended}
 use Rattle.groups.specs.View.{listOf, stopsOf, groupOf, laid}
 use Rattle.groups.specs.declared.Kind.{Kind}
 use Rattle.groups.specs.declared.Kind.the-variants.{Growth, Conflicts}
@@ -22,11 +22,11 @@ and-right : (a b : Bool) → (a && b) ≡ true → b ≡ true
 and-right true b e = e
 and-right false b e = absurd (false≢true e)
 
-pub sound-rising : (g : Code) → g .kind ≡ Conflicts → soundGroup (groupOf g) ≡ true → rising 0 (stopsOf g) ≡ true
+pub sound-rising : (g : Code) → g .kind ≡ Conflicts → soundGroup (groupOf g) ≡ true → risingFrom 0 (stopsOf g) ≡ true
 unfolding soundGroup
 sound-rising g k s =
-    let t : (leb (length (listOf g)) 128 && (leb (length (stopsOf g)) 128 && (allListable (listOf g) && rising 0 (stopsOf g)))) ≡ true = sym (ap soundGroup (view-conflicts g k)) ∙ s in
-    and-right (allListable (listOf g)) (rising 0 (stopsOf g)) (and-right (leb (length (stopsOf g)) 128) (allListable (listOf g) && rising 0 (stopsOf g)) (and-right (leb (length (listOf g)) 128) (leb (length (stopsOf g)) 128 && (allListable (listOf g) && rising 0 (stopsOf g))) t))
+    let t : (leb (length (listOf g)) 128 && (leb (length (stopsOf g)) 128 && (allListable (listOf g) && risingFrom 0 (stopsOf g)))) ≡ true = sym (ap soundGroup (view-conflicts g k)) ∙ s in
+    and-right (allListable (listOf g)) (risingFrom 0 (stopsOf g)) (and-right (leb (length (stopsOf g)) 128) (allListable (listOf g) && risingFrom 0 (stopsOf g)) (and-right (leb (length (listOf g)) 128) (leb (length (stopsOf g)) 128 && (allListable (listOf g) && risingFrom 0 (stopsOf g))) t))
 
 module _ (g h : Code) where
   by-kinds : (p q : Group) (k l : Kind) → groupOf g ≡ p → groupOf h ≡ q → g .kind ≡ k → h .kind ≡ l → changed (extended (groupOf g) (groupOf h)) (wholeOf g h) ≡ changed (extended p q) (wholeBy k l g h)

@@ -2,7 +2,7 @@
 -- Assumes nothing.
 use mathlib.Core.Path.{_≡_, refl, sym, _∙_}
 use mathlib.Core.Bool.{cond}
-use Rattle.ledger_spec.specs.Tests.{given}
+use Rattle.ledger_spec.specs.Tests.{isSome}
 use Rattle.ledger_spec.specs.Groups.{extended}
 use Rattle.ledger_spec.specs.GroupCalls.{orElse}
 use Rattle.groups.specs.View.{viewed, groupOf}
@@ -14,7 +14,7 @@ use Rattle.group_adds.specs.declared.Changed.{Changed}
 use Rattle.group_adds.proofs.Only.{changed-number, changed-view}
 use Rattle.group_extends.specs.Extends.{wholeBy, wholeOf}
 
-pub extend-number : (g h : Code) → changed (extended (groupOf g) (groupOf h)) (wholeOf g h) .number ≡ cond (given (extended (groupOf g) (groupOf h))) 0 20
+pub extend-number : (g h : Code) → changed (extended (groupOf g) (groupOf h)) (wholeOf g h) .number ≡ cond (isSome (extended (groupOf g) (groupOf h))) 0 20
 extend-number g h = changed-number (wholeOf g h) (extended (groupOf g) (groupOf h))
 
 -- there is no room only where conflicts are extended by conflicts, and then the bytes are the own group's

@@ -7,7 +7,7 @@ use kinds::Obstacle;
 ghost use mathlib.Core.Path.{_≡_};
 ghost use mathlib.Core.Bool.{true, _&&_};
 ghost use Prim.Native.Nat.{_≤_};
-ghost use Rattle.ledger_spec.specs.Groups.{growth, soundGroup, rising, grouped, roomFor, andThen, addStops, extended};
+ghost use Rattle.ledger_spec.specs.Groups.{growth, soundGroup, risingFrom, grouped, roomFor, andThen, addStops, extended};
 ghost use Rattle.groups.specs.View.{stopsOf, groupOf};
 ghost use Rattle.group_adds.specs.Adds.{changed};
 ghost use Rattle.group_extends.specs.Extends.{appendList, leastOf, wholeOf};
@@ -43,7 +43,7 @@ fn smaller_pair(a: i64, f: bool, b: i64, h: bool) -> Least
 
 fn extend_conflicts(g: Group, h: Group) -> Changed
     requires { ⌜ (g .listed ≤ 128) × (g .stopped ≤ 128) ⌝ }
-    requires { ⌜ (h .listed ≤ 128) × ((h .stopped ≤ 128) × (rising 0 (stopsOf h) ≡ true)) ⌝ }
+    requires { ⌜ (h .listed ≤ 128) × ((h .stopped ≤ 128) × (risingFrom 0 (stopsOf h) ≡ true)) ⌝ }
     ensures { λ r. ⌜ r ≡ changed (grouped (andThen (roomFor (appendList g h) (stopsOf g)) (addStops (stopsOf h)))) g ⌝ }
 {
     let free = Group::MOST - g.listed;

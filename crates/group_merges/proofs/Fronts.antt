@@ -13,7 +13,7 @@ use lib.Seq.{append-snoc}
 use Rattle.kinds.specs.Obstacles.{isStop, pairOf}
 use Rattle.kinds.specs.declared.Entry.{Entry}
 use Rattle.kinds.specs.declared.Stop.{Stop}
-use Rattle.ledger_spec.specs.Groups.{Lists, rising, roomFor, frontOf, backOf, meet, placed, addStop, andThen, addStops}
+use Rattle.ledger_spec.specs.Groups.{Lists, risingFrom, roomFor, frontOf, backOf, meet, placed, addStop, andThen, addStops}
 use Rattle.group_adds.proofs.Rooms.{room-yes, room-list, room-stops}
 
 -- all below v; the first not below v; the first past v
@@ -55,35 +55,35 @@ both : (a b : Bool) → (a && b) ≡ true → (a ≡ true) × (b ≡ true)
 both true b e = (refl, e)
 both false b e = absurd (false≢true e)
 
-rise-down : (v w : ℕ) (xs : List Stop) → w ≤ v → rising v xs ≡ true → rising w xs ≡ true
-unfolding rising
+rise-down : (v w : ℕ) (xs : List Stop) → w ≤ v → risingFrom v xs ≡ true → risingFrom w xs ≡ true
+unfolding risingFrom
 rise-down v w [] h e = refl
 rise-down v w (x ∷ xs) h e =
-    let p = both (isStop (x .obstacle)) (leb v (x .vertex .0) && rising (suc (x .vertex .0)) xs) e in
-    let q = both (leb v (x .vertex .0)) (rising (suc (x .vertex .0)) xs) (p .1) in
+    let p = both (isStop (x .obstacle)) (leb v (x .vertex .0) && risingFrom (suc (x .vertex .0)) xs) e in
+    let q = both (leb v (x .vertex .0)) (risingFrom (suc (x .vertex .0)) xs) (p .1) in
     let u : v ≤ x .vertex .0 = leb-true v (x .vertex .0) (q .0) in
     rw (p .0, le-leb w (x .vertex .0) (omega (arith, u, h)), q .1)
 
-pub rise-rest : (x : Stop) (xs : List Stop) → rising 0 (x ∷ xs) ≡ true → rising (suc (x .vertex .0)) xs ≡ true
-unfolding rising
-rise-rest x xs e = both (leb 0 (x .vertex .0)) (rising (suc (x .vertex .0)) xs) (both (isStop (x .obstacle)) (leb 0 (x .vertex .0) && rising (suc (x .vertex .0)) xs) e .1) .1
+pub rise-rest : (x : Stop) (xs : List Stop) → risingFrom 0 (x ∷ xs) ≡ true → risingFrom (suc (x .vertex .0)) xs ≡ true
+unfolding risingFrom
+rise-rest x xs e = both (leb 0 (x .vertex .0)) (risingFrom (suc (x .vertex .0)) xs) (both (isStop (x .obstacle)) (leb 0 (x .vertex .0) && risingFrom (suc (x .vertex .0)) xs) e .1) .1
 
-pub rise-zero : (x : Stop) (xs : List Stop) → rising 0 (x ∷ xs) ≡ true → rising 0 xs ≡ true
+pub rise-zero : (x : Stop) (xs : List Stop) → risingFrom 0 (x ∷ xs) ≡ true → risingFrom 0 xs ≡ true
 rise-zero x xs e = rise-down (suc (x .vertex .0)) 0 xs (omega arith) (rise-rest x xs e)
 
-pub under-next : (v : ℕ) (f : List Stop) (z : Stop) (xs : List Stop) → rising (suc v) xs ≡ true → Below v f → z .vertex .0 ≤ v → Under (f ++ z ∷ []) xs
-unfolding rising
+pub under-next : (v : ℕ) (f : List Stop) (z : Stop) (xs : List Stop) → risingFrom (suc v) xs ≡ true → Below v f → z .vertex .0 ≤ v → Under (f ++ z ∷ []) xs
+unfolding risingFrom
 under-next v f z [] e p h = tt
 under-next v f z (x ∷ xs) e p h =
-    let q = both (leb (suc v) (x .vertex .0)) (rising (suc (x .vertex .0)) xs) (both (isStop (x .obstacle)) (leb (suc v) (x .vertex .0) && rising (suc (x .vertex .0)) xs) e .1) in
+    let q = both (leb (suc v) (x .vertex .0)) (risingFrom (suc (x .vertex .0)) xs) (both (isStop (x .obstacle)) (leb (suc v) (x .vertex .0) && risingFrom (suc (x .vertex .0)) xs) e .1) in
     let u : suc v ≤ x .vertex .0 = leb-true (suc v) (x .vertex .0) (q .0) in
     below-snoc (x .vertex .0) f z (below-up v (x .vertex .0) f (omega (arith, u)) p) (omega (arith, u, h))
 
-pub under-same : (v : ℕ) (f xs : List Stop) → rising (suc v) xs ≡ true → Below v f → Under f xs
-unfolding rising
+pub under-same : (v : ℕ) (f xs : List Stop) → risingFrom (suc v) xs ≡ true → Below v f → Under f xs
+unfolding risingFrom
 under-same v f [] e p = tt
 under-same v f (x ∷ xs) e p =
-    let q = both (leb (suc v) (x .vertex .0)) (rising (suc (x .vertex .0)) xs) (both (isStop (x .obstacle)) (leb (suc v) (x .vertex .0) && rising (suc (x .vertex .0)) xs) e .1) in
+    let q = both (leb (suc v) (x .vertex .0)) (risingFrom (suc (x .vertex .0)) xs) (both (isStop (x .obstacle)) (leb (suc v) (x .vertex .0) && risingFrom (suc (x .vertex .0)) xs) e .1) in
     let u : suc v ≤ x .vertex .0 = leb-true (suc v) (x .vertex .0) (q .0) in
     below-up v (x .vertex .0) f (omega (arith, u)) p
 

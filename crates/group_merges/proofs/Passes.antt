@@ -14,7 +14,7 @@ use Rattle.kinds.specs.declared.Pair.{Pair}
 use Rattle.kinds.specs.declared.Obstacle.the-variants.{Conflicting}
 use Rattle.kinds.specs.declared.Entry.{Entry}
 use Rattle.kinds.specs.declared.Stop.{Stop}
-use Rattle.ledger_spec.specs.Groups.{Lists, rising, addStops}
+use Rattle.ledger_spec.specs.Groups.{Lists, risingFrom, addStops}
 use Rattle.groups.specs.View.{over}
 use Rattle.groups.proofs.Lists.{step, spent}
 use Rattle.group_stops.specs.Places.{meetingOf}
@@ -42,11 +42,11 @@ pub record Merging (own other : List Stop) (own-list : List Entry) (n m : ℕ) (
   pub list-past : drop at list ≡ drop at own-list
   pub out-past : drop k out ≡ drop k own
   pub rest : whole ≡ addStops (drop j (take m other)) (take at list) (take k out ++ drop i (take n own))
-  pub rises : rising 0 (drop j (take m other)) ≡ true
+  pub rises : risingFrom 0 (drop j (take m other)) ≡ true
   pub under : Under (take k out) (drop j (take m other))
 
 module _ (own other : List Stop) (own-list : List Entry) (n m : ℕ) where
-  pub starts : (list : List Entry) (at : ℕ) → n ≤ 128 → at ≤ 128 → length list ≡ 128 → length own ≡ 128 → drop at list ≡ drop at own-list → rising 0 (take m other) ≡ true →
+  pub starts : (list : List Entry) (at : ℕ) → n ≤ 128 → at ≤ 128 → length list ≡ 128 → length own ≡ 128 → drop at list ≡ drop at own-list → risingFrom 0 (take m other) ≡ true →
       Merging own other own-list n m (addStops (take m other) (take at list) (take n own)) list own at 0 0 0
   starts list at a b c d e f = record {
     own-in = omega arith;
@@ -82,8 +82,8 @@ module _ (own other : List Stop) (own-list : List Entry) (n m : ℕ) where
     next : drop j (take m other) ≡ x ∷ xs
     next = step m j other d jm other-long
 
-    rising-x : rising 0 (x ∷ xs) ≡ true
-    rising-x = subst (λ (t : List Stop). rising 0 t ≡ true) next (M .rises)
+    rising-x : risingFrom 0 (x ∷ xs) ≡ true
+    rising-x = subst (λ (t : List Stop). risingFrom 0 t ≡ true) next (M .rises)
 
     below : Below (x .vertex .0) f
     below = subst (λ (t : List Stop). Under f t) next (M .under)
@@ -111,7 +111,7 @@ module _ (own other : List Stop) (own-list : List Entry) (n m : ℕ) where
 
     -- z is written, and j or i or both go on; what is left is told by `goes`
     writes : (z : Stop) (i′ j′ : ℕ) → k < 128 → i′ ≤ n → j′ ≤ m → k + 1 + (n - i′) ≤ 128 →
-        whole ≡ addStops (drop j′ (take m other)) l ((f ++ z ∷ []) ++ drop i′ (take n own)) → rising 0 (drop j′ (take m other)) ≡ true → Under (f ++ z ∷ []) (drop j′ (take m other)) →
+        whole ≡ addStops (drop j′ (take m other)) l ((f ++ z ∷ []) ++ drop i′ (take n own)) → risingFrom 0 (drop j′ (take m other)) ≡ true → Under (f ++ z ∷ []) (drop j′ (take m other)) →
         Merging own other own-list n m whole list (set out k z) at i′ j′ (k + 1)
     writes z i′ j′ a b c e goes r u = record {
       own-in = b;

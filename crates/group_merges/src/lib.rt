@@ -10,7 +10,7 @@ ghost use mathlib.Core.Path.{_≡_};
 ghost use mathlib.Core.Bool.{true};
 ghost use Prim.Native.Nat.{_≤_};
 ghost use lib.ListN.{take, drop};
-ghost use Rattle.ledger_spec.specs.Groups.{rising, grouped, addStops};
+ghost use Rattle.ledger_spec.specs.Groups.{risingFrom, grouped, addStops};
 ghost use Rattle.groups.specs.View.{stopsOf};
 ghost use Rattle.group_adds.specs.Adds.{changed};
 
@@ -25,7 +25,7 @@ pub fn merged(
 ) -> Changed
     requires { ⌜ g .stopped ≤ 128 ⌝ }
     requires { ⌜ (listed ≤ 128) × (drop listed list ≡ drop listed (g .list)) ⌝ }
-    requires { ⌜ (m ≤ 128) × (rising 0 (take m other) ≡ true) ⌝ }
+    requires { ⌜ (m ≤ 128) × (risingFrom 0 (take m other) ≡ true) ⌝ }
     ensures { λ r. ⌜ r ≡ changed (grouped (addStops (take m other) (take listed list) (stopsOf g))) g ⌝ }
 {
     let n = g.stopped;

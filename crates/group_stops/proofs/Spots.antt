@@ -6,7 +6,7 @@ use mathlib.Core.List.{List}
 use native.Mathlib.Numerals.{add-one}
 use borrow.Author.Tests.{lt-ltb, le-ltb, eq-eqb, ne-eqb}
 use lib.ListN.{length, take, drop, getD}
-use Rattle.kinds.specs.Names.{sameHandle}
+use Rattle.kinds.specs.Names.{sameCode}
 use Rattle.kinds.specs.declared.Pair.{Pair}
 use Rattle.kinds.specs.declared.MaybePair.{MaybePair}
 use Rattle.kinds.specs.declared.MaybePair.the-variants.{NoPair, WithPair}
@@ -46,10 +46,10 @@ module _ (p q : MaybePair) where
     meets-replace f = sym (ap₂ meetingOf e f)
 
     module _ (b : Pair) (f : q ≡ WithPair b) where
-      pub meets-same : sameHandle (a .node) (b .node) ≡ true → Keep ≡ meetingOf p q
+      pub meets-same : sameCode (a .node) (b .node) ≡ true → Keep ≡ meetingOf p q
       unfolding meetingOf
       meets-same t = sym (ap₂ meetingOf e f ∙ ap (λ (c : Bool). cond c Keep (Join a b)) t)
 
-      pub meets-join : sameHandle (a .node) (b .node) ≡ false → Join a b ≡ meetingOf p q
+      pub meets-join : sameCode (a .node) (b .node) ≡ false → Join a b ≡ meetingOf p q
       unfolding meetingOf
       meets-join t = sym (ap₂ meetingOf e f ∙ ap (λ (c : Bool). cond c Keep (Join a b)) t)

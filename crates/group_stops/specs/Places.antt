@@ -4,7 +4,7 @@ use mathlib.Core.Bool.{cond}
 use mathlib.Core.List.{List, [], _∷_, _++_}
 use lib.Dec.{eqb, ltb}
 use lib.ListN.{take, drop}
-use Rattle.kinds.specs.Names.{sameHandle}
+use Rattle.kinds.specs.Names.{sameCode}
 use Rattle.kinds.specs.declared.MaybePair.{MaybePair}
 use Rattle.kinds.specs.declared.MaybePair.the-variants.{NoPair, WithPair}
 use Rattle.kinds.specs.declared.Stop.{Stop}
@@ -31,4 +31,4 @@ spotOf i v (y ∷ s) = cond (ltb v (y .vertex .0)) (Free i) (cond (eqb v (y .ver
 unfoldable pub meetingOf : MaybePair → MaybePair → Meeting
 meetingOf NoPair q = Keep
 meetingOf (WithPair p) NoPair = Replace
-meetingOf (WithPair p) (WithPair q) = cond (sameHandle (p .node) (q .node)) Keep (Join p q)
+meetingOf (WithPair p) (WithPair q) = cond (sameCode (p .node) (q .node)) Keep (Join p q)

@@ -11,8 +11,8 @@ use Rattle.kinds.specs.declared.Stop.{Stop}
 use Rattle.kinds.specs.declared.Obstacle.{Obstacle}
 use Rattle.ledger_spec.specs.Tests.{first}
 use Rattle.ledger_spec.specs.Reads.{said}
-use Rattle.ledger_spec.specs.Groups.{Group, soundGroup, topOf, popped}
-use Rattle.ledger_spec.specs.GroupCalls.{isGrowth, topIn, takeTests, peek, afterPop, pop}
+use Rattle.ledger_spec.specs.Groups.{Group, soundGroup, lastOf, popped}
+use Rattle.ledger_spec.specs.GroupCalls.{isGrowth, lastIn, takeTests, peek, afterPop, pop}
 use Rattle.groups.specs.View.{listOf, stopsOf, groupOf, laid}
 use Rattle.groups.specs.declared.Kind.the-variants.{Growth, Conflicts}
 use Rattle.groups.specs.declared.Group.{Group as Code}
@@ -42,11 +42,11 @@ module _ {A : Type 0} (q : Group) (v z : A) where
 module _ (g : Code) where
   pub peek-broken : soundGroup (groupOf g) ≡ false → (2, none) ≡ peek (groupOf g)
   unfolding peek
-  peek-broken s = sym (broken (groupOf g) (topIn (groupOf g)) none s)
+  peek-broken s = sym (broken (groupOf g) (lastIn (groupOf g)) none s)
 
   pop-broken : soundGroup (groupOf g) ≡ false → pop (groupOf g) ≡ (2, (none, groupOf g))
   unfolding pop
-  pop-broken s = broken (groupOf g) (topIn (groupOf g), afterPop (groupOf g)) (none, groupOf g) s
+  pop-broken s = broken (groupOf g) (lastIn (groupOf g), afterPop (groupOf g)) (none, groupOf g) s
 
   -- what a pop answers and leaves, from what the ledger's pop answers
   abbrev Pops : ℕ → MaybeObstacle → Code → Type 0
@@ -63,11 +63,11 @@ module _ (g : Code) where
   module _ (s : soundGroup (groupOf g) ≡ true) (l : ℤ) (f : Bool) (k : g .kind ≡ Growth l f) where
     pub peek-growth : (10, none) ≡ peek (groupOf g)
     unfolding peek
-    peek-growth = sym (kind (groupOf g) (topIn (groupOf g)) none s (ap isGrowth (view-growth g l f k)))
+    peek-growth = sym (kind (groupOf g) (lastIn (groupOf g)) none s (ap isGrowth (view-growth g l f k)))
 
     pop-growth : pop (groupOf g) ≡ (10, (none, groupOf g))
     unfolding pop
-    pop-growth = kind (groupOf g) (topIn (groupOf g), afterPop (groupOf g)) (none, groupOf g) s (ap isGrowth (view-growth g l f k))
+    pop-growth = kind (groupOf g) (lastIn (groupOf g), afterPop (groupOf g)) (none, groupOf g) s (ap isGrowth (view-growth g l f k))
 
     pub pops-growth : ((10, (none, groupOf g)) ≡ pop (groupOf g)) × (g ≡ after (pop (groupOf g) .0) (pop (groupOf g) .1 .1) g)
     unfolding after
@@ -78,21 +78,21 @@ module _ (g : Code) where
     abbrev top : MaybeObstacle
     top = topBy (g .listed) (getD (g .list) (g .listed - 1) d) (g .stopped) (getD (g .stops) 0 x)
 
-    top-there : maybe top ≡ topIn (groupOf g)
+    top-there : maybe top ≡ lastIn (groupOf g)
     top-there = top-is (g .listed) (g .stopped) (g .list) (g .stops) d x h i
-        ∙ ap₂ topOf (sym (list-is g h)) (sym (stops-is g i)) ∙ sym (ap topIn (view-conflicts g k))
+        ∙ ap₂ lastOf (sym (list-is g h)) (sym (stops-is g i)) ∙ sym (ap lastIn (view-conflicts g k))
 
     pub peek-conflicts : (o : MaybeObstacle) → o ≡ top → (0, maybe o) ≡ peek (groupOf g)
     unfolding peek
     peek-conflicts o e = ap (λ (w : Option Obstacle). (0, w)) (ap maybe e ∙ top-there)
-        ∙ sym (passed (groupOf g) (topIn (groupOf g)) none s (ap isGrowth (view-conflicts g k)))
+        ∙ sym (passed (groupOf g) (lastIn (groupOf g)) none s (ap isGrowth (view-conflicts g k)))
 
     left : Code
     left = laid (popped (listOf g) (stopsOf g)) g
 
     pop-conflicts : pop (groupOf g) ≡ (0, (maybe top, popped (listOf g) (stopsOf g)))
     unfolding pop
-    pop-conflicts = passed (groupOf g) (topIn (groupOf g), afterPop (groupOf g)) (none, groupOf g) s (ap isGrowth (view-conflicts g k))
+    pop-conflicts = passed (groupOf g) (lastIn (groupOf g), afterPop (groupOf g)) (none, groupOf g) s (ap isGrowth (view-conflicts g k))
         ∙ ap₂ (λ (o : Option Obstacle) (q : Group). (0, (o, q))) (sym top-there) (ap afterPop (view-conflicts g k))
 
     abbrev bytes : List Stop → ℕ → ℕ → Code

@@ -10,7 +10,7 @@ use lib.ListN.{length, take, drop, getD, length-drop}
 use lib.Seq.{getD-take, length-take-le}
 use Rattle.kinds.specs.declared.Entry.{Entry}
 use Rattle.kinds.specs.declared.Stop.{Stop}
-use Rattle.ledger_spec.specs.Groups.{topOf, front}
+use Rattle.ledger_spec.specs.Groups.{lastOf, allButLast}
 use Rattle.groups.specs.View.{over}
 use Rattle.groups.proofs.Lists.{over-same}
 use Rattle.group_takes.specs.Takes.{maybe, topBy}
@@ -30,16 +30,16 @@ top-none (suc n) m e s h k = absurd (omega arith)
 top-none zero zero e s h k = refl
 top-none zero (suc m) e s h k = absurd (omega arith)
 
-last-top : (l : List Entry) (s : List Stop) (d : Entry) (n : ℕ) → length l ≡ suc n → topOf l s ≡ some (getD l n d .obstacle)
-unfolding topOf
+last-top : (l : List Entry) (s : List Stop) (d : Entry) (n : ℕ) → length l ≡ suc n → lastOf l s ≡ some (getD l n d .obstacle)
+unfolding lastOf
 last-top [] s d n h = absurd (omega arith)
 last-top (e ∷ []) s d zero h = refl
 last-top (e ∷ []) s d (suc n) h = absurd (omega arith)
 last-top (e ∷ f ∷ es) s d zero h = absurd (omega arith)
 last-top (e ∷ f ∷ es) s d (suc n) h = last-top (f ∷ es) s d n (omega arith)
 
-pub top-is : (n m : ℕ) (l : List Entry) (s : List Stop) (d : Entry) (x : Stop) → n ≤ length l → m ≤ length s → maybe (topBy n (getD l (n - 1) d) m (getD s 0 x)) ≡ topOf (take n l) (take m s)
-unfolding topOf
+pub top-is : (n m : ℕ) (l : List Entry) (s : List Stop) (d : Entry) (x : Stop) → n ≤ length l → m ≤ length s → maybe (topBy n (getD l (n - 1) d) m (getD s 0 x)) ≡ lastOf (take n l) (take m s)
+unfolding lastOf
 top-is (suc n) m l s d x h k =
     let e : length (take (suc n) l) ≡ suc n = length-take-le (suc n) l h in
     let z : suc n - 1 ≡ n = omega arith in
@@ -49,23 +49,23 @@ top-is zero (suc m) l [] d x h k = absurd (omega arith)
 top-is zero (suc m) l (y ∷ s) d x h k = refl
 
 module _ {A : Type 0} where
-  front-take : (n : ℕ) (l : List A) → n < length l → front (take (suc n) l) ≡ take n l
-  unfolding front
+  front-take : (n : ℕ) (l : List A) → n < length l → allButLast (take (suc n) l) ≡ take n l
+  unfolding allButLast
   front-take n [] h = absurd (omega arith)
   front-take zero (x ∷ l) h = refl
   front-take (suc n) (x ∷ []) h = absurd (omega arith)
   front-take (suc n) (x ∷ y ∷ l) h = ap (λ (r : List A). x ∷ r) (front-take n (y ∷ l) (le-of-suc-le-suc h))
 
   -- the last goes
-  pub front-less : (n : ℕ) (l : List A) → n ≤ length l → front (take n l) ≡ take (n - 1) l
-  unfolding front
+  pub front-less : (n : ℕ) (l : List A) → n ≤ length l → allButLast (take n l) ≡ take (n - 1) l
+  unfolding allButLast
   front-less zero l h = refl
   front-less (suc n) l h = let e : n ≡ suc n - 1 = omega arith in front-take n l h ∙ ap (λ (k : ℕ). take k l) e
 
-  pub front-over : (n : ℕ) (l : List A) → n ≤ length l → l ≡ over (front (take n l)) l
+  pub front-over : (n : ℕ) (l : List A) → n ≤ length l → l ≡ over (allButLast (take n l)) l
   front-over n l h = sym (ap (λ (r : List A). over r l) (front-less n l h) ∙ over-same (n - 1) l (omega arith))
 
-  pub front-long : (n : ℕ) (l : List A) → n ≤ length l → n - 1 ≡ length (front (take n l))
+  pub front-long : (n : ℕ) (l : List A) → n ≤ length l → n - 1 ≡ length (allButLast (take n l))
   front-long n l h = sym (ap length (front-less n l h) ∙ length-take-le (n - 1) l (omega arith))
 
   -- the first goes

@@ -9,7 +9,7 @@ use lib.ListN.{length, take, drop, getD}
 use Rattle.kinds.specs.Obstacles.{listable, isStop}
 use Rattle.kinds.specs.declared.Entry.{Entry}
 use Rattle.kinds.specs.declared.Stop.{Stop}
-use Rattle.ledger_spec.specs.Groups.{allListable, rising}
+use Rattle.ledger_spec.specs.Groups.{allListable, risingFrom}
 use Rattle.groups.proofs.Lists.{step, spent}
 
 module _ (l : List Entry) (n i : ℕ) (d : Entry) (h : i < n) (k : n ≤ length l) where
@@ -26,18 +26,18 @@ unfolding allListable
 list-done l n i h k = ap allListable (spent n i l h k)
 
 module _ (l : List Stop) (n i b : ℕ) (d : Stop) (h : i < n) (k : n ≤ length l) where
-  pub rise-ends : isStop (getD l i d .obstacle) ≡ false → rising b (drop i (take n l)) ≡ false
-  unfolding rising
-  rise-ends e = ap (rising b) (step n i l d h k) ∙ rw e
+  pub rise-ends : isStop (getD l i d .obstacle) ≡ false → risingFrom b (drop i (take n l)) ≡ false
+  unfolding risingFrom
+  rise-ends e = ap (risingFrom b) (step n i l d h k) ∙ rw e
 
-  pub rise-low : isStop (getD l i d .obstacle) ≡ true → getD l i d .vertex .0 < b → rising b (drop i (take n l)) ≡ false
-  unfolding rising
-  rise-low e f = ap (rising b) (step n i l d h k) ∙ rw (e, lt-leb _ _ f)
+  pub rise-low : isStop (getD l i d .obstacle) ≡ true → getD l i d .vertex .0 < b → risingFrom b (drop i (take n l)) ≡ false
+  unfolding risingFrom
+  rise-low e f = ap (risingFrom b) (step n i l d h k) ∙ rw (e, lt-leb _ _ f)
 
-  pub rise-goes : isStop (getD l i d .obstacle) ≡ true → b ≤ getD l i d .vertex .0 → rising b (drop i (take n l)) ≡ rising (getD l i d .vertex .0 + 1) (drop (i + 1) (take n l))
-  unfolding rising
-  rise-goes e f = ap (rising b) (step n i l d h k) ∙ rw (e, le-leb _ _ f, add-one (getD l i d .vertex .0))
+  pub rise-goes : isStop (getD l i d .obstacle) ≡ true → b ≤ getD l i d .vertex .0 → risingFrom b (drop i (take n l)) ≡ risingFrom (getD l i d .vertex .0 + 1) (drop (i + 1) (take n l))
+  unfolding risingFrom
+  rise-goes e f = ap (risingFrom b) (step n i l d h k) ∙ rw (e, le-leb _ _ f, add-one (getD l i d .vertex .0))
 
-pub rise-done : (l : List Stop) (n i b : ℕ) → n ≤ i → n ≤ length l → rising b (drop i (take n l)) ≡ true
-unfolding rising
-rise-done l n i b h k = ap (rising b) (spent n i l h k)
+pub rise-done : (l : List Stop) (n i b : ℕ) → n ≤ i → n ≤ length l → risingFrom b (drop i (take n l)) ≡ true
+unfolding risingFrom
+rise-done l n i b h k = ap (risingFrom b) (spent n i l h k)

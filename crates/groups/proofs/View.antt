@@ -11,7 +11,7 @@ use lib.IntN.{ℤ}
 use lib.ListN.{length, take, drop}
 use Rattle.kinds.specs.declared.Entry.{Entry}
 use Rattle.kinds.specs.declared.Stop.{Stop}
-use Rattle.ledger_spec.specs.Groups.{Group, growth, conflicts, allListable, rising, soundGroup}
+use Rattle.ledger_spec.specs.Groups.{Group, growth, conflicts, allListable, risingFrom, soundGroup}
 use Rattle.groups.specs.View.{noEntry, noStop, listOf, stopsOf, viewed, groupOf, over, laid}
 use Rattle.groups.specs.declared.Kind.{Kind}
 use Rattle.groups.specs.declared.Kind.the-variants.{Growth, Conflicts}
@@ -63,10 +63,10 @@ unfolding soundGroup
 sound-growth g l f e = sym (ap soundGroup (view-growth g l f e))
 
 module _ (g : Code) (e : g .kind ≡ Conflicts) where
-  sound-is : soundGroup (groupOf g) ≡ (leb (g .listed) 128 && (leb (g .stopped) 128 && (allListable (listOf g) && rising 0 (stopsOf g))))
+  sound-is : soundGroup (groupOf g) ≡ (leb (g .listed) 128 && (leb (g .stopped) 128 && (allListable (listOf g) && risingFrom 0 (stopsOf g))))
   unfolding soundGroup
   sound-is = ap soundGroup (view-conflicts g e)
-      ∙ ap₂ (λ (n m : ℕ). leb n 128 && (leb m 128 && (allListable (listOf g) && rising 0 (stopsOf g)))) (listed-is g) (stopped-is g)
+      ∙ ap₂ (λ (n m : ℕ). leb n 128 && (leb m 128 && (allListable (listOf g) && risingFrom 0 (stopsOf g)))) (listed-is g) (stopped-is g)
 
   pub long-list : 128 < g .listed → false ≡ soundGroup (groupOf g)
   long-list h = sym (sound-is ∙ rw (lt-leb _ _ h))
@@ -75,21 +75,21 @@ module _ (g : Code) (e : g .kind ≡ Conflicts) where
   long-stops h k = sym (sound-is ∙ rw (le-leb _ _ h, lt-leb _ _ k))
 
   module _ (h : g .listed ≤ 128) (k : g .stopped ≤ 128) (m : 128 ≤ length (g .list)) (n : 128 ≤ length (g .stops)) where
-    by-tests : soundGroup (groupOf g) ≡ (allListable (take (g .listed) (g .list)) && rising 0 (take (g .stopped) (g .stops)))
+    by-tests : soundGroup (groupOf g) ≡ (allListable (take (g .listed) (g .list)) && risingFrom 0 (take (g .stopped) (g .stops)))
     by-tests = sound-is ∙ rw (le-leb _ _ h, le-leb _ _ k)
-        (ap₂ (λ (l : List Entry) (s : List Stop). allListable l && rising 0 s) (list-is g (omega arith)) (stops-is g (omega arith)))
+        (ap₂ (λ (l : List Entry) (s : List Stop). allListable l && risingFrom 0 s) (list-is g (omega arith)) (stops-is g (omega arith)))
 
     pub bad-list : allListable (take (g .listed) (g .list)) ≡ false → false ≡ soundGroup (groupOf g)
-    bad-list t = sym (by-tests ∙ ap (λ (b : Bool). b && rising 0 (take (g .stopped) (g .stops))) t)
+    bad-list t = sym (by-tests ∙ ap (λ (b : Bool). b && risingFrom 0 (take (g .stopped) (g .stops))) t)
 
-    pub good-list : allListable (take (g .listed) (g .list)) ≡ true → rising 0 (take (g .stopped) (g .stops)) ≡ soundGroup (groupOf g)
-    good-list t = sym (by-tests ∙ ap (λ (b : Bool). b && rising 0 (take (g .stopped) (g .stops))) t)
+    pub good-list : allListable (take (g .listed) (g .list)) ≡ true → risingFrom 0 (take (g .stopped) (g .stops)) ≡ soundGroup (groupOf g)
+    good-list t = sym (by-tests ∙ ap (λ (b : Bool). b && risingFrom 0 (take (g .stopped) (g .stops))) t)
 
   -- the counts of a sound one
   pub sound-counts : soundGroup (groupOf g) ≡ true → (g .listed ≤ 128) × (g .stopped ≤ 128)
   sound-counts s = go (leb (g .listed) 128) (leb (g .stopped) 128) refl refl (sym sound-is ∙ s)
     where
-      go : (a b : Bool) → leb (g .listed) 128 ≡ a → leb (g .stopped) 128 ≡ b → (a && (b && (allListable (listOf g) && rising 0 (stopsOf g)))) ≡ true → (g .listed ≤ 128) × (g .stopped ≤ 128)
+      go : (a b : Bool) → leb (g .listed) 128 ≡ a → leb (g .stopped) 128 ≡ b → (a && (b && (allListable (listOf g) && risingFrom 0 (stopsOf g)))) ≡ true → (g .listed ≤ 128) × (g .stopped ≤ 128)
       go true true p q t = (leb-true _ _ p, leb-true _ _ q)
       go true false p q t = absurd (false≢true t)
       go false b p q t = absurd (false≢true t)

@@ -4,7 +4,7 @@ use mathlib.Core.Bool.{Bool, false}
 use mathlib.Core.Option.{Option, none, some}
 use lib.IntN.{ℤ}
 use lib.ListN.{replicate}
-use Rattle.kinds.specs.Names.{nobody}
+use Rattle.kinds.specs.Names.{noCode}
 use Rattle.kinds.specs.declared.MaybePair.the-variants.{NoPair}
 use Rattle.kinds.specs.declared.MaybeLength.{MaybeLength}
 use Rattle.kinds.specs.declared.MaybeLength.the-variants.{NoLength, Length}
@@ -18,8 +18,8 @@ use Rattle.groups.specs.declared.Asked.{Asked}
 abbrev pub emptyOf : Code
 emptyOf = record {
   kind = Growth largest false;
-  list = replicate 128 (record { obstacle = BlossomNeedExpand nobody });
-  stops = replicate 128 (record { vertex = record { 0 = 0 }; obstacle = VertexShrinkStop nobody NoPair });
+  list = replicate 128 (record { obstacle = BlossomNeedExpand noCode });
+  stops = replicate 128 (record { vertex = record { 0 = 0 }; obstacle = VertexShrinkStop noCode NoPair });
   listed = 0;
   stopped = 0;
 }

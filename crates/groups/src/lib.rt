@@ -10,7 +10,7 @@ use kinds::Vertex;
 ghost use mathlib.Core.Path.{_≡_};
 ghost use Prim.Native.Nat.{_≤_};
 ghost use lib.ListN.{take};
-ghost use Rattle.ledger_spec.specs.Groups.{allListable, rising, soundGroup};
+ghost use Rattle.ledger_spec.specs.Groups.{allListable, risingFrom, soundGroup};
 ghost use Rattle.ledger_spec.specs.GroupCalls.{isEmpty, isActive, growthOf};
 ghost use Rattle.groups.specs.View.{groupOf};
 ghost use Rattle.groups.specs.Shown.{emptyOf, shownTold, shownAsked};
@@ -87,7 +87,7 @@ fn are_listable(list: [Entry; Group::MOST], n: usize) -> bool
 // Only stops, by strictly rising vertex.
 fn are_rising(stops: [Stop; Group::MOST], n: usize) -> bool
     requires { ⌜ n ≤ 128 ⌝ }
-    ensures { λ r. ⌜ r ≡ rising 0 (take n stops) ⌝ }
+    ensures { λ r. ⌜ r ≡ risingFrom 0 (take n stops) ⌝ }
 {
     let mut least: u64 = 0;
     let mut i: usize = 0;

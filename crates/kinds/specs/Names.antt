@@ -4,8 +4,8 @@ use lib.Dec.{eqb}
 use Rattle.kinds.specs.declared.Handle.{Handle}
 
 -- interface, slot and serial agree
-abbrev pub sameHandle : Handle → Handle → Bool
-sameHandle a b = eqb (a .unit) (b .unit) && (eqb (a .slot) (b .slot) && eqb (a .serial .0) (b .serial .0))
+abbrev pub sameCode : Handle → Handle → Bool
+sameCode a b = eqb (a .unit) (b .unit) && (eqb (a .slot) (b .slot) && eqb (a .serial .0) (b .serial .0))
 
-abbrev pub nobody : Handle
-nobody = record { unit = 0; slot = 0; serial = record { 0 = 0 } }
+abbrev pub noCode : Handle
+noCode = record { unit = 0; slot = 0; serial = record { 0 = 0 } }

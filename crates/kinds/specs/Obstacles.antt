@@ -1,6 +1,6 @@
 -- Obstacles: the small tests on them and what each case holds. Assumes nothing.
 use mathlib.Core.Bool.{Bool, true, false, _&&_, _||_}
-use Rattle.kinds.specs.Names.{sameHandle}
+use Rattle.kinds.specs.Names.{sameCode}
 use Rattle.kinds.specs.declared.Handle.{Handle}
 use Rattle.kinds.specs.declared.Pair.{Pair}
 use Rattle.kinds.specs.declared.MaybePair.{MaybePair}
@@ -41,7 +41,7 @@ pairOf (VertexShrinkStop h p) = p
 
 -- a conflict of a and b, in this order and in either
 abbrev pub theseOf : Pair → Pair → Handle → Handle → Bool
-theseOf p q a b = sameHandle (p .node) a && sameHandle (q .node) b
+theseOf p q a b = sameCode (p .node) a && sameCode (q .node) b
 
 abbrev pub bothOf : Pair → Pair → Handle → Handle → Bool
 bothOf p q a b = theseOf p q a b || theseOf p q b a

@@ -1,7 +1,7 @@
 // The plain types that everything names: counters, handles, states, obstacles, notices, and their limits.
 // All are plain data by value; each function is proved by a definition of specs/. Assumes nothing.
 ghost use mathlib.Core.Path.{_≡_};
-ghost use Rattle.kinds.specs.Names.{sameHandle, nobody};
+ghost use Rattle.kinds.specs.Names.{sameCode, noCode};
 ghost use Rattle.kinds.specs.States.{againstOf, blossomOf};
 ghost use Rattle.kinds.specs.Obstacles.{listable, isStop, pairOf, theseOf, bothOf, conflictingOf, lengthOf, nodesOf, virtualOf, expandOf, stopOf};
 
@@ -30,7 +30,7 @@ impl Handle {
 
     // The handle of a refusal: all fields 0.
     pub fn nobody() -> Handle
-        ensures { λ r. ⌜ r ≡ nobody ⌝ }
+        ensures { λ r. ⌜ r ≡ noCode ⌝ }
     {
         Handle {
             unit: 0,
@@ -40,7 +40,7 @@ impl Handle {
     }
 
     pub fn same(self, other: Handle) -> bool
-        ensures { λ r. ⌜ r ≡ sameHandle self other ⌝ }
+        ensures { λ r. ⌜ r ≡ sameCode self other ⌝ }
     {
         if self.unit != other.unit {
             return false;

@@ -13,7 +13,7 @@ use Rattle.ledger_spec.specs.Refuse.{setUpNo, unitTests, defectTests, blossomTe
 use Rattle.ledger_spec.specs.Calls.{nobody, settle, setUpCall, Call, Defect, Blossom, Expand, SetState, Grow, Fuse, Clear, perform}
 use Rattle.ledger_spec.specs.Sound.{sound}
 use Rattle.ledger_spec.specs.Answers.{answer}
-use Rattle.ledger_spec.specs.Book.{Book, turn, turns, begun}
+use Rattle.ledger_spec.specs.Book.{Book, turn, turns, newBook}
 use Rattle.ledger_spec.specs.Facts.{Sound}
 use Rattle.ledger_spec.proofs.Lists.{and-true}
 use Rattle.ledger_spec.proofs.Passed.{fusable}
@@ -61,7 +61,7 @@ unfolding first
 from-one zero e = absurd (omega arith)
 from-one (suc n) e = omega arith
 
-pub begun-sound : (n : ℕ) → n < 2 ^ 32 → Sound (begun n .bench)
+pub begun-sound : (n : ℕ) → n < 2 ^ 32 → Sound (newBook n .bench)
 unfolding setUpCall settle
 begun-sound n h = go (setUpNo n) refl
   where
@@ -81,8 +81,8 @@ unfolding turns
 turns-sound k [] S = S
 turns-sound k (c ∷ cs) S = turns-sound (turn k c) cs (turn-sound k c S)
 
-pub always-sound : (n : ℕ) → n < 2 ^ 32 → (cs : List Call) → sound (turns (begun n) cs .bench) ≡ true
-always-sound n h cs = holds (turns (begun n) cs .bench) (turns-sound (begun n) cs (begun-sound n h))
+pub always-sound : (n : ℕ) → n < 2 ^ 32 → (cs : List Call) → sound (turns (newBook n) cs .bench) ≡ true
+always-sound n h cs = holds (turns (newBook n) cs .bench) (turns-sound (newBook n) cs (begun-sound n h))
 
 -- 2 is no number of a call's own tests
 abbrev high : List (Bool × ℕ) → Bool
@@ -119,5 +119,5 @@ broken-only b c e = go (sound b) refl
     go true f = absurd (tests-above b c (sym (answer-number b c f) ∙ e))
     go false f = f
 
-pub never-broken : (n : ℕ) → n < 2 ^ 32 → (cs : List Call) (c : Call) → answer (turns (begun n) cs .bench) c .number ≢ 2
-never-broken n h cs c e = true≢false (sym (always-sound n h cs) ∙ broken-only (turns (begun n) cs .bench) c e)
+pub never-broken : (n : ℕ) → n < 2 ^ 32 → (cs : List Call) (c : Call) → answer (turns (newBook n) cs .bench) c .number ≢ 2
+never-broken n h cs c e = true≢false (sym (always-sound n h cs) ∙ broken-only (turns (newBook n) cs .bench) c e)

@@ -9,7 +9,7 @@ use mathlib.Core.List.{List, [], _∷_, map}
 use native.Mathlib.Omega.{arith}
 use lib.ListN.{length, length-append, length-map}
 use Rattle.ledger_spec.specs.Bench.{Handle, stays, grows, Bench}
-use Rattle.ledger_spec.specs.Look.{nodeAt}
+use Rattle.ledger_spec.specs.Look.{nodeNamed}
 use Rattle.ledger_spec.specs.Change.{mark}
 use Rattle.ledger_spec.specs.Tests.{first}
 use Rattle.ledger_spec.specs.Refuse.{unitTests, defectTests, blossomTests, expandTests, stateTests, growTests, fuseTests}
@@ -154,7 +154,7 @@ few-told b S (Defect u v) e = omega arith
 few-told b S (Blossom u hs ts) e = let P : BlossomPassed b u hs ts = blossom-passed b u hs ts e in
     omega (arith, length-append (map (λ (h : Handle). stateSet h stays) hs) (shrinkPrepared hs ∷ blossomAdded (newHandle b u) ∷ []), length-map hs (λ (h : Handle). stateSet h stays), P .most)
 few-told b S (Expand u h) e = let P : ExpandPassed b u h = expand-passed b u h e in
-    omega (arith, length-map (members (nodeAt b h)) (λ (g : Handle). stateSet g grows), ap length (P .circle), length-map (P .ms) (λ m. m .node), S .rings (h .unit) (h .slot) (P .named .node) (P .named .has .stands) .circle (P .ms) (P .ring) .most)
+    omega (arith, length-map (members (nodeNamed b h)) (λ (g : Handle). stateSet g grows), ap length (P .circle), length-map (P .ms) (λ m. m .node), S .rings (h .unit) (h .slot) (P .named .node) (P .named .has .stands) .circle (P .ms) (P .ring) .most)
 few-told b S (SetState u h s) e = omega arith
 few-told b S (Grow u l) e = omega arith
 few-told b S (Fuse p l r) e = omega arith

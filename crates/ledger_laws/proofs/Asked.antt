@@ -17,7 +17,7 @@ use Rattle.ledger_spec.specs.Reads.{said}
 use Rattle.ledger_spec.specs.Check.{verdict, checkOf}
 use Rattle.ledger_spec.specs.Sound.{sound}
 use Rattle.ledger_spec.specs.Answers.{answer, ask}
-use Rattle.ledger_spec.specs.Book.{turns, begun}
+use Rattle.ledger_spec.specs.Book.{turns, newBook}
 use Rattle.ledger_spec.specs.Grammar.{Line, D, B, E, S, G, F, C, K, wrong}
 use Rattle.ledger_spec.specs.Lines.{named, shown, calls, checks, says}
 use Rattle.ledger_spec.specs.Program.{afterLines}
@@ -51,8 +51,8 @@ module _ {A : Type 0} (b : Bench) (z : A) where
       go false e = ap (λ (r : ℕ × A). r .1) (ask-false (said n v z) e)
 
 -- after any calls from set-up a read answers what it reads
-pub ask-always : {A : Type 0} (n : ℕ) → n < 2 ^ 32 → (cs : List Call) (z : A) (r : ℕ × A) → ask (turns (begun n) cs .bench) z r ≡ r
-ask-always n h cs z r = ask-true (turns (begun n) cs .bench) z r (always-sound n h cs)
+pub ask-always : {A : Type 0} (n : ℕ) → n < 2 ^ 32 → (cs : List Call) (z : A) (r : ℕ × A) → ask (turns (newBook n) cs .bench) z r ≡ r
+ask-always n h cs z r = ask-true (turns (newBook n) cs .bench) z r (always-sound n h cs)
 
 -- ---- lines
 pub line-sound : (b : Bench) (l : Line) → Sound b → Sound (says b l .bench)

@@ -17,7 +17,7 @@ use Rattle.ledger_spec.specs.Look.{interface, slotOf, top}
 use Rattle.ledger_spec.specs.Change.{share, worth, place, push, restate, mark, markAll}
 use Rattle.ledger_spec.specs.Deeds.{growSlot, growBy, join, wipe}
 use Rattle.ledger_spec.specs.Book.{Gone, forgotten}
-use Rattle.ledger_spec.specs.Account.{over, total, gate, ratesIn}
+use Rattle.ledger_spec.specs.Account.{slotSum, total, gate, ratesIn}
 use Rattle.ledger_spec.specs.Frame.{Frame}
 use Rattle.ledger_spec.proofs.Ints.{swap-mid, *ℤ-dist-l, traded}
 use Rattle.ledger_spec.proofs.Sums.{Σ-zero, zero-gate}
@@ -33,7 +33,7 @@ use Rattle.ledger_laws.proofs.Paced.{Paced, tops-same, inside, mark-out
 
 -- what stands in an interface and what went from it
 abbrev pub valuesIn : Bench → Gone → ℕ → ℤ
-valuesIn b g u = over worth (interface b u .slots) +ℤ total (g u)
+valuesIn b g u = slotSum worth (interface b u .slots) +ℤ total (g u)
 
 pub record Booked (b : Bench) (g : Gone) : Type 0 where
   pub bare : (u : ℕ) → interface b u .slots ≡ [] → g u ≡ []
@@ -49,8 +49,8 @@ module _ (b : Bench) (F : Frame b) (u s : ℕ) (y : Option Node) (g g′ : Gone)
   place-booked K = record {
     bare = bare-now;
     sums = tops-same _ _ (quiet-top b b′ Q) (bal-change (top b) (valuesIn b g) (valuesIn b′ g′) u (pos 0) u<8
-        (ap₂ (λ (x z : ℤ). x +ℤ z) (ap (over worth) (place-here b u s y (inside b F u<8)) ∙ over-set worth refl (interface b u .slots) s y within) g-here ∙ traded (over worth (interface b u .slots)) (total (g u)) (worth (slotOf b u s)) (worth y))
-        (λ w q. ap₂ (λ (l : List (Option Node)) (z : List ℤ). over worth l +ℤ total z) (place-else b u s y w q) (g-else w q))
+        (ap₂ (λ (x z : ℤ). x +ℤ z) (ap (slotSum worth) (place-here b u s y (inside b F u<8)) ∙ over-set worth refl (interface b u .slots) s y within) g-here ∙ traded (slotSum worth (interface b u .slots)) (total (g u)) (worth (slotOf b u s)) (worth y))
+        (λ w q. ap₂ (λ (l : List (Option Node)) (z : List ℤ). slotSum worth l +ℤ total z) (place-else b u s y w q) (g-else w q))
         (λ i. interface b i .sum) (λ i. interface b′ i .sum) (Q .sum (top b u) ∙ sym (+ℤ-idr _)) (λ i q. Q .sum i) (K .sums));
   }
     where
@@ -99,8 +99,8 @@ pub push-booked : (b : Bench) → Frame b → (u : ℕ) (n : Node) (g : Gone) �
 push-booked b F u n g u<8 nil K = record {
   bare = bare-now;
   sums = tops-same _ _ (quiet-top b b′ Q) (bal-change (top b) (valuesIn b g) (valuesIn b′ g) u (pos 0) u<8
-      (ap (λ (z : ℤ). z +ℤ total (g u)) (ap (over worth) (push-here b u n u<n) ∙ over-snoc worth (interface b u .slots) (some n) ∙ ap (λ (z : ℤ). over worth (interface b u .slots) +ℤ z) nil ∙ +ℤ-idr (over worth (interface b u .slots))) ∙ sym (+ℤ-idr (valuesIn b g u)))
-      (λ w q. ap (λ (l : List (Option Node)). over worth l +ℤ total (g w)) (push-else b u n w q))
+      (ap (λ (z : ℤ). z +ℤ total (g u)) (ap (slotSum worth) (push-here b u n u<n) ∙ over-snoc worth (interface b u .slots) (some n) ∙ ap (λ (z : ℤ). slotSum worth (interface b u .slots) +ℤ z) nil ∙ +ℤ-idr (slotSum worth (interface b u .slots))) ∙ sym (+ℤ-idr (valuesIn b g u)))
+      (λ w q. ap (λ (l : List (Option Node)). slotSum worth l +ℤ total (g w)) (push-else b u n w q))
       (λ i. interface b i .sum) (λ i. interface b′ i .sum) (Q .sum (top b u) ∙ sym (+ℤ-idr _)) (λ i q. Q .sum i) (K .sums));
 }
   where
@@ -129,19 +129,19 @@ unfolding growSlot
 grown-worth l none = sym (+ℤ-idl (l *ℤ pos 0) ∙ *ℤ-zero l)
 grown-worth l (some n) = refl
 
-grown-values : (l : ℤ) (xs : List (Option Node)) → over worth (map (growSlot l) xs) ≡ over worth xs +ℤ l *ℤ over share xs
-unfolding over
+grown-values : (l : ℤ) (xs : List (Option Node)) → slotSum worth (map (growSlot l) xs) ≡ slotSum worth xs +ℤ l *ℤ slotSum share xs
+unfolding slotSum
 grown-values l [] = sym (+ℤ-idl (l *ℤ pos 0) ∙ *ℤ-zero l)
-grown-values l (x ∷ xs) = ap₂ _+ℤ_ (grown-worth l x) (grown-values l xs) ∙ swap-mid (worth x) (l *ℤ share x) (over worth xs) (l *ℤ over share xs)
-    ∙ ap (λ (z : ℤ). (worth x +ℤ over worth xs) +ℤ z) (sym (*ℤ-dist-l l (share x) (over share xs)))
+grown-values l (x ∷ xs) = ap₂ _+ℤ_ (grown-worth l x) (grown-values l xs) ∙ swap-mid (worth x) (l *ℤ share x) (slotSum worth xs) (l *ℤ slotSum share xs)
+    ∙ ap (λ (z : ℤ). (worth x +ℤ slotSum worth xs) +ℤ z) (sym (*ℤ-dist-l l (share x) (slotSum share xs)))
 
 pub grow-booked : (b : Bench) → Frame b → Paced b → (u : ℕ) (l : ℤ) (g : Gone) → u < 8 → Booked b g → Booked (growBy b u l) g
 grow-booked b F P u l g u<8 K = record {
   bare = λ w e. K .bare w (grow-bare b u l w e);
   sums = tops-same _ _ (grow-top b u l) (bal-scale (top b) (valuesIn b g) (valuesIn b′ g) (ratesIn b) u l
-      (λ w h e. ap (λ (z : ℤ). z +ℤ total (g w)) (ap (over worth) (grow-under b u l w (inside b F h) e) ∙ grown-values l (interface b w .slots))
-      ∙ +ℤ-assoc (over worth (interface b w .slots)) (l *ℤ ratesIn b w) (total (g w)) ∙ ap (λ (z : ℤ). over worth (interface b w .slots) +ℤ z) (+ℤ-comm (l *ℤ ratesIn b w) (total (g w))) ∙ sym (+ℤ-assoc (over worth (interface b w .slots)) (total (g w)) (l *ℤ ratesIn b w)))
-      (λ w h e. ap (λ (z : List (Option Node)). over worth z +ℤ total (g w)) (grow-else b u l w (inside b F h) e))
+      (λ w h e. ap (λ (z : ℤ). z +ℤ total (g w)) (ap (slotSum worth) (grow-under b u l w (inside b F h) e) ∙ grown-values l (interface b w .slots))
+      ∙ +ℤ-assoc (slotSum worth (interface b w .slots)) (l *ℤ ratesIn b w) (total (g w)) ∙ ap (λ (z : ℤ). slotSum worth (interface b w .slots) +ℤ z) (+ℤ-comm (l *ℤ ratesIn b w) (total (g w))) ∙ sym (+ℤ-assoc (slotSum worth (interface b w .slots)) (total (g w)) (l *ℤ ratesIn b w)))
+      (λ w h e. ap (λ (z : List (Option Node)). slotSum worth z +ℤ total (g w)) (grow-else b u l w (inside b F h) e))
       (λ i. interface b i .sum) (λ i. interface b′ i .sum) (λ i. interface b i .speed) (grow-sum b u l (inside b F u<8)) (grow-sum-else b u l) P (K .sums));
 }
   where
@@ -150,13 +150,13 @@ grow-booked b F P u l g u<8 K = record {
 
 -- ---- fusing
 pub fuse-booked : (b : Bench) → Frame b → (p l r : ℕ) (g : Gone) → Fusable b p l r → Booked b g → Booked (join b p l r) g
-unfolding over total
+unfolding slotSum total
 fuse-booked b F p l r g f K = record {
   bare = λ w e. K .bare w (sym (slots w) ∙ e);
-  sums = subst (Balanced (top b′) (λ i. interface b′ i .sum)) (sym (fun-ext (λ w. ap (λ (z : List (Option Node)). over worth z +ℤ total (g w)) (slots w))))
+  sums = subst (Balanced (top b′) (λ i. interface b′ i .sum)) (sym (fun-ext (λ w. ap (λ (z : List (Option Node)). slotSum worth z +ℤ total (g w)) (slots w))))
       (bal-fuse (top b) (top b′) (valuesIn b g) p l r (climb-none 8 b l (f .l-none)) (climb-none 8 b r (f .r-none)) (f .l≢r)
       (join-top-l b F p l r f) (join-top-r b F p l r f) (join-top-else b F p l r f)
-      (λ u e. ap (valuesIn b g) (alone b F p (f .no-halves) u e) ∙ ap₂ (λ (x : List (Option Node)) (z : List ℤ). over worth x +ℤ total z) (f .no-slots) (K .bare p (f .no-slots)))
+      (λ u e. ap (valuesIn b g) (alone b F p (f .no-halves) u e) ∙ ap₂ (λ (x : List (Option Node)) (z : List ℤ). slotSum worth x +ℤ total z) (f .no-slots) (K .bare p (f .no-slots)))
       (λ i. interface b i .sum) (λ i. interface b′ i .sum) (omega arith) (omega arith)
       (ap (λ (f : Interface). f .sum) (join-p b p l r (joins F f))) (join-kept b p l r (joins F f) (λ f. f .sum) (λ f q. refl)) (K .sums));
 }
@@ -181,12 +181,12 @@ module _ (b : Bench) (F : Frame b) (u : ℕ) (g : Gone) where
   forgot-no w e = ap (forgot g w) (ne-eqb (top b w) u e)
 
   pub clear-booked : Booked b g → Booked (wipe b u) (forgotten g b u)
-  unfolding over total
+  unfolding slotSum total
   clear-booked K = record {
     bare = λ w e. bare-now w e (ℕ-discrete (top b w) u);
     sums = bal-clear (top b) (top (wipe b u)) (valuesIn b g) (valuesIn (wipe b u) (forgotten g b u)) u (λ w h. tops b F w) (λ w h. wipe-top-else b u F w)
-        (λ w h e. ap₂ (λ (f : Interface) (z : List ℤ). over worth (f .slots) +ℤ total z) (wipe-under b u w e) (forgot-yes w e))
-        (λ w h e. ap₂ (λ (f : Interface) (z : List ℤ). over worth (f .slots) +ℤ total z) (wipe-else b u w e) (forgot-no w e))
+        (λ w h e. ap₂ (λ (f : Interface) (z : List ℤ). slotSum worth (f .slots) +ℤ total z) (wipe-under b u w e) (forgot-yes w e))
+        (λ w h e. ap₂ (λ (f : Interface) (z : List ℤ). slotSum worth (f .slots) +ℤ total z) (wipe-else b u w e) (forgot-no w e))
         (λ i. interface b i .sum) (λ i. interface (wipe b u) i .sum) (λ w h e. ap (λ (f : Interface). f .sum) (wipe-under b u w e)) (λ w h e. ap (λ (f : Interface). f .sum) (wipe-else b u w e)) (K .sums);
   }
     where
@@ -196,9 +196,9 @@ module _ (b : Bench) (F : Frame b) (u : ℕ) (g : Gone) where
 
 -- ---- set-up
 pub opened-booked : (n : ℕ) → Booked (setUp n) (λ w. [])
-unfolding over total
+unfolding slotSum total
 opened-booked n = record {
   bare = λ u e. refl;
   sums = λ i h root. ap (λ (f : Interface). f .sum) (all-fresh 8 i)
-      ∙ sym (Σ-zero 8 _ (λ w x. ap (λ (f : Interface). gate (eqb (top (setUp n) w) i) (over worth (f .slots) +ℤ pos 0)) (all-fresh 8 w) ∙ zero-gate (eqb (top (setUp n) w) i)));
+      ∙ sym (Σ-zero 8 _ (λ w x. ap (λ (f : Interface). gate (eqb (top (setUp n) w) i) (slotSum worth (f .slots) +ℤ pos 0)) (all-fresh 8 w) ∙ zero-gate (eqb (top (setUp n) w) i)));
 }

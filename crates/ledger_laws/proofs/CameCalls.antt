@@ -12,7 +12,7 @@ use borrow.Author.Tests.{eq-eqb, ne-eqb}
 use lib.ListN.{getD, length}
 use lib.IntN.{ℤ, natAbs, _*ℤ_}
 use Rattle.ledger_spec.specs.Bench.{Handle, State, rate, stays, grows, Member, defect, Node, Interface, Bench}
-use Rattle.ledger_spec.specs.Look.{interface, slotOf, nodeAt, top}
+use Rattle.ledger_spec.specs.Look.{interface, slotOf, nodeNamed, top}
 use Rattle.ledger_spec.specs.Change.{mark, restate, withNode}
 use Rattle.ledger_spec.specs.Tests.{both}
 use Rattle.ledger_spec.specs.Deeds.{newHandle, addDefect, circle, sizeOf, sizes, addBlossom, members, removeBlossom, growSlot, growBy, join, wipe}
@@ -99,7 +99,7 @@ module _ (b : Bench) (S : Sound b) (u : ℕ) (hs : List Handle) (ts : List (Hand
   low = inside b (S .frame) (P .here .low)
 
   -- a member has its size still
-  member-size : (h : Handle) → In h hs → sizeOf (nodeAt b′ h) ≡ sizeOf (nodeAt b h)
+  member-size : (h : Handle) → In h hs → sizeOf (nodeNamed b′ h) ≡ sizeOf (nodeNamed b h)
   member-size h i = ap sizeOf (has-node b′ h (withNode (N .node) stays (some (newHandle b u))) (record { stands = blossom-member b u hs ts low h i (away b u hs ts P h i) ∙ ap (λ (o : Option Node). restate o stays (some (newHandle b u))) (N .has .stands); serial = N .has .serial })) ∙ ap sizeOf (sym (N .is))
     where
       N : Named b u h
@@ -141,12 +141,12 @@ module _ (b : Bench) (S : Sound b) (u : ℕ) (hs : List Handle) (ts : List (Hand
 
 -- ---- expand
 pub expand-came : (b : Bench) → Sewn b → (u : ℕ) (h : Handle) → ExpandPassed b u h → Came b (removeBlossom b h) still
-expand-came b S u h P w s x e = go (place-in (members (nodeAt b h)) w s) (ℕ-discrete (h .unit) w) (ℕ-discrete (h .slot) s)
+expand-came b S u h P w s x e = go (place-in (members (nodeNamed b h)) w s) (ℕ-discrete (h .unit) w) (ℕ-discrete (h .slot) s)
   where
     b″ : Bench
     b″ = removeBlossom b h
 
-    go : Place (members (nodeAt b h)) w s → Dec (h .unit ≡ w) → Dec (h .slot ≡ s) → Stem b 0 w s x ⊎ New b b″ w s x
+    go : Place (members (nodeNamed b h)) w s → Dec (h .unit ≡ w) → Dec (h .slot ≡ s) → Stem b 0 w s x ⊎ New b b″ w s x
     go (hit g i f k) p q = inl (stem-restated b b″ w s x grows none
         (ap₂ (slotOf b″) (sym f) (sym k) ∙ expand-member b h g i (far b S u h P g i) ∙ ap₂ (λ (y z : ℕ). restate (slotOf b y z) grows none) f k) e)
     go (miss m) (yes p) (yes q) = absurd (none-some (expand-at b h (λ g i y z. far b S u h P g i (sym y) (sym z))) (ap₂ (slotOf b″) p q ∙ e))

@@ -8,7 +8,7 @@ use mathlib.Core.List.{List}
 use lib.ListN.{length}
 use lib.IntN.{ℤ, pos, _+ℤ_, _-ℤ_, _*ℤ_}
 use Rattle.ledger_spec.specs.Bench.{Handle, State, rate, stays, grows, Node, Bench, fresh}
-use Rattle.ledger_spec.specs.Look.{interface, slotOf, nodeAt, top}
+use Rattle.ledger_spec.specs.Look.{interface, slotOf, nodeNamed, top}
 use Rattle.ledger_spec.specs.Change.{share, restate, withNode, mark}
 use Rattle.ledger_spec.specs.Deeds.{newHandle, members, addDefect, addBlossom, removeBlossom, growSlot, growBy, fusedParent}
 use Rattle.ledger_spec.specs.Calls.{nobody, Defect, Blossom, Expand, SetState, Grow, Fuse, Clear}
@@ -29,7 +29,7 @@ use Rattle.ledger_laws.proofs.Answered.{testsOf, deedOf, nodeOf, zero-s
 -- ---- defect: one slot more, which holds the new node; links, progress and sums as they were; the speed up 1
 pub record DefectLeaves (b : Bench) (u v : ℕ) (h : Handle) (b′ : Bench) : Type 0 where
   pub handle : h ≡ newHandle b u
-  pub new : nodeAt b′ (newHandle b u) ≡ some (defectNode b v)
+  pub new : nodeNamed b′ (newHandle b u) ≡ some (defectNode b v)
   pub others : (w s : ℕ) → (w ≡ u → s ≡ length (interface b u .slots) → ⊥) → slotOf b′ w s ≡ slotOf b w s
   pub quiet : Quiet b b′
   pub speed : interface b′ u .speed ≡ interface b u .speed +ℤ pos 1
@@ -52,8 +52,8 @@ defect-leaves b u v z = subst (DefectLeaves b u v (answer b (Defect u v) .node))
 -- ---- blossom: one slot more, which holds the new node; its members stay and have it for parent; all else as it was
 pub record BlossomLeaves (b : Bench) (u : ℕ) (hs : List Handle) (ts : List (Handle × Handle)) (h : Handle) (b′ : Bench) : Type 0 where
   pub handle : h ≡ newHandle b u
-  pub new : nodeAt b′ (newHandle b u) ≡ some (blossomNode b hs ts)
-  pub members : (g : Handle) (n : Node) → In g hs → nodeAt b g ≡ some n → nodeAt b′ g ≡ some (withNode n stays (some (newHandle b u)))
+  pub new : nodeNamed b′ (newHandle b u) ≡ some (blossomNode b hs ts)
+  pub members : (g : Handle) (n : Node) → In g hs → nodeNamed b g ≡ some n → nodeNamed b′ g ≡ some (withNode n stays (some (newHandle b u)))
   pub others : (w s : ℕ) → ((g : Handle) → In g hs → g .unit ≡ w → g .slot ≡ s → ⊥) → (w ≡ u → s ≡ length (interface b u .slots) → ⊥) → slotOf b′ w s ≡ slotOf b w s
   pub quiet : Quiet b b′
   pub next : b′ .next ≡ suc (b .next)
@@ -75,7 +75,7 @@ blossom-leaves b u hs ts z = subst (BlossomLeaves b u hs ts (answer b (Blossom u
     low : u < length (b .interfaces)
     low = inside b (says b (zero-sound b (Blossom u hs ts) z) .frame) (P .here .low)
 
-    taken : (g : Handle) (n : Node) → In g hs → nodeAt b g ≡ some n → nodeAt (addBlossom b u hs ts) g ≡ some (withNode n stays (some (newHandle b u)))
+    taken : (g : Handle) (n : Node) → In g hs → nodeNamed b g ≡ some n → nodeNamed (addBlossom b u hs ts) g ≡ some (withNode n stays (some (newHandle b u)))
     taken g n i e = let H = node-has b g n e in
         has-node (addBlossom b u hs ts) g (withNode n stays (some (newHandle b u))) (record { stands = blossom-member b u hs ts low g i (away b u hs ts P g i) ∙ ap (λ (o : Option Node). restate o stays (some (newHandle b u))) (H .stands); serial = H .serial })
 
@@ -83,8 +83,8 @@ blossom-leaves b u hs ts z = subst (BlossomLeaves b u hs ts (answer b (Blossom u
 pub record ExpandLeaves (b : Bench) (h g : Handle) (b′ : Bench) : Type 0 where
   pub handle : g ≡ h
   pub gone : slotOf b′ (h .unit) (h .slot) ≡ none
-  pub freed : (k : Handle) (n : Node) → In k (members (nodeAt b h)) → nodeAt b k ≡ some n → nodeAt b′ k ≡ some (withNode n grows none)
-  pub others : (w s : ℕ) → ((k : Handle) → In k (members (nodeAt b h)) → k .unit ≡ w → k .slot ≡ s → ⊥) → (h .unit ≡ w → h .slot ≡ s → ⊥) → slotOf b′ w s ≡ slotOf b w s
+  pub freed : (k : Handle) (n : Node) → In k (members (nodeNamed b h)) → nodeNamed b k ≡ some n → nodeNamed b′ k ≡ some (withNode n grows none)
+  pub others : (w s : ℕ) → ((k : Handle) → In k (members (nodeNamed b h)) → k .unit ≡ w → k .slot ≡ s → ⊥) → (h .unit ≡ w → h .slot ≡ s → ⊥) → slotOf b′ w s ≡ slotOf b w s
   pub quiet : Quiet b b′
   pub next : b′ .next ≡ b .next
   pub count : (w : ℕ) → length (interface b′ w .slots) ≡ length (interface b w .slots)
@@ -107,7 +107,7 @@ expand-leaves b u h z = subst (ExpandLeaves b h (answer b (Expand u h) .node)) (
     P : ExpandPassed b u h
     P = expand-passed b u h (zero-tests b (Expand u h) z)
 
-    free : (k : Handle) (n : Node) → In k (members (nodeAt b h)) → nodeAt b k ≡ some n → nodeAt (removeBlossom b h) k ≡ some (withNode n grows none)
+    free : (k : Handle) (n : Node) → In k (members (nodeNamed b h)) → nodeNamed b k ≡ some n → nodeNamed (removeBlossom b h) k ≡ some (withNode n grows none)
     free k n i e = let H = node-has b k n e in
         has-node (removeBlossom b h) k (withNode n grows none) (record { stands = expand-member b h k i (far b (S .sewn) u h P k i) ∙ ap (λ (o : Option Node). restate o grows none) (H .stands); serial = H .serial })
 
@@ -115,8 +115,8 @@ expand-leaves b u h z = subst (ExpandLeaves b h (answer b (Expand u h) .node)) (
 pub record StateLeaves (b : Bench) (u : ℕ) (h : Handle) (s : State) (g : Handle) (b′ : Bench) : Type 0 where
   pub handle : g ≡ h
   pub node : Node
-  pub was : nodeAt b h ≡ some node
-  pub now : nodeAt b′ h ≡ some (withNode node s (node .parent))
+  pub was : nodeNamed b h ≡ some node
+  pub now : nodeNamed b′ h ≡ some (withNode node s (node .parent))
   pub others : (w t : ℕ) → (h .unit ≡ w → h .slot ≡ t → ⊥) → slotOf b′ w t ≡ slotOf b w t
   pub quiet : Quiet b b′
   pub speed : interface b′ u .speed ≡ interface b u .speed +ℤ (rate s -ℤ rate (node .state))
@@ -154,7 +154,7 @@ state-leaves b u h s z = subst (StateLeaves b u h s (answer b (SetState u h s) .
 pub record GrowLeaves (b : Bench) (u : ℕ) (l : ℤ) (h : Handle) (b′ : Bench) : Type 0 where
   pub handle : h ≡ nobody
   pub inside : (w s : ℕ) → top b w ≡ u → slotOf b′ w s ≡ growSlot l (slotOf b w s)
-  pub named : (g : Handle) (n : Node) → top b (g .unit) ≡ u → nodeAt b g ≡ some n → nodeAt b′ g ≡ some (grownNode l n)
+  pub named : (g : Handle) (n : Node) → top b (g .unit) ≡ u → nodeNamed b g ≡ some n → nodeNamed b′ g ≡ some (grownNode l n)
   pub outside : (w s : ℕ) → top b w ≢ u → slotOf b′ w s ≡ slotOf b w s
   pub sum : interface b′ u .sum ≡ interface b u .sum +ℤ l *ℤ interface b u .speed
   pub sum-else : (w : ℕ) → w ≢ u → interface b′ w .sum ≡ interface b w .sum

@@ -11,13 +11,13 @@ use lib.Dec.{eqb}
 use borrow.Author.Tests.{eq-eqb, ne-eqb}
 use lib.IntN.{ℤ, pos, natAbs, _-ℤ_}
 use Rattle.ledger_spec.specs.Bench.{Handle, Member, Class, defect, blossom, Node, Bench}
-use Rattle.ledger_spec.specs.Look.{interface, nodeAt, tree, sameHandle}
+use Rattle.ledger_spec.specs.Look.{interface, nodeNamed, tree, sameHandle}
 use Rattle.ledger_spec.specs.Tests.{any, stale, isDefect}
 use Rattle.ledger_spec.specs.Calls.{Call}
 use Rattle.ledger_spec.specs.Reads.{slotsOf}
 use Rattle.ledger_spec.specs.Walk.{outermost}
-use Rattle.ledger_spec.specs.Check.{indexIn, memberVerdict, circleVerdict, walk, totalOf, verdict}
-use Rattle.ledger_spec.specs.Book.{turns, begun}
+use Rattle.ledger_spec.specs.Check.{indexIn, memberVerdict, circleVerdict, finding, totalOf, verdict}
+use Rattle.ledger_spec.specs.Book.{turns, newBook}
 use Rattle.ledger_spec.specs.Account.{total}
 use Rattle.ledger_spec.proofs.Ints.{zero-diff, diff-zero}
 use Rattle.ledger_spec.proofs.Trees.{along}
@@ -27,7 +27,7 @@ use Rattle.ledger_laws.proofs.Turns.{total-agrees, agrees-total}
 module _ (b : Bench) where
   member-small : (m : Member) → memberVerdict b m ≤ 4
   unfolding memberVerdict
-  member-small m = go (isDefect (nodeAt b (m .node))) (sameHandle (m .touch .0) (m .node) && sameHandle (m .touch .1) (m .node)) (stale b (m .touch .0) || stale b (m .touch .1))
+  member-small m = go (isDefect (nodeNamed b (m .node))) (sameHandle (m .touch .0) (m .node) && sameHandle (m .touch .1) (m .node)) (stale b (m .touch .0) || stale b (m .touch .1))
       (sameHandle (outermost b (m .touch .0)) (outermost b (m .node)) && sameHandle (outermost b (m .touch .1)) (outermost b (m .node)))
     where
       pick : Bool → Bool → Bool → Bool → ℕ
@@ -61,42 +61,42 @@ module _ (b : Bench) where
   abbrev Entry : Type 0
   Entry = ℕ × ℕ × Option Node
 
-  pub walk-small : (whole ts : List Entry) (seen : List ℕ) (k : ℕ) → walk b whole ts seen k .0 ≤ 4
-  unfolding walk
+  pub walk-small : (whole ts : List Entry) (seen : List ℕ) (k : ℕ) → finding b whole ts seen k .0 ≤ 4
+  unfolding finding
   walk-small whole [] seen k = omega arith
   walk-small whole (t ∷ ts) seen k = go (t .2) (λ s j. walk-small whole ts s j)
     where
       ringed : ℕ × Handle → ℕ × ℕ
-      ringed c = elim (c .0) [ zero ↦ walk b whole ts seen (suc k) | suc w ↦ (suc w, indexIn whole 0 (c .1)) ]
+      ringed c = elim (c .0) [ zero ↦ finding b whole ts seen (suc k) | suc w ↦ (suc w, indexIn whole 0 (c .1)) ]
 
       once : ℕ → Bool → ℕ × ℕ
-      once v x = elim x [ true ↦ (1, k) | false ↦ walk b whole ts (v ∷ seen) (suc k) ]
+      once v x = elim x [ true ↦ (1, k) | false ↦ finding b whole ts (v ∷ seen) (suc k) ]
 
       of : Class → ℕ × ℕ
       of c = elim c [ defect v ↦ once v (any (eqb v) seen) | blossom ms ↦ ringed (circleVerdict b ms) ]
 
       pick : Option Node → ℕ × ℕ
-      pick o = elim o [ none ↦ walk b whole ts seen (suc k) | some n ↦ of (n .class) ]
+      pick o = elim o [ none ↦ finding b whole ts seen (suc k) | some n ↦ of (n .class) ]
 
-      ring : (c : ℕ × Handle) → c .0 ≤ 4 → walk b whole ts seen (suc k) .0 ≤ 4 → ringed c .0 ≤ 4
+      ring : (c : ℕ × Handle) → c .0 ≤ 4 → finding b whole ts seen (suc k) .0 ≤ 4 → ringed c .0 ≤ 4
       ring c h ih = by (c .0) h
         where
           at : ℕ → ℕ × ℕ
-          at j = elim j [ zero ↦ walk b whole ts seen (suc k) | suc w ↦ (suc w, indexIn whole 0 (c .1)) ]
+          at j = elim j [ zero ↦ finding b whole ts seen (suc k) | suc w ↦ (suc w, indexIn whole 0 (c .1)) ]
 
           by : (j : ℕ) → j ≤ 4 → at j .0 ≤ 4
           by zero x = ih
           by (suc j) x = x
 
-      seen-once : (v : ℕ) (x : Bool) → walk b whole ts (v ∷ seen) (suc k) .0 ≤ 4 → once v x .0 ≤ 4
+      seen-once : (v : ℕ) (x : Bool) → finding b whole ts (v ∷ seen) (suc k) .0 ≤ 4 → once v x .0 ≤ 4
       seen-once v true ih = omega arith
       seen-once v false ih = ih
 
-      class : (c : Class) → ((s : List ℕ) (j : ℕ) → walk b whole ts s j .0 ≤ 4) → of c .0 ≤ 4
+      class : (c : Class) → ((s : List ℕ) (j : ℕ) → finding b whole ts s j .0 ≤ 4) → of c .0 ≤ 4
       class (defect v) ih = seen-once v (any (eqb v) seen) (ih (v ∷ seen) (suc k))
       class (blossom ms) ih = ring (circleVerdict b ms) (circle-small ms) (ih seen (suc k))
 
-      go : (o : Option Node) → ((s : List ℕ) (j : ℕ) → walk b whole ts s j .0 ≤ 4) → pick o .0 ≤ 4
+      go : (o : Option Node) → ((s : List ℕ) (j : ℕ) → finding b whole ts s j .0 ≤ 4) → pick o .0 ≤ 4
       go none ih = ih seen (suc k)
       go (some n) ih = class (n .class) ih
 
@@ -104,7 +104,7 @@ module _ (b : Bench) where
 module _ (b : Bench) (u : ℕ) where
   -- what the walk along the tree finds
   abbrev pub found : ℕ × ℕ
-  found = walk b (slotsOf b u) (slotsOf b u) [] 0
+  found = finding b (slotsOf b u) (slotsOf b u) [] 0
 
   pub verdict-found : (k : ℕ) → found.0 ≡ suc k → verdict b u ≡ found
   unfolding verdict
@@ -136,15 +136,15 @@ module _ (b : Bench) (u : ℕ) where
       go (suc k) f = absurd (omega (arith, e, ap (λ (w : ℕ × ℕ). w .0) (verdict-found k f), walk-small b (slotsOf b u) (slotsOf b u) [] 0))
 
 -- ---- after calls from set-up: exactly where what went from the tree does not add up to 0
-module _ (n : ℕ) (cs : List Call) (i : ℕ) (h : i < 8) (free : interface (turns (begun n) cs .bench) i .parent ≡ none) where
+module _ (n : ℕ) (cs : List Call) (i : ℕ) (h : i < 8) (free : interface (turns (newBook n) cs .bench) i .parent ≡ none) where
   abbrev pub went : ℤ
-  went = along (λ u. total (turns (begun n) cs .gone u)) (tree 8 (turns (begun n) cs .bench) i)
+  went = along (λ u. total (turns (newBook n) cs .gone u)) (tree 8 (turns (newBook n) cs .bench) i)
 
-  pub five : found (turns (begun n) cs .bench) i .0 ≡ 0 → went ≢ pos 0 → verdict (turns (begun n) cs .bench) i ≡ (5, 0)
-  five e q = verdict-five (turns (begun n) cs .bench) i e (λ s. q (agrees-total n cs i h free s))
+  pub five : found (turns (newBook n) cs .bench) i .0 ≡ 0 → went ≢ pos 0 → verdict (turns (newBook n) cs .bench) i ≡ (5, 0)
+  five e q = verdict-five (turns (newBook n) cs .bench) i e (λ s. q (agrees-total n cs i h free s))
 
-  pub not-five : found (turns (begun n) cs .bench) i .0 ≡ 0 → went ≡ pos 0 → verdict (turns (begun n) cs .bench) i ≡ (0, 0)
-  not-five e q = verdict-zero (turns (begun n) cs .bench) i e (total-agrees n cs i h free q)
+  pub not-five : found (turns (newBook n) cs .bench) i .0 ≡ 0 → went ≡ pos 0 → verdict (turns (newBook n) cs .bench) i ≡ (0, 0)
+  not-five e q = verdict-zero (turns (newBook n) cs .bench) i e (total-agrees n cs i h free q)
 
-  pub five-went : verdict (turns (begun n) cs .bench) i .0 ≡ 5 → went ≢ pos 0
-  five-went e q = five-only (turns (begun n) cs .bench) i e .1 (total-agrees n cs i h free q)
+  pub five-went : verdict (turns (newBook n) cs .bench) i .0 ≡ 5 → went ≢ pos 0
+  five-went e q = five-only (turns (newBook n) cs .bench) i e .1 (total-agrees n cs i h free q)

@@ -13,11 +13,11 @@ use Rattle.kinds.specs.declared.Entry.{Entry}
 use Rattle.kinds.specs.declared.Stop.{Stop}
 use Rattle.kinds.specs.declared.Obstacle.{Obstacle}
 use Rattle.ledger_spec.specs.Bench.{Bench}
-use Rattle.ledger_spec.specs.Tests.{first, any, given}
+use Rattle.ledger_spec.specs.Tests.{first, any, isSome}
 use Rattle.ledger_spec.specs.Reads.{said}
 use Rattle.ledger_spec.specs.Sound.{sound}
-use Rattle.ledger_spec.specs.Groups.{Group, growth, conflicts, soundGroup, allListable, rising, added, extended, topOf, front, popped}
-use Rattle.ledger_spec.specs.GroupCalls.{takeTests, topIn, afterPop, pop, handlesOf, gone, vertexOf, orElse, add, groupHandles, extend}
+use Rattle.ledger_spec.specs.Groups.{Group, growth, conflicts, soundGroup, allListable, risingFrom, added, extended, lastOf, allButLast, popped}
+use Rattle.ledger_spec.specs.GroupCalls.{takeTests, lastIn, afterPop, pop, handlesOf, staleCode, vertexOf, orElse, add, groupHandles, extend}
 use Rattle.ledger_spec.proofs.Lists.{both-true}
 use Rattle.ledger_laws.proofs.GroupSound.{added-sound, extended-sound, popped-sound}
 
@@ -40,11 +40,11 @@ after-sound (conflicts l t) s = popped-sound l t s
 
 pub pop-sound : (g : Group) → soundGroup g ≡ true → soundGroup (pop g .1 .1) ≡ true
 unfolding pop
-pop-sound g s = said-keeps (λ (r : Option Obstacle × Group). soundGroup (r .1) ≡ true) (first (takeTests g)) (topIn g, afterPop g) (none, g) (after-sound g s) s
+pop-sound g s = said-keeps (λ (r : Option Obstacle × Group). soundGroup (r .1) ≡ true) (first (takeTests g)) (lastIn g, afterPop g) (none, g) (after-sound g s) s
 
 pub pop-refused : (g : Group) → pop g .0 ≢ 0 → pop g .1 ≡ (none, g)
 unfolding pop
-pop-refused g q = said-refused (first (takeTests g)) (topIn g, afterPop g) (none, g) q
+pop-refused g q = said-refused (first (takeTests g)) (lastIn g, afterPop g) (none, g) q
 
 -- ---- add, extend
 else-sound : (o : Option Group) (g : Group) → ((q : Group) → o ≡ some q → soundGroup q ≡ true) → soundGroup g ≡ true → soundGroup (orElse o g) ≡ true
@@ -58,7 +58,7 @@ module _ (b : Bench) (g : Group) where
 
   pub add-refused : (o : Obstacle) → add b g o .0 ≢ 0 → add b g o .1 ≡ g
   unfolding add
-  add-refused o q = said-refused (first ((not (sound b && soundGroup g), 2) ∷ (any (gone b) (handlesOf o), 8) ∷ (not (given (added g o (vertexOf b o))), 20) ∷ [])) (orElse (added g o (vertexOf b o)) g) g q
+  add-refused o q = said-refused (first ((not (sound b && soundGroup g), 2) ∷ (any (staleCode b) (handlesOf o), 8) ∷ (not (isSome (added g o (vertexOf b o))), 20) ∷ [])) (orElse (added g o (vertexOf b o)) g) g q
 
   pub extend-sound : (h : Group) → soundGroup g ≡ true → soundGroup h ≡ true → soundGroup (extend b g h .1) ≡ true
   unfolding extend
@@ -66,38 +66,38 @@ module _ (b : Bench) (g : Group) where
 
   pub extend-refused : (h : Group) → extend b g h .0 ≢ 0 → extend b g h .1 ≡ g
   unfolding extend
-  extend-refused h q = said-refused (first ((not (sound b && (soundGroup g && soundGroup h)), 2) ∷ (any (gone b) (groupHandles h), 8) ∷ (not (given (extended g h)), 20) ∷ [])) (orElse (extended g h) g) g q
+  extend-refused h q = said-refused (first ((not (sound b && (soundGroup g && soundGroup h)), 2) ∷ (any (staleCode b) (groupHandles h), 8) ∷ (not (isSome (extended g h)), 20) ∷ [])) (orElse (extended g h) g) g q
 
 -- ---- (P9) list c, d, stops x, y at rising vertices: pops give d, c, none, and each takes a stop with it
-pop-taken : (l : List Entry) (s : List Stop) → soundGroup (conflicts l s) ≡ true → pop (conflicts l s) ≡ (0, (topOf l s, popped l s))
+pop-taken : (l : List Entry) (s : List Stop) → soundGroup (conflicts l s) ≡ true → pop (conflicts l s) ≡ (0, (lastOf l s, popped l s))
 unfolding pop said first takeTests
 pop-taken l s e = go (soundGroup (conflicts l s)) e
   where
     answer : Bool → ℕ × (Option Obstacle × Group)
-    answer t = said (first ((not t, 2) ∷ (false, 10) ∷ [])) (topOf l s, popped l s) (none, conflicts l s)
+    answer t = said (first ((not t, 2) ∷ (false, 10) ∷ [])) (lastOf l s, popped l s) (none, conflicts l s)
 
-    go : (t : Bool) → t ≡ true → answer t ≡ (0, (topOf l s, popped l s))
+    go : (t : Bool) → t ≡ true → answer t ≡ (0, (lastOf l s, popped l s))
     go true f = refl
     go false f = absurd (false≢true f)
 
 module _ (c d : Entry) (x y : Stop) (hc : listable (c .obstacle) ≡ true) (hd : listable (d .obstacle) ≡ true)
     (hx : isStop (x .obstacle) ≡ true) (hy : isStop (y .obstacle) ≡ true) (up : x .vertex .0 < y .vertex .0) where
   both-fine : soundGroup (conflicts (c ∷ d ∷ []) (x ∷ y ∷ [])) ≡ true
-  unfolding soundGroup allListable rising
+  unfolding soundGroup allListable risingFrom
   both-fine = both-true (both-true hc (both-true hd refl)) (both-true hx (both-true (le-leb 0 (x .vertex .0) (omega arith)) (both-true hy (both-true (le-leb (suc (x .vertex .0)) (y .vertex .0) up) refl))))
 
   one-fine : soundGroup (conflicts (c ∷ []) (y ∷ [])) ≡ true
-  unfolding soundGroup allListable rising
+  unfolding soundGroup allListable risingFrom
   one-fine = both-true (both-true hc refl) (both-true hy (both-true (le-leb 0 (y .vertex .0) (omega arith)) refl))
 
   pub p9-first : pop (conflicts (c ∷ d ∷ []) (x ∷ y ∷ [])) ≡ (0, (some (d .obstacle), conflicts (c ∷ []) (y ∷ [])))
-  unfolding topOf front
+  unfolding lastOf allButLast
   p9-first = pop-taken (c ∷ d ∷ []) (x ∷ y ∷ []) both-fine
 
   pub p9-second : pop (conflicts (c ∷ []) (y ∷ [])) ≡ (0, (some (c .obstacle), conflicts [] []))
-  unfolding topOf front
+  unfolding lastOf allButLast
   p9-second = pop-taken (c ∷ []) (y ∷ []) one-fine
 
 pub p9-third : pop (conflicts [] []) ≡ (0, (none, conflicts [] []))
-unfolding topOf front soundGroup allListable rising
+unfolding lastOf allButLast soundGroup allListable risingFrom
 p9-third = pop-taken [] [] refl

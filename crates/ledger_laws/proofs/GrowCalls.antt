@@ -8,7 +8,7 @@ use lib.IntN.{ℤ, pos, negsuc, natAbs, _+ℤ_, +ℤ-assoc, +ℤ-idl}
 use lib.Signed.{ltZ}
 use Rattle.ledger_spec.specs.Bench.{Interface, Bench}
 use Rattle.ledger_spec.specs.Look.{interface}
-use Rattle.ledger_spec.specs.Tests.{first, given}
+use Rattle.ledger_spec.specs.Tests.{first, isSome}
 use Rattle.ledger_spec.specs.Refuse.{growTests}
 use Rattle.ledger_spec.specs.Deeds.{growBy, join}
 use Rattle.ledger_spec.specs.Frame.{Frame}
@@ -35,7 +35,7 @@ room m z (negsuc y) p e = refl
 -- ---- back to the tests
 pub grow-tests : (b : Bench) (u : ℕ) (l : ℤ) → GrowPassed b u l → first (growTests b u l) ≡ 0
 unfolding growTests
-grow-tests b u l P = failed (growTests b u l) (lt-leb 8 u (P .here .low), (ap given (P .here .free), (ap₂ _||_ (P .forward) (P .limit), tt)))
+grow-tests b u l P = failed (growTests b u l) (lt-leb 8 u (P .here .low), (ap isSome (P .here .free), (ap₂ _||_ (P .forward) (P .limit), tt)))
 
 -- an interface that may be named still may be
 grow-open : (b : Bench) (u : ℕ) (l : ℤ) (w : ℕ) → Open b w → Open (growBy b u l) w
@@ -74,7 +74,7 @@ module _ (b : Bench) (p l r : ℕ) (a : ℤ) where
     p-none = sym (parents p) ∙ f .p-none;
     no-slots = grow-bare b l a p (grow-bare (growBy b l a) r a p (f .no-slots));
     no-progress = ap natAbs (sym (grow-progress-else (growBy b l a) r a p (λ e. omega arith) ∙ grow-progress-else b l a p (λ e. omega arith))) ∙ f .no-progress;
-    no-halves = ap given (sym (grow-halves (growBy b l a) r a p ∙ grow-halves b l a p)) ∙ f .no-halves;
+    no-halves = ap isSome (sym (grow-halves (growBy b l a) r a p ∙ grow-halves b l a p)) ∙ f .no-halves;
   }
     where
       parents : (w : ℕ) → interface (growBy (growBy b l a) r a) w .parent ≡ interface b w .parent

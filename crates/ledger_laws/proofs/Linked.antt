@@ -9,7 +9,7 @@ use native.Mathlib.Decide.{ℕ-discrete}
 use lib.ListN.{getD, replicate}
 use Rattle.ledger_spec.specs.Bench.{Interface, Bench, fresh, setUp}
 use Rattle.ledger_spec.specs.Look.{interface, top}
-use Rattle.ledger_spec.specs.Tests.{given}
+use Rattle.ledger_spec.specs.Tests.{isSome}
 use Rattle.ledger_spec.specs.Deeds.{join, wipe}
 use Rattle.ledger_spec.specs.Frame.{Frame}
 use Rattle.ledger_spec.proofs.Knit.{some-eq, none-some}
@@ -59,14 +59,14 @@ module _ (b : Bench) (F : Frame b) (p l r : ℕ) (f : Fusable b p l r) where
       go (no x) (yes y) = let z : p ≡ q = some-eq (now-r u y) e in omega arith
       go (no x) (no y) = F .rising u q (sym (rest u x y) ∙ e)
 
-  links : (u q : ℕ) → interface b′ u .parent ≡ some q → given (interface b′ q .halves) ≡ true
+  links : (u q : ℕ) → interface b′ u .parent ≡ some q → isSome (interface b′ q .halves) ≡ true
   links u q e = go (ℕ-discrete u l) (ℕ-discrete u r) (ℕ-discrete q p)
     where
-      go : Dec (u ≡ l) → Dec (u ≡ r) → Dec (q ≡ p) → given (interface b′ q .halves) ≡ true
-      go x y (yes z) = ap given (halves-p q z)
+      go : Dec (u ≡ l) → Dec (u ≡ r) → Dec (q ≡ p) → isSome (interface b′ q .halves) ≡ true
+      go x y (yes z) = ap isSome (halves-p q z)
       go (yes x) y (no z) = absurd (z (some-eq e (now-l u x)))
       go (no x) (yes y) (no z) = absurd (z (some-eq e (now-r u y)))
-      go (no x) (no y) (no z) = ap given (halves-else q z) ∙ F .linked u q (sym (rest u x y) ∙ e)
+      go (no x) (no y) (no z) = ap isSome (halves-else q z) ∙ F .linked u q (sym (rest u x y) ∙ e)
 
   ups : (w u c d : ℕ) → interface b′ w .parent ≡ some u → interface b′ u .halves ≡ some (c, d) → (w ≡ c) ⊎ (w ≡ d)
   ups w u c d e h = go (ℕ-discrete w l) (ℕ-discrete w r) (ℕ-discrete u p)
@@ -122,7 +122,7 @@ module _ (b : Bench) (F : Frame b) (u : ℕ) where
   clear-frame = record {
     eight = wipe-length b u ∙ F .eight;
     rising = λ w q e. F .rising w q (parent-of w q e .1);
-    linked = λ w q e. let z = parent-of w q e in ap (λ (f : Interface). given (f .halves)) (wipe-else b u q (λ t. z .0 (top-parent b F w q (z .1) ∙ t))) ∙ F .linked w q (z .1);
+    linked = λ w q e. let z = parent-of w q e in ap (λ (f : Interface). isSome (f .halves)) (wipe-else b u q (λ t. z .0 (top-parent b F w q (z .1) ∙ t))) ∙ F .linked w q (z .1);
     up = λ w x c d e h. F .up w x c d (parent-of w x e .1) (halves-of x (c, d) h .1);
     left = λ x c d h. let z = halves-of x (c, d) h in stays-up c x (z .0) (F .left x c d (z .1));
     right = λ x c d h. let z = halves-of x (c, d) h in stays-up d x (z .0) (F .right x c d (z .1));

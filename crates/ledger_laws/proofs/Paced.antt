@@ -12,7 +12,7 @@ use Rattle.ledger_spec.specs.Bench.{Handle, State, rate, Node, Interface, Bench
 use Rattle.ledger_spec.specs.Look.{interface, slotOf, top}
 use Rattle.ledger_spec.specs.Change.{share, withInterface, faster, place, push, restate, mark, markAll}
 use Rattle.ledger_spec.specs.Deeds.{growSlot, growBy, join, wipe}
-use Rattle.ledger_spec.specs.Account.{over, gate, ratesIn}
+use Rattle.ledger_spec.specs.Account.{slotSum, gate, ratesIn}
 use Rattle.ledger_spec.specs.Frame.{Frame}
 use Rattle.ledger_spec.proofs.Sums.{Σ-same, Σ-zero, zero-gate}
 use Rattle.ledger_spec.proofs.Interfaces.{over-set, over-snoc, put-out}
@@ -39,8 +39,8 @@ module _ (b : Bench) (F : Frame b) (u s : ℕ) (y : Option Node) (u<8 : u < 8) (
   pub place-paced : Paced b → Paced (place b u s y)
   place-paced P = tops-same _ _ (quiet-top b (place b u s y) (place-quiet b u s y))
       (bal-change (top b) (ratesIn b) (ratesIn (place b u s y)) u (share y -ℤ share (slotOf b u s)) u<8
-      (ap (over share) (place-here b u s y (inside b F u<8)) ∙ over-set share refl (interface b u .slots) s y within)
-      (λ w q. ap (over share) (place-else b u s y w q)) (λ i. interface b i .speed) (λ i. interface (place b u s y) i .speed)
+      (ap (slotSum share) (place-here b u s y (inside b F u<8)) ∙ over-set share refl (interface b u .slots) s y within)
+      (λ w q. ap (slotSum share) (place-else b u s y w q)) (λ i. interface b i .speed) (λ i. interface (place b u s y) i .speed)
       (place-fast b u s y (inside b F (below b F 8 u u<8))) (place-slow b u s y) P)
 
 -- a handle of no interface changes nothing
@@ -78,8 +78,8 @@ markAll-paced b F (h ∷ hs) s p P = markAll-paced (mark b h s p) (quiet-frame b
 pub push-paced : (b : Bench) → Frame b → (u : ℕ) (n : Node) → u < 8 → interface b u .parent ≡ none → Paced b → Paced (push b u n)
 push-paced b F u n u<8 root P = tops-same _ _ (quiet-top b (push b u n) (push-quiet b u n))
     (bal-change (top b) (ratesIn b) (ratesIn (push b u n)) u (rate (n .state)) u<8
-    (ap (over share) (push-here b u n (inside b F u<8)) ∙ over-snoc share (interface b u .slots) (some n))
-    (λ w q. ap (over share) (push-else b u n w q)) (λ i. interface b i .speed) (λ i. interface (push b u n) i .speed)
+    (ap (slotSum share) (push-here b u n (inside b F u<8)) ∙ over-snoc share (interface b u .slots) (some n))
+    (λ w q. ap (slotSum share) (push-else b u n w q)) (λ i. interface b i .speed) (λ i. interface (push b u n) i .speed)
     (subst (λ (t : ℕ). interface (push b u n) t .speed ≡ interface b t .speed +ℤ rate (n .state)) (sym self) (push-fast b u n (inside b F u<8)))
     (λ i q. push-slow b u n i (λ e. q (e ∙ sym self))) P)
   where
@@ -92,8 +92,8 @@ unfolding growSlot
 grown-share l none = refl
 grown-share l (some n) = refl
 
-grown-rates : (l : ℤ) (xs : List (Option Node)) → over share (map (growSlot l) xs) ≡ over share xs
-unfolding over
+grown-rates : (l : ℤ) (xs : List (Option Node)) → slotSum share (map (growSlot l) xs) ≡ slotSum share xs
+unfolding slotSum
 grown-rates l [] = refl
 grown-rates l (x ∷ xs) = λ i. grown-share l x i +ℤ grown-rates l xs i
 
@@ -101,8 +101,8 @@ pub grow-rates : (b : Bench) → Frame b → (u : ℕ) (l : ℤ) (w : ℕ) → w
 grow-rates b F u l w h = go (ℕ-discrete (top b w) u)
   where
     go : Dec (top b w ≡ u) → ratesIn (growBy b u l) w ≡ ratesIn b w
-    go (yes e) = ap (over share) (grow-under b u l w (inside b F h) e) ∙ grown-rates l (interface b w .slots)
-    go (no e) = ap (over share) (grow-else b u l w (inside b F h) e)
+    go (yes e) = ap (slotSum share) (grow-under b u l w (inside b F h) e) ∙ grown-rates l (interface b w .slots)
+    go (no e) = ap (slotSum share) (grow-else b u l w (inside b F h) e)
 
 pub grow-paced : (b : Bench) → Frame b → (u : ℕ) (l : ℤ) → Paced b → Paced (growBy b u l)
 grow-paced b F u l P = tops-same _ _ (grow-top b u l) (λ i h root. grow-speed b u l i ∙ P i h root
@@ -110,24 +110,24 @@ grow-paced b F u l P = tops-same _ _ (grow-top b u l) (λ i h root. grow-speed b
 
 -- ---- fusing
 pub fuse-paced : (b : Bench) → Frame b → (p l r : ℕ) → Fusable b p l r → Paced b → Paced (join b p l r)
-unfolding over
-fuse-paced b F p l r f P = subst (Balanced (top (join b p l r)) (λ i. interface (join b p l r) i .speed)) (sym (fun-ext (λ w. ap (over share) (join-slots b p l r (joins F f) w))))
+unfolding slotSum
+fuse-paced b F p l r f P = subst (Balanced (top (join b p l r)) (λ i. interface (join b p l r) i .speed)) (sym (fun-ext (λ w. ap (slotSum share) (join-slots b p l r (joins F f) w))))
     (bal-fuse (top b) (top (join b p l r)) (ratesIn b) p l r (climb-none 8 b l (f .l-none)) (climb-none 8 b r (f .r-none)) (f .l≢r)
     (join-top-l b F p l r f) (join-top-r b F p l r f) (join-top-else b F p l r f)
-    (λ u e. ap (ratesIn b) (alone b F p (f .no-halves) u e) ∙ ap (over share) (f .no-slots))
+    (λ u e. ap (ratesIn b) (alone b F p (f .no-halves) u e) ∙ ap (slotSum share) (f .no-slots))
     (λ i. interface b i .speed) (λ i. interface (join b p l r) i .speed) (omega arith) (omega arith)
     (ap (λ (f : Interface). f .speed) (join-p b p l r (joins F f))) (join-kept b p l r (joins F f) (λ f. f .speed) (λ f q. refl)) P)
 
 -- ---- clearing
 pub clear-paced : (b : Bench) → Frame b → (u : ℕ) → Paced b → Paced (wipe b u)
-unfolding over
+unfolding slotSum
 clear-paced b F u P = bal-clear (top b) (top (wipe b u)) (ratesIn b) (ratesIn (wipe b u)) u (λ w h. tops b F w) (λ w h. wipe-top-else b u F w)
-    (λ w h e. ap (λ (f : Interface). over share (f .slots)) (wipe-under b u w e)) (λ w h e. ap (λ (f : Interface). over share (f .slots)) (wipe-else b u w e))
+    (λ w h e. ap (λ (f : Interface). slotSum share (f .slots)) (wipe-under b u w e)) (λ w h e. ap (λ (f : Interface). slotSum share (f .slots)) (wipe-else b u w e))
     (λ i. interface b i .speed) (λ i. interface (wipe b u) i .speed)
     (λ w h e. ap (λ (f : Interface). f .speed) (wipe-under b u w e)) (λ w h e. ap (λ (f : Interface). f .speed) (wipe-else b u w e)) P
 
 -- ---- set-up
 pub opened-paced : (n : ℕ) → Paced (setUp n)
-unfolding over
+unfolding slotSum
 opened-paced n i h root = ap (λ (f : Interface). f .speed) (all-fresh 8 i)
-    ∙ sym (Σ-zero 8 _ (λ w x. ap (λ (f : Interface). gate (eqb (top (setUp n) w) i) (over share (f .slots))) (all-fresh 8 w) ∙ zero-gate (eqb (top (setUp n) w) i)))
+    ∙ sym (Σ-zero 8 _ (λ w x. ap (λ (f : Interface). gate (eqb (top (setUp n) w) i) (slotSum share (f .slots))) (all-fresh 8 w) ∙ zero-gate (eqb (top (setUp n) w) i)))

@@ -6,9 +6,9 @@ use mathlib.Core.List.{List, [], _∷_, _++_}
 use lib.ListN.{length}
 use lib.IntN.{ℤ, natAbs}
 use Rattle.ledger_spec.specs.Bench.{Handle, State, grows, stays, Node, Bench}
-use Rattle.ledger_spec.specs.Look.{interface, nodeAt, top, tree}
+use Rattle.ledger_spec.specs.Look.{interface, nodeNamed, top, tree}
 use Rattle.ledger_spec.specs.Change.{place, push, mark, markAll}
-use Rattle.ledger_spec.specs.Tests.{given}
+use Rattle.ledger_spec.specs.Tests.{isSome}
 use Rattle.ledger_spec.specs.Deeds.{newHandle, addDefect, addBlossom, removeBlossom, members}
 use Rattle.ledger_spec.specs.SoundTree.{reach}
 use Rattle.ledger_spec.specs.Frame.{Frame}
@@ -22,7 +22,7 @@ pub frame-same : (b b′ : Bench) → length (b′ .interfaces) ≡ length (b .i
 frame-same b b′ l ps hs F = record {
   eight = l ∙ F .eight;
   rising = λ u p e. F .rising u p (sym (ps u) ∙ e);
-  linked = λ u p e. ap given (hs p) ∙ F .linked u p (sym (ps u) ∙ e);
+  linked = λ u p e. ap isSome (hs p) ∙ F .linked u p (sym (ps u) ∙ e);
   up = λ w u l r e f. F .up w u l r (sym (ps w) ∙ e) (sym (hs u) ∙ f);
   left = λ u l r f. ps l ∙ F .left u l r (sym (hs u) ∙ f);
   right = λ u l r f. ps r ∙ F .right u l r (sym (hs u) ∙ f);
@@ -119,4 +119,4 @@ blossom-quiet b u hs ts = quiet-trans b (markAll b hs stays (some (newHandle b u
 
 pub expand-quiet : (b : Bench) (h : Handle) → Quiet b (removeBlossom b h)
 unfolding removeBlossom
-expand-quiet b h = quiet-trans b (place b (h .unit) (h .slot) none) _ (place-quiet b (h .unit) (h .slot) none) (markAll-quiet (place b (h .unit) (h .slot) none) (members (nodeAt b h)) grows none)
+expand-quiet b h = quiet-trans b (place b (h .unit) (h .slot) none) _ (place-quiet b (h .unit) (h .slot) none) (markAll-quiet (place b (h .unit) (h .slot) none) (members (nodeNamed b h)) grows none)

@@ -13,7 +13,7 @@ use lib.Signed.{ltZ}
 use Rattle.ledger_spec.specs.Bench.{Interface, Bench}
 use Rattle.ledger_spec.specs.Look.{interface, top}
 use Rattle.ledger_spec.specs.Deeds.{growBy, join, wipe}
-use Rattle.ledger_spec.specs.Account.{gate, Under}
+use Rattle.ledger_spec.specs.Account.{gate, treeSum}
 use Rattle.ledger_spec.specs.Frame.{Frame}
 use Rattle.ledger_spec.specs.Facts.{W}
 use Rattle.ledger_spec.proofs.Sums.{Σ-same}
@@ -29,7 +29,7 @@ use Rattle.ledger_laws.proofs.Paced.{inside}
 pos-eq : {a c : ℕ} → pos a ≡ pos c → a ≡ c
 pos-eq e = ap natAbs e
 
-under-same : {t t′ : ℕ → ℕ} {v v′ : ℕ → ℤ} → ((w : ℕ) → t′ w ≡ t w) → ((w : ℕ) → v′ w ≡ v w) → (i : ℕ) → Under t′ v′ i ≡ Under t v i
+under-same : {t t′ : ℕ → ℕ} {v v′ : ℕ → ℤ} → ((w : ℕ) → t′ w ≡ t w) → ((w : ℕ) → v′ w ≡ v w) → (i : ℕ) → treeSum t′ v′ i ≡ treeSum t v i
 under-same {t} {t′} {v} {v′} e f i = Σ-same 8 (λ u. gate (eqb (t u) i) (v u)) (λ u. gate (eqb (t′ u) i) (v′ u)) (λ w h. ap₂ (λ (x : ℕ) (y : ℤ). gate (eqb x i) y) (e w) (f w))
 
 -- a number that is not negative
@@ -54,7 +54,7 @@ module _ (b : Bench) (F : Frame b) (u : ℕ) (l : ℤ) (o : Open b u) (forward :
   others : (w : ℕ) → w ≢ u → progressIn (growBy b u l) w ≡ progressIn b w
   others w q = ap (λ (z : ℤ). pos (natAbs z)) (grow-progress-else b u l w q)
 
-  W-now : (i : ℕ) → i < 8 → interface b i .parent ≡ none → pos (W (growBy b u l) i) ≡ Under (top b) (progressIn (growBy b u l)) i
+  W-now : (i : ℕ) → i < 8 → interface b i .parent ≡ none → pos (W (growBy b u l) i) ≡ treeSum (top b) (progressIn (growBy b u l)) i
   W-now i h free = W-under (growBy b u l) (grow-frame b F u l) i h (grow-parent b u l i ∙ free) ∙ under-same (grow-top b u l) (λ w. refl) i
 
   pub W-grow : W (growBy b u l) u ≡ W b u + natAbs l

@@ -9,7 +9,7 @@ use native.Mathlib.Decide.{ℕ-discrete}
 use lib.ListN.{getD, length}
 use lib.IntN.{ℤ}
 use Rattle.ledger_spec.specs.Bench.{Handle, State, Node, Interface, Bench, setUp}
-use Rattle.ledger_spec.specs.Look.{interface, slotOf, nodeAt, top}
+use Rattle.ledger_spec.specs.Look.{interface, slotOf, nodeNamed, top}
 use Rattle.ledger_spec.specs.Change.{mark, restate, withNode}
 use Rattle.ledger_spec.specs.Deeds.{addDefect, addBlossom, removeBlossom, circle, members, growBy, growSlot, join, wipe}
 use Rattle.ledger_spec.specs.Frame.{Frame}
@@ -75,7 +75,7 @@ blossom-sewn b F S u hs ts P = sewn-at b b′ (suc (b .next)) (blossom-next b u 
     low = inside b F (P .here .low)
 
 -- ---- expand: no member stands where the blossom does
-pub far : (b : Bench) → Sewn b → (u : ℕ) (h : Handle) (P : ExpandPassed b u h) (g : Handle) → In g (members (nodeAt b h)) → h .unit ≡ g .unit → h .slot ≡ g .slot → ⊥
+pub far : (b : Bench) → Sewn b → (u : ℕ) (h : Handle) (P : ExpandPassed b u h) (g : Handle) → In g (members (nodeNamed b h)) → h .unit ≡ g .unit → h .slot ≡ g .slot → ⊥
 far b S u h P g i x y = none-some (P .orphan) (ap (λ (m : Node). m .parent) (some-eq (P .named .has .stands) (ap₂ (slotOf b) x y ∙ D .has .stands)) ∙ D .parent)
   where
     D : Down (slotOf b) g (mk (h .unit) (h .slot) (P .named .node))
@@ -92,7 +92,7 @@ expand-sewn b S u h P = sewn-at b b′ (b .next) (expand-next b h) (S .begun)
     b′ : Bench
     b′ = removeBlossom b h
 
-    back : (g : Handle) → In g (nodes (P .ms)) → In g (members (nodeAt b h))
+    back : (g : Handle) → In g (nodes (P .ms)) → In g (members (nodeNamed b h))
     back g i = subst (In g) (sym (P .circle)) i
 
 -- ---- set state

@@ -12,7 +12,7 @@ use lib.ListN.{getD, length}
 use lib.IntN.{ℤ, pos, natAbs, _+ℤ_}
 use lib.Signed.{ltZ}
 use Rattle.ledger_spec.specs.Bench.{Handle, State, stays, grows, Node, Interface, Bench, fresh, setUp}
-use Rattle.ledger_spec.specs.Look.{interface, slotOf, nodeAt, top}
+use Rattle.ledger_spec.specs.Look.{interface, slotOf, nodeNamed, top}
 use Rattle.ledger_spec.specs.Change.{place, mark, markAll}
 use Rattle.ledger_spec.specs.Deeds.{newHandle, members, addDefect, addBlossom, removeBlossom, growBy, fusedParent, join, wipe}
 use Rattle.ledger_spec.specs.Frame.{Frame}
@@ -88,7 +88,7 @@ blossom-sound b S u hs ts P = quiet-sound b (addBlossom b u hs ts) S (blossom-qu
 
 pub expand-sound : (b : Bench) → Sound b → (u : ℕ) (h : Handle) → ExpandPassed b u h → Sound (removeBlossom b h)
 expand-sound b S u h P = quiet-sound b (removeBlossom b h) S (expand-quiet b h) (expand-sewn b (S .sewn) u h P)
-    (subst Paced (sym (expand-is b h)) (markAll-paced c (quiet-frame b c (place-quiet b (h .unit) (h .slot) none) (S .frame)) (members (nodeAt b h)) grows none
+    (subst Paced (sym (expand-is b h)) (markAll-paced c (quiet-frame b c (place-quiet b (h .unit) (h .slot) none) (S .frame)) (members (nodeNamed b h)) grows none
     (place-paced b (S .frame) (h .unit) (h .slot) none (held-unit b (S .frame) (h .unit) (h .slot) (P .named .node) (P .named .has .stands)) (λ x. refl) (paced-of b S))))
     (expand-came b (S .sewn) u h P) (omega (arith, expand-next b h)) (omega (arith, expand-next b h, S .worn)) (λ w. omega (arith, expand-count b h w, S .few w))
   where

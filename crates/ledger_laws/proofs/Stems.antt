@@ -8,7 +8,7 @@ use mathlib.Core.List.{List, [], _∷_}
 use native.Mathlib.Omega.{arith}
 use lib.IntN.{pos, natAbs}
 use Rattle.ledger_spec.specs.Bench.{Handle, State, Member, blossom, Node, Bench}
-use Rattle.ledger_spec.specs.Look.{slotOf, nodeAt, top}
+use Rattle.ledger_spec.specs.Look.{slotOf, nodeNamed, top}
 use Rattle.ledger_spec.specs.Change.{restate}
 use Rattle.ledger_spec.specs.Deeds.{sizeOf, sizes}
 use Rattle.ledger_spec.specs.Knit.{mk, nodes, In, here, there, Down, Sewn}
@@ -46,7 +46,7 @@ stem-restated b b′ u s x t p e k = go (slotOf b u s) refl (sym e ∙ k)
         record { node = n; stood = f; serial = ap (λ (m : Node). m .serial) y; class = ap (λ (m : Node). m .class) y; size = ap (λ (m : Node). m .size) y; value = omega (arith, ap (λ (m : Node). natAbs (m .value)) y) }
 
 -- ---- sizes
-pub sizes-same : (b b′ : Bench) (hs : List Handle) → ((h : Handle) → In h hs → sizeOf (nodeAt b′ h) ≡ sizeOf (nodeAt b h)) → sizes b′ hs ≡ sizes b hs
+pub sizes-same : (b b′ : Bench) (hs : List Handle) → ((h : Handle) → In h hs → sizeOf (nodeNamed b′ h) ≡ sizeOf (nodeNamed b h)) → sizes b′ hs ≡ sizes b hs
 unfolding sizes
 sizes-same b b′ [] e = refl
 sizes-same b b′ (h ∷ hs) e = ap₂ _+_ (e h (here refl)) (sizes-same b b′ hs (λ g i. e g (there i)))
@@ -54,7 +54,7 @@ sizes-same b b′ (h ∷ hs) e = ap₂ _+_ (e h (here refl)) (sizes-same b b′ 
 module _ (b b′ : Bench) (S : Sewn b) (S′ : Sewn b′) (later : b .next ≤ b′ .next) (d : ℕ → ℕ) (came : Came b b′ d) where
   -- a member of a circle that stood, and stands
   size-kept : (u s : ℕ) (n x : Node) (ms : List Member) → slotOf b u s ≡ some n → slotOf b′ u s ≡ some x → n .class ≡ blossom ms → x .class ≡ blossom ms
-      → (g : Handle) → In g (nodes ms) → sizeOf (nodeAt b′ g) ≡ sizeOf (nodeAt b g)
+      → (g : Handle) → In g (nodes ms) → sizeOf (nodeNamed b′ g) ≡ sizeOf (nodeNamed b g)
   size-kept u s n x ms e e′ r r′ g i = go (came (g .unit) (g .slot) (D′ .node) (D′ .has .stands))
     where
       D : Down (slotOf b) g (mk u s n)
@@ -63,7 +63,7 @@ module _ (b b′ : Bench) (S : Sewn b) (S′ : Sewn b′) (later : b .next ≤ b
       D′ : Down (slotOf b′) g (mk u s x)
       D′ = S′ .knit .down u s x ms g e′ r′ i
 
-      go : Stem b (d (g .unit)) (g .unit) (g .slot) (D′ .node) ⊎ New b b′ (g .unit) (g .slot) (D′ .node) → sizeOf (nodeAt b′ g) ≡ sizeOf (nodeAt b g)
+      go : Stem b (d (g .unit)) (g .unit) (g .slot) (D′ .node) ⊎ New b b′ (g .unit) (g .slot) (D′ .node) → sizeOf (nodeNamed b′ g) ≡ sizeOf (nodeNamed b g)
       go (inl t) = ap sizeOf (has-node b′ g (D′ .node) (D′ .has)) ∙ sym (t .size)
           ∙ ap (λ (m : Node). m .size) (some-eq (t .stood) (D .has .stands)) ∙ ap sizeOf (sym (has-node b g (D .node) (D .has)))
       go (inr t) = absurd (none-some (t .bare) (D .has .stands))

@@ -11,7 +11,7 @@ use borrow.Author.Tests.{eq-eqb, ne-eqb}
 use lib.ListN.{getD}
 use lib.IntN.{ℤ, pos, _+ℤ_, _-ℤ_, +ℤ-comm, +ℤ-idr, +ℤ-invr, +ℤ-negℤ-cancel}
 use Rattle.ledger_spec.specs.Bench.{Handle, grows, stays, Node, Bench, setUp}
-use Rattle.ledger_spec.specs.Look.{interface, slotOf, nodeAt, tree}
+use Rattle.ledger_spec.specs.Look.{interface, slotOf, nodeNamed, tree}
 use Rattle.ledger_spec.specs.Change.{worth, place, markAll}
 use Rattle.ledger_spec.specs.Tests.{first}
 use Rattle.ledger_spec.specs.Refuse.{setUpNo}
@@ -20,8 +20,8 @@ use Rattle.ledger_spec.specs.Calls.{nobody, settle, setUpCall, Call, Defect, Bl
 use Rattle.ledger_spec.specs.Reads.{slotsOf}
 use Rattle.ledger_spec.specs.Check.{totalOf}
 use Rattle.ledger_spec.specs.Answers.{answer}
-use Rattle.ledger_spec.specs.Book.{Book, Gone, wrote, writes, noted, turn, turns, begun}
-use Rattle.ledger_spec.specs.Account.{over, total, valuesAt, ratesAt, Right}
+use Rattle.ledger_spec.specs.Book.{Book, Gone, wrote, writes, noted, turn, turns, newBook}
+use Rattle.ledger_spec.specs.Account.{slotSum, total, valuesAt, ratesAt, Right}
 use Rattle.ledger_spec.specs.Frame.{Frame}
 use Rattle.ledger_spec.specs.Facts.{Sound}
 use Rattle.ledger_spec.proofs.Says.{says}
@@ -46,18 +46,18 @@ note g w x c = elim c [ true ↦ x ∷ g w | false ↦ g w ]
 
 module _ (b : Bench) (S : Sound b) (u : ℕ) (h : Handle) (P : ExpandPassed b u h) (g : Gone) where
   abbrev g′ : Gone
-  g′ = noted g (h .unit) (worth (nodeAt b h))
+  g′ = noted g (h .unit) (worth (nodeNamed b h))
 
-  stands : nodeAt b h ≡ slotOf b (h .unit) (h .slot)
+  stands : nodeNamed b h ≡ slotOf b (h .unit) (h .slot)
   stands = P .named .is ∙ sym (P .named .has .stands)
 
   noted-here : g′ (h .unit) ≡ worth (slotOf b (h .unit) (h .slot)) ∷ g (h .unit)
   unfolding note
-  noted-here = ap (note g (h .unit) (worth (nodeAt b h))) (eq-eqb (h .unit) (h .unit) refl) ∙ ap (λ (o : Option Node). worth o ∷ g (h .unit)) stands
+  noted-here = ap (note g (h .unit) (worth (nodeNamed b h))) (eq-eqb (h .unit) (h .unit) refl) ∙ ap (λ (o : Option Node). worth o ∷ g (h .unit)) stands
 
   noted-else : (w : ℕ) → w ≢ h .unit → g′ w ≡ g w
   unfolding note
-  noted-else w q = ap (note g w (worth (nodeAt b h))) (ne-eqb w (h .unit) q)
+  noted-else w q = ap (note g w (worth (nodeNamed b h))) (ne-eqb w (h .unit) q)
 
   filled : interface b (h .unit) .slots ≡ [] → ⊥
   filled e = none-some (ap (λ (l : List (Option Node)). getD l (h .slot) none) e) (P .named .has .stands)
@@ -65,7 +65,7 @@ module _ (b : Bench) (S : Sound b) (u : ℕ) (h : Handle) (P : ExpandPassed b u 
   expand-booked : Booked b g → Booked (removeBlossom b h) g′
   unfolding total
   expand-booked K = subst (λ (c : Bench). Booked c g′) (sym (expand-is b h))
-      (markAll-booked (place b (h .unit) (h .slot) none) (quiet-frame b _ (place-quiet b (h .unit) (h .slot) none) (S .frame)) (members (nodeAt b h)) grows none g′
+      (markAll-booked (place b (h .unit) (h .slot) none) (quiet-frame b _ (place-quiet b (h .unit) (h .slot) none) (S .frame)) (members (nodeNamed b h)) grows none g′
       (place-booked b (S .frame) (h .unit) (h .slot) none g g′ (held-unit b (S .frame) (h .unit) (h .slot) (P .named .node) (P .named .has .stands)) (λ x. refl)
       (ap total noted-here ∙ +ℤ-comm (worth (slotOf b (h .unit) (h .slot))) (total (g (h .unit)))
       ∙ ap (λ (z : ℤ). total (g (h .unit)) +ℤ z) (sym (+ℤ-idr (worth (slotOf b (h .unit) (h .slot))))))
@@ -119,7 +119,7 @@ unfolding turns
 turns-kept k [] K = K
 turns-kept k (c ∷ cs) K = turns-kept (turn k c) cs (turn-kept k c K)
 
-pub begun-kept : (n : ℕ) → Kept (begun n)
+pub begun-kept : (n : ℕ) → Kept (newBook n)
 unfolding setUpCall settle
 begun-kept n = go (setUpNo n)
   where
@@ -146,7 +146,7 @@ module _ (k : Book) (K : Kept k) (i : ℕ) (h : i < 8) (free : interface (k .ben
   pub kept-listed : Listed k i
   kept-listed = record {
     sum = kept-right .sum ∙ sym (tree-sum b (K .frame) (valuesAt k) i h free)
-        ∙ along-add (λ u. over worth (interface b u .slots)) (λ u. total (k .gone u)) (tree 8 b i)
+        ∙ along-add (λ u. slotSum worth (interface b u .slots)) (λ u. total (k .gone u)) (tree 8 b i)
         ∙ ap (λ (z : ℤ). z +ℤ along (λ u. total (k .gone u)) (tree 8 b i)) (sym (gather-total b (tree 8 b i)));
     speed = kept-right .speed ∙ sym (tree-sum b (K .frame) (ratesAt k) i h free);
   }
@@ -157,14 +157,14 @@ module _ (k : Book) (K : Kept k) (i : ℕ) (h : i < 8) (free : interface (k .ben
 -- ---- demand 3, from set-up's own answer, for any first serial and any calls
 module _ (n : ℕ) (cs : List Call) where
   abbrev pub after : Book
-  after = turns (begun n) cs
+  after = turns (newBook n) cs
 
   module _ (i : ℕ) (h : i < 8) (free : interface after.bench i .parent ≡ none) where
     pub right : Right after i
-    right = kept-right after (turns-kept (begun n) cs (begun-kept n)) i h free
+    right = kept-right after (turns-kept (newBook n) cs (begun-kept n)) i h free
 
     pub right-listed : Listed after i
-    right-listed = kept-listed after (turns-kept (begun n) cs (begun-kept n)) i h free
+    right-listed = kept-listed after (turns-kept (newBook n) cs (begun-kept n)) i h free
 
     -- the stored sum is the check's total exactly where what went from the tree adds up to 0
     pub total-agrees : along (λ u. total (after .gone u)) (tree 8 after.bench i) ≡ pos 0 → interface after.bench i .sum ≡ totalOf (slotsOf after.bench i)

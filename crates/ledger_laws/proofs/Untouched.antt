@@ -12,7 +12,7 @@ use borrow.Author.Tests.{ne-eqb}
 use lib.ListN.{length, List·getD-eq-default}
 use lib.IntN.{ℤ}
 use Rattle.ledger_spec.specs.Bench.{Handle, State, stays, grows, Interface, Bench, fresh}
-use Rattle.ledger_spec.specs.Look.{interface, slotOf, nodeAt, climb, top}
+use Rattle.ledger_spec.specs.Look.{interface, slotOf, nodeNamed, climb, top}
 use Rattle.ledger_spec.specs.Change.{place, mark, markAll}
 use Rattle.ledger_spec.specs.Tests.{first}
 use Rattle.ledger_spec.specs.Deeds.{newHandle, members, addDefect, addBlossom, removeBlossom, growBy, join, wipe}
@@ -65,19 +65,19 @@ module _ (b : Bench) (S : Sound b) (u w : ℕ) (other : top b w ≢ u) where
 
   pub expand-untouched : (h : Handle) → ExpandPassed b u h → interface (removeBlossom b h) w ≡ interface b w
   expand-untouched h P = ap (λ (c : Bench). interface c w) (expand-is b h)
-      ∙ markAll-aside grows none (place b (h .unit) (h .slot) none) (members (nodeAt b h)) w (λ g i. off g i)
+      ∙ markAll-aside grows none (place b (h .unit) (h .slot) none) (members (nodeNamed b h)) w (λ g i. off g i)
       ∙ place-aside b (h .unit) (h .slot) none w (at (h .unit) (P .named .near) .0) (at (h .unit) (P .named .near) .1)
     where
       at : (v : ℕ) → top b v ≡ u → (w ≢ v) × (w ≢ top b v)
       at v e = apart b u v w (P .here .free) e other
 
-      near : (g : Handle) → In g (members (nodeAt b h)) → top b (g .unit) ≡ u
+      near : (g : Handle) → In g (members (nodeNamed b h)) → top b (g .unit) ≡ u
       near g i = S .sewn .knit .up (g .unit) (g .slot) (D .node) (mk (h .unit) (h .slot) (P .named .node)) (D .has .stands) (D .parent) .near ∙ P .named .near
         where
           D : Down (slotOf b) g (mk (h .unit) (h .slot) (P .named .node))
           D = S .sewn .knit .down (h .unit) (h .slot) (P .named .node) (P .ms) g (P .named .has .stands) (P .ring) (subst (In g) (P .circle) i)
 
-      off : (g : Handle) → In g (members (nodeAt b h)) → (w ≢ g .unit) × (w ≢ top (place b (h .unit) (h .slot) none) (g .unit))
+      off : (g : Handle) → In g (members (nodeNamed b h)) → (w ≢ g .unit) × (w ≢ top (place b (h .unit) (h .slot) none) (g .unit))
       off g i = let a = at (g .unit) (near g i) in (a .0, λ e. a .1 (e ∙ quiet-top b (place b (h .unit) (h .slot) none) (place-quiet b (h .unit) (h .slot) none) (g .unit)))
 
   pub state-untouched : (h : Handle) (s : State) → StatePassed b u h → interface (mark b h s none) w ≡ interface b w

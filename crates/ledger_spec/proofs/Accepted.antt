@@ -12,7 +12,7 @@ use lib.ListN.{length}
 use lib.IntN.{ℤ, pos, _+ℤ_}
 use lib.Signed.{ltZ}
 use Rattle.ledger_spec.specs.Bench.{Handle, Member, Class, defect, blossom, Node, Bench}
-use Rattle.ledger_spec.specs.Look.{interface, slotOf, nodeAt, top, sameHandle}
+use Rattle.ledger_spec.specs.Look.{interface, slotOf, nodeNamed, top, sameHandle}
 use Rattle.ledger_spec.specs.Tests.{first, any, empty, stale, foreign, hasParent, isDefect, twice, both}
 use Rattle.ledger_spec.specs.Refuse.{unitTests, defectTests, blossomTests, expandTests, stateTests, growTests}
 use Rattle.ledger_spec.specs.Deeds.{members}
@@ -26,13 +26,13 @@ use Rattle.ledger_spec.proofs.Passed.{Failed, passed, given-false, empt
 pub record Named (b : Bench) (u : ℕ) (h : Handle) : Type 0 where
   pub node : Node
   pub has : Has (slotOf b) h node
-  pub is : nodeAt b h ≡ some node
+  pub is : nodeNamed b h ≡ some node
   pub near : top b (h .unit) ≡ u
 
 named-of : (b : Bench) (u : ℕ) (h : Handle) → stale b h ≡ false → foreign b u h ≡ false → Named b u h
 named-of b u h e f = let p = has-of b h e in record { node = p .0; has = p .1; is = p .2; near = eqb-true (top b (h .unit)) u (not-false (eqb (top b (h .unit)) u) f) }
 
-orphan-of : (b : Bench) (u : ℕ) (h : Handle) (N : Named b u h) → hasParent (nodeAt b h) ≡ false → N .node .parent ≡ none
+orphan-of : (b : Bench) (u : ℕ) (h : Handle) (N : Named b u h) → hasParent (nodeNamed b h) ≡ false → N .node .parent ≡ none
 orphan-of b u h N e = given-false (N .node .parent) (ap hasParent (sym (N .is)) ∙ e)
 
 -- ---- clear
@@ -92,7 +92,7 @@ blossom-passed b u hs ts e = record {
   most = ltb-false 64 (length hs) (or-false (empty hs) (ltb 64 (length hs)) (t .1 .1 .0) .1);
   paired = pair-of hs ts (empty ts) (eqb (length ts) (length hs)) refl refl (t .1 .1 .1 .0);
   member = member;
-  orphan = λ h i. orphan-of b u h (member h i) (any-no (λ g. hasParent (nodeAt b g)) hs (t .1 .1 .1 .1 .1 .1 .0) i);
+  orphan = λ h i. orphan-of b u h (member h i) (any-no (λ g. hasParent (nodeNamed b g)) hs (t .1 .1 .1 .1 .1 .1 .0) i);
   touch = λ h i. named h (in-right hs i);
   once = λ h i. once-of hs h (t .1 .1 .1 .1 .1 .1 .1 .0) i;
   room = leb-false 64 (length (interface b u .slots)) (t .1 .1 .1 .1 .1 .1 .1 .1 .0);
@@ -115,18 +115,18 @@ pub record ExpandPassed (b : Bench) (u : ℕ) (h : Handle) : Type 0 where
   pub ms : List Member
   pub ring : named .node .class ≡ blossom ms
   pub orphan : named .node .parent ≡ none
-  pub circle : members (nodeAt b h) ≡ nodes ms
+  pub circle : members (nodeNamed b h) ≡ nodes ms
 
 -- the members of a node, by its class
 ring-nodes : Class → List Handle
 ring-nodes k = elim k [ defect v ↦ [] | blossom ms ↦ nodes ms ]
 
-module _ (b : Bench) (h : Handle) (n : Node) (e : nodeAt b h ≡ some n) where
-  pub members-of : (ms : List Member) → n .class ≡ blossom ms → members (nodeAt b h) ≡ nodes ms
+module _ (b : Bench) (h : Handle) (n : Node) (e : nodeNamed b h ≡ some n) where
+  pub members-of : (ms : List Member) → n .class ≡ blossom ms → members (nodeNamed b h) ≡ nodes ms
   unfolding ring-nodes
   members-of ms r = ap members e ∙ ap ring-nodes r
 
-  pub members-none : (v : ℕ) → n .class ≡ defect v → members (nodeAt b h) ≡ []
+  pub members-none : (v : ℕ) → n .class ≡ defect v → members (nodeNamed b h) ≡ []
   unfolding ring-nodes
   members-none v r = ap members e ∙ ap ring-nodes r
 

@@ -18,7 +18,7 @@ use Rattle.ledger_spec.specs.Change.{share}
 use Rattle.ledger_spec.specs.Reads.{slotsOf}
 use Rattle.ledger_spec.specs.SoundTree.{reach}
 use Rattle.ledger_spec.specs.Sound.{rates}
-use Rattle.ledger_spec.specs.Account.{Σ, gate, over, Under, ratesIn}
+use Rattle.ledger_spec.specs.Account.{Σ, gate, slotSum, treeSum, ratesIn}
 use Rattle.ledger_spec.specs.Frame.{Frame}
 use Rattle.ledger_spec.specs.Facts.{W, Sound}
 use Rattle.ledger_spec.proofs.Range.{abs-add, abs-mul, abs-rate, fits-of}
@@ -30,10 +30,10 @@ share-bound : (o : Option Node) → natAbs (share o) ≤ 1
 share-bound none = omega arith
 share-bound (some n) = abs-rate (n .state)
 
-pub rates-bound : (l : List (Option Node)) → natAbs (over share l) ≤ length l
-unfolding over
+pub rates-bound : (l : List (Option Node)) → natAbs (slotSum share l) ≤ length l
+unfolding slotSum
 rates-bound [] = omega arith
-rates-bound (x ∷ xs) = omega (arith, abs-add (share x) (over share xs), share-bound x, rates-bound xs)
+rates-bound (x ∷ xs) = omega (arith, abs-add (share x) (slotSum share xs), share-bound x, rates-bound xs)
 
 pub Σ-bound : (n m : ℕ) (f : ℕ → ℤ) → ((w : ℕ) → natAbs (f w) ≤ m) → natAbs (Σ n f) ≤ n * m
 unfolding Σ
@@ -45,7 +45,7 @@ unfolding gate
 gate-bound true x m h = h
 gate-bound false x m h = omega arith
 
-pub under-bound : (tp : ℕ → ℕ) (v : ℕ → ℤ) (m i : ℕ) → ((w : ℕ) → natAbs (v w) ≤ m) → natAbs (Under tp v i) ≤ 8 * m
+pub under-bound : (tp : ℕ → ℕ) (v : ℕ → ℤ) (m i : ℕ) → ((w : ℕ) → natAbs (v w) ≤ m) → natAbs (treeSum tp v i) ≤ 8 * m
 under-bound tp v m i h = Σ-bound 8 m (λ u. gate (eqb (tp u) i) (v u)) (λ w. gate-bound (eqb (tp w) i) (v w) m (h w))
 
 -- ---- W, by tops
@@ -57,7 +57,7 @@ unfolding reach along
 reach-along b [] = refl
 reach-along b (u ∷ us) = ap (λ (z : ℤ). progressIn b u +ℤ z) (reach-along b us)
 
-pub W-under : (b : Bench) → Frame b → (i : ℕ) → i < 8 → interface b i .parent ≡ none → pos (W b i) ≡ Under (top b) (progressIn b) i
+pub W-under : (b : Bench) → Frame b → (i : ℕ) → i < 8 → interface b i .parent ≡ none → pos (W b i) ≡ treeSum (top b) (progressIn b) i
 W-under b F i h free = reach-along b (tree 8 b i) ∙ tree-sum b F (progressIn b) i h free
 
 -- ---- growth: within 512 times the reach, before and after

@@ -8,7 +8,7 @@ use native.Mathlib.Omega.{arith}
 use lib.ListN.{length, List·getD-eq-default}
 use lib.IntN.{pos}
 use Rattle.ledger_spec.specs.Bench.{Handle, grows, stays, defect, blossom, Node, Bench}
-use Rattle.ledger_spec.specs.Look.{interface, slotOf, nodeAt}
+use Rattle.ledger_spec.specs.Look.{interface, slotOf, nodeNamed}
 use Rattle.ledger_spec.specs.Change.{place, push, restate, markAll}
 use Rattle.ledger_spec.specs.Deeds.{newHandle, addDefect, circle, sizes, addBlossom, members, removeBlossom}
 use Rattle.ledger_spec.specs.Knit.{In}
@@ -97,27 +97,27 @@ module _ (b : Bench) (h : Handle) where
   abbrev emptied : Bench
   emptied = place b (h .unit) (h .slot) none
 
-  pub expand-is : removeBlossom b h ≡ markAll (place b (h .unit) (h .slot) none) (members (nodeAt b h)) grows none
+  pub expand-is : removeBlossom b h ≡ markAll (place b (h .unit) (h .slot) none) (members (nodeNamed b h)) grows none
   unfolding removeBlossom
   expand-is = refl
 
-  pub expand-at : ((g : Handle) → In g (members (nodeAt b h)) → g .unit ≡ h .unit → g .slot ≡ h .slot → ⊥) → slotOf (removeBlossom b h) (h .unit) (h .slot) ≡ none
+  pub expand-at : ((g : Handle) → In g (members (nodeNamed b h)) → g .unit ≡ h .unit → g .slot ≡ h .slot → ⊥) → slotOf (removeBlossom b h) (h .unit) (h .slot) ≡ none
   unfolding removeBlossom
-  expand-at far = markAll-off grows none emptied (members (nodeAt b h)) (h .unit) (h .slot) far ∙ place-at b (h .unit) (h .slot) none (λ z. refl)
+  expand-at far = markAll-off grows none emptied (members (nodeNamed b h)) (h .unit) (h .slot) far ∙ place-at b (h .unit) (h .slot) none (λ z. refl)
 
-  pub expand-member : (g : Handle) → In g (members (nodeAt b h)) → (h .unit ≡ g .unit → h .slot ≡ g .slot → ⊥)
+  pub expand-member : (g : Handle) → In g (members (nodeNamed b h)) → (h .unit ≡ g .unit → h .slot ≡ g .slot → ⊥)
       → slotOf (removeBlossom b h) (g .unit) (g .slot) ≡ restate (slotOf b (g .unit) (g .slot)) grows none
   unfolding removeBlossom
-  expand-member g i off = markAll-at grows none emptied (members (nodeAt b h)) g i ∙ ap (λ (o : Option Node). restate o grows none) (place-off b (h .unit) (h .slot) none (g .unit) (g .slot) off)
+  expand-member g i off = markAll-at grows none emptied (members (nodeNamed b h)) g i ∙ ap (λ (o : Option Node). restate o grows none) (place-off b (h .unit) (h .slot) none (g .unit) (g .slot) off)
 
-  pub expand-off : (w t : ℕ) → ((g : Handle) → In g (members (nodeAt b h)) → g .unit ≡ w → g .slot ≡ t → ⊥) → (h .unit ≡ w → h .slot ≡ t → ⊥) → slotOf (removeBlossom b h) w t ≡ slotOf b w t
+  pub expand-off : (w t : ℕ) → ((g : Handle) → In g (members (nodeNamed b h)) → g .unit ≡ w → g .slot ≡ t → ⊥) → (h .unit ≡ w → h .slot ≡ t → ⊥) → slotOf (removeBlossom b h) w t ≡ slotOf b w t
   unfolding removeBlossom
-  expand-off w t miss off = markAll-off grows none emptied (members (nodeAt b h)) w t miss ∙ place-off b (h .unit) (h .slot) none w t off
+  expand-off w t miss off = markAll-off grows none emptied (members (nodeNamed b h)) w t miss ∙ place-off b (h .unit) (h .slot) none w t off
 
   pub expand-next : removeBlossom b h .next ≡ b .next
   unfolding removeBlossom
-  expand-next = markAll-next grows none emptied (members (nodeAt b h)) ∙ place-next b (h .unit) (h .slot) none
+  expand-next = markAll-next grows none emptied (members (nodeNamed b h)) ∙ place-next b (h .unit) (h .slot) none
 
   pub expand-count : (w : ℕ) → length (interface (removeBlossom b h) w .slots) ≡ length (interface b w .slots)
   unfolding removeBlossom
-  expand-count w = markAll-count grows none emptied (members (nodeAt b h)) w ∙ place-count b (h .unit) (h .slot) none w
+  expand-count w = markAll-count grows none emptied (members (nodeNamed b h)) w ∙ place-count b (h .unit) (h .slot) none w

@@ -16,7 +16,7 @@ use Rattle.ledger_spec.specs.Bench.{Node, Bench}
 use Rattle.ledger_spec.specs.Look.{interface, slotOf, top, tree}
 use Rattle.ledger_spec.specs.Reads.{slotsFrom, gather, slotsOf}
 use Rattle.ledger_spec.specs.SoundTree.{units}
-use Rattle.ledger_spec.specs.Account.{gate, Under}
+use Rattle.ledger_spec.specs.Account.{gate, treeSum}
 use Rattle.ledger_spec.specs.Frame.{Frame}
 use Rattle.ledger_spec.specs.Knit.{In, here, there}
 use Rattle.ledger_spec.proofs.Lists.{not-in-nil, in-cases, in-left, in-right, in-append, all-in}
@@ -63,7 +63,7 @@ unseen w [] q = refl
 unseen w (u ∷ us) q = ap₂ _+ℤ_ (gate-no (λ e. q (here (sym e))) (pos 1)) (unseen w us (λ i. q (there i)))
 
 module _ (b : Bench) (F : Frame b) where
-  seen : (w : ℕ) → w < 8 → Under (top b) (λ u. gate (eqb u w) (pos 1)) (top b w) ≡ pos 1
+  seen : (w : ℕ) → w < 8 → treeSum (top b) (λ u. gate (eqb u w) (pos 1)) (top b w) ≡ pos 1
   seen w h = Σ-change 8 (λ u. pos 0) (λ u. gate (eqb (top b u) (top b w)) (gate (eqb u w) (pos 1))) w (pos 1) h
       (λ u q. ap (gate (eqb (top b u) (top b w))) (gate-no q (pos 1)) ∙ nothing u) (gate-yes {a = top b w} refl _ ∙ gate-yes {a = w} refl (pos 1))
       ∙ ap (λ (z : ℤ). z +ℤ pos 1) (Σ-zero 8 (λ u. pos 0) (λ u h. refl))

@@ -12,8 +12,8 @@ use lib.ListN.{length}
 use lib.IntN.{ℤ, pos, negsuc, natAbs, _-ℤ_, pos-ne-negsuc}
 use lib.Signed.{leZ}
 use Rattle.ledger_spec.specs.Bench.{Handle, Member, Class, defect, blossom, Node, Bench}
-use Rattle.ledger_spec.specs.Look.{interface, slotOf, nodeAt, top, tree, sameHandle}
-use Rattle.ledger_spec.specs.Tests.{given}
+use Rattle.ledger_spec.specs.Look.{interface, slotOf, nodeNamed, top, tree, sameHandle}
+use Rattle.ledger_spec.specs.Tests.{isSome}
 use Rattle.ledger_spec.specs.Deeds.{sizes, members}
 use Rattle.ledger_spec.specs.Reads.{slotsOf}
 use Rattle.ledger_spec.specs.SoundTree.{units, tally, isParent, isHalf, linksUp, linksDown, soundInterface}
@@ -48,8 +48,8 @@ module _ (b : Bench) (S : Sound b) where
       either l r (inl x) = ap (λ (c : Bool). c || eqb r u) (eq-eqb l u (sym x))
       either l r (inr x) = ap (λ (c : Bool). eqb l u || c) (eq-eqb r u (sym x)) ∙ or-true (eqb l u)
 
-      go : (q : Option (ℕ × ℕ)) → interface b p .halves ≡ q → given (interface b p .halves) ≡ true → isHalf (interface b p .halves) u ≡ true
-      go none f g = absurd (true≢false (sym g ∙ ap given f))
+      go : (q : Option (ℕ × ℕ)) → interface b p .halves ≡ q → isSome (interface b p .halves) ≡ true → isHalf (interface b p .halves) u ≡ true
+      go none f g = absurd (true≢false (sym g ∙ ap isSome f))
       go (some lr) f g = ap (λ (o : Option (ℕ × ℕ)). isHalf o u) f ∙ either (lr .0) (lr .1) (S .frame .up u p (lr .0) (lr .1) e f)
 
   up-holds : (u : ℕ) → linksUp b u ≡ true
@@ -87,7 +87,7 @@ module _ (b : Bench) (S : Sound b) where
       go none f = parent-none b (mk u s n) n f
       go (some q) f = parent-open b (mk u s n) q n f
           ∙ both-true (both-true (both-true (ap isStay (U .still)) (lt-ltb (n .serial) (q .serial) (U .older))) (eq-eqb (top b (q .unit)) (top b u) (sym (U .near))))
-          (eq-eqb (tally (sameHandle (mk u s n)) (members (nodeAt b q))) 1 (ap (tally (sameHandle (mk u s n))) (members-of b q (U .over) (has-node b q (U .over) (U .has)) (U .ms) (U .ring)) ∙ U .once))
+          (eq-eqb (tally (sameHandle (mk u s n)) (members (nodeNamed b q))) 1 (ap (tally (sameHandle (mk u s n))) (members-of b q (U .over) (has-node b q (U .over) (U .has)) (U .ms) (U .ring)) ∙ U .once))
         where
           U : Up (slotOf b) (top b) u s n q
           U = S .sewn .knit .up u s n q e f
@@ -104,12 +104,12 @@ module _ (b : Bench) (S : Sound b) where
   ring-holds : (u s : ℕ) (n : Node) (ms : List Member) → slotOf b u s ≡ some n → n .class ≡ blossom ms → soundClass b (mk u s n) (blossom ms) (n .size) ≡ true
   unfolding soundClass
   ring-holds u s n ms e r = both-true (both-true (both-true (le-leb 1 (length ms) (C .least)) (le-leb (length ms) 64 (C .most))) (eq-eqb (n .size) (sizes b (nodes ms)) (C .size)))
-      (all-of (λ (m : Member). sameParent (nodeAt b (m .node)) (mk u s n) && (soundTouch b (m .touch .0) && soundTouch b (m .touch .1))) ms member)
+      (all-of (λ (m : Member). sameParent (nodeNamed b (m .node)) (mk u s n) && (soundTouch b (m .touch .0) && soundTouch b (m .touch .1))) ms member)
     where
       C : Circle b n ms
       C = S .rings u s n e .circle ms r
 
-      member : (m : Member) → In m ms → (sameParent (nodeAt b (m .node)) (mk u s n) && (soundTouch b (m .touch .0) && soundTouch b (m .touch .1))) ≡ true
+      member : (m : Member) → In m ms → (sameParent (nodeNamed b (m .node)) (mk u s n) && (soundTouch b (m .touch .0) && soundTouch b (m .touch .1))) ≡ true
       member m i = both-true (ap (λ (o : Option Node). sameParent o (mk u s n)) (has-node b (m .node) (D .node) (D .has)) ∙ child-holds (D .node) (mk u s n) (D .parent))
           (both-true (touch-holds (m .touch .0) (C .touching m i .0)) (touch-holds (m .touch .1) (C .touching m i .1)))
         where

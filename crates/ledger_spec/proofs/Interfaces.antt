@@ -17,7 +17,7 @@ use Rattle.ledger_spec.specs.Bench.{Node, Interface, Bench, fresh}
 use Rattle.ledger_spec.specs.Look.{interface, top}
 use Rattle.ledger_spec.specs.Change.{withInterface}
 use Rattle.ledger_spec.specs.Deeds.{across}
-use Rattle.ledger_spec.specs.Account.{over}
+use Rattle.ledger_spec.specs.Account.{slotSum}
 use Rattle.ledger_spec.proofs.Ints.{add-diff}
 
 module _ {X : Type 0} (φ : Interface → X) (b : Bench) (u : ℕ) (f : Interface) where
@@ -45,17 +45,17 @@ nil-of (x ∷ xs) h = absurd (omega arith)
 
 -- one slot changes
 pub over-set : (φ : Option Node → ℤ) → φ none ≡ pos 0 → (l : List (Option Node)) (s : ℕ) (y : Option Node) → (length l ≤ s → y ≡ none)
-    → over φ (set l s y) ≡ over φ l +ℤ (φ y -ℤ φ (getD l s none))
-unfolding over
+    → slotSum φ (set l s y) ≡ slotSum φ l +ℤ (φ y -ℤ φ (getD l s none))
+unfolding slotSum
 over-set φ z [] s y out = sym (+ℤ-idl _ ∙ ap (λ (o : Option Node). φ o -ℤ φ none) (out (omega arith)) ∙ +ℤ-invr (φ none))
-over-set φ z (x ∷ xs) zero y out = sym (ap (λ (t : ℤ). t +ℤ (φ y -ℤ φ x)) (+ℤ-comm (φ x) (over φ xs)) ∙ +ℤ-assoc (over φ xs) (φ x) (φ y -ℤ φ x) ∙ ap (λ (t : ℤ). over φ xs +ℤ t) (add-diff (φ x) (φ y)) ∙ +ℤ-comm (over φ xs) (φ y))
-over-set φ z (x ∷ xs) (suc s) y out = ap (λ (t : ℤ). φ x +ℤ t) (over-set φ z xs s y (λ h. out (omega arith))) ∙ sym (+ℤ-assoc (φ x) (over φ xs) (φ y -ℤ φ (getD xs s none)))
+over-set φ z (x ∷ xs) zero y out = sym (ap (λ (t : ℤ). t +ℤ (φ y -ℤ φ x)) (+ℤ-comm (φ x) (slotSum φ xs)) ∙ +ℤ-assoc (slotSum φ xs) (φ x) (φ y -ℤ φ x) ∙ ap (λ (t : ℤ). slotSum φ xs +ℤ t) (add-diff (φ x) (φ y)) ∙ +ℤ-comm (slotSum φ xs) (φ y))
+over-set φ z (x ∷ xs) (suc s) y out = ap (λ (t : ℤ). φ x +ℤ t) (over-set φ z xs s y (λ h. out (omega arith))) ∙ sym (+ℤ-assoc (φ x) (slotSum φ xs) (φ y -ℤ φ (getD xs s none)))
 
 -- one slot more
-pub over-snoc : (φ : Option Node → ℤ) (l : List (Option Node)) (y : Option Node) → over φ (l ++ (y ∷ [])) ≡ over φ l +ℤ φ y
-unfolding over
+pub over-snoc : (φ : Option Node → ℤ) (l : List (Option Node)) (y : Option Node) → slotSum φ (l ++ (y ∷ [])) ≡ slotSum φ l +ℤ φ y
+unfolding slotSum
 over-snoc φ [] y = +ℤ-comm (φ y) (pos 0)
-over-snoc φ (x ∷ xs) y = ap (λ (t : ℤ). φ x +ℤ t) (over-snoc φ xs y) ∙ sym (+ℤ-assoc (φ x) (over φ xs) (φ y))
+over-snoc φ (x ∷ xs) y = ap (λ (t : ℤ). φ x +ℤ t) (over-snoc φ xs y) ∙ sym (+ℤ-assoc (φ x) (slotSum φ xs) (φ y))
 
 -- f at the interfaces of a tree
 pub across-length : (f : Interface → Interface) (b : Bench) (u k : ℕ) (xs : List Interface) → length (across f b u k xs) ≡ length xs

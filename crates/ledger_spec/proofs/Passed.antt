@@ -10,11 +10,11 @@ use lib.Dec.{T, eqb, leb, ltb, ltb→lt}
 use lib.IntN.{natAbs}
 use borrow.Author.Tests.{lt-leb, ne-eqb, eqb-true, eq-eqb, leb-false, eqb-false, not-false}
 use Rattle.ledger_spec.specs.Bench.{Handle, Node, Bench}
-use Rattle.ledger_spec.specs.Look.{interface, slotOf, nodeAt, ifSerial}
+use Rattle.ledger_spec.specs.Look.{interface, slotOf, nodeNamed, ifSerial}
 use Rattle.ledger_spec.specs.Knit.{Has}
 use Rattle.ledger_spec.proofs.Lists.{or-false}
 use Rattle.ledger_spec.proofs.Knit.{some-eq, none-some}
-use Rattle.ledger_spec.specs.Tests.{first, given, empty, outside, child, stale}
+use Rattle.ledger_spec.specs.Tests.{first, isSome, empty, outside, child, stale}
 use Rattle.ledger_spec.specs.Refuse.{fuseTests}
 
 -- each test of a list failed; and no number of it is 0, which is computed
@@ -54,7 +54,7 @@ failed (t ∷ ts) f = go (t .0) (f .0) (failed ts (f .1))
     go true e h = absurd (true≢false e)
     go false e h = h
 
-pub given-false : {A : Type 0} (o : Option A) → given o ≡ false → o ≡ none
+pub given-false : {A : Type 0} (o : Option A) → isSome o ≡ false → o ≡ none
 given-false none e = refl
 given-false (some a) e = absurd (true≢false e)
 
@@ -90,20 +90,20 @@ serial-is k n e = go (eq-eqb k (n .serial) (sym e))
     go : eqb k (n .serial) ≡ true → ifSerial k (some n) ≡ some n
     go t = rw (t, ifSerial)
 
-pub node-has : (b : Bench) (h : Handle) (n : Node) → nodeAt b h ≡ some n → Has (slotOf b) h n
-unfolding nodeAt
+pub node-has : (b : Bench) (h : Handle) (n : Node) → nodeNamed b h ≡ some n → Has (slotOf b) h n
+unfolding nodeNamed
 node-has b h n e = let r = serial-some (h .serial) (slotOf b (h .unit) (h .slot)) n e in record { stands = r .0; serial = r .1 }
 
-pub has-node : (b : Bench) (h : Handle) (n : Node) → Has (slotOf b) h n → nodeAt b h ≡ some n
-unfolding nodeAt
+pub has-node : (b : Bench) (h : Handle) (n : Node) → Has (slotOf b) h n → nodeNamed b h ≡ some n
+unfolding nodeNamed
 has-node b h n H = ap (ifSerial (h .serial)) (H .stands) ∙ serial-is (h .serial) n (H .serial)
 
 -- a handle that is not stale
-pub has-of : (b : Bench) (h : Handle) → stale b h ≡ false → (n : Node) × Has (slotOf b) h n × (nodeAt b h ≡ some n)
-has-of b h e = go (nodeAt b h) refl
+pub has-of : (b : Bench) (h : Handle) → stale b h ≡ false → (n : Node) × Has (slotOf b) h n × (nodeNamed b h ≡ some n)
+has-of b h e = go (nodeNamed b h) refl
   where
-    go : (o : Option Node) → nodeAt b h ≡ o → (n : Node) × Has (slotOf b) h n × (nodeAt b h ≡ some n)
-    go none k = absurd (true≢false (sym (ap (λ (o : Option Node). not (given o)) k) ∙ e))
+    go : (o : Option Node) → nodeNamed b h ≡ o → (n : Node) × Has (slotOf b) h n × (nodeNamed b h ≡ some n)
+    go none k = absurd (true≢false (sym (ap (λ (o : Option Node). not (isSome o)) k) ∙ e))
     go (some n) k = (n, node-has b h n k, k)
 
 pub record Fusable (b : Bench) (p l r : ℕ) : Type 0 where
@@ -116,7 +116,7 @@ pub record Fusable (b : Bench) (p l r : ℕ) : Type 0 where
   pub p-none : interface b p .parent ≡ none
   pub no-slots : interface b p .slots ≡ []
   pub no-progress : natAbs (interface b p .progress) ≡ 0
-  pub no-halves : given (interface b p .halves) ≡ false
+  pub no-halves : isSome (interface b p .halves) ≡ false
 
 pub fusable : (b : Bench) (p l r : ℕ) → first (fuseTests b p l r) ≡ 0 → Fusable b p l r
 unfolding fuseTests
@@ -126,8 +126,8 @@ fusable b p l r e =
     let c₂ = or-false (child b l) (child b r) (c₁ .1) in
     let q₁ = or-false (eqb l r) (leb p l || leb p r) (t .1 .1 .0) in
     let q₂ = or-false (leb p l) (leb p r) (q₁ .1) in
-    let u₁ = or-false (not (empty (interface b p .slots))) (not (eqb (natAbs (interface b p .progress)) 0) || given (interface b p .halves)) (t .1 .1 .1 .0) in
-    let u₂ = or-false (not (eqb (natAbs (interface b p .progress)) 0)) (given (interface b p .halves)) (u₁ .1) in
+    let u₁ = or-false (not (empty (interface b p .slots))) (not (eqb (natAbs (interface b p .progress)) 0) || isSome (interface b p .halves)) (t .1 .1 .1 .0) in
+    let u₂ = or-false (not (eqb (natAbs (interface b p .progress)) 0)) (isSome (interface b p .halves)) (u₁ .1) in
     record {
       p<8 = leb-false 8 p (or-false (outside p) (outside l || outside r) (t .0) .0);
       l<p = leb-false p l (q₂ .0);
@@ -147,7 +147,7 @@ unfolding fuseTests
 fusable-tests b p l r f = failed (fuseTests b p l r) (
   ap₂ _||_ (lt-leb 8 p (f .p<8)) (ap₂ _||_ (lt-leb 8 l (omega arith)) (lt-leb 8 r (omega arith))),
   (
-    ap₂ _||_ (ap given (f .p-none)) (ap₂ _||_ (ap given (f .l-none)) (ap given (f .r-none))),
+    ap₂ _||_ (ap isSome (f .p-none)) (ap₂ _||_ (ap isSome (f .l-none)) (ap isSome (f .r-none))),
     (
       ap₂ _||_ (ne-eqb l r (f .l≢r)) (ap₂ _||_ (lt-leb p l (f .l<p)) (lt-leb p r (f .r<p))),
       (ap₂ _||_ (ap (λ (x : List (Option Node)). not (empty x)) (f .no-slots)) (ap₂ _||_ (ap (λ (z : ℕ). not (eqb z 0)) (f .no-progress)) (f .no-halves)), tt),

@@ -10,7 +10,7 @@ use borrow.Author.Tests.{leb-true, ltb-true, eqb-true}
 use lib.ListN.{length}
 use lib.IntN.{natAbs, _-ℤ_}
 use Rattle.ledger_spec.specs.Bench.{Handle, State, grows, stays, shrinks, Member, Class, defect, blossom, Node, Bench}
-use Rattle.ledger_spec.specs.Look.{interface, slotOf, nodeAt, top, tree, sameHandle}
+use Rattle.ledger_spec.specs.Look.{interface, slotOf, nodeNamed, top, tree, sameHandle}
 use Rattle.ledger_spec.specs.Deeds.{sizes, members}
 use Rattle.ledger_spec.specs.Reads.{gather, slotsOf}
 use Rattle.ledger_spec.specs.SoundTree.{all, units, tally}
@@ -84,13 +84,13 @@ module _ (b : Bench) (P : Parts b) where
 
   up-of : (u s : ℕ) (n : Node) (q : Handle) → slotOf b u s ≡ some n → n .parent ≡ some q → Up (slotOf b) (top b) u s n q
   unfolding tally
-  up-of u s n q e f = go (nodeAt b q) refl
+  up-of u s n q e f = go (nodeNamed b q) refl
     where
       h : Handle
       h = mk u s n
 
-      said : ((isStay (n .state) && ltb (n .serial) (q .serial)) && eqb (top b (q .unit)) (top b u) ≡ true) × (eqb (tally (sameHandle h) (members (nodeAt b q))) 1 ≡ true)
-      said = and-true ((isStay (n .state) && ltb (n .serial) (q .serial)) && eqb (top b (q .unit)) (top b u)) (eqb (tally (sameHandle h) (members (nodeAt b q))) 1)
+      said : ((isStay (n .state) && ltb (n .serial) (q .serial)) && eqb (top b (q .unit)) (top b u) ≡ true) × (eqb (tally (sameHandle h) (members (nodeNamed b q))) 1 ≡ true)
+      said = and-true ((isStay (n .state) && ltb (n .serial) (q .serial)) && eqb (top b (q .unit)) (top b u)) (eqb (tally (sameHandle h) (members (nodeNamed b q))) 1)
           (sym (parent-open b h q n f) ∙ placed u s n e .parent)
 
       near : (isStay (n .state) && ltb (n .serial) (q .serial) ≡ true) × (eqb (top b (q .unit)) (top b u) ≡ true)
@@ -99,10 +99,10 @@ module _ (b : Bench) (P : Parts b) where
       older : (isStay (n .state) ≡ true) × (ltb (n .serial) (q .serial) ≡ true)
       older = and-true (isStay (n .state)) (ltb (n .serial) (q .serial)) (near .0)
 
-      once-in : tally (sameHandle h) (members (nodeAt b q)) ≡ 1
-      once-in = eqb-true (tally (sameHandle h) (members (nodeAt b q))) 1 (said .1)
+      once-in : tally (sameHandle h) (members (nodeNamed b q)) ≡ 1
+      once-in = eqb-true (tally (sameHandle h) (members (nodeNamed b q))) 1 (said .1)
 
-      ring : (m : Node) → nodeAt b q ≡ some m → (c : Class) → m .class ≡ c → Up (slotOf b) (top b) u s n q
+      ring : (m : Node) → nodeNamed b q ≡ some m → (c : Class) → m .class ≡ c → Up (slotOf b) (top b) u s n q
       ring m k (defect v) r = absurd (omega (arith, sym once-in ∙ ap (tally (sameHandle h)) (members-none b q m k v r)))
       ring m k (blossom ms) r = record {
         over = m;
@@ -115,13 +115,13 @@ module _ (b : Bench) (P : Parts b) where
         near = sym (eqb-true (top b (q .unit)) (top b u) (near .1));
       }
 
-      go : (o : Option Node) → nodeAt b q ≡ o → Up (slotOf b) (top b) u s n q
+      go : (o : Option Node) → nodeNamed b q ≡ o → Up (slotOf b) (top b) u s n q
       go none k = absurd (omega (arith, sym once-in ∙ ap (λ (o : Option Node). tally (sameHandle h) (members o)) k))
       go (some m) k = ring m k (m .class) refl
 
   -- a circle
   member-says : Handle → Member → Bool
-  member-says h m = sameParent (nodeAt b (m .node)) h && (soundTouch b (m .touch .0) && soundTouch b (m .touch .1))
+  member-says h m = sameParent (nodeNamed b (m .node)) h && (soundTouch b (m .touch .0) && soundTouch b (m .touch .1))
 
   ring-says : (h : Handle) (ms : List Member) (size : ℕ) → soundClass b h (blossom ms) size ≡ true
       → (((leb 1 (length ms) && leb (length ms) 64) && eqb size (sizes b (nodes ms))) ≡ true) × (all (member-says h) ms ≡ true)
@@ -147,8 +147,8 @@ module _ (b : Bench) (P : Parts b) where
   unfolding member-says
   down-of u s n ms g e r i =
       let m = map-in (λ (m : Member). m .node) ms i in
-      let t = and-true (sameParent (nodeAt b (m .0 .node)) (mk u s n)) (soundTouch b (m .0 .touch .0) && soundTouch b (m .0 .touch .1)) (all-in (member-says (mk u s n)) ms (class-of u s n ms e r .1) (m .1)) in
-      let c = child-of (nodeAt b (m .0 .node)) (mk u s n) (t .0) in
+      let t = and-true (sameParent (nodeNamed b (m .0 .node)) (mk u s n)) (soundTouch b (m .0 .touch .0) && soundTouch b (m .0 .touch .1)) (all-in (member-says (mk u s n)) ms (class-of u s n ms e r .1) (m .1)) in
+      let c = child-of (nodeNamed b (m .0 .node)) (mk u s n) (t .0) in
       record { node = c .0; has = subst (λ (k : Handle). Has (slotOf b) k (c .0)) (sym (m .2)) (node-has b (m .0 .node) (c .0) (c .1)); parent = c .2 }
 
   touch-of : (t : Handle) → soundTouch b t ≡ true → Touching b t
@@ -165,9 +165,9 @@ module _ (b : Bench) (P : Parts b) where
       let y = and-true (leb 1 (length ms)) (leb (length ms) 64) (x .0) in
       record { least = leb-true 1 (length ms) (y .0); most = leb-true (length ms) 64 (y .1); size = eqb-true (n .size) (sizes b (nodes ms)) (x .1); touching = λ m i. touches m (all-in (member-says (mk u s n)) ms (c .1) i) }
     where
-      touches : (m : Member) → (sameParent (nodeAt b (m .node)) (mk u s n) && (soundTouch b (m .touch .0) && soundTouch b (m .touch .1))) ≡ true → Touching b (m .touch .0) × Touching b (m .touch .1)
+      touches : (m : Member) → (sameParent (nodeNamed b (m .node)) (mk u s n) && (soundTouch b (m .touch .0) && soundTouch b (m .touch .1))) ≡ true → Touching b (m .touch .0) × Touching b (m .touch .1)
       touches m t =
-          let x = and-true (sameParent (nodeAt b (m .node)) (mk u s n)) (soundTouch b (m .touch .0) && soundTouch b (m .touch .1)) t in
+          let x = and-true (sameParent (nodeNamed b (m .node)) (mk u s n)) (soundTouch b (m .touch .0) && soundTouch b (m .touch .1)) t in
           let y = and-true (soundTouch b (m .touch .0)) (soundTouch b (m .touch .1)) (x .1) in
           (touch-of (m .touch .0) (y .0), touch-of (m .touch .1) (y .1))
 

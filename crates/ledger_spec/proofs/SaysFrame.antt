@@ -14,7 +14,7 @@ use lib.IntN.{ℤ, pos, negsuc, natAbs}
 use lib.Signed.{leZ}
 use Rattle.ledger_spec.specs.Bench.{Interface, Bench, fresh}
 use Rattle.ledger_spec.specs.Look.{interface}
-use Rattle.ledger_spec.specs.Tests.{given}
+use Rattle.ledger_spec.specs.Tests.{isSome}
 use Rattle.ledger_spec.specs.Reads.{gather}
 use Rattle.ledger_spec.specs.SoundTree.{all, units, isParent, isHalf, linksUp, linksDown, soundInterface}
 use Rattle.ledger_spec.specs.Sound.{soundTop, serials, different, sound}
@@ -56,7 +56,7 @@ ahead : (z : ℤ) (m : ℕ) → leZ (pos 0) z ≡ true → leZ z (pos m) ≡ tru
 ahead (pos n) m h k = (refl, leb-true n m k)
 ahead (negsuc n) m h k = absurd (true≢false (sym h))
 
-half-given : (q : Option (ℕ × ℕ)) (u : ℕ) → isHalf q u ≡ true → given q ≡ true
+half-given : (q : Option (ℕ × ℕ)) (u : ℕ) → isHalf q u ≡ true → isSome q ≡ true
 half-given none u e = absurd (true≢false (sym e))
 half-given (some lr) u e = refl
 

@@ -12,8 +12,8 @@ use lib.Dec.{eqb}
 use borrow.Author.Tests.{eq-eqb, ne-eqb}
 use lib.ListN.{length, List·getD-eq-default}
 use Rattle.ledger_spec.specs.Bench.{Handle, Member, Class, defect, blossom, Node, Bench}
-use Rattle.ledger_spec.specs.Look.{interface, slotOf, nodeAt, ifSerial, top, sameHandle}
-use Rattle.ledger_spec.specs.Tests.{given, hasParent}
+use Rattle.ledger_spec.specs.Look.{interface, slotOf, nodeNamed, ifSerial, top, sameHandle}
+use Rattle.ledger_spec.specs.Tests.{isSome, hasParent}
 use Rattle.ledger_spec.specs.Deeds.{sizeOf, sizes, members}
 use Rattle.ledger_spec.specs.SoundTree.{tally}
 use Rattle.ledger_spec.proofs.Counts.{sumTo, sumOf, one, rest, count, Below, sum-one, sum-zero, sum-has, sum-most, list-has, family}
@@ -135,8 +135,8 @@ module _ (b : Bench) (S : Sewn b) (A : Adds b) where
   below q l = below-all (members (at q)) (λ g i. kid-low q g (kid q g i))
 
   -- ---- sizes add up
-  size-at : (q : ℕ) (g : Handle) → Kid q g → sizeOf (nodeAt b g) ≡ sizeOf (at (spot g))
-  unfolding nodeAt ifSerial
+  size-at : (q : ℕ) (g : Handle) → Kid q g → sizeOf (nodeNamed b g) ≡ sizeOf (at (spot g))
+  unfolding nodeNamed ifSerial
   size-at q g k =
       let r = in-range (g .unit) (g .slot) (k .node) (k .stands) in
       ap (λ (o : Option Node). sizeOf (ifSerial (g .serial) o)) (k .stands) ∙ held (k .node) (k .serial) ∙ sym (ap sizeOf (at-spot g (r .1) ∙ k .stands))
@@ -218,7 +218,7 @@ module _ (b : Bench) (S : Sewn b) (A : Adds b) where
       go none e c = absurd (true≢false (sym c))
       go (some n) e c = ho (n .parent) refl c
         where
-          ho : (h : Option Handle) → n .parent ≡ h → given h ≡ true → sumTo 512 (λ q. count p (kids q)) ≡ 1
+          ho : (h : Option Handle) → n .parent ≡ h → isSome h ≡ true → sumTo 512 (λ q. count p (kids q)) ≡ 1
           ho none f c = absurd (true≢false (sym c))
           ho (some qh) f c = once p l n e qh f
 
@@ -228,7 +228,7 @@ module _ (b : Bench) (S : Sewn b) (A : Adds b) where
       wrong : (q : ℕ) (g : Handle) → Kid q g → spot g ≡ p → ⊥
       wrong q g k z =
           let r = in-range (g .unit) (g .slot) (k .node) (k .stands) in
-          true≢false (sym (ap hasParent (sym (ap at z) ∙ at-spot g (r .1) ∙ k .stands) ∙ ap given (k .parent)) ∙ c)
+          true≢false (sym (ap hasParent (sym (ap at z) ∙ at-spot g (r .1) ∙ k .stands) ∙ ap isSome (k .parent)) ∙ c)
 
   -- ---- no size above 512
   all-free : sumTo 512 (λ p. rest (hasParent (at p)) (sizeOf (at p))) ≤ 512
@@ -245,7 +245,7 @@ module _ (b : Bench) (S : Sewn b) (A : Adds b) where
       go : (o : Option Handle) → n .parent ≡ o → ((p : ℕ) (n : Node) → p < 512 → at p ≡ some n → b .next ≤ n .serial + k → n .size ≤ 512) → n .size ≤ 512
       go none f ih =
           let x = sum-has 512 p (λ q. rest (hasParent (at q)) (sizeOf (at q))) l in
-          let y : rest (hasParent (at p)) (sizeOf (at p)) ≡ n .size = ap (λ (o : Option Node). rest (hasParent o) (sizeOf o)) e ∙ ap (λ (h : Option Handle). rest (given h) (n .size)) f in
+          let y : rest (hasParent (at p)) (sizeOf (at p)) ≡ n .size = ap (λ (o : Option Node). rest (hasParent o) (sizeOf o)) e ∙ ap (λ (h : Option Handle). rest (isSome h) (n .size)) f in
           omega (arith, x, y, all-free)
       go (some qh) f ih =
           let U = up p l n e qh f in

@@ -7,7 +7,7 @@ use mathlib.Core.Option.{none, some}
 use lib.Dec.{eqb, leb, ltb}
 use lib.IntN.{natAbs, _-ℤ_}
 use Rattle.ledger_spec.specs.Bench.{Handle, Node, Bench}
-use Rattle.ledger_spec.specs.Look.{interface, nodeAt, top, sameHandle}
+use Rattle.ledger_spec.specs.Look.{interface, nodeNamed, top, sameHandle}
 use Rattle.ledger_spec.specs.Deeds.{members}
 use Rattle.ledger_spec.specs.Reads.{slotsOf}
 use Rattle.ledger_spec.specs.SoundTree.{all, tally, isParent, isHalf, linksUp, linksDown}
@@ -45,6 +45,6 @@ unfolding soundParent
 parent-none b h n e = rw (e, soundParent)
 
 pub parent-open : (b : Bench) (h q : Handle) (n : Node) → n .parent ≡ some q
-    → soundParent b h n ≡ (((isStay (n .state) && ltb (n .serial) (q .serial)) && eqb (top b (q .unit)) (top b (h .unit))) && eqb (tally (sameHandle h) (members (nodeAt b q))) 1)
+    → soundParent b h n ≡ (((isStay (n .state) && ltb (n .serial) (q .serial)) && eqb (top b (q .unit)) (top b (h .unit))) && eqb (tally (sameHandle h) (members (nodeNamed b q))) 1)
 unfolding soundParent
 parent-open b h q n e = rw (e, soundParent)

@@ -12,7 +12,7 @@ use Rattle.ledger_spec.specs.Bench.{Handle, Bench, fresh, setUp, withSlo
 use Rattle.ledger_spec.specs.Look.{interface}
 use Rattle.ledger_spec.specs.Change.{withInterface}
 use Rattle.ledger_spec.specs.Calls.{Call, Defect, Blossom, Expand, Grow, Fuse, Clear, perform}
-use Rattle.ledger_spec.specs.Reads.{handleOf, valueOf}
+use Rattle.ledger_spec.specs.Reads.{handleAtIndex, valueOf}
 use Rattle.ledger_spec.specs.Sound.{sound}
 use Rattle.ledger_spec.specs.Book.{wrote}
 use Rattle.ledger_spec.specs.Groups.{growth, conflicts, extended}
@@ -68,7 +68,7 @@ unfolding run after
 halves-cleared = refl
 
 -- the index counts the left half's slots first
-pub left-first : handleOf (after (setUp 1) (Defect 0 3 ∷ Defect 1 7 ∷ Fuse 2 0 1 ∷ [])) 2 0 ≡ (0, some (at 0 0 1))
+pub left-first : handleAtIndex (after (setUp 1) (Defect 0 3 ∷ Defect 1 7 ∷ Fuse 2 0 1 ∷ [])) 2 0 ≡ (0, some (at 0 0 1))
 unfolding run after
 left-first = refl
 

@@ -10,7 +10,7 @@ use lib.Dec.{eqb}
 use borrow.Author.Tests.{eq-eqb, ne-eqb}
 use Rattle.ledger_spec.specs.Bench.{Bench}
 use Rattle.ledger_spec.specs.Look.{interface, climb, top}
-use Rattle.ledger_spec.specs.Tests.{given}
+use Rattle.ledger_spec.specs.Tests.{isSome}
 use Rattle.ledger_spec.specs.Frame.{Frame}
 
 pub climb-none : (k : ℕ) (b : Bench) (u : ℕ) → interface b u .parent ≡ none → climb k b u ≡ u
@@ -137,7 +137,7 @@ module _ (b b′ : Bench) (F : Frame b) (p l r : ℕ) (l<p : l < p) (r<p : r < p
   fused-else u e f = climbed 7 u (omega arith) ∙ moved-else p l r (top b u) e f
 
 -- an interface without halves is nobody's top but its own
-alone-climb : (b : Bench) → Frame b → (p : ℕ) → given (interface b p .halves) ≡ false → (k u : ℕ) → climb k b u ≡ p → u ≡ p
+alone-climb : (b : Bench) → Frame b → (p : ℕ) → isSome (interface b p .halves) ≡ false → (k u : ℕ) → climb k b u ≡ p → u ≡ p
 unfolding climb
 alone-climb b F p bare zero u t = t
 alone-climb b F p bare (suc k) u t = go (interface b u .parent) refl (alone-climb b F p bare k)
@@ -147,7 +147,7 @@ alone-climb b F p bare (suc k) u t = go (interface b u .parent) refl (alone-clim
     go (some q) e ih = let q-is : q ≡ p = ih q (sym (climb-some k b u q e) ∙ t) in
         absurd (true≢false (sym (F .linked u p (e ∙ ap some q-is)) ∙ bare))
 
-pub alone : (b : Bench) → Frame b → (p : ℕ) → given (interface b p .halves) ≡ false → (u : ℕ) → top b u ≡ p → u ≡ p
+pub alone : (b : Bench) → Frame b → (p : ℕ) → isSome (interface b p .halves) ≡ false → (u : ℕ) → top b u ≡ p → u ≡ p
 alone b F p bare u t = alone-climb b F p bare 8 u t
 
 -- ---- clearing: all under i lose their parents, and nothing else does

@@ -13,8 +13,8 @@ use borrow.Author.Tests.{eq-eqb, ne-eqb}
 use lib.IntN.{ℤ, pos, _+ℤ_, +ℤ-assoc, +ℤ-comm, +ℤ-idl, +ℤ-idr}
 use Rattle.ledger_spec.specs.Bench.{Node, Bench}
 use Rattle.ledger_spec.specs.Look.{interface, climb, top, tree}
-use Rattle.ledger_spec.specs.Tests.{given}
-use Rattle.ledger_spec.specs.Account.{Σ, gate, Under, over, ratesIn}
+use Rattle.ledger_spec.specs.Tests.{isSome}
+use Rattle.ledger_spec.specs.Account.{Σ, gate, treeSum, slotSum, ratesIn}
 use Rattle.ledger_spec.specs.Change.{worth, share}
 use Rattle.ledger_spec.specs.Reads.{slotsFrom, gather}
 use Rattle.ledger_spec.specs.Check.{totalOf}
@@ -83,7 +83,7 @@ module _ (b : Bench) (F : Frame b) where
       go : (q : Option ℕ) → interface b w .parent ≡ q → Dec (w ≡ u) → ((p : ℕ) → reach k b p u ≡ eqb p u) → reach (suc k) b w u ≡ eqb w u
       go q e (yes x) ih = ap (λ (z : ℕ). reach (suc k) b z u) x ∙ reach-self (suc k) u ∙ sym (eq-eqb w u x)
       go none e (no x) ih = reach-none (suc k) w u x e ∙ sym (ne-eqb w u x)
-      go (some p) e (no x) ih = reach-some k w u p x e ∙ ih p ∙ ne-eqb p u (λ z. true≢false (sym (F .linked w u (e ∙ ap some z)) ∙ ap given bare)) ∙ sym (ne-eqb w u x)
+      go (some p) e (no x) ih = reach-some k w u p x e ∙ ih p ∙ ne-eqb p u (λ z. true≢false (sym (F .linked w u (e ∙ ap some z)) ∙ ap isSome bare)) ∙ sym (ne-eqb w u x)
 
   -- what climbs to an interface with halves is it, or climbs to one of them, and to one only
   module _ (u l r : ℕ) (hs : interface b u .halves ≡ some (l, r)) (x : ℤ) where
@@ -200,31 +200,31 @@ module _ (b : Bench) (F : Frame b) where
             hi : lr .1 < u
             hi = rises (lr .1) u (F .right u (lr .0) (lr .1) e)
 
-    pub tree-sum : (i : ℕ) → i < 8 → interface b i .parent ≡ none → along v (tree 8 b i) ≡ Under (top b) v i
+    pub tree-sum : (i : ℕ) → i < 8 → interface b i .parent ≡ none → along v (tree 8 b i) ≡ treeSum (top b) v i
     unfolding among
     tree-sum i h free = listed 8 i h (omega arith) ∙ Σ-same 8 (λ w. gate (eqb (top b w) i) (v w)) (λ w. gate (reach 8 b w i) (v w)) (λ w k. ap (λ (c : Bool). gate c (v w)) (reach-top 8 w i free))
 
 -- ---- the check's total is a sum along the tree
-slots-total : (u k : ℕ) (l : List (Option Node)) (ts : List (ℕ × ℕ × Option Node)) → totalOf (slotsFrom u k l ++ ts) ≡ over worth l +ℤ totalOf ts
-unfolding slotsFrom totalOf over
+slots-total : (u k : ℕ) (l : List (Option Node)) (ts : List (ℕ × ℕ × Option Node)) → totalOf (slotsFrom u k l ++ ts) ≡ slotSum worth l +ℤ totalOf ts
+unfolding slotsFrom totalOf slotSum
 slots-total u k [] ts = sym (+ℤ-idl (totalOf ts))
-slots-total u k (x ∷ xs) ts = ap (λ (z : ℤ). worth x +ℤ z) (slots-total u (suc k) xs ts) ∙ sym (+ℤ-assoc (worth x) (over worth xs) (totalOf ts))
+slots-total u k (x ∷ xs) ts = ap (λ (z : ℤ). worth x +ℤ z) (slots-total u (suc k) xs ts) ∙ sym (+ℤ-assoc (worth x) (slotSum worth xs) (totalOf ts))
 
-pub gather-total : (b : Bench) (us : List ℕ) → totalOf (gather b us) ≡ along (λ u. over worth (interface b u .slots)) us
+pub gather-total : (b : Bench) (us : List ℕ) → totalOf (gather b us) ≡ along (λ u. slotSum worth (interface b u .slots)) us
 unfolding gather along totalOf
 gather-total b [] = refl
-gather-total b (u ∷ us) = slots-total u 0 (interface b u .slots) (gather b us) ∙ ap (λ (z : ℤ). over worth (interface b u .slots) +ℤ z) (gather-total b us)
+gather-total b (u ∷ us) = slots-total u 0 (interface b u .slots) (gather b us) ∙ ap (λ (z : ℤ). slotSum worth (interface b u .slots) +ℤ z) (gather-total b us)
 
 -- and so are the rates
-slots-rates : (u k : ℕ) (l : List (Option Node)) (ts : List (ℕ × ℕ × Option Node)) → rates (slotsFrom u k l ++ ts) ≡ over share l +ℤ rates ts
-unfolding slotsFrom rates over
+slots-rates : (u k : ℕ) (l : List (Option Node)) (ts : List (ℕ × ℕ × Option Node)) → rates (slotsFrom u k l ++ ts) ≡ slotSum share l +ℤ rates ts
+unfolding slotsFrom rates slotSum
 slots-rates u k [] ts = sym (+ℤ-idl (rates ts))
-slots-rates u k (x ∷ xs) ts = ap (λ (z : ℤ). share x +ℤ z) (slots-rates u (suc k) xs ts) ∙ sym (+ℤ-assoc (share x) (over share xs) (rates ts))
+slots-rates u k (x ∷ xs) ts = ap (λ (z : ℤ). share x +ℤ z) (slots-rates u (suc k) xs ts) ∙ sym (+ℤ-assoc (share x) (slotSum share xs) (rates ts))
 
 pub gather-rates : (b : Bench) (us : List ℕ) → rates (gather b us) ≡ along (ratesIn b) us
 unfolding gather along rates
 gather-rates b [] = refl
-gather-rates b (u ∷ us) = slots-rates u 0 (interface b u .slots) (gather b us) ∙ ap (λ (z : ℤ). over share (interface b u .slots) +ℤ z) (gather-rates b us)
+gather-rates b (u ∷ us) = slots-rates u 0 (interface b u .slots) (gather b us) ∙ ap (λ (z : ℤ). slotSum share (interface b u .slots) +ℤ z) (gather-rates b us)
 
 pub along-add : (f g : ℕ → ℤ) (us : List ℕ) → along (λ u. f u +ℤ g u) us ≡ along f us +ℤ along g us
 unfolding along

@@ -20,31 +20,31 @@ unfoldable pub gate : Bool → ℤ → ℤ
 gate true x = x
 gate false x = pos 0
 
-unfoldable pub over : (Option Node → ℤ) → List (Option Node) → ℤ
-over φ [] = pos 0
-over φ (x ∷ xs) = φ x +ℤ over φ xs
+unfoldable pub slotSum : (Option Node → ℤ) → List (Option Node) → ℤ
+slotSum φ [] = pos 0
+slotSum φ (x ∷ xs) = φ x +ℤ slotSum φ xs
 
 unfoldable pub total : List ℤ → ℤ
 total [] = pos 0
 total (x ∷ xs) = x +ℤ total xs
 
 -- the sum of v over the interfaces of i's tree
-abbrev pub Under : (ℕ → ℕ) → (ℕ → ℤ) → ℕ → ℤ
-Under tp v i = Σ 8 (λ u. gate (eqb (tp u) i) (v u))
+abbrev pub treeSum : (ℕ → ℕ) → (ℕ → ℤ) → ℕ → ℤ
+treeSum tp v i = Σ 8 (λ u. gate (eqb (tp u) i) (v u))
 
 abbrev pub valuesAt : Book → ℕ → ℤ
-valuesAt k u = over worth (interface (k .bench) u .slots) +ℤ total (k .gone u)
+valuesAt k u = slotSum worth (interface (k .bench) u .slots) +ℤ total (k .gone u)
 
 abbrev pub ratesIn : Bench → ℕ → ℤ
-ratesIn b u = over share (interface b u .slots)
+ratesIn b u = slotSum share (interface b u .slots)
 
 abbrev pub ratesAt : Book → ℕ → ℤ
 ratesAt k u = ratesIn (k .bench) u
 
 -- The stored sum and speed of each interface without a parent are those of the nodes in its tree
 pub record Right (k : Book) (i : ℕ) : Type 0 where
-  pub sum : interface (k .bench) i .sum ≡ Under (top (k .bench)) (valuesAt k) i
-  pub speed : interface (k .bench) i .speed ≡ Under (top (k .bench)) (ratesAt k) i
+  pub sum : interface (k .bench) i .sum ≡ treeSum (top (k .bench)) (valuesAt k) i
+  pub speed : interface (k .bench) i .speed ≡ treeSum (top (k .bench)) (ratesAt k) i
 
 -- Two benches with the same nodes, links and serials, and for each interface without a parent the same sum and speed
 pub record Alike (b c : Bench) : Type 0 where

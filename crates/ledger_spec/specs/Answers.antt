@@ -9,8 +9,8 @@ use Rattle.ledger_spec.specs.Numbers.{BROKEN}
 use Rattle.ledger_spec.specs.Bench.{Handle, Bench}
 use Rattle.ledger_spec.specs.Calls.{Reply, nobody, Call, perform}
 use Rattle.ledger_spec.specs.Notices.{Notice, tells}
-use Rattle.ledger_spec.specs.Reads.{sumOf, speedOf, countOf, handleOf, belongs, valueOf}
-use Rattle.ledger_spec.specs.Walk.{outerOf, underOf, firstVertex, verticesInto}
+use Rattle.ledger_spec.specs.Reads.{sumOf, speedOf, countOf, handleAtIndex, belongs, valueOf}
+use Rattle.ledger_spec.specs.Walk.{outerOf, belowOf, firstVertex, verticesInto}
 use Rattle.ledger_spec.specs.Check.{checkOf, strictOf}
 use Rattle.ledger_spec.specs.Sound.{sound}
 
@@ -58,7 +58,7 @@ abbrev pub countRead : Bench → ℕ → Read ℕ
 countRead b u = record { own = countOf b u; zero = 0 }
 
 abbrev pub indexRead : Bench → ℕ → ℕ → Read (Option Handle)
-indexRead b u k = record { own = handleOf b u k; zero = none }
+indexRead b u k = record { own = handleAtIndex b u k; zero = none }
 
 abbrev pub belongsRead : Bench → ℕ → Handle → Read Bool
 belongsRead b u h = record { own = belongs b u h; zero = false }
@@ -70,7 +70,7 @@ abbrev pub outerRead : Bench → Handle → Read (Handle × ℕ)
 outerRead b h = record { own = outerOf b h; zero = (nobody, 0) }
 
 abbrev pub belowRead : Bench → Handle → Read Handle
-belowRead b h = record { own = underOf b h; zero = nobody }
+belowRead b h = record { own = belowOf b h; zero = nobody }
 
 abbrev pub firstRead : Bench → Handle → Read ℕ
 firstRead b h = record { own = firstVertex b h; zero = 0 }

@@ -6,7 +6,7 @@ use mathlib.Core.List.{List, [], _∷_}
 use lib.Dec.{eqb, ltb}
 use lib.IntN.{ℤ, pos, _+ℤ_, _-ℤ_, natAbs}
 use Rattle.ledger_spec.specs.Bench.{Handle, Member, defect, blossom, Node, Bench}
-use Rattle.ledger_spec.specs.Look.{interface, nodeAt, sameHandle}
+use Rattle.ledger_spec.specs.Look.{interface, nodeNamed, sameHandle}
 use Rattle.ledger_spec.specs.Change.{worth}
 use Rattle.ledger_spec.specs.Tests.{first, any, stale, isDefect}
 use Rattle.ledger_spec.specs.Refuse.{unitTests}
@@ -20,7 +20,7 @@ indexIn (t ∷ ts) k h = elim (eqb (t .0) (h .unit) && eqb (t .1) (h .slot)) [ t
 
 -- of a member: 2 if a defect does not touch by itself; of a blossom 4 if what it touches by is gone, else 3 if that is not in its outermost blossom
 unfoldable pub memberVerdict : Bench → Member → ℕ
-memberVerdict b m = elim (isDefect (nodeAt b (m .node))) [
+memberVerdict b m = elim (isDefect (nodeNamed b (m .node))) [
   | true ↦ elim (sameHandle (m .touch .0) (m .node) && sameHandle (m .touch .1) (m .node)) [ true ↦ 0 | false ↦ 2 ]
   | false ↦ elim (stale b (m .touch .0) || stale b (m .touch .1)) [
     | true ↦ 4
@@ -34,14 +34,14 @@ circleVerdict b [] = (0, record { unit = 0; slot = 0; serial = 0 })
 circleVerdict b (m ∷ ms) = elim (memberVerdict b m) [ zero ↦ circleVerdict b ms | suc k ↦ (suc k, m .node) ]
 
 -- along the slots that are left: the vertices seen before, the index reached
-unfoldable pub walk : Bench → List (ℕ × ℕ × Option Node) → List (ℕ × ℕ × Option Node) → List ℕ → ℕ → ℕ × ℕ
-walk b whole [] seen k = (0, 0)
-walk b whole (t ∷ ts) seen k = elim (t .2) [
-  | none ↦ walk b whole ts seen (suc k)
+unfoldable pub finding : Bench → List (ℕ × ℕ × Option Node) → List (ℕ × ℕ × Option Node) → List ℕ → ℕ → ℕ × ℕ
+finding b whole [] seen k = (0, 0)
+finding b whole (t ∷ ts) seen k = elim (t .2) [
+  | none ↦ finding b whole ts seen (suc k)
   | some n ↦ elim (n .class) [
-    | defect v ↦ elim (any (eqb v) seen) [ true ↦ (1, k) | false ↦ walk b whole ts (v ∷ seen) (suc k) ]
+    | defect v ↦ elim (any (eqb v) seen) [ true ↦ (1, k) | false ↦ finding b whole ts (v ∷ seen) (suc k) ]
     | blossom ms ↦ let c : ℕ × Handle = circleVerdict b ms in
-        elim (c .0) [ zero ↦ walk b whole ts seen (suc k) | suc w ↦ (suc w, indexIn whole 0 (c .1)) ]
+        elim (c .0) [ zero ↦ finding b whole ts seen (suc k) | suc w ↦ (suc w, indexIn whole 0 (c .1)) ]
   ]
 ]
 
@@ -50,7 +50,7 @@ totalOf [] = pos 0
 totalOf (t ∷ ts) = worth (t .2) +ℤ totalOf ts
 
 unfoldable pub verdict : Bench → ℕ → ℕ × ℕ
-verdict b u = let w : ℕ × ℕ = walk b (slotsOf b u) (slotsOf b u) [] 0 in
+verdict b u = let w : ℕ × ℕ = finding b (slotsOf b u) (slotsOf b u) [] 0 in
     elim (w .0) [ suc k ↦ w | zero ↦ elim (eqb (natAbs (interface b u .sum -ℤ totalOf (slotsOf b u))) 0) [ true ↦ (0, 0) | false ↦ (5, 0) ] ]
 
 -- ---- the strict check: as above if not 0; else 6, if a blossom member touches by a node that is not under it
@@ -58,24 +58,24 @@ unfoldable pub isUnder : Bench → Handle → Handle → Bool
 isUnder b t m = sameHandle t m || (sameHandle (outermost b t) (outermost b m) && ltb (t .serial) (m .serial))
 
 unfoldable pub strictMember : Bench → Member → Bool
-strictMember b m = elim (isDefect (nodeAt b (m .node))) [ true ↦ true | false ↦ isUnder b (m .touch .0) (m .node) && isUnder b (m .touch .1) (m .node) ]
+strictMember b m = elim (isDefect (nodeNamed b (m .node))) [ true ↦ true | false ↦ isUnder b (m .touch .0) (m .node) && isUnder b (m .touch .1) (m .node) ]
 
 unfoldable pub strictCircle : Bench → List Member → Option Handle
 strictCircle b [] = none
 strictCircle b (m ∷ ms) = elim (strictMember b m) [ true ↦ strictCircle b ms | false ↦ some (m .node) ]
 
-unfoldable pub strictWalk : Bench → List (ℕ × ℕ × Option Node) → List (ℕ × ℕ × Option Node) → ℕ × ℕ
-strictWalk b whole [] = (0, 0)
-strictWalk b whole (t ∷ ts) = elim (t .2) [
-  | none ↦ strictWalk b whole ts
+unfoldable pub strictFinding : Bench → List (ℕ × ℕ × Option Node) → List (ℕ × ℕ × Option Node) → ℕ × ℕ
+strictFinding b whole [] = (0, 0)
+strictFinding b whole (t ∷ ts) = elim (t .2) [
+  | none ↦ strictFinding b whole ts
   | some n ↦ elim (n .class) [
-    | defect v ↦ strictWalk b whole ts
-    | blossom ms ↦ elim (strictCircle b ms) [ none ↦ strictWalk b whole ts | some h ↦ (6, indexIn whole 0 h) ]
+    | defect v ↦ strictFinding b whole ts
+    | blossom ms ↦ elim (strictCircle b ms) [ none ↦ strictFinding b whole ts | some h ↦ (6, indexIn whole 0 h) ]
   ]
 ]
 
 unfoldable pub strictVerdict : Bench → ℕ → ℕ × ℕ
-strictVerdict b u = let w : ℕ × ℕ = verdict b u in elim (w .0) [ zero ↦ strictWalk b (slotsOf b u) (slotsOf b u) | suc k ↦ w ]
+strictVerdict b u = let w : ℕ × ℕ = verdict b u in elim (w .0) [ zero ↦ strictFinding b (slotsOf b u) (slotsOf b u) | suc k ↦ w ]
 
 -- ---- the two reads: number, verdict, index
 unfoldable pub checkOf : Bench → ℕ → ℕ × (ℕ × ℕ)

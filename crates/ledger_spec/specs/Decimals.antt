@@ -23,23 +23,23 @@ signed (negsuc n) = 45 ∷ decimal (suc n)
 -- ---- read
 
 -- digits after a number n
-unfoldable pub value : ℕ → List ℕ → Option ℕ
-value n [] = some n
-value n (c ∷ f) = elim (leb 48 c && leb c 57) [ true ↦ value (n * 10 + (c - 48)) f | false ↦ none ]
+unfoldable pub afterDigits : ℕ → List ℕ → Option ℕ
+afterDigits n [] = some n
+afterDigits n (c ∷ f) = elim (leb 48 c && leb c 57) [ true ↦ afterDigits (n * 10 + (c - 48)) f | false ↦ none ]
 
 -- plain decimals without leading zeros
 unfoldable pub natural : List ℕ → Option ℕ
 natural [] = none
-natural (c ∷ []) = value 0 (c ∷ [])
-natural (c ∷ d ∷ f) = elim (eqb c 48) [ true ↦ none | false ↦ value 0 (c ∷ d ∷ f) ]
+natural (c ∷ []) = afterDigits 0 (c ∷ [])
+natural (c ∷ d ∷ f) = elim (eqb c 48) [ true ↦ none | false ↦ afterDigits 0 (c ∷ d ∷ f) ]
 
 -- in a range, both ends included
 unfoldable pub between : ℕ → ℕ → Option ℕ → Option ℕ
 between least most none = none
 between least most (some n) = elim (leb least n && leb n most) [ true ↦ some n | false ↦ none ]
 
-abbrev pub number : ℕ → ℕ → List ℕ → Option ℕ
-number least most f = between least most (natural f)
+abbrev pub numberWithin : ℕ → ℕ → List ℕ → Option ℕ
+numberWithin least most f = between least most (natural f)
 
 abbrev pub plusOf : Option ℕ → Option ℤ
 plusOf none = none
@@ -52,4 +52,4 @@ minusOf (some n) = some (negℤ (pos n))
 -- any signed 64-bit number; minus only before a nonzero number
 unfoldable pub integer : List ℕ → Option ℤ
 integer [] = none
-integer (c ∷ f) = elim (eqb c 45) [ true ↦ minusOf (number 1 9223372036854775808 f) | false ↦ plusOf (number 0 9223372036854775807 (c ∷ f)) ]
+integer (c ∷ f) = elim (eqb c 45) [ true ↦ minusOf (numberWithin 1 9223372036854775808 f) | false ↦ plusOf (numberWithin 0 9223372036854775807 (c ∷ f)) ]

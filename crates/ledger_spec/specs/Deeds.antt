@@ -6,7 +6,7 @@ use mathlib.Core.List.{List, [], _∷_, map}
 use lib.Dec.{eqb}
 use lib.IntN.{ℤ, pos, _+ℤ_, _*ℤ_}
 use Rattle.ledger_spec.specs.Bench.{Handle, grows, stays, rate, Member, defect, blossom, Node, Interface, Bench, fresh, withSlots, withProgress, withSum, withSpeed, withParent, withHalves}
-use Rattle.ledger_spec.specs.Look.{interface, freeSlot, nodeAt, top}
+use Rattle.ledger_spec.specs.Look.{interface, freeSlot, nodeNamed, top}
 use Rattle.ledger_spec.specs.Change.{withInterface, place, push, markAll}
 
 abbrev pub newHandle : Bench → ℕ → Handle
@@ -27,7 +27,7 @@ sizeOf (some n) = n .size
 
 unfoldable pub sizes : Bench → List Handle → ℕ
 sizes b [] = 0
-sizes b (h ∷ hs) = sizeOf (nodeAt b h) + sizes b hs
+sizes b (h ∷ hs) = sizeOf (nodeNamed b h) + sizes b hs
 
 unfoldable pub addBlossom : Bench → ℕ → List Handle → List (Handle × Handle) → Bench
 addBlossom b u hs ts = push (markAll b hs stays (some (newHandle b u))) u
@@ -38,7 +38,7 @@ members none = []
 members (some n) = elim (n .class) [ defect v ↦ [] | blossom ms ↦ map (λ (m : Member). m .node) ms ]
 
 unfoldable pub removeBlossom : Bench → Handle → Bench
-removeBlossom b h = markAll (place b (h .unit) (h .slot) none) (members (nodeAt b h)) grows none
+removeBlossom b h = markAll (place b (h .unit) (h .slot) none) (members (nodeNamed b h)) grows none
 
 -- every node of a slot grows, stays or shrinks by l
 unfoldable pub growSlot : ℤ → Option Node → Option Node

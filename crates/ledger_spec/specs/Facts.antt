@@ -12,7 +12,7 @@ use Rattle.ledger_spec.specs.Deeds.{sizes}
 use Rattle.ledger_spec.specs.SoundTree.{reach}
 use Rattle.ledger_spec.specs.Frame.{Frame}
 use Rattle.ledger_spec.specs.Knit.{nodes, In, Sewn}
-use Rattle.ledger_spec.specs.Account.{Under, ratesIn}
+use Rattle.ledger_spec.specs.Account.{treeSum, ratesIn}
 
 -- W: the progress of interface i and of all below it
 abbrev pub W : Bench → ℕ → ℕ
@@ -46,4 +46,4 @@ pub record Sound (b : Bench) : Type 0 where
   pub rings : (u s : ℕ) (n : Node) → slotOf b u s ≡ some n → Ring b n
   pub values : (u s : ℕ) (n : Node) → slotOf b u s ≡ some n → natAbs (n .value) ≤ W b (top b u)
   pub sums : (i : ℕ) → i < 8 → interface b i .parent ≡ none → natAbs (interface b i .sum) ≤ 512 * W b i
-  pub speeds : (i : ℕ) → i < 8 → interface b i .parent ≡ none → interface b i .speed ≡ Under (top b) (ratesIn b) i
+  pub speeds : (i : ℕ) → i < 8 → interface b i .parent ≡ none → interface b i .speed ≡ treeSum (top b) (ratesIn b) i

@@ -7,7 +7,7 @@ use lib.Dec.{eqb, ltb}
 use lib.ListN.{length}
 use lib.IntN.{ℤ, pos, negsuc}
 use Rattle.ledger_spec.specs.Bench.{State, grows, stays, shrinks}
-use Rattle.ledger_spec.specs.Decimals.{number, integer}
+use Rattle.ledger_spec.specs.Decimals.{numberWithin, integer}
 use Rattle.ledger_spec.specs.Fields.{cut}
 
 -- what a line says, or that it is not of the grammar
@@ -24,17 +24,17 @@ pub data Line : Type 0 where
 
 -- ---- fields
 
-abbrev pub unit : List ℕ → Option ℕ
-unit = number 0 255
+abbrev pub aUnit : List ℕ → Option ℕ
+aUnit = numberWithin 0 255
 
-abbrev pub vertex : List ℕ → Option ℕ
-vertex = number 0 4294967295
+abbrev pub aVertex : List ℕ → Option ℕ
+aVertex = numberWithin 0 4294967295
 
-abbrev pub serial : List ℕ → Option ℕ
-serial = number 1 4294967295
+abbrev pub aSerial : List ℕ → Option ℕ
+aSerial = numberWithin 1 4294967295
 
-abbrev pub amount : List ℕ → Option ℤ
-amount = integer
+abbrev pub anAmount : List ℕ → Option ℤ
+anAmount = integer
 
 -- 1, 0, -1
 abbrev pub stateIn : Option ℤ → Option State
@@ -45,8 +45,8 @@ stateIn (some (pos (suc (suc n)))) = none
 stateIn (some (negsuc zero)) = some shrinks
 stateIn (some (negsuc (suc n))) = none
 
-abbrev pub state : List ℕ → Option State
-state f = stateIn (integer f)
+abbrev pub aState : List ℕ → Option State
+aState f = stateIn (integer f)
 
 -- ---- one field after the other
 
@@ -66,14 +66,14 @@ abbrev pub then : {A : Type 0} → (List ℕ → Option A) → (A → Fields →
 then r k fs = follow (step r fs) k
 
 -- no field is left
-abbrev pub end : Line → Fields → Line
-end l [] = l
-end l (f ∷ fs) = wrong
+abbrev pub noMore : Line → Fields → Line
+noMore l [] = l
+noMore l (f ∷ fs) = wrong
 
 -- each field is a serial
-unfoldable pub serials : Fields → Option (List ℕ)
-serials [] = some []
-serials (f ∷ fs) = elim (serial f) [ none ↦ none | some n ↦ elim (serials fs) [ none ↦ none | some ns ↦ some (n ∷ ns) ] ]
+unfoldable pub allSerials : Fields → Option (List ℕ)
+allSerials [] = some []
+allSerials (f ∷ fs) = elim (aSerial f) [ none ↦ none | some n ↦ elim (allSerials fs) [ none ↦ none | some ns ↦ some (n ∷ ns) ] ]
 
 abbrev pub gathered : ℕ → Option (List ℕ) → Line
 gathered u none = wrong
@@ -82,7 +82,7 @@ gathered u (some ns) = B u ns
 -- at least one
 abbrev pub some-serials : ℕ → Fields → Line
 some-serials u [] = wrong
-some-serials u (f ∷ fs) = gathered u (serials (f ∷ fs))
+some-serials u (f ∷ fs) = gathered u (allSerials (f ∷ fs))
 
 -- ---- the lines
 
@@ -93,14 +93,14 @@ pick false a b = b
 -- after the letter and the first number, a unit (of a fuse: the parent)
 unfoldable pub rest : ℕ → ℕ → Fields → Line
 rest letter u fs =
-    pick (eqb letter 68) (then vertex (λ v. end (D u v)) fs)  -- D unit vertex
+    pick (eqb letter 68) (then aVertex (λ v. noMore (D u v)) fs)  -- D unit vertex
     (pick (eqb letter 66) (some-serials u fs)  -- B unit serial..
-    (pick (eqb letter 69) (then serial (λ n. end (E u n)) fs)  -- E unit serial
-    (pick (eqb letter 83) (then serial (λ n. then state (λ g. end (S u n g))) fs)  -- S unit serial state
-    (pick (eqb letter 71) (then amount (λ l. end (G u l)) fs)  -- G unit length
-    (pick (eqb letter 70) (then unit (λ l. then unit (λ r. end (F u l r))) fs)  -- F parent left right
-    (pick (eqb letter 67) (end (C u) fs)  -- C unit
-    (pick (eqb letter 75) (end (K u) fs)  -- K unit
+    (pick (eqb letter 69) (then aSerial (λ n. noMore (E u n)) fs)  -- E unit serial
+    (pick (eqb letter 83) (then aSerial (λ n. then aState (λ g. noMore (S u n g))) fs)  -- S unit serial state
+    (pick (eqb letter 71) (then anAmount (λ l. noMore (G u l)) fs)  -- G unit length
+    (pick (eqb letter 70) (then aUnit (λ l. then aUnit (λ r. noMore (F u l r))) fs)  -- F parent left right
+    (pick (eqb letter 67) (noMore (C u) fs)  -- C unit
+    (pick (eqb letter 75) (noMore (K u) fs)  -- K unit
     wrong)))))))
 
 -- a field of one byte
@@ -111,4 +111,4 @@ letter (c ∷ d ∷ f) = none
 
 -- one space between fields; at most 1,024 bytes with the newline
 unfoldable pub lineOf : List ℕ → Line
-lineOf s = pick (ltb 1023 (length s)) wrong (then letter (λ c. then unit (rest c)) (cut 32 s))
+lineOf s = pick (ltb 1023 (length s)) wrong (then letter (λ c. then aUnit (rest c)) (cut 32 s))

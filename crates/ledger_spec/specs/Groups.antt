@@ -8,7 +8,7 @@ use lib.ListN.{length, drop}
 use lib.Dec.{eqb, leb, ltb}
 use lib.IntN.{ℤ, pos, negsuc}
 use lib.Signed.{ltZ}
-use Rattle.kinds.specs.Names.{sameHandle}
+use Rattle.kinds.specs.Names.{sameCode}
 use Rattle.kinds.specs.Obstacles.{listable, isStop, pairOf}
 use Rattle.kinds.specs.declared.Entry.{Entry}
 use Rattle.kinds.specs.declared.Stop.{Stop}
@@ -41,13 +41,13 @@ allListable [] = true
 allListable (e ∷ es) = listable (e .obstacle) && allListable es
 
 -- only stops, each at a vertex of at least v
-unfoldable pub rising : ℕ → List Stop → Bool
-rising v [] = true
-rising v (s ∷ ss) = isStop (s .obstacle) && (leb v (s .vertex .0) && rising (suc (s .vertex .0)) ss)
+unfoldable pub risingFrom : ℕ → List Stop → Bool
+risingFrom v [] = true
+risingFrom v (s ∷ ss) = isStop (s .obstacle) && (leb v (s .vertex .0) && risingFrom (suc (s .vertex .0)) ss)
 
 unfoldable pub soundGroup : Group → Bool
-soundGroup (growth l f) = true
-soundGroup (conflicts l s) = leb (length l) groupLimit && (leb (length s) groupLimit && (allListable l && rising 0 s))
+soundGroup (growth n f) = true
+soundGroup (conflicts es ss) = leb (length es) groupLimit && (leb (length ss) groupLimit && (allListable es && risingFrom 0 ss))
 
 -- ---- add: none where list or stops would pass 128
 
@@ -56,7 +56,7 @@ abbrev pub Lists : Type 0
 Lists = List Entry × List Stop
 
 unfoldable pub roomFor : List Entry → List Stop → Option Lists
-roomFor l s = cond (leb (length l) groupLimit && leb (length s) groupLimit) (some (l, s)) none
+roomFor es ss = cond (leb (length es) groupLimit && leb (length ss) groupLimit) (some (es, ss)) none
 
 -- the stops at the front whose vertex is below v, and the others
 unfoldable pub frontOf : ℕ → List Stop → List Stop
@@ -67,25 +67,23 @@ unfoldable pub backOf : ℕ → List Stop → List Stop
 backOf v [] = []
 backOf v (s ∷ ss) = cond (ltb (s .vertex .0) v) (backOf v ss) (s ∷ ss)
 
--- stop x comes to a vertex where y is pending, by their pairs; f and b are the stops before and after y
+-- stop x comes to a vertex where y is pending, by their pairs; fs and bs are the stops before and after y
 unfoldable pub meet : MaybePair → MaybePair → Stop → Stop → List Entry → List Stop → List Stop → Option Lists
-meet NoPair q x y l f b = roomFor l (f ++ y ∷ b)
-meet (WithPair p) NoPair x y l f b = roomFor l (f ++ x ∷ b)
-meet (WithPair p) (WithPair q) x y l f b =
-    cond (sameHandle (p .node) (q .node)) (roomFor l (f ++ y ∷ b)) (roomFor (l ++ record { obstacle = Conflicting p q } ∷ []) (f ++ b))
+meet NoPair q x y es fs bs = roomFor es (fs ++ y ∷ bs)
+meet (WithPair p) NoPair x y es fs bs = roomFor es (fs ++ x ∷ bs)
+meet (WithPair p) (WithPair q) x y es fs bs =
+    cond (sameCode (p .node) (q .node)) (roomFor es (fs ++ y ∷ bs)) (roomFor (es ++ record { obstacle = Conflicting p q } ∷ []) (fs ++ bs))
 
 unfoldable pub placed : Stop → List Entry → List Stop → List Stop → Option Lists
-placed x l f [] = roomFor l (f ++ x ∷ [])
-placed x l f (y ∷ b) =
-    cond (eqb (y .vertex .0) (x .vertex .0))
-    (meet (pairOf (x .obstacle)) (pairOf (y .obstacle)) x y l f b)
-    (roomFor l (f ++ x ∷ y ∷ b))
+placed x es fs [] = roomFor es (fs ++ x ∷ [])
+placed x es fs (y ∷ bs) =
+    cond (eqb (y .vertex .0) (x .vertex .0)) (meet (pairOf (x .obstacle)) (pairOf (y .obstacle)) x y es fs bs) (roomFor es (fs ++ x ∷ y ∷ bs))
 
 unfoldable pub addStop : Stop → List Entry → List Stop → Option Lists
-addStop x l s = placed x l (frontOf (x .vertex .0) s) (backOf (x .vertex .0) s)
+addStop x es ss = placed x es (frontOf (x .vertex .0) ss) (backOf (x .vertex .0) ss)
 
 abbrev pub smaller : ℤ → ℤ → ℤ
-smaller a b = cond (ltZ b a) b a
+smaller n n′ = cond (ltZ n′ n) n′ n
 
 abbrev pub grouped : Option Lists → Option Group
 grouped none = none
@@ -93,28 +91,28 @@ grouped (some ls) = some (conflicts (ls .0) (ls .1))
 
 -- o is added, v being the first vertex of a stop's node: to a growth, to conflicts
 unfoldable pub addToGrowth : ℤ → Bool → Obstacle → ℕ → Option Group
-addToGrowth a f (NonZeroGrow b h) v = some (growth (smaller a b) (f || h))
-addToGrowth a f (Conflicting p q) v = some (conflicts (record { obstacle = Conflicting p q } ∷ []) [])
-addToGrowth a f (TouchingVirtual p w m) v = some (conflicts (record { obstacle = TouchingVirtual p w m } ∷ []) [])
-addToGrowth a f (BlossomNeedExpand n) v = some (conflicts (record { obstacle = BlossomNeedExpand n } ∷ []) [])
-addToGrowth a f (VertexShrinkStop n p) v = some (conflicts [] (record { vertex = record { 0 = v }; obstacle = VertexShrinkStop n p } ∷ []))
+addToGrowth n f (NonZeroGrow n′ f′) v = some (growth (smaller n n′) (f || f′))
+addToGrowth n f (Conflicting p q) v = some (conflicts (record { obstacle = Conflicting p q } ∷ []) [])
+addToGrowth n f (TouchingVirtual p w m) v = some (conflicts (record { obstacle = TouchingVirtual p w m } ∷ []) [])
+addToGrowth n f (BlossomNeedExpand h) v = some (conflicts (record { obstacle = BlossomNeedExpand h } ∷ []) [])
+addToGrowth n f (VertexShrinkStop h p) v = some (conflicts [] (record { vertex = record { 0 = v }; obstacle = VertexShrinkStop h p } ∷ []))
 
 unfoldable pub addToConflicts : List Entry → List Stop → Obstacle → ℕ → Option Group
-addToConflicts l s (NonZeroGrow b h) v = some (conflicts l s)
-addToConflicts l s (Conflicting p q) v = grouped (roomFor (l ++ record { obstacle = Conflicting p q } ∷ []) s)
-addToConflicts l s (TouchingVirtual p w m) v = grouped (roomFor (l ++ record { obstacle = TouchingVirtual p w m } ∷ []) s)
-addToConflicts l s (BlossomNeedExpand n) v = grouped (roomFor (l ++ record { obstacle = BlossomNeedExpand n } ∷ []) s)
-addToConflicts l s (VertexShrinkStop n p) v = grouped (addStop (record { vertex = record { 0 = v }; obstacle = VertexShrinkStop n p }) l s)
+addToConflicts es ss (NonZeroGrow n f) v = some (conflicts es ss)
+addToConflicts es ss (Conflicting p q) v = grouped (roomFor (es ++ record { obstacle = Conflicting p q } ∷ []) ss)
+addToConflicts es ss (TouchingVirtual p w m) v = grouped (roomFor (es ++ record { obstacle = TouchingVirtual p w m } ∷ []) ss)
+addToConflicts es ss (BlossomNeedExpand h) v = grouped (roomFor (es ++ record { obstacle = BlossomNeedExpand h } ∷ []) ss)
+addToConflicts es ss (VertexShrinkStop h p) v = grouped (addStop (record { vertex = record { 0 = v }; obstacle = VertexShrinkStop h p }) es ss)
 
 unfoldable pub added : Group → Obstacle → ℕ → Option Group
-added (growth a f) o v = addToGrowth a f o v
-added (conflicts l s) o v = addToConflicts l s o v
+added (growth n f) o v = addToGrowth n f o v
+added (conflicts es ss) o v = addToConflicts es ss o v
 
 -- ---- extend
 
 -- the smaller of two pairs: length first, then no before yes
 unfoldable pub smallerPair : ℤ → Bool → ℤ → Bool → Group
-smallerPair a f b h = cond (ltZ b a) (growth b h) (cond (ltZ a b) (growth a f) (growth a (f && h)))
+smallerPair n f n′ f′ = cond (ltZ n′ n) (growth n′ f′) (cond (ltZ n n′) (growth n f) (growth n (f && f′)))
 
 -- stops added one after the other, each under the vertex it was kept by, as long as there is room
 abbrev pub andThen : Option Lists → (List Entry → List Stop → Option Lists) → Option Lists
@@ -122,30 +120,30 @@ andThen none next = none
 andThen (some ls) next = next (ls .0) (ls .1)
 
 unfoldable pub addStops : List Stop → List Entry → List Stop → Option Lists
-addStops [] l s = some (l, s)
-addStops (x ∷ xs) l s = andThen (addStop x l s) (addStops xs)
+addStops [] es ss = some (es, ss)
+addStops (x ∷ xs) es ss = andThen (addStop x es ss) (addStops xs)
 
 unfoldable pub extended : Group → Group → Option Group
-extended (growth a f) (growth b h) = some (cond (eqZ b largest) (growth a f) (smallerPair a f b h))
-extended (growth a f) (conflicts m t) = some (conflicts m t)
-extended (conflicts l s) (growth b h) = some (conflicts l s)
-extended (conflicts l s) (conflicts m t) = grouped (andThen (roomFor (l ++ m) s) (addStops t))
+extended (growth n f) (growth n′ f′) = some (cond (eqZ n′ largest) (growth n f) (smallerPair n f n′ f′))
+extended (growth n f) (conflicts es ss) = some (conflicts es ss)
+extended (conflicts es ss) (growth n f) = some (conflicts es ss)
+extended (conflicts es ss) (conflicts es′ ss′) = grouped (andThen (roomFor (es ++ es′) ss) (addStops ss′))
 
 -- ---- pop and peek of conflicts
 
 -- the last of the list; where it is empty, the stop of smallest vertex; where there is none, nothing
-unfoldable pub topOf : List Entry → List Stop → Option Obstacle
-topOf [] [] = none
-topOf [] (s ∷ ss) = some (s .obstacle)
-topOf (e ∷ []) s = some (e .obstacle)
-topOf (e ∷ f ∷ es) s = topOf (f ∷ es) s
+unfoldable pub lastOf : List Entry → List Stop → Option Obstacle
+lastOf [] [] = none
+lastOf [] (s ∷ ss) = some (s .obstacle)
+lastOf (e ∷ []) ss = some (e .obstacle)
+lastOf (e ∷ e′ ∷ es) ss = lastOf (e′ ∷ es) ss
 
 -- all but the last
-unfoldable pub front : {A : Type 0} → List A → List A
-front [] = []
-front (x ∷ []) = []
-front (x ∷ y ∷ ys) = x ∷ front (y ∷ ys)
+unfoldable pub allButLast : {A : Type 0} → List A → List A
+allButLast [] = []
+allButLast (x ∷ []) = []
+allButLast (x ∷ y ∷ ys) = x ∷ allButLast (y ∷ ys)
 
 -- the last of the list goes AND the stop of smallest vertex goes
 abbrev pub popped : List Entry → List Stop → Group
-popped l s = conflicts (front l) (drop 1 s)
+popped es ss = conflicts (allButLast es) (drop 1 ss)

@@ -32,19 +32,19 @@ shown number serial b u = elim (eqb number UNIT || (outside u || child b u))
     [ true ↦ (number, serial, pos 0, pos 0) | false ↦ (number, serial, interface b u .speed, interface b u .sum) ]
 
 -- a line's four numbers, and the bench after it
-pub record Said : Type 0 where
+pub record LineAnswer : Type 0 where
   pub numbers : ℕ × ℕ × ℤ × ℤ
   pub bench : Bench
 
 -- a call that names interface u
-unfoldable pub calls : Bench → ℕ → Call → Said
+unfoldable pub calls : Bench → ℕ → Call → LineAnswer
 calls b u c = record { numbers = shown (answer b c .number) (answer b c .node .serial) (answer b c .bench) u; bench = answer b c .bench }
 
 -- the check's verdict stands where another line has the serial
-unfoldable pub checks : Bench → ℕ → Said
+unfoldable pub checks : Bench → ℕ → LineAnswer
 checks b u = record { numbers = shown (read b (checkRead b u) .0) (read b (checkRead b u) .1 .0) b u; bench = b }
 
-unfoldable pub says : Bench → Line → Said
+unfoldable pub says : Bench → Line → LineAnswer
 says b (D u v) = calls b u (Defect u v)
 says b (B u ks) = calls b u (Blossom u (map (named b) ks) [])
 says b (E u k) = calls b u (Expand u (named b k))

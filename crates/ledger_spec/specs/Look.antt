@@ -23,8 +23,8 @@ ifSerial k none = none
 ifSerial k (some n) = elim (eqb k (n .serial)) [ true ↦ some n | false ↦ none ]
 
 -- the present node that a handle names
-unfoldable pub nodeAt : Bench → Handle → Option Node
-nodeAt b h = ifSerial (h .serial) (slotOf b (h .unit) (h .slot))
+unfoldable pub nodeNamed : Bench → Handle → Option Node
+nodeNamed b h = ifSerial (h .serial) (slotOf b (h .unit) (h .slot))
 
 -- the interface without a parent at the top of u's tree: parents have higher numbers, so 8 steps are enough
 unfoldable pub climb : ℕ → Bench → ℕ → ℕ

@@ -9,7 +9,7 @@ use lib.Dec.{leb}
 use lib.IntN.{ℤ, pos}
 use Rattle.ledger_spec.specs.Numbers.{UNIT, CHILD, STALE, RANGE}
 use Rattle.ledger_spec.specs.Bench.{Handle, Node, Bench}
-use Rattle.ledger_spec.specs.Look.{interface, nodeAt, tree}
+use Rattle.ledger_spec.specs.Look.{interface, nodeNamed, tree}
 use Rattle.ledger_spec.specs.Change.{worth}
 use Rattle.ledger_spec.specs.Tests.{first, outside, child, stale, foreign}
 use Rattle.ledger_spec.specs.Refuse.{unitTests}
@@ -49,8 +49,8 @@ unfoldable pub indexTests : Bench → ℕ → ℕ → List (Bool × ℕ)
 indexTests b u k = (outside u, UNIT) ∷ (child b u, CHILD) ∷ (leb (length (slotsOf b u)) k, RANGE) ∷ []
 
 -- index to handle, or nothing where the slot was emptied
-unfoldable pub handleOf : Bench → ℕ → ℕ → ℕ × Option Handle
-handleOf b u k = said (first (indexTests b u k)) (asHandle (getD (slotsOf b u) k (0, 0, none))) none
+unfoldable pub handleAtIndex : Bench → ℕ → ℕ → ℕ × Option Handle
+handleAtIndex b u k = said (first (indexTests b u k)) (asHandle (getD (slotsOf b u) k (0, 0, none))) none
 
 -- ---- nodes
 
@@ -58,7 +58,7 @@ unfoldable pub nodeTests : Bench → Handle → List (Bool × ℕ)
 nodeTests b h = (stale b h, STALE) ∷ []
 
 unfoldable pub valueOf : Bench → Handle → ℕ × ℤ
-valueOf b h = said (first (nodeTests b h)) (worth (nodeAt b h)) (pos 0)
+valueOf b h = said (first (nodeTests b h)) (worth (nodeNamed b h)) (pos 0)
 
 -- whether a node stands in an interface's tree: no in place of 8 and 9
 unfoldable pub belongs : Bench → ℕ → Handle → ℕ × Bool

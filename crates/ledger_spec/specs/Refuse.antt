@@ -9,7 +9,7 @@ use lib.IntN.{ℤ, pos, _+ℤ_}
 use lib.Signed.{ltZ}
 use Rattle.ledger_spec.specs.Numbers.{progressLimit, circleLimit, UNIT, CHILD, LENGTH, CIRCLE, TOUCH, STALE, FOREIGN, KIND, INSIDE, TWICE, FULL, WORN, PAIR, USED}
 use Rattle.ledger_spec.specs.Bench.{Handle, Bench}
-use Rattle.ledger_spec.specs.Look.{interface, nodeAt}
+use Rattle.ledger_spec.specs.Look.{interface, nodeNamed}
 use Rattle.ledger_spec.specs.Tests.{first, any, empty, outside, child, stale, foreign, isDefect, hasParent, twice, full, worn, used, both}
 
 abbrev pub setUpNo : ℕ → ℕ
@@ -30,7 +30,7 @@ blossomTests b u hs ts =
     ∷ (not (empty ts) && not (eqb (length ts) (length hs)), TOUCH)
     ∷ (any (stale b) (hs ++ both ts), STALE)
     ∷ (any (foreign b u) (hs ++ both ts), FOREIGN)
-    ∷ (any (λ h. hasParent (nodeAt b h)) hs, INSIDE)
+    ∷ (any (λ h. hasParent (nodeNamed b h)) hs, INSIDE)
     ∷ (twice hs, TWICE)
     ∷ (full b u, FULL)
     ∷ (worn b, WORN)
@@ -38,16 +38,10 @@ blossomTests b u hs ts =
 
 unfoldable pub expandTests : Bench → ℕ → Handle → List (Bool × ℕ)
 expandTests b u h =
-    (outside u, UNIT)
-    ∷ (child b u, CHILD)
-    ∷ (stale b h, STALE)
-    ∷ (foreign b u h, FOREIGN)
-    ∷ (isDefect (nodeAt b h), KIND)
-    ∷ (hasParent (nodeAt b h), INSIDE)
-    ∷ []
+    (outside u, UNIT) ∷ (child b u, CHILD) ∷ (stale b h, STALE) ∷ (foreign b u h, FOREIGN) ∷ (isDefect (nodeNamed b h), KIND) ∷ (hasParent (nodeNamed b h), INSIDE) ∷ []
 
 unfoldable pub stateTests : Bench → ℕ → Handle → List (Bool × ℕ)
-stateTests b u h = (outside u, UNIT) ∷ (child b u, CHILD) ∷ (stale b h, STALE) ∷ (foreign b u h, FOREIGN) ∷ (hasParent (nodeAt b h), INSIDE) ∷ []
+stateTests b u h = (outside u, UNIT) ∷ (child b u, CHILD) ∷ (stale b h, STALE) ∷ (foreign b u h, FOREIGN) ∷ (hasParent (nodeNamed b h), INSIDE) ∷ []
 
 unfoldable pub growTests : Bench → ℕ → ℤ → List (Bool × ℕ)
 growTests b u l = (outside u, UNIT) ∷ (child b u, CHILD) ∷ (ltZ l (pos 0) || ltZ (pos progressLimit) (interface b u .progress +ℤ l), LENGTH) ∷ []

@@ -9,7 +9,7 @@ use lib.Dec.{eqb, leb, ltb}
 use lib.IntN.{ℤ, pos, _+ℤ_, _-ℤ_, natAbs}
 use Rattle.ledger_spec.specs.Numbers.{serialLimit, circleLimit}
 use Rattle.ledger_spec.specs.Bench.{Handle, State, grows, stays, shrinks, Member, Class, defect, blossom, Node, Bench}
-use Rattle.ledger_spec.specs.Look.{interface, nodeAt, top, tree, sameHandle}
+use Rattle.ledger_spec.specs.Look.{interface, nodeNamed, top, tree, sameHandle}
 use Rattle.ledger_spec.specs.Change.{share}
 use Rattle.ledger_spec.specs.Deeds.{sizes, members}
 use Rattle.ledger_spec.specs.Reads.{gather, slotsOf}
@@ -31,13 +31,13 @@ soundTouch b t = (leb (t .unit) 7 && leb (t .slot) 63) && ltb (t .serial) (b .ne
 unfoldable pub soundClass : Bench → Handle → Class → ℕ → Bool
 soundClass b h (defect v) size = eqb size 1
 soundClass b h (blossom ms) size = ((leb 1 (length ms) && leb (length ms) circleLimit) && eqb size (sizes b (map (λ (m : Member). m .node) ms)))
-    && all (λ (m : Member). sameParent (nodeAt b (m .node)) h && (soundTouch b (m .touch .0) && soundTouch b (m .touch .1))) ms
+    && all (λ (m : Member). sameParent (nodeNamed b (m .node)) h && (soundTouch b (m .touch .0) && soundTouch b (m .touch .1))) ms
 
 -- a node's parent: a blossom of higher serial in the same tree, which has it in its circle exactly once
 unfoldable pub soundParent : Bench → Handle → Node → Bool
 soundParent b h n = elim (n .parent) [
   | none ↦ true
-  | some q ↦ ((isStay (n .state) && ltb (n .serial) (q .serial)) && eqb (top b (q .unit)) (top b (h .unit))) && eqb (tally (sameHandle h) (members (nodeAt b q))) 1
+  | some q ↦ ((isStay (n .state) && ltb (n .serial) (q .serial)) && eqb (top b (q .unit)) (top b (h .unit))) && eqb (tally (sameHandle h) (members (nodeNamed b q))) 1
 ]
 
 unfoldable pub soundSlot : Bench → ℕ → ℕ × ℕ × Option Node → Bool

@@ -7,7 +7,7 @@ use lib.Dec.{eqb, leb}
 use lib.IntN.{natAbs}
 use Rattle.ledger_spec.specs.Numbers.{slotLimit, serialLimit}
 use Rattle.ledger_spec.specs.Bench.{Handle, Node, Interface, Bench, defect, blossom}
-use Rattle.ledger_spec.specs.Look.{interface, freeSlot, nodeAt, top, sameHandle}
+use Rattle.ledger_spec.specs.Look.{interface, freeSlot, nodeNamed, top, sameHandle}
 
 unfoldable pub first : List (Bool × ℕ) → ℕ
 first [] = 0
@@ -17,9 +17,9 @@ unfoldable pub any : {A : Type 0} → (A → Bool) → List A → Bool
 any p [] = false
 any p (x ∷ xs) = p x || any p xs
 
-abbrev pub given : {A : Type 0} → Option A → Bool
-given none = false
-given (some a) = true
+abbrev pub isSome : {A : Type 0} → Option A → Bool
+isSome none = false
+isSome (some a) = true
 
 abbrev pub empty : {A : Type 0} → List A → Bool
 empty [] = true
@@ -30,11 +30,11 @@ abbrev pub outside : ℕ → Bool
 outside u = leb 8 u
 
 abbrev pub child : Bench → ℕ → Bool
-child b u = given (interface b u .parent)
+child b u = isSome (interface b u .parent)
 
 -- STALE, FOREIGN, KIND, INSIDE: of a handle; TWICE: of several
 abbrev pub stale : Bench → Handle → Bool
-stale b h = not (given (nodeAt b h))
+stale b h = not (isSome (nodeNamed b h))
 
 abbrev pub foreign : Bench → ℕ → Handle → Bool
 foreign b u h = not (eqb (top b (h .unit)) u)
@@ -45,7 +45,7 @@ isDefect (some n) = elim (n .class) [ defect v ↦ true | blossom ms ↦ false ]
 
 abbrev pub hasParent : Option Node → Bool
 hasParent none = false
-hasParent (some n) = given (n .parent)
+hasParent (some n) = isSome (n .parent)
 
 unfoldable pub twice : List Handle → Bool
 twice [] = false
@@ -59,7 +59,7 @@ abbrev pub worn : Bench → Bool
 worn b = leb serialLimit (b .next)
 
 abbrev pub used : Interface → Bool
-used f = not (empty (f .slots)) || (not (eqb (natAbs (f .progress)) 0) || given (f .halves))
+used f = not (empty (f .slots)) || (not (eqb (natAbs (f .progress)) 0) || isSome (f .halves))
 
 -- the two handles of each touching pair
 unfoldable pub both : List (Handle × Handle) → List Handle

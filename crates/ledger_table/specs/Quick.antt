@@ -6,13 +6,13 @@ use mathlib.Core.Bool.{Bool, true, false, not, _&&_}
 use mathlib.Core.List.{[], _∷_}
 use lib.Dec.{leb}
 use Rattle.ledger_spec.specs.Bench.{Bench}
-use Rattle.ledger_spec.specs.Tests.{first, any, given}
+use Rattle.ledger_spec.specs.Tests.{first, any, isSome}
 use Rattle.ledger_spec.specs.Calls.{perform}
 use Rattle.ledger_spec.specs.Notices.{tells}
 use Rattle.ledger_spec.specs.Reads.{said}
 use Rattle.ledger_spec.specs.Answers.{whole, broken}
 use Rattle.ledger_spec.specs.Groups.{soundGroup, added, extended}
-use Rattle.ledger_spec.specs.GroupCalls.{handlesOf, groupHandles, gone, vertexOf, orElse}
+use Rattle.ledger_spec.specs.GroupCalls.{handlesOf, groupHandles, staleCode, vertexOf, orElse}
 use Rattle.ledger_spec.specs.Opened.{run}
 use Rattle.ledger_table.specs.Talk.{Ledger, joined, members, triples, pairs, shownSlot, acts, calls, adds, extends, popsOne, changes, shows, checked, dumped, vertices, asked, reads, under, regroups, performs, opens, turn}
 use Rattle.ledger_table.specs.Replay.{texts, sameBytes, answered, along, replay}
@@ -23,11 +23,11 @@ tested t = record {
   answer = λ b c. elim (t b) [ true ↦ whole (perform b c) (tells b c) | false ↦ broken b ];
   ask = λ b z r. elim (t b) [ true ↦ r | false ↦ (2, z) ];
   add = λ b g o. said
-      (first ((not (t b && soundGroup g), 2) ∷ (any (gone b) (handlesOf o), 8) ∷ (not (given (added g o (vertexOf b o))), 20) ∷ []))
+      (first ((not (t b && soundGroup g), 2) ∷ (any (staleCode b) (handlesOf o), 8) ∷ (not (isSome (added g o (vertexOf b o))), 20) ∷ []))
       (orElse (added g o (vertexOf b o)) g)
       g;
   extend = λ b g h. said
-      (first ((not (t b && (soundGroup g && soundGroup h)), 2) ∷ (any (gone b) (groupHandles h), 8) ∷ (not (given (extended g h)), 20) ∷ []))
+      (first ((not (t b && (soundGroup g && soundGroup h)), 2) ∷ (any (staleCode b) (groupHandles h), 8) ∷ (not (isSome (extended g h)), 20) ∷ []))
       (orElse (extended g h) g)
       g;
 }

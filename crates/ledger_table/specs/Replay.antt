@@ -10,7 +10,7 @@ use lib.Dec.{eqb}
 use lib.IntN.{ℤ, pos}
 use Rattle.ledger_spec.specs.Bench.{setUp}
 use Rattle.ledger_spec.specs.Decimals.{signed, integer}
-use Rattle.ledger_spec.specs.Fields.{after, cut}
+use Rattle.ledger_spec.specs.Fields.{partsAfter, cut}
 use Rattle.ledger_spec.specs.Bytes.{bytes}
 use Rattle.ledger_table.specs.Talk.{Ledger, plain, Desk, fresh, Turn, turn}
 
@@ -36,7 +36,7 @@ sameBytes (c ∷ s) [] = false
 sameBytes (c ∷ s) (d ∷ t) = eqb c d && sameBytes s t
 
 unfoldable pub answered : Ledger → Desk → List ℕ → Turn
-answered L k s = turn L k (letterOf (cut 32 s)) (map (λ (f : List ℕ). orZero (integer f)) (after 32 s))
+answered L k s = turn L k (letterOf (cut 32 s)) (map (λ (f : List ℕ). orZero (integer f)) (partsAfter 32 s))
 
 abbrev pub plus : Bool → ℕ × ℕ → ℕ × ℕ
 plus true t = (suc (t .0), t .1)

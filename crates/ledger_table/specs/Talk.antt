@@ -17,8 +17,8 @@ use Rattle.kinds.specs.declared.Obstacle.the-variants.{NonZeroGrow, Conflicting
 use Rattle.ledger_spec.specs.Bench.{Handle, State, grows, stays, shrinks, rate, Member, defect, blossom, Node, Bench}
 use Rattle.ledger_spec.specs.Calls.{nobody, setUpCall, Call, Defect, Blossom, Expand, SetState, Grow, Fuse, Clear}
 use Rattle.ledger_spec.specs.Notices.{Notice, defectAdded, stateSet, shrinkPrepared, blossomAdded, blossomRemoved, grown}
-use Rattle.ledger_spec.specs.Reads.{slotsOf, sumOf, speedOf, countOf, handleOf, valueOf, belongs}
-use Rattle.ledger_spec.specs.Walk.{outerOf, underOf, firstVertex, verticesInto}
+use Rattle.ledger_spec.specs.Reads.{slotsOf, sumOf, speedOf, countOf, handleAtIndex, valueOf, belongs}
+use Rattle.ledger_spec.specs.Walk.{outerOf, belowOf, firstVertex, verticesInto}
 use Rattle.ledger_spec.specs.Check.{checkOf, strictOf}
 use Rattle.ledger_spec.specs.Answers.{Answer, answer, ask}
 use Rattle.ledger_spec.specs.Lines.{named, shown}
@@ -240,12 +240,12 @@ reads L k l =
     ∷ ("s", shows (λ (z : ℤ). z ∷ []) (L .ask b (pos 0) (sumOf b u)))
     ∷ ("p", shows (λ (z : ℤ). z ∷ []) (L .ask b (pos 0) (speedOf b u)))
     ∷ ("n", shows (λ (n : ℕ). num n ∷ []) (L .ask b 0 (countOf b u)))
-    ∷ ("h", shows shownHandle (L .ask b none (handleOf b u (nat l 1))))
+    ∷ ("h", shows shownHandle (L .ask b none (handleAtIndex b u (nat l 1))))
     ∷ ("i", shows (λ (f : Bool). bit f ∷ []) (L .ask b false (belongs b u (named b (nat l 1)))))
     ∷ ("d", dumped L b u)
     ∷ ("v", shows (λ (z : ℤ). z ∷ []) (L .ask b (pos 0) (valueOf b h)))
     ∷ ("o", shows (λ (r : Handle × ℕ). num (r .0 .serial) ∷ num (r .1) ∷ []) (L .ask b (nobody, 0) (outerOf b h)))
-    ∷ ("u", shows (λ (g : Handle). num (g .serial) ∷ []) (L .ask b nobody (underOf b h)))
+    ∷ ("u", shows (λ (g : Handle). num (g .serial) ∷ []) (L .ask b nobody (belowOf b h)))
     ∷ ("f", shows (λ (n : ℕ). num n ∷ []) (L .ask b 0 (firstVertex b h)))
     ∷ ("a", vertices L b h (nat l 1))
     ∷ ("y", asked g)

@@ -11,7 +11,7 @@ use lib.Seq.{take-at, take-append-le, take-append-seam, drop-at}
 use mir.Syntax.{w64}
 use mir.Val.{SFits, toZ, ofZ}
 use mir.Facts.{toZ-ofZ}
-use Rattle.kinds.specs.Names.{nobody}
+use Rattle.kinds.specs.Names.{noCode}
 use Rattle.kinds.specs.declared.Handle.{Handle}
 use Rattle.kinds.specs.declared.GrowState.the-variants.{Grow, Stay, Shrink}
 use Rattle.kinds.specs.declared.Notice.{Notice}
@@ -97,13 +97,13 @@ module _ (n : ℕ) (node : Handle) (ts : List Told) (hs : List Handle) (few : le
   body = toldWords (take (length ts) (pad blank 66 ts))
 
   abbrev ring : List ℕ
-  ring = map handleWord (take (length hs) (pad nobody 64 hs))
+  ring = map handleWord (take (length hs) (pad noCode 64 hs))
 
   body-is : body ≡ toldWords ts
   body-is = ap toldWords (take-append-seam ts (replicate (66 - length ts) blank))
 
   ring-is : ring ≡ map handleWord hs
-  ring-is = ap (map handleWord) (take-append-seam hs (replicate (64 - length hs) nobody))
+  ring-is = ap (map handleWord) (take-append-seam hs (replicate (64 - length hs) noCode))
 
   body-long : length body ≡ length ts * 2
   body-long = ap length body-is ∙ told-long ts

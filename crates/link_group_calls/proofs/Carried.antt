@@ -14,7 +14,7 @@ use lib.ListN.{length, take, drop, getD, length-append, length-drop, List·getD-
 use lib.Seq.{getD-take, getD-drop, getD-append-add, length-take-le}
 use mir.Syntax.{w64}
 use mir.Val.{SFits}
-use Rattle.kinds.specs.Names.{sameHandle}
+use Rattle.kinds.specs.Names.{sameCode}
 use Rattle.kinds.specs.Obstacles.{pairOf}
 use Rattle.kinds.specs.declared.Entry.{Entry}
 use Rattle.kinds.specs.declared.Stop.{Stop}
@@ -22,8 +22,8 @@ use Rattle.kinds.specs.declared.MaybePair.{MaybePair}
 use Rattle.kinds.specs.declared.MaybePair.the-variants.{NoPair, WithPair}
 use Rattle.kinds.specs.declared.Obstacle.{Obstacle}
 use Rattle.kinds.specs.declared.Obstacle.the-variants.{NonZeroGrow, Conflicting, TouchingVirtual, BlossomNeedExpand, VertexShrinkStop}
-use Rattle.ledger_spec.specs.Groups.{Group, growth, conflicts, largest, eqZ, soundGroup, Lists, roomFor, frontOf, backOf, meet, placed, addStop, smaller, grouped, addToGrowth, addToConflicts, added, smallerPair, andThen, addStops, extended, topOf, front}
-use Rattle.ledger_spec.specs.GroupCalls.{topIn, afterPop}
+use Rattle.ledger_spec.specs.Groups.{Group, growth, conflicts, largest, eqZ, soundGroup, Lists, roomFor, frontOf, backOf, meet, placed, addStop, smaller, grouped, addToGrowth, addToConflicts, added, smallerPair, andThen, addStops, extended, lastOf, allButLast}
+use Rattle.ledger_spec.specs.GroupCalls.{lastIn, afterPop}
 use Rattle.groups.specs.View.{noEntry, noStop, viewed, groupOf, laid}
 use Rattle.groups.specs.declared.Kind.{Kind}
 use Rattle.groups.specs.declared.Kind.the-variants.{Growth, Conflicts}
@@ -57,8 +57,8 @@ module _ {A : Type 0} (P : A → Type 0) where
   all-first n l d h f =
       all-by (take n l) d (λ i k. let j : i < n = omega (arith, length-take-le n l h, k) in rw (getD-take n l i d j) (f i j))
 
-  all-front : (xs : List A) → All P xs → All P (front xs)
-  unfolding front
+  all-front : (xs : List A) → All P xs → All P (allButLast xs)
+  unfolding allButLast
   all-front [] p = tt
   all-front (x ∷ []) p = tt
   all-front (x ∷ y ∷ ys) (p, ps) = (p, all-front (y ∷ ys) ps)
@@ -67,8 +67,8 @@ module _ {A : Type 0} (P : A → Type 0) where
   all-rest [] p = tt
   all-rest (x ∷ xs) (p, ps) = ps
 
-front-short : {A : Type 0} (xs : List A) → length (front xs) ≤ length xs
-unfolding front
+front-short : {A : Type 0} (xs : List A) → length (allButLast xs) ≤ length xs
+unfolding allButLast
 front-short [] = omega arith
 front-short (x ∷ []) = omega arith
 front-short (x ∷ y ∷ ys) = omega (arith, front-short (y ∷ ys))
@@ -139,14 +139,14 @@ abbrev Held : Option Obstacle → Type 0
 Held none = Prim.Unit {0}
 Held (some o) = Fits o
 
-top-held : (l : List Entry) (s : List Stop) → ListsFit l s → Held (topOf l s)
-unfolding topOf
+top-held : (l : List Entry) (s : List Stop) → ListsFit l s → Held (lastOf l s)
+unfolding lastOf
 top-held [] [] c = tt
 top-held [] (x ∷ s) (p, (r, rs)) = r .0
 top-held (e ∷ []) s ((p, ps), r) = p
 top-held (e ∷ f ∷ es) s ((p, ps), r) = top-held (f ∷ es) s (ps, r)
 
-pub top-carried : (q : Group) → Carried q → Held (topIn q)
+pub top-carried : (q : Group) → Carried q → Held (lastIn q)
 top-carried (growth l b) c = tt
 top-carried (conflicts l s) (c, n) = top-held l s c
 
@@ -210,7 +210,7 @@ module _ (l : List Entry) (f b : List Stop) (p : All EntryFits l) (r : All StopF
   unfolding meet
   meet-fits NoPair n x y a c h k = between y k
   meet-fits (WithPair m) NoPair x y a c h k = between x h
-  meet-fits (WithPair m) (WithPair n) x y a c h k = go (sameHandle (m .node) (n .node))
+  meet-fits (WithPair m) (WithPair n) x y a c h k = go (sameCode (m .node) (n .node))
     where
       go : (z : Bool) → LaidOut (cond z (roomFor l (f ++ y ∷ b)) (roomFor (l ++ record { obstacle = Conflicting m n } ∷ []) (f ++ b)))
       go true = between y k

@@ -14,7 +14,7 @@ use Rattle.kinds.specs.declared.Obstacle.the-variants.{NonZeroGrow, Conflicting
 use Rattle.bench_words.specs.Codec.{pick}
 use Rattle.bench_words.specs.Store.{nodeAt as wordsAt, interfaceAt, base}
 use Rattle.ledger_spec.specs.Bench.{Handle, Member, Node, Bench, Class, defect, blossom}
-use Rattle.ledger_spec.specs.Look.{slotOf, ifSerial, nodeAt}
+use Rattle.ledger_spec.specs.Look.{slotOf, ifSerial, nodeNamed}
 use Rattle.ledger_spec.specs.Reads.{said, nodeTests}
 use Rattle.ledger_spec.specs.Tests.{first}
 use Rattle.ledger_spec.specs.Walk.{each, verticesFrom, verticesOf, firstVertex}
@@ -69,8 +69,8 @@ serial-low k (some n) p = go (eqb k (n .serial))
     go false = tt
 
 module _ (b : Bench) (low : BenchLow b) where
-  node-low : (h : Handle) → NodeLow (nodeAt b h)
-  unfolding nodeAt
+  node-low : (h : Handle) → NodeLow (nodeNamed b h)
+  unfolding nodeNamed
   node-low h = serial-low (h .serial) (slotOf b (h .unit) (h .slot)) (low (h .unit) (h .slot))
 
   each-low : (f : Handle → List ℕ) → ((g : Handle) → All Low (f g)) → (ms : List Member) → All Low (each f ms)
@@ -85,7 +85,7 @@ module _ (b : Bench) (low : BenchLow b) where
   vertices-low : (k : ℕ) (h : Handle) → All Low (verticesFrom k b h)
   unfolding verticesFrom
   vertices-low zero h = tt
-  vertices-low (suc k) h = go (nodeAt b h) (node-low h) (vertices-low k)
+  vertices-low (suc k) h = go (nodeNamed b h) (node-low h) (vertices-low k)
     where
       go : (o : Option Node) → NodeLow o → ((g : Handle) → All Low (verticesFrom k b g)) → All Low (elim o [ none ↦ [] | some n ↦ elim (n .class) [ defect v ↦ v ∷ [] | blossom ms ↦ each (λ g. verticesFrom k b g) ms ] ])
       go none l p = tt

@@ -9,17 +9,17 @@ use mathlib.Core.List.{List, [], _∷_}
 use native.Mathlib.Omega.{arith}
 use lib.ListN.{getD, getD-replicate}
 use Rattle.bench_words.specs.Codec.{pick}
-use Rattle.kinds.specs.Names.{nobody}
+use Rattle.kinds.specs.Names.{noCode}
 use Rattle.kinds.specs.declared.Entry.{Entry}
 use Rattle.kinds.specs.declared.Stop.{Stop}
 use Rattle.kinds.specs.declared.MaybePair.the-variants.{NoPair}
 use Rattle.kinds.specs.declared.Obstacle.{Obstacle}
 use Rattle.kinds.specs.declared.Obstacle.the-variants.{BlossomNeedExpand, VertexShrinkStop}
-use Rattle.ledger_spec.specs.Tests.{first, any, given}
+use Rattle.ledger_spec.specs.Tests.{first, any, isSome}
 use Rattle.ledger_spec.specs.Reads.{said}
 use Rattle.ledger_spec.specs.Sound.{sound}
 use Rattle.ledger_spec.specs.Groups.{Group, emptyGroup, soundGroup, added, extended}
-use Rattle.ledger_spec.specs.GroupCalls.{isGrowth, takeTests, topIn, afterPop, pop, handlesOf, groupHandles, gone, vertexOf, orElse, add, extend}
+use Rattle.ledger_spec.specs.GroupCalls.{isGrowth, takeTests, lastIn, afterPop, pop, handlesOf, groupHandles, staleCode, vertexOf, orElse, add, extend}
 use Rattle.bench_views.specs.View.{view}
 use Rattle.sound_bench.specs.Sound.{soundWords}
 use Rattle.sound_lent.specs.Verdict.{asked}
@@ -80,7 +80,7 @@ else-carried (some r) q p c = p
 
 module _ (ws : List ℕ) (w : Words ws) (g : Code) (e : groupRead ws ≡ some g) where
   abbrev outcome : ℕ → ℕ × (Option Obstacle × Group)
-  outcome n = said n (topIn (groupOf g), afterPop (groupOf g)) (none, groupOf g)
+  outcome n = said n (lastIn (groupOf g), afterPop (groupOf g)) (none, groupOf g)
 
   pop-left : (n : ℕ) → (n ≡ 0 → Carried (afterPop (groupOf g))) → says (left (outcome n .0) (outcome n .1 .1) g ws) ≡ some (outcome n .1 .1)
   unfolding said
@@ -124,8 +124,8 @@ module _ (b ws os : List ℕ) (w : Words ws) (g : Code) (e : groupRead ws ≡ so
       ap (λ (x : Option Code). says (addBy b x (obstacleRead os) ws .1)) e
       ∙ ap (λ (x : Option Obstacle). says (addBy b (some g) x ws .1)) d
       ∙ asked-says g f (add (view b) q o)
-      (said-says ws g g e f (first ((not (sound (view b) && soundGroup q), 2) ∷ (any (gone (view b)) (handlesOf o), 8) ∷ (not (given (added q o v)), 20) ∷ [])) (orElse (added q o v) q) (λ z.
-      let s = and-right (sound (view b)) (soundGroup q) (first-passed (sound (view b) && soundGroup q) 1 ((any (gone (view b)) (handlesOf o), 8) ∷ (not (given (added q o v)), 20) ∷ []) z) in
+      (said-says ws g g e f (first ((not (sound (view b) && soundGroup q), 2) ∷ (any (staleCode (view b)) (handlesOf o), 8) ∷ (not (isSome (added q o v)), 20) ∷ [])) (orElse (added q o v) q) (λ z.
+      let s = and-right (sound (view b)) (soundGroup q) (first-passed (sound (view b) && soundGroup q) 1 ((any (staleCode (view b)) (handlesOf o), 8) ∷ (not (isSome (added q o v)), 20) ∷ []) z) in
       let c = view-carried g f s in
       else-carried (added q o v) q (add-carried q o v c (obstacle-fits os o k d) (vertex-low b o)) c))
 
@@ -153,8 +153,8 @@ module _ (b ws vs : List ℕ) (w : Words ws) (v : Words vs) (g h : Code) (e : gr
       ap (λ (x : Option Code). says (extendBy b x (groupRead vs) ws .1)) e
       ∙ ap (λ (x : Option Code). says (extendBy b (some g) x ws .1)) d
       ∙ asked-says b ws vs w g e (wholeOf g h) u (extend (view b) q r)
-      (said-says ws g (wholeOf g h) e u (first ((not (sound (view b) && (soundGroup q && soundGroup r)), 2) ∷ (any (gone (view b)) (groupHandles r), 8) ∷ (not (given (extended q r)), 20) ∷ [])) (orElse (extended q r) q) (λ z.
-      let s = and-right (sound (view b)) (soundGroup q && soundGroup r) (first-passed (sound (view b) && (soundGroup q && soundGroup r)) 1 ((any (gone (view b)) (groupHandles r), 8) ∷ (not (given (extended q r)), 20) ∷ []) z) in
+      (said-says ws g (wholeOf g h) e u (first ((not (sound (view b) && (soundGroup q && soundGroup r)), 2) ∷ (any (staleCode (view b)) (groupHandles r), 8) ∷ (not (isSome (extended q r)), 20) ∷ [])) (orElse (extended q r) q) (λ z.
+      let s = and-right (sound (view b)) (soundGroup q && soundGroup r) (first-passed (sound (view b) && (soundGroup q && soundGroup r)) 1 ((any (staleCode (view b)) (groupHandles r), 8) ∷ (not (isSome (extended q r)), 20) ∷ []) z) in
       let c = view-carried g f (and-left (soundGroup q) (soundGroup r) s) in
       else-carried (extended q r) q (extend-carried q r c (view-carried h i (and-right (soundGroup q) (soundGroup r) s))) c))
 
@@ -165,9 +165,9 @@ empty-fits = record {
   kind = record { sfits = omega arith };
   long = refl;
   wide = refl;
-  entries = λ i h. rw (getD-replicate {A = Entry} 128 i (record { obstacle = BlossomNeedExpand nobody }) noEntry h) (inl (omega arith, omega arith, omega arith));
+  entries = λ i h. rw (getD-replicate {A = Entry} 128 i (record { obstacle = BlossomNeedExpand noCode }) noEntry h) (inl (omega arith, omega arith, omega arith));
   stops = λ i h.
-      rw (getD-replicate {A = Stop} 128 i (record { vertex = record { 0 = 0 }; obstacle = VertexShrinkStop nobody NoPair }) noStop h)
+      rw (getD-replicate {A = Stop} 128 i (record { vertex = record { 0 = 0 }; obstacle = VertexShrinkStop noCode NoPair }) noStop h)
       ((inl (omega arith, omega arith, omega arith), tt), omega arith);
 }
 
@@ -178,8 +178,8 @@ empty-says = ap saysBy (group-back emptyOf empty-fits)
 -- ---- what peek and pop hand out
 
 -- THEOREM: the words of an obstacle that the group holds read back as it
-pub top-says : (ws : List ℕ) → Words ws → (g : Code) → groupRead ws ≡ some g → soundGroup (groupOf g) ≡ true → (o : Obstacle) → topIn (groupOf g) ≡ some o → obstacleRead (maybeWords (topIn (groupOf g))) ≡ some o
+pub top-says : (ws : List ℕ) → Words ws → (g : Code) → groupRead ws ≡ some g → soundGroup (groupOf g) ≡ true → (o : Obstacle) → lastIn (groupOf g) ≡ some o → obstacleRead (maybeWords (lastIn (groupOf g))) ≡ some o
 unfolding maybeWords
 top-says ws w g e s o t =
     ap (λ (x : Option Obstacle). obstacleRead (maybeWords x)) t
-    ∙ obstacle-back o (held-is (topIn (groupOf g)) o (top-carried (groupOf g) (view-carried g (carried ws g w e) s)) t)
+    ∙ obstacle-back o (held-is (lastIn (groupOf g)) o (top-carried (groupOf g) (view-carried g (carried ws g w e) s)) t)

@@ -9,7 +9,7 @@ use borrow.Author.Tests.{lt-ltb, ltb-true, ltb-false, leb-true, eqb-true, ne-eqb
 use lib.Dec.{eqb, leb, ltb}
 use mir.Syntax.{w64}
 use mir.Val.{SFits}
-use Rattle.kinds.specs.Names.{nobody}
+use Rattle.kinds.specs.Names.{noCode}
 use Rattle.kinds.specs.declared.MaybePair.the-variants.{NoPair, WithPair}
 use Rattle.kinds.specs.declared.Obstacle.the-variants.{NonZeroGrow, Conflicting, TouchingVirtual, BlossomNeedExpand, VertexShrinkStop}
 use Rattle.bench_words.specs.Codec.{pick, handleOf, handleWord}
@@ -130,7 +130,7 @@ five-fits f l = go (eqb (f .kind) 1) (eqb (f .kind) 2) (eqb (f .kind) 3) (eqb (f
         (pick r (TouchingVirtual (pairOf (f .a) (f .b)) (record { 0 = f .c % 4294967296 }) (eqb (f .d) 1))
         (pick s (BlossomNeedExpand (handOf (f .a)))
         (pick t (VertexShrinkStop (handOf (f .a)) NoPair)
-        (pick u (VertexShrinkStop (handOf (f .a)) (WithPair (pairOf (f .b) (f .c)))) (BlossomNeedExpand nobody))))))
+        (pick u (VertexShrinkStop (handOf (f .a)) (WithPair (pairOf (f .b) (f .c)))) (BlossomNeedExpand noCode))))))
         )
     go true q r s t u = length-fits (f .a) l
     go false true r s t u = ((hand-fits (f .a), hand-fits (f .b)), (hand-fits (f .c), hand-fits (f .d)))

@@ -4,12 +4,12 @@ use mathlib.Core.Path.{_≡_, refl, ap, ap₂, sym, _∙_, subst}
 use mathlib.Core.List.{List, [], _∷_, _++_, map, append-nil}
 use lib.ListN.{length, replicate}
 use lib.Seq.{take-append-seam}
-use Rattle.kinds.specs.Names.{nobody}
+use Rattle.kinds.specs.Names.{noCode}
 use Rattle.kinds.specs.declared.GrowState.{GrowState}
 use Rattle.kinds.specs.declared.GrowState.the-variants.{Grow, Stay, Shrink}
 use Rattle.ledger_spec.specs.Bench.{Handle, State, grows, stays, shrinks, Bench}
 use Rattle.ledger_spec.specs.Named.{handleNamed, stateNamed}
-use Rattle.ledger_spec.specs.Look.{nodeAt}
+use Rattle.ledger_spec.specs.Look.{nodeNamed}
 use Rattle.ledger_spec.specs.Deeds.{newHandle, members}
 use Rattle.ledger_spec.specs.Calls.{Call, Defect, Blossom, Expand, SetState, Grow as Growing, Fuse, Clear}
 use Rattle.ledger_spec.specs.Notices.{Notice, stateSet, shrinkPrepared, blossomAdded, tells}
@@ -51,7 +51,7 @@ circle-back : (ns : List Notice) → circleOf (laid ns) ≡ circleIn ns
 unfolding laid
 circle-back ns =
     let hs = map packed (circleIn ns) in
-    ap (map handleNamed) (take-append-seam hs (replicate (64 - length hs) nobody)) ∙ handles-back (circleIn ns)
+    ap (map handleNamed) (take-append-seam hs (replicate (64 - length hs) noCode)) ∙ handles-back (circleIn ns)
 
 list-back : (ns : List Notice) → Round (circleIn ns) ns → noticesOf (laid ns) ≡ ns
 unfolding laid noticesOf
@@ -67,7 +67,7 @@ tells-round b (Blossom u hs ts) =
     let ends : List Notice = shrinkPrepared hs ∷ blossomAdded (newHandle b u) ∷ [] in
     subst (λ (l : List Handle). Round l (map (λ (h : Handle). stateSet h stays) hs ++ ends)) (sym (circle-made hs hs (blossomAdded (newHandle b u) ∷ []))) (states-round hs hs stays ends (refl, (refl, tt)))
 tells-round b (Expand u h) =
-    let gs = members (nodeAt b h) in
+    let gs = members (nodeNamed b h) in
     let ns = map (λ (g : Handle). stateSet g grows) gs in
     (refl, subst (Round (circleIn ns)) (append-nil ns) (states-round (circleIn ns) gs grows [] tt))
 tells-round b (SetState u h s) = (ap (stateSet h) (state-named s), tt)

@@ -12,7 +12,7 @@ use Rattle.bench_words.specs.declared.Node.{Node}
 use Rattle.ledger_spec.specs.Bench.{Handle, Bench}
 use Rattle.ledger_spec.specs.Bench as plain
 use Rattle.ledger_spec.specs.Look as look
-use Rattle.ledger_spec.specs.Tests.{first, given}
+use Rattle.ledger_spec.specs.Tests.{first, isSome}
 use Rattle.ledger_spec.specs.Refuse.{expandTests}
 use Rattle.ledger_spec.specs.Deeds.{members}
 use Rattle.ledger_spec.specs.Knit.{nodes}
@@ -42,7 +42,7 @@ module _ (b : List ℕ) (h : Handle) (F : Fit b) (R : Ring (view b) h) where
   k = h .unit * 64 + h .slot
 
   named : Named (view b) (look.top (view b) (h .unit)) h
-  named = let p = has-of (view b) h (ap (λ (o : Option plain.Node). not (given o)) (R .named)) in record { node = p .0; has = p .1; is = p .2; near = refl }
+  named = let p = has-of (view b) h (ap (λ (o : Option plain.Node). not (isSome o)) (R .named)) in record { node = p .0; has = p .1; is = p .2; near = refl }
 
   stood : Stands b h
   stood = stands b F h named
@@ -65,7 +65,7 @@ module _ (b : List ℕ) (h : Handle) (F : Fit b) (R : Ring (view b) h) where
       let g = ringed b (F .sewn) (h .unit) (h .slot) (stood .unit) (stood .slot) class p (walk-in (nodeAt b k .count) i (nodeAt b) (nodeAt b k .first) l) in
       omega (arith, g .unit)
 
-  pub members-seen : members (look.nodeAt (view b) h) ≡ nodes (circleOf (nodeAt b) k)
+  pub members-seen : members (look.nodeNamed (view b) h) ≡ nodes (circleOf (nodeAt b) k)
   members-seen =
       let B = slot-blossom (nodeAt b k) (sumUp 8 (interfaceAt b) (h .unit)) (circleOf (nodeAt b) k) class in
       let n : stood .node ≡ B .node = some-eq (stood .seen) (B .shown) in

@@ -6,7 +6,7 @@ use native.Mathlib.Numerals.{add-one}
 use native.Mathlib.Omega.{arith}
 use lib.ListN.{length, take, getD, set, length-append, length-map}
 use lib.Seq.{length-take-le, take-all, append-snoc}
-use Rattle.kinds.specs.Names.{nobody}
+use Rattle.kinds.specs.Names.{noCode}
 use Rattle.kinds.specs.declared.Handle.{Handle as Packed}
 use Rattle.kinds.specs.declared.GrowState.the-variants.{Grow, Stay}
 use Rattle.kinds.specs.declared.Notice.the-variants.{StateSet, ShrinkPrepared, BlossomAdded, BlossomRemoved}
@@ -26,7 +26,7 @@ use Rattle.outcome_notices.proofs.Pads.{pad-set, map-more}
 
 -- told so far, the counts not yet set
 abbrev pub halfway : List Told → List Packed → Notices
-halfway ts hs = record { told = pad blank 66 ts; count = 0; circle = pad nobody 64 hs; members = 0 }
+halfway ts hs = record { told = pad blank 66 ts; count = 0; circle = pad noCode 64 hs; members = 0 }
 
 abbrev pub told : List Told → List Packed → ℕ → ℕ → Notices
 told ts hs n m = record { told = ts; count = n; circle = hs; members = m }
@@ -51,7 +51,7 @@ stay-more ms i r h l k e q =
     ap₂ (λ (x : Notices) (g : Packed). told (set (x .told) i (record { notice = StateSet g Stay })) (set (x .circle) i g) (x .count) (x .members)) e q
     ∙ ap₂ (λ (ts : List Told) (hs : List Packed). told ts hs 0 0)
     (pad-set blank 66 i (map stay (take i ms)) (stay (getD ms i 0)) (omega arith) (long stay ms i (omega arith)) ∙ ap (pad blank 66) (sym (map-more stay ms i 0 l)))
-    (pad-set nobody 64 i (map handOf (take i ms)) (handOf (getD ms i 0)) k (long handOf ms i (omega arith)) ∙ ap (pad nobody 64) (sym (map-more handOf ms i 0 l)))
+    (pad-set noCode 64 i (map handOf (take i ms)) (handOf (getD ms i 0)) k (long handOf ms i (omega arith)) ∙ ap (pad noCode 64) (sym (map-more handOf ms i 0 l)))
 
 -- the circle that is told
 pub circle-made : (hs gs : List Handle) (ns : List Notice) → circleIn (map (λ (h : Handle). stateSet h stays) gs ++ (shrinkPrepared hs ∷ ns)) ≡ hs
@@ -91,8 +91,8 @@ stay-ends ms q i r k n e = ap (λ (x : Notices). told (set (set (x .told) (lengt
     next : length (map stay ms ++ (s ∷ [])) ≡ length ms + 1
     next = length-append (map stay ms) (s ∷ []) ∙ ap (λ (x : ℕ). x + 1) here
 
-    ends : told (set (set (pad blank 66 (map stay ms)) (length ms) s) (length ms + 1) a) (pad nobody 64 (map handOf ms)) (length ms + 2) (length ms) ≡ filled (map stay ms ++ (s ∷ a ∷ [])) (map handOf ms)
-    ends = λ j. record { told = all j; count = counted j; circle = pad nobody 64 (map handOf ms); members = sym (length-map ms handOf) j }
+    ends : told (set (set (pad blank 66 (map stay ms)) (length ms) s) (length ms + 1) a) (pad noCode 64 (map handOf ms)) (length ms + 2) (length ms) ≡ filled (map stay ms ++ (s ∷ a ∷ [])) (map handOf ms)
+    ends = λ j. record { told = all j; count = counted j; circle = pad noCode 64 (map handOf ms); members = sym (length-map ms handOf) j }
       where
         all : set (set (pad blank 66 (map stay ms)) (length ms) s) (length ms + 1) a ≡ pad blank 66 (map stay ms ++ (s ∷ a ∷ []))
         all = ap (λ (l : List Told). set l (length ms + 1) a) (pad-set blank 66 (length ms) (map stay ms) s (omega arith) here)
@@ -155,7 +155,7 @@ pub grow-more : (r : Notices) (t : Told) (A : ℕ → Node) (k i p : ℕ) (m : N
     → told (set (r .told) (i + 1) (record { notice = StateSet (record { unit = p / 64; slot = p % 64; serial = m .serial }) Grow })) (r .circle) (r .count) (r .members) ≡ halfway (t ∷ past A k (i + 1)) []
 grow-more r t A k i p m l e at load =
     ap₂ (λ (x : Notices) (n : Node). told (set (x .told) (i + 1) (record { notice = StateSet (record { unit = p / 64; slot = p % 64; serial = n .serial }) Grow })) (x .circle) (x .count) (x .members)) e load
-    ∙ ap (λ (ts : List Told). told ts (pad nobody 64 []) 0 0)
+    ∙ ap (λ (ts : List Told). told ts (pad noCode 64 []) 0 0)
     (pad-set blank 66 (i + 1) (t ∷ past A k i) (grow (handleAt A p)) (omega arith) (ap suc (past-long A i k) ∙ sym (add-one i))
     ∙ ap (λ (q : ℕ). pad blank 66 (t ∷ (past A k i ++ (grow (handleAt A q) ∷ [])))) at
     ∙ ap (λ (ts : List Told). pad blank 66 (t ∷ ts)) (sym (past-suc A i k) ∙ ap (past A k) (sym (add-one i))))
@@ -173,6 +173,6 @@ pub grow-ends : (r : Notices) (t : Told) (h : Packed) (A : ℕ → Node) (k i n 
     → told (r .told) (r .circle) (n + 1) (r .members) ≡ laid (blossomRemoved (handleNamed h) ∷ map (λ (g : Handle). stateSet g grows) gs)
 grow-ends r t h A k i n gs e f q c =
     ap (λ (x : Notices). told (x .told) (x .circle) (n + 1) (x .members)) (e ∙ ap₂ (λ (x : Told) (j : ℕ). halfway (x ∷ past A k j) []) f q)
-    ∙ ap (λ (m : ℕ). told (pad blank 66 (removed h ∷ past A k n)) (pad nobody 64 []) m 0) (add-one n ∙ sym (ap suc (past-long A n k)))
+    ∙ ap (λ (m : ℕ). told (pad blank 66 (removed h ∷ past A k n)) (pad noCode 64 []) m 0) (add-one n ∙ sym (ap suc (past-long A n k)))
     ∙ ap (λ (l : List Handle). filled (removed h ∷ map grow l) []) (sym c)
     ∙ sym (laid-gone h gs)

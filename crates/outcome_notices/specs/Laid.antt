@@ -3,7 +3,7 @@ use Prim.Native.Nat.{ℕ, _-_}
 use mathlib.Core.List.{List, [], _∷_, _++_, map}
 use lib.ListN.{length, take, replicate}
 use lib.IntN.{pos}
-use Rattle.kinds.specs.Names.{nobody}
+use Rattle.kinds.specs.Names.{noCode}
 use Rattle.kinds.specs.declared.Handle.{Handle as Packed}
 use Rattle.kinds.specs.declared.GrowState.{GrowState}
 use Rattle.kinds.specs.declared.GrowState.the-variants.{Grow, Stay, Shrink}
@@ -57,7 +57,7 @@ pad d n xs = xs ++ replicate (n - length xs) d
 
 -- the value of a list of entries and a circle
 abbrev pub filled : List Told → List Packed → Notices
-filled ts hs = record { told = pad blank 66 ts; count = length ts; circle = pad nobody 64 hs; members = length hs }
+filled ts hs = record { told = pad blank 66 ts; count = length ts; circle = pad noCode 64 hs; members = length hs }
 
 abbrev pub only : Told → Notices
 only e = filled (e ∷ []) []

@@ -3,7 +3,7 @@ use mathlib.Core.Path.{_≡_}
 use mathlib.Core.Option.{some}
 use mathlib.Core.List.{List, [], _∷_, _++_, map}
 use Rattle.ledger_spec.specs.Bench.{Handle, Member, Node, Bench, grows, stays, blossom}
-use Rattle.ledger_spec.specs.Look.{nodeAt}
+use Rattle.ledger_spec.specs.Look.{nodeNamed}
 use Rattle.ledger_spec.specs.Deeds.{members}
 use Rattle.ledger_spec.specs.Notices.{Notice, stateSet, shrinkPrepared, blossomAdded, blossomRemoved}
 
@@ -13,11 +13,11 @@ blossomMade hs q = map (λ (h : Handle). stateSet h stays) hs ++ (shrinkPrepared
 
 -- the blossom is removed, and each member grows
 abbrev pub blossomGone : Bench → Handle → List Notice
-blossomGone b h = blossomRemoved h ∷ map (λ (g : Handle). stateSet g grows) (members (nodeAt b h))
+blossomGone b h = blossomRemoved h ∷ map (λ (g : Handle). stateSet g grows) (members (nodeNamed b h))
 
 -- h names a blossom that is present
 pub record Ring (b : Bench) (h : Handle) : Type 0 where
   pub node : Node
   pub ms : List Member
-  pub named : nodeAt b h ≡ some node
+  pub named : nodeNamed b h ≡ some node
   pub ring : node .class ≡ blossom ms

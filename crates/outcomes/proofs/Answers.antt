@@ -5,7 +5,7 @@ use mathlib.Core.Path.{_≡_, refl, sym, _∙_, ap, subst}
 use mathlib.Core.Logic.{_≢_}
 use mathlib.Core.List.{List}
 use native.Mathlib.Omega.{arith}
-use Rattle.kinds.specs.Names.{nobody}
+use Rattle.kinds.specs.Names.{noCode}
 use Rattle.kinds.specs.declared.Handle.{Handle}
 use Rattle.ledger_spec.specs.Bench as plain
 use Rattle.ledger_spec.specs.Tests.{first}
@@ -60,7 +60,7 @@ module _ (b : List ℕ) (c : Call) (W : SoundWords b) (b′ : List ℕ) where
         refused = λ q. absurd (q refl);
       }
 
-  pub refused : (n : ℕ) → n ≢ 0 → n ≡ first (testsOf (view b) c) → b′ ≡ b → Answered b c n nobody b′
+  pub refused : (n : ℕ) → n ≢ 0 → n ≡ first (testsOf (view b) c) → b′ ≡ b → Answered b c n noCode b′
   refused n q e same =
       let r = reply-refused (view b) c (λ z. q (e ∙ z)) in
       record {

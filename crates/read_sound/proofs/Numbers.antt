@@ -10,8 +10,8 @@ use Rattle.bench_words.specs.Store.{nodeAt, interfaceAt}
 use Rattle.bench_words.specs.declared.Interface.{Interface}
 use Rattle.bench_words.specs.declared.Up.the-variants.{Top, Under}
 use Rattle.ledger_spec.specs.Bench.{Handle, Node, Bench}
-use Rattle.ledger_spec.specs.Look.{interface, nodeAt as nodeNamed}
-use Rattle.ledger_spec.specs.Tests.{first, given, outside, child, stale}
+use Rattle.ledger_spec.specs.Look.{interface, nodeNamed}
+use Rattle.ledger_spec.specs.Tests.{first, isSome, outside, child, stale}
 use Rattle.ledger_spec.specs.Refuse.{unitTests}
 use Rattle.ledger_spec.specs.Reads.{said, nodeTests}
 use Rattle.bench_views.specs.View.{view, upSeen}
@@ -51,19 +51,19 @@ module _ (b : List ℕ) (u : ℕ) where
 
     pub number-child : (p : ℕ) → f .parent ≡ Under p → 4 ≡ first (unitTests (view b) u)
     unfolding unitTests
-    number-child p q = sym (first-no (outside u) 3 ((child (view b) u, 4) ∷ []) (lt-leb 8 u l) ∙ first-yes (child (view b) u) 4 [] (ap given (parent-is ∙ ap upSeen q)))
+    number-child p q = sym (first-no (outside u) 3 ((child (view b) u, 4) ∷ []) (lt-leb 8 u l) ∙ first-yes (child (view b) u) 4 [] (ap isSome (parent-is ∙ ap upSeen q)))
 
     pub number-free : f .parent ≡ Top → 0 ≡ first (unitTests (view b) u)
     unfolding unitTests
-    number-free q = sym (first-no (outside u) 3 ((child (view b) u, 4) ∷ []) (lt-leb 8 u l) ∙ first-no (child (view b) u) 4 [] (ap given (parent-is ∙ ap upSeen q)) ∙ first-none)
+    number-free q = sym (first-no (outside u) 3 ((child (view b) u, 4) ∷ []) (lt-leb 8 u l) ∙ first-no (child (view b) u) 4 [] (ap isSome (parent-is ∙ ap upSeen q)) ∙ first-none)
 
 -- ---- a node
 module _ (b : Bench) (h : Handle) where
   pub stale-yes : nodeNamed b h ≡ none → stale b h ≡ true
-  stale-yes e = ap (λ (o : Option Node). not (given o)) e
+  stale-yes e = ap (λ (o : Option Node). not (isSome o)) e
 
   pub stale-no : (n : Node) → nodeNamed b h ≡ some n → stale b h ≡ false
-  stale-no n e = ap (λ (o : Option Node). not (given o)) e
+  stale-no n e = ap (λ (o : Option Node). not (isSome o)) e
 
   pub node-refused : nodeNamed b h ≡ none → first (nodeTests b h) ≡ 8
   unfolding nodeTests

@@ -10,14 +10,14 @@ use lib.Dec.{leb, ltb}
 use lib.ListN.{length, getD, drop}
 use lib.IntN.{ℤ, pos}
 use Rattle.ledger_spec.specs.Bench.{Handle, Node, Bench}
-use Rattle.ledger_spec.specs.Look.{interface, nodeAt}
+use Rattle.ledger_spec.specs.Look.{interface, nodeNamed}
 use Rattle.ledger_spec.specs.Change.{worth}
 use Rattle.ledger_spec.specs.Calls.{nobody}
 use Rattle.ledger_spec.specs.Deeds.{sizeOf}
-use Rattle.ledger_spec.specs.Tests.{first, given, outside, child, stale, foreign}
+use Rattle.ledger_spec.specs.Tests.{first, isSome, outside, child, stale, foreign}
 use Rattle.ledger_spec.specs.Refuse.{unitTests}
-use Rattle.ledger_spec.specs.Reads.{said, slotsOf, asHandle, sumOf, speedOf, countOf, indexTests, handleOf, nodeTests, valueOf, belongs}
-use Rattle.ledger_spec.specs.Walk.{parentOf, outerFrom, linksFrom, underFrom, verticesOf, outerOf, underTests, underOf, firstVertex, sizeTests, verticesInto}
+use Rattle.ledger_spec.specs.Reads.{said, slotsOf, asHandle, sumOf, speedOf, countOf, indexTests, handleAtIndex, nodeTests, valueOf, belongs}
+use Rattle.ledger_spec.specs.Walk.{parentIn, outerFrom, linksFrom, belowFrom, verticesOf, outerOf, belowTests, belowOf, firstVertex, sizeTests, verticesInto}
 use Rattle.read_sound.proofs.Numbers.{said-no, said-yes, first-yes, first-no, first-none, stale-yes, stale-no, node-refused, node-passed}
 
 -- a number and its value, where the number is that of a test list
@@ -60,12 +60,12 @@ module _ (b : Bench) (u n : ℕ) (e : n ≡ first (unitTests b u)) where
     unfolding countOf
     count-yes = accepted (length (slotsOf b u)) 0 n (first (unitTests b u)) e q
 
-    pub belongs-stale : (h : Handle) → nodeAt b h ≡ none → (0, false) ≡ belongs b u h
+    pub belongs-stale : (h : Handle) → nodeNamed b h ≡ none → (0, false) ≡ belongs b u h
     unfolding belongs
     belongs-stale h s = accepted (not (stale b h) && not (foreign b u h)) false n (first (unitTests b u)) e q false
         (sym (ap (λ (c : Bool). not c && not (foreign b u h)) (stale-yes b h s)))
 
-    pub belongs-there : (h : Handle) (x : Node) → nodeAt b h ≡ some x → (c : Bool) → c ≡ foreign b u h → (0, not c) ≡ belongs b u h
+    pub belongs-there : (h : Handle) (x : Node) → nodeNamed b h ≡ some x → (c : Bool) → c ≡ foreign b u h → (0, not c) ≡ belongs b u h
     unfolding belongs
     belongs-there h x s c f = accepted (not (stale b h) && not (foreign b u h)) false n (first (unitTests b u)) e q (not c)
         (ap not f ∙ sym (ap (λ (c : Bool). not c && not (foreign b u h)) (stale-no b h x s)))
@@ -87,35 +87,35 @@ module _ (b : Bench) (u k n : ℕ) (e : n ≡ first (unitTests b u)) where
   abbrev slots : List (ℕ × ℕ × Option Node)
   slots = slotsOf b u
 
-  pub index-no : (n ≡ 0 → ⊥) → (n, none) ≡ handleOf b u k
-  unfolding handleOf indexTests unitTests
+  pub index-no : (n ≡ 0 → ⊥) → (n, none) ≡ handleAtIndex b u k
+  unfolding handleAtIndex indexTests unitTests
   index-no q = refused (asHandle (getD slots k (0, 0, none))) none n (first (indexTests b u k))
       (e ∙ sym (after (outside u) (child b u) (leb (length slots) k) 18 (λ z. q (e ∙ z)))) q
 
-  pub index-past : n ≡ 0 → length slots ≤ k → (18, none) ≡ handleOf b u k
-  unfolding handleOf indexTests unitTests
+  pub index-past : n ≡ 0 → length slots ≤ k → (18, none) ≡ handleAtIndex b u k
+  unfolding handleAtIndex indexTests unitTests
   index-past q l = refused (asHandle (getD slots k (0, 0, none))) none 18 (first (indexTests b u k))
       (sym (passed-on (outside u) (child b u) (leb (length slots) k) 18 (sym e ∙ q) ∙ first-yes (leb (length slots) k) 18 [] (le-leb (length slots) k l))) (λ z. omega arith)
 
-  pub index-there : n ≡ 0 → k < length slots → (w : Option Handle) → w ≡ asHandle (getD slots k (0, 0, none)) → (0, w) ≡ handleOf b u k
-  unfolding handleOf indexTests unitTests
+  pub index-there : n ≡ 0 → k < length slots → (w : Option Handle) → w ≡ asHandle (getD slots k (0, 0, none)) → (0, w) ≡ handleAtIndex b u k
+  unfolding handleAtIndex indexTests unitTests
   index-there q l w r = accepted (asHandle (getD slots k (0, 0, none))) none 0 (first (indexTests b u k))
       (sym (passed-on (outside u) (child b u) (leb (length slots) k) 18 (sym e ∙ q) ∙ first-no (leb (length slots) k) 18 [] (lt-leb (length slots) k l) ∙ first-none)) refl w r
 
 -- ---- reads of a node
-module _ (b : Bench) (h : Handle) (s : nodeAt b h ≡ none) where
+module _ (b : Bench) (h : Handle) (s : nodeNamed b h ≡ none) where
   pub value-no : (8, pos 0) ≡ valueOf b h
   unfolding valueOf
-  value-no = refused (worth (nodeAt b h)) (pos 0) 8 (first (nodeTests b h)) (sym (node-refused b h s)) (λ z. omega arith)
+  value-no = refused (worth (nodeNamed b h)) (pos 0) 8 (first (nodeTests b h)) (sym (node-refused b h s)) (λ z. omega arith)
 
   pub outer-no : (8, (nobody, 0)) ≡ outerOf b h
   unfolding outerOf
   outer-no = refused (outerFrom 512 b h, linksFrom 512 b h) (nobody, 0) 8 (first (nodeTests b h)) (sym (node-refused b h s)) (λ z. omega arith)
 
-  pub under-no : (8, nobody) ≡ underOf b h
-  unfolding underOf underTests
-  under-no = refused (underFrom 512 b h h) nobody 8 (first (underTests b h))
-      (sym (first-yes (stale b h) 8 ((not (given (parentOf (nodeAt b h))), 12) ∷ []) (stale-yes b h s))) (λ z. omega arith)
+  pub under-no : (8, nobody) ≡ belowOf b h
+  unfolding belowOf belowTests
+  under-no = refused (belowFrom 512 b h h) nobody 8 (first (belowTests b h))
+      (sym (first-yes (stale b h) 8 ((not (isSome (parentIn (nodeNamed b h))), 12) ∷ []) (stale-yes b h s))) (λ z. omega arith)
 
   pub vertex-no : (8, 0) ≡ firstVertex b h
   unfolding firstVertex
@@ -124,12 +124,12 @@ module _ (b : Bench) (h : Handle) (s : nodeAt b h ≡ none) where
   pub vertices-no : (out : List ℕ) → (8, (0, out)) ≡ verticesInto b h out
   unfolding verticesInto sizeTests
   vertices-no out = refused (length (verticesOf b h), verticesOf b h ++ drop (length (verticesOf b h)) out) (0, out) 8 (first (sizeTests b h out))
-      (sym (first-yes (stale b h) 8 ((ltb (length out) (sizeOf (nodeAt b h)), 19) ∷ []) (stale-yes b h s))) (λ z. omega arith)
+      (sym (first-yes (stale b h) 8 ((ltb (length out) (sizeOf (nodeNamed b h)), 19) ∷ []) (stale-yes b h s))) (λ z. omega arith)
 
-module _ (b : Bench) (h : Handle) (n : Node) (s : nodeAt b h ≡ some n) where
-  pub value-yes : (w : ℤ) → w ≡ worth (nodeAt b h) → (0, w) ≡ valueOf b h
+module _ (b : Bench) (h : Handle) (n : Node) (s : nodeNamed b h ≡ some n) where
+  pub value-yes : (w : ℤ) → w ≡ worth (nodeNamed b h) → (0, w) ≡ valueOf b h
   unfolding valueOf
-  value-yes = accepted (worth (nodeAt b h)) (pos 0) 0 (first (nodeTests b h)) (sym (node-passed b h n s)) refl
+  value-yes = accepted (worth (nodeNamed b h)) (pos 0) 0 (first (nodeTests b h)) (sym (node-passed b h n s)) refl
 
   pub outer-yes : (g : Handle) (l : ℕ) → g ≡ outerFrom 512 b h → l ≡ linksFrom 512 b h → (0, (g, l)) ≡ outerOf b h
   unfolding outerOf
@@ -140,28 +140,28 @@ module _ (b : Bench) (h : Handle) (n : Node) (s : nodeAt b h ≡ some n) where
   unfolding firstVertex
   vertex-yes = accepted (getD (verticesOf b h) 0 0) 0 0 (first (nodeTests b h)) (sym (node-passed b h n s)) refl
 
-  pub under-top : parentOf (nodeAt b h) ≡ none → (12, nobody) ≡ underOf b h
-  unfolding underOf underTests
-  under-top p = refused (underFrom 512 b h h) nobody 12 (first (underTests b h))
-      (sym (first-no (stale b h) 8 ((not (given (parentOf (nodeAt b h))), 12) ∷ []) (stale-no b h n s)
-      ∙ first-yes (not (given (parentOf (nodeAt b h)))) 12 [] (ap (λ (o : Option Handle). not (given o)) p))) (λ z. omega arith)
+  pub under-top : parentIn (nodeNamed b h) ≡ none → (12, nobody) ≡ belowOf b h
+  unfolding belowOf belowTests
+  under-top p = refused (belowFrom 512 b h h) nobody 12 (first (belowTests b h))
+      (sym (first-no (stale b h) 8 ((not (isSome (parentIn (nodeNamed b h))), 12) ∷ []) (stale-no b h n s)
+      ∙ first-yes (not (isSome (parentIn (nodeNamed b h)))) 12 [] (ap (λ (o : Option Handle). not (isSome o)) p))) (λ z. omega arith)
 
-  pub under-yes : (p : Handle) → parentOf (nodeAt b h) ≡ some p → (g : Handle) → g ≡ underFrom 512 b h h → (0, g) ≡ underOf b h
-  unfolding underOf underTests
-  under-yes p f = accepted (underFrom 512 b h h) nobody 0 (first (underTests b h))
-      (sym (first-no (stale b h) 8 ((not (given (parentOf (nodeAt b h))), 12) ∷ []) (stale-no b h n s)
-      ∙ first-no (not (given (parentOf (nodeAt b h)))) 12 [] (ap (λ (o : Option Handle). not (given o)) f) ∙ first-none)) refl
+  pub under-yes : (p : Handle) → parentIn (nodeNamed b h) ≡ some p → (g : Handle) → g ≡ belowFrom 512 b h h → (0, g) ≡ belowOf b h
+  unfolding belowOf belowTests
+  under-yes p f = accepted (belowFrom 512 b h h) nobody 0 (first (belowTests b h))
+      (sym (first-no (stale b h) 8 ((not (isSome (parentIn (nodeNamed b h))), 12) ∷ []) (stale-no b h n s)
+      ∙ first-no (not (isSome (parentIn (nodeNamed b h)))) 12 [] (ap (λ (o : Option Handle). not (isSome o)) f) ∙ first-none)) refl
 
   module _ (out : List ℕ) where
-    pub vertices-small : length out < sizeOf (nodeAt b h) → (19, (0, out)) ≡ verticesInto b h out
+    pub vertices-small : length out < sizeOf (nodeNamed b h) → (19, (0, out)) ≡ verticesInto b h out
     unfolding verticesInto sizeTests
     vertices-small l = refused (length (verticesOf b h), verticesOf b h ++ drop (length (verticesOf b h)) out) (0, out) 19 (first (sizeTests b h out))
-        (sym (first-no (stale b h) 8 ((ltb (length out) (sizeOf (nodeAt b h)), 19) ∷ []) (stale-no b h n s)
-        ∙ first-yes (ltb (length out) (sizeOf (nodeAt b h))) 19 [] (lt-ltb (length out) (sizeOf (nodeAt b h)) l))) (λ z. omega arith)
+        (sym (first-no (stale b h) 8 ((ltb (length out) (sizeOf (nodeNamed b h)), 19) ∷ []) (stale-no b h n s)
+        ∙ first-yes (ltb (length out) (sizeOf (nodeNamed b h))) 19 [] (lt-ltb (length out) (sizeOf (nodeNamed b h)) l))) (λ z. omega arith)
 
-    pub vertices-yes : sizeOf (nodeAt b h) ≤ length out → (c : ℕ) (out' : List ℕ) → c ≡ length (verticesOf b h) → out' ≡ verticesOf b h ++ drop (length (verticesOf b h)) out → (0, (c, out')) ≡ verticesInto b h out
+    pub vertices-yes : sizeOf (nodeNamed b h) ≤ length out → (c : ℕ) (out' : List ℕ) → c ≡ length (verticesOf b h) → out' ≡ verticesOf b h ++ drop (length (verticesOf b h)) out → (0, (c, out')) ≡ verticesInto b h out
     unfolding verticesInto sizeTests
     vertices-yes l c out' x y = accepted (length (verticesOf b h), verticesOf b h ++ drop (length (verticesOf b h)) out) (0, out) 0 (first (sizeTests b h out))
-        (sym (first-no (stale b h) 8 ((ltb (length out) (sizeOf (nodeAt b h)), 19) ∷ []) (stale-no b h n s)
-        ∙ first-no (ltb (length out) (sizeOf (nodeAt b h))) 19 [] (le-ltb (length out) (sizeOf (nodeAt b h)) l) ∙ first-none)) refl (c, out')
+        (sym (first-no (stale b h) 8 ((ltb (length out) (sizeOf (nodeNamed b h)), 19) ∷ []) (stale-no b h n s)
+        ∙ first-no (ltb (length out) (sizeOf (nodeNamed b h))) 19 [] (le-ltb (length out) (sizeOf (nodeNamed b h)) l) ∙ first-none)) refl (c, out')
         (ap₂ (λ (a : ℕ) (o : List ℕ). (a, o)) x y)

@@ -15,8 +15,8 @@ ghost use Rattle.ledger_spec.specs.Look.{slotOf};
 ghost use Rattle.ledger_spec.specs.Named.{handleNamed};
 ghost use Rattle.ledger_spec.specs.Tests.{first};
 ghost use Rattle.ledger_spec.specs.Refuse.{unitTests};
-ghost use Rattle.ledger_spec.specs.Reads.{asHandle, sumOf, speedOf, countOf, handleOf, valueOf, belongs};
-ghost use Rattle.ledger_spec.specs.Walk.{outerOf, underOf, firstVertex, verticesInto};
+ghost use Rattle.ledger_spec.specs.Reads.{asHandle, sumOf, speedOf, countOf, handleAtIndex, valueOf, belongs};
+ghost use Rattle.ledger_spec.specs.Walk.{outerOf, belowOf, firstVertex, verticesInto};
 ghost use Rattle.bench_views.specs.Fit.{Fit};
 ghost use Rattle.bench_views.specs.View.{view};
 ghost use Rattle.read_sound.specs.Shown.{maybe, shownWeight, shownCount, shownBelongs, shownNode, shownAncestor, shownSecond, shownVertex, shownVertices};
@@ -156,7 +156,7 @@ fn node_at(b: &[u64; WORDS], k: usize) -> MaybeNode
 // The handle at an index of the tree, nothing if its slot was emptied, RANGE (18) at or past the count.
 pub fn get_node(b: &[u64; WORDS], unit: u8, index: NodeIndex) -> Indexed
     requires { ⌜ Fit (now b) ⌝ }
-    ensures { λ r. ⌜ shownNode r ≡ handleOf (view (now (b .entry))) unit (index .0) ⌝ }
+    ensures { λ r. ⌜ shownNode r ≡ handleAtIndex (view (now (b .entry))) unit (index .0) ⌝ }
 {
     let number = unit_number(b, unit);
     if number != 0 {
@@ -233,7 +233,7 @@ pub fn get_ancestor_blossom(b: &[u64; WORDS], h: Handle) -> Ancestor
 // The node below the outermost blossom, TOP (12) of a node without a parent.
 pub fn get_secondary_ancestor_blossom(b: &[u64; WORDS], h: Handle) -> Second
     requires { ⌜ Fit (now b) ⌝ }
-    ensures { λ r. ⌜ shownSecond r ≡ underOf (view (now (b .entry))) (handleNamed h) ⌝ }
+    ensures { λ r. ⌜ shownSecond r ≡ belowOf (view (now (b .entry))) (handleNamed h) ⌝ }
 {
     let found = bench_links::find(b, h);
     match found {

@@ -13,7 +13,7 @@ use Rattle.bench_words.specs.declared.Interface.{Interface}
 use Rattle.ledger_spec.specs.Bench.{Bench}
 use Rattle.ledger_spec.specs.Bench as plain
 use Rattle.ledger_spec.specs.Look.{interface}
-use Rattle.ledger_spec.specs.Tests.{first, given, empty, outside, child, used}
+use Rattle.ledger_spec.specs.Tests.{first, isSome, empty, outside, child, used}
 use Rattle.ledger_spec.specs.Refuse.{fuseTests}
 use Rattle.ledger_spec.proofs.Lists.{or-false}
 use Rattle.bench_views.specs.View.{view, upSeen, halvesSeen, interfaceIn}
@@ -27,10 +27,10 @@ empty-counts : {A : Type 0} (l : List A) → empty l ≡ eqb (length l) 0
 empty-counts [] = refl
 empty-counts (x ∷ xs) = sym (ne-eqb (suc (length xs)) 0 (λ e. omega arith))
 
-halves-given : (l r : ℕ) → given (halvesSeen l r) ≡ not (eqb l 0)
+halves-given : (l r : ℕ) → isSome (halvesSeen l r) ≡ not (eqb l 0)
 halves-given l r = go (eqb l 0)
   where
-    go : (c : Bool) → given {A = ℕ × ℕ} (pick c none (some (l - 1, r - 1))) ≡ not c
+    go : (c : Bool) → isSome {A = ℕ × ℕ} (pick c none (some (l - 1, r - 1))) ≡ not c
     go true = refl
     go false = refl
 
@@ -38,14 +38,14 @@ module _ (b : List ℕ) (u : ℕ) (low : u < 8) (f : Interface) (i : f ≡ inter
   seen : {X : Type 0} (φ : plain.Interface → X) → φ (interface (view b) u) ≡ φ (interfaceIn (interfaceAt b) (nodeAt b) u)
   seen φ = ap φ (interface-in (getD b 0 0) (interfaceAt b) (nodeAt b) u low)
 
-  pub child-is : child (view b) u ≡ given (upSeen (f .parent))
-  child-is = seen (λ (x : plain.Interface). given (x .parent)) ∙ ap (λ (x : Interface). given (upSeen (x .parent))) (sym i)
+  pub child-is : child (view b) u ≡ isSome (upSeen (f .parent))
+  child-is = seen (λ (x : plain.Interface). isSome (x .parent)) ∙ ap (λ (x : Interface). isSome (upSeen (x .parent))) (sym i)
 
   pub used-is : used (interface (view b) u) ≡ (not (eqb (f .used) 0) || (not (eqb (f .progress) 0) || not (eqb (f .left) 0)))
   used-is =
       ap₂ _||_ (ap not (empty-counts (interface (view b) u .slots) ∙ ap (λ (k : ℕ). eqb k 0) (view-count (getD b 0 0) (interfaceAt b) (nodeAt b) u low ∙ ap (λ (x : Interface). x .used) (sym i))))
       (ap₂ _||_ (seen (λ (x : plain.Interface). not (eqb (natAbs (x .progress)) 0)) ∙ ap (λ (x : Interface). not (eqb (x .progress) 0)) (sym i))
-      (seen (λ (x : plain.Interface). given (x .halves)) ∙ halves-given (interfaceAt b u .left) (interfaceAt b u .right) ∙ ap (λ (x : Interface). not (eqb (x .left) 0)) (sym i)))
+      (seen (λ (x : plain.Interface). isSome (x .halves)) ∙ halves-given (interfaceAt b u .left) (interfaceAt b u .right) ∙ ap (λ (x : Interface). not (eqb (x .left) 0)) (sym i)))
 
 -- ---- the four tests
 module _ (B : Bench) (p l r : ℕ) where

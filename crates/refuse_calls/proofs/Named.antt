@@ -17,7 +17,7 @@ use Rattle.kinds.specs.declared.Parent.the-variants.{Outermost, Inside}
 use Rattle.ledger_spec.specs.Bench.{Handle, Member}
 use Rattle.ledger_spec.specs.Look as look
 use Rattle.ledger_spec.specs.Named.{parentNamed}
-use Rattle.ledger_spec.specs.Tests.{first, given, stale, foreign, hasParent, isDefect}
+use Rattle.ledger_spec.specs.Tests.{first, isSome, stale, foreign, hasParent, isDefect}
 use Rattle.ledger_spec.specs.Refuse.{unitTests, stateTests, expandTests}
 use Rattle.ledger_spec.proofs.Passed.{Failed, passed, has-of}
 use Rattle.bench_views.specs.View.{view, slotSeen, sumUp, circleOf}
@@ -41,7 +41,7 @@ module _ (b : List ℕ) (u n : ℕ) (e : n ≡ first (unitTests (view b) u)) (h 
     unfolding unitTests namedTests
     named-rest k r = decided-by (unitTests (view b) u) ((stale (view b) h, 8) ∷ (foreign (view b) u h, 9) ∷ []) (unit-failed b u n e z) k r
 
-    pub named-stale : look.nodeAt (view b) h ≡ none → 8 ≡ first (namedTests (view b) u h)
+    pub named-stale : look.nodeNamed (view b) h ≡ none → 8 ≡ first (namedTests (view b) u h)
     named-stale s = named-rest 8 (sym (first-yes (stale (view b) h) 8 ((foreign (view b) u h, 9) ∷ []) (stale-yes (view b) h s)))
 
     module _ (S : Stands b h) where
@@ -67,11 +67,11 @@ defect-seen n t ms p = go (n .class) refl
 module _ (b : List ℕ) (C : Canon b) (u n : ℕ) (h : Handle) (e : n ≡ first (namedTests (view b) u h)) where
   pub state-no : n ≢ 0 → n ≡ first (stateTests (view b) u h)
   unfolding namedTests stateTests
-  state-no q = refused-by (namedTests (view b) u h) ((hasParent (look.nodeAt (view b) h), 11) ∷ []) n e q
+  state-no q = refused-by (namedTests (view b) u h) ((hasParent (look.nodeNamed (view b) h), 11) ∷ []) n e q
 
   pub expand-no : n ≢ 0 → n ≡ first (expandTests (view b) u h)
   unfolding namedTests expandTests
-  expand-no q = refused-by (namedTests (view b) u h) ((isDefect (look.nodeAt (view b) h), 10) ∷ (hasParent (look.nodeAt (view b) h), 11) ∷ []) n e q
+  expand-no q = refused-by (namedTests (view b) u h) ((isDefect (look.nodeNamed (view b) h), 10) ∷ (hasParent (look.nodeNamed (view b) h), 11) ∷ []) n e q
 
   module _ (z : n ≡ 0) where
     named-failed : Failed (namedTests (view b) u h)
@@ -86,46 +86,46 @@ module _ (b : List ℕ) (C : Canon b) (u n : ℕ) (h : Handle) (e : n ≡ first 
     named-low = let S = named-stands in omega arith
 
     module _ (x : Node) (i : x ≡ nodeAt b (spot h)) where
-      parent-is : hasParent (look.nodeAt (view b) h) ≡ given (parentNamed (x .parent))
-      parent-is = ap hasParent (seen-node b h named-stands .1) ∙ ap (λ (y : Node). given (parentNamed (y .parent))) (sym i)
+      parent-is : hasParent (look.nodeNamed (view b) h) ≡ isSome (parentNamed (x .parent))
+      parent-is = ap hasParent (seen-node b h named-stands .1) ∙ ap (λ (y : Node). isSome (parentNamed (y .parent))) (sym i)
 
-      free : x .parent ≡ Outermost → hasParent (look.nodeAt (view b) h) ≡ false
-      free p = parent-is ∙ ap (λ (q : Parent). given (parentNamed q)) p
+      free : x .parent ≡ Outermost → hasParent (look.nodeNamed (view b) h) ≡ false
+      free p = parent-is ∙ ap (λ (q : Parent). isSome (parentNamed q)) p
 
-      held : (q : Code) → x .parent ≡ Inside q → hasParent (look.nodeAt (view b) h) ≡ true
-      held q p = parent-is ∙ ap (λ (q : Parent). given (parentNamed q)) p
+      held : (q : Code) → x .parent ≡ Inside q → hasParent (look.nodeNamed (view b) h) ≡ true
+      held q p = parent-is ∙ ap (λ (q : Parent). isSome (parentNamed q)) p
 
-      class-is : isDefect (look.nodeAt (view b) h) ≡ not (blossomOf (x .class))
+      class-is : isDefect (look.nodeNamed (view b) h) ≡ not (blossomOf (x .class))
       class-is =
           let S = named-stands in
           ap isDefect (S .seen) ∙ defect-seen (nodeAt b (spot h)) (sumUp 8 (interfaceAt b) (h .unit)) (circleOf (nodeAt b) (spot h)) (S .present) ∙ ap (λ (y : Node). not (blossomOf (y .class))) (sym i)
 
       -- ---- set state
-      state-rest : (k : ℕ) → k ≡ first ((hasParent (look.nodeAt (view b) h), 11) ∷ []) → k ≡ first (stateTests (view b) u h)
+      state-rest : (k : ℕ) → k ≡ first ((hasParent (look.nodeNamed (view b) h), 11) ∷ []) → k ≡ first (stateTests (view b) u h)
       unfolding namedTests stateTests
-      state-rest k r = decided-by (namedTests (view b) u h) ((hasParent (look.nodeAt (view b) h), 11) ∷ []) named-failed k r
+      state-rest k r = decided-by (namedTests (view b) u h) ((hasParent (look.nodeNamed (view b) h), 11) ∷ []) named-failed k r
 
       pub state-fine : x .parent ≡ Outermost → 0 ≡ first (stateTests (view b) u h)
-      state-fine p = state-rest 0 (sym (first-no (hasParent (look.nodeAt (view b) h)) 11 [] (free p) ∙ first-none))
+      state-fine p = state-rest 0 (sym (first-no (hasParent (look.nodeNamed (view b) h)) 11 [] (free p) ∙ first-none))
 
       pub state-member : (q : Code) → x .parent ≡ Inside q → 11 ≡ first (stateTests (view b) u h)
-      state-member q p = state-rest 11 (sym (first-yes (hasParent (look.nodeAt (view b) h)) 11 [] (held q p)))
+      state-member q p = state-rest 11 (sym (first-yes (hasParent (look.nodeNamed (view b) h)) 11 [] (held q p)))
 
       -- ---- expand
-      expand-rest : (k : ℕ) → k ≡ first ((isDefect (look.nodeAt (view b) h), 10) ∷ (hasParent (look.nodeAt (view b) h), 11) ∷ []) → k ≡ first (expandTests (view b) u h)
+      expand-rest : (k : ℕ) → k ≡ first ((isDefect (look.nodeNamed (view b) h), 10) ∷ (hasParent (look.nodeNamed (view b) h), 11) ∷ []) → k ≡ first (expandTests (view b) u h)
       unfolding namedTests expandTests
-      expand-rest k r = decided-by (namedTests (view b) u h) ((isDefect (look.nodeAt (view b) h), 10) ∷ (hasParent (look.nodeAt (view b) h), 11) ∷ []) named-failed k r
+      expand-rest k r = decided-by (namedTests (view b) u h) ((isDefect (look.nodeNamed (view b) h), 10) ∷ (hasParent (look.nodeNamed (view b) h), 11) ∷ []) named-failed k r
 
       module _ (y : Bool) (j : y ≡ blossomOf (x .class)) where
         pub expand-defect : y ≡ false → 10 ≡ first (expandTests (view b) u h)
-        expand-defect t = expand-rest 10 (sym (first-yes (isDefect (look.nodeAt (view b) h)) 10 ((hasParent (look.nodeAt (view b) h), 11) ∷ []) (class-is ∙ ap not (sym j ∙ t))))
+        expand-defect t = expand-rest 10 (sym (first-yes (isDefect (look.nodeNamed (view b) h)) 10 ((hasParent (look.nodeNamed (view b) h), 11) ∷ []) (class-is ∙ ap not (sym j ∙ t))))
 
         module _ (t : y ≡ true) where
-          ring : first ((isDefect (look.nodeAt (view b) h), 10) ∷ (hasParent (look.nodeAt (view b) h), 11) ∷ []) ≡ first ((hasParent (look.nodeAt (view b) h), 11) ∷ [])
-          ring = first-no (isDefect (look.nodeAt (view b) h)) 10 ((hasParent (look.nodeAt (view b) h), 11) ∷ []) (class-is ∙ ap not (sym j ∙ t))
+          ring : first ((isDefect (look.nodeNamed (view b) h), 10) ∷ (hasParent (look.nodeNamed (view b) h), 11) ∷ []) ≡ first ((hasParent (look.nodeNamed (view b) h), 11) ∷ [])
+          ring = first-no (isDefect (look.nodeNamed (view b) h)) 10 ((hasParent (look.nodeNamed (view b) h), 11) ∷ []) (class-is ∙ ap not (sym j ∙ t))
 
           pub expand-fine : x .parent ≡ Outermost → 0 ≡ first (expandTests (view b) u h)
-          expand-fine p = expand-rest 0 (sym (ring ∙ first-no (hasParent (look.nodeAt (view b) h)) 11 [] (free p) ∙ first-none))
+          expand-fine p = expand-rest 0 (sym (ring ∙ first-no (hasParent (look.nodeNamed (view b) h)) 11 [] (free p) ∙ first-none))
 
           pub expand-member : (q : Code) → x .parent ≡ Inside q → 11 ≡ first (expandTests (view b) u h)
-          expand-member q p = expand-rest 11 (sym (ring ∙ first-yes (hasParent (look.nodeAt (view b) h)) 11 [] (held q p)))
+          expand-member q p = expand-rest 11 (sym (ring ∙ first-yes (hasParent (look.nodeNamed (view b) h)) 11 [] (held q p)))

@@ -15,9 +15,9 @@ use Rattle.bench_words.specs.Store.{nodeAt, interfaceAt}
 use Rattle.bench_words.specs.declared.Node.{Node}
 use Rattle.ledger_spec.specs.Bench.{Handle}
 use Rattle.ledger_spec.specs.Bench as plain
-use Rattle.ledger_spec.specs.Look.{interface, top, nodeAt as nodeNamed}
+use Rattle.ledger_spec.specs.Look.{interface, top, nodeNamed}
 use Rattle.ledger_spec.specs.Named.{parentNamed}
-use Rattle.ledger_spec.specs.Tests.{first, given, stale, foreign, hasParent}
+use Rattle.ledger_spec.specs.Tests.{first, isSome, stale, foreign, hasParent}
 use Rattle.ledger_spec.proofs.Tops.{climb-none}
 use Rattle.bench_views.specs.View.{view, sumUp, circleOf, nodeSeen}
 use Rattle.bench_views.proofs.Rings.{slot-held}
@@ -58,7 +58,7 @@ marks-0 s f p e g h = rw (e, g, h)
 
 module _ (b : List ℕ) (u : ℕ) (h : Handle) where
   pub mark-stale : nodeNamed (view b) h ≡ none → 8 ≡ nodeMark (view b) u h
-  mark-stale e = sym (marks-8 (stale (view b) h) (foreign (view b) u h) (hasParent (nodeNamed (view b) h)) (ap (λ (o : Option plain.Node). not (given o)) e))
+  mark-stale e = sym (marks-8 (stale (view b) h) (foreign (view b) u h) (hasParent (nodeNamed (view b) h)) (ap (λ (o : Option plain.Node). not (isSome o)) e))
 
   module _ (k : ℕ) (H : Held b h k) where
     pub held-unit : h .unit ≡ k / 64
@@ -68,10 +68,10 @@ module _ (b : List ℕ) (u : ℕ) (h : Handle) where
     held-node = H .stands .seen ∙ slot-held (nodeAt b (spot h)) (sumUp 8 (interfaceAt b) (h .unit)) (circleOf (nodeAt b) (spot h)) (H .stands .present) .1
 
     held-fresh : stale (view b) h ≡ false
-    held-fresh = ap (λ (o : Option plain.Node). not (given o)) held-node
+    held-fresh = ap (λ (o : Option plain.Node). not (isSome o)) held-node
 
-    held-parent : hasParent (nodeNamed (view b) h) ≡ given (parentNamed (nodeAt b k .parent))
-    held-parent = ap hasParent held-node ∙ ap (λ (j : ℕ). given (parentNamed (nodeAt b j .parent))) (sym (H .place))
+    held-parent : hasParent (nodeNamed (view b) h) ≡ isSome (parentNamed (nodeAt b k .parent))
+    held-parent = ap hasParent held-node ∙ ap (λ (j : ℕ). isSome (parentNamed (nodeAt b j .parent))) (sym (H .place))
 
     module _ (far : Bool) (e : far ≡ not (eqb (top (view b) (k / 64)) u)) where
       held-far : foreign (view b) u h ≡ far
@@ -81,14 +81,14 @@ module _ (b : List ℕ) (u : ℕ) (h : Handle) where
       mark-foreign t = sym (marks-9 (stale (view b) h) (foreign (view b) u h) (hasParent (nodeNamed (view b) h)) held-fresh (held-far ∙ t))
 
       module _ (near : far ≡ false) (n : Node) (f : n ≡ nodeAt b k) where
-        held-given : hasParent (nodeNamed (view b) h) ≡ given (parentNamed (n .parent))
-        held-given = held-parent ∙ ap (λ (x : Node). given (parentNamed (x .parent))) (sym f)
+        held-given : hasParent (nodeNamed (view b) h) ≡ isSome (parentNamed (n .parent))
+        held-given = held-parent ∙ ap (λ (x : Node). isSome (parentNamed (x .parent))) (sym f)
 
         pub mark-inside : (q : Packed) → n .parent ≡ Inside q → 11 ≡ nodeMark (view b) u h
-        mark-inside q g = sym (marks-11 (stale (view b) h) (foreign (view b) u h) (hasParent (nodeNamed (view b) h)) held-fresh (held-far ∙ near) (held-given ∙ ap (λ (p : Parent). given (parentNamed p)) g))
+        mark-inside q g = sym (marks-11 (stale (view b) h) (foreign (view b) u h) (hasParent (nodeNamed (view b) h)) held-fresh (held-far ∙ near) (held-given ∙ ap (λ (p : Parent). isSome (parentNamed p)) g))
 
         pub mark-free : n .parent ≡ Outermost → 0 ≡ nodeMark (view b) u h
-        mark-free g = sym (marks-0 (stale (view b) h) (foreign (view b) u h) (hasParent (nodeNamed (view b) h)) held-fresh (held-far ∙ near) (held-given ∙ ap (λ (p : Parent). given (parentNamed p)) g))
+        mark-free g = sym (marks-0 (stale (view b) h) (foreign (view b) u h) (hasParent (nodeNamed (view b) h)) held-fresh (held-far ∙ near) (held-given ∙ ap (λ (p : Parent). isSome (parentNamed p)) g))
 
 -- ---- an interface's tree
 module _ (b : plain.Bench) (u : ℕ) (free : interface b u .parent ≡ none) where

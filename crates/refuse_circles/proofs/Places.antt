@@ -12,7 +12,7 @@ use Rattle.bench_words.specs.Store.{nodeAt}
 use Rattle.ledger_spec.specs.Bench.{Handle, Node}
 use Rattle.ledger_spec.specs.Knit.{In}
 use Rattle.ledger_spec.specs.Named.{handleNamed}
-use Rattle.ledger_spec.specs.Tests.{first, any, given, stale, both}
+use Rattle.ledger_spec.specs.Tests.{first, any, isSome, stale, both}
 use Rattle.ledger_spec.proofs.Lists.{or-false, any-no, in-map}
 use Rattle.ledger_spec.proofs.Passed.{Failed, passed, has-of}
 use Rattle.bench_views.specs.Canon.{Canon}
@@ -33,7 +33,7 @@ module _ (b : List ℕ) (w : ℕ) (e : stale (view b) (handGiven w) ≡ false) w
     where
       go : Dec (w < 2199023255552) → w < 2199023255552
       go (yes l) = l
-      go (no q) = absurd (true≢false (sym (ap (λ (o : Option Node). not (given o)) (no-handle b w (omega arith))) ∙ e))
+      go (no q) = absurd (true≢false (sym (ap (λ (o : Option Node). not (isSome o)) (no-handle b w (omega arith))) ∙ e))
 
   word-stands : Canon b → Stands b (handleNamed (handleOf w))
   word-stands C = let p = has-of (view b) (handGiven w) e in

@@ -8,8 +8,8 @@ use mathlib.Core.List.{List, [], _∷_}
 use native.Mathlib.Omega.{arith}
 use lib.ListN.{length}
 use Rattle.ledger_spec.specs.Bench.{Handle, Bench, Node}
-use Rattle.ledger_spec.specs.Look.{nodeAt}
-use Rattle.ledger_spec.specs.Tests.{first, any, given, stale, foreign, hasParent, both}
+use Rattle.ledger_spec.specs.Look.{nodeNamed}
+use Rattle.ledger_spec.specs.Tests.{first, any, isSome, stale, foreign, hasParent, both}
 use Rattle.bench_views.specs.View.{view}
 use Rattle.bench_links.proofs.Finding.{out-unit}
 use Rattle.deed_circles.specs.Given.{nowhere, handGiven, handsGiven, pairsGiven}
@@ -51,11 +51,11 @@ unfolding marks first
 stale-8 a c e q = rw q
 
 abbrev inside : Bench → Handle → Bool
-inside b h = hasParent (nodeAt b h)
+inside b h = hasParent (nodeNamed b h)
 
 module _ (b : List ℕ) (u : ℕ) (ts : List ℕ) where
   out-stale : stale (view b) nowhere ≡ true
-  out-stale = ap (λ (o : Option Node). not (given o)) (out-unit b nowhere (omega arith))
+  out-stale = ap (λ (o : Option Node). not (isSome o)) (out-unit b nowhere (omega arith))
 
   pub touch-odd : length ts % 2 ≡ 1 → 8 ≡ touchMark (view b) u (both (pairsGiven ts))
   touch-odd e = stale-8 _ (any (foreign (view b) u) (both (pairsGiven ts))) false (both-odd (stale (view b)) out-stale ts e)

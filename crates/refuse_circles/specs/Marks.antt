@@ -5,7 +5,7 @@ use mathlib.Core.List.{List, [], _∷_}
 use lib.Dec.{eqb, ltb}
 use Rattle.bench_words.specs.Codec.{pick}
 use Rattle.ledger_spec.specs.Bench.{Handle, Bench}
-use Rattle.ledger_spec.specs.Look.{nodeAt}
+use Rattle.ledger_spec.specs.Look.{nodeNamed}
 use Rattle.ledger_spec.specs.Tests.{first, any, stale, foreign, hasParent}
 
 -- STALE, FOREIGN, HAS_PARENT, in this order
@@ -14,10 +14,10 @@ marks s f p = first ((s, 8) ∷ (f, 9) ∷ (p, 11) ∷ [])
 
 -- of one node, and of all that a list names
 abbrev pub nodeMark : Bench → ℕ → Handle → ℕ
-nodeMark b u h = marks (stale b h) (foreign b u h) (hasParent (nodeAt b h))
+nodeMark b u h = marks (stale b h) (foreign b u h) (hasParent (nodeNamed b h))
 
 abbrev pub listMark : Bench → ℕ → List Handle → ℕ
-listMark b u hs = marks (any (stale b) hs) (any (foreign b u) hs) (any (λ h. hasParent (nodeAt b h)) hs)
+listMark b u hs = marks (any (stale b) hs) (any (foreign b u) hs) (any (λ h. hasParent (nodeNamed b h)) hs)
 
 -- a touching handle may be inside a blossom
 abbrev pub touchMark : Bench → ℕ → List Handle → ℕ

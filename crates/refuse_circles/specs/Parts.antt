@@ -6,14 +6,14 @@ use mathlib.Core.List.{List, [], _∷_, _++_}
 use lib.Dec.{eqb, ltb}
 use lib.ListN.{length}
 use Rattle.ledger_spec.specs.Bench.{Handle, Bench}
-use Rattle.ledger_spec.specs.Look.{nodeAt}
+use Rattle.ledger_spec.specs.Look.{nodeNamed}
 use Rattle.ledger_spec.specs.Tests.{any, empty, stale, foreign, hasParent, twice, both, full, worn}
 
 abbrev pub shapeTests : List Handle → List (Handle × Handle) → List (Bool × ℕ)
 shapeTests hs ts = (empty hs || ltb 64 (length hs), 6) ∷ (not (empty ts) && not (eqb (length ts) (length hs)), 7) ∷ []
 
 abbrev pub nodesTests : Bench → ℕ → List Handle → List (Handle × Handle) → List (Bool × ℕ)
-nodesTests b u hs ts = (any (stale b) (hs ++ both ts), 8) ∷ (any (foreign b u) (hs ++ both ts), 9) ∷ (any (λ h. hasParent (nodeAt b h)) hs, 11) ∷ []
+nodesTests b u hs ts = (any (stale b) (hs ++ both ts), 8) ∷ (any (foreign b u) (hs ++ both ts), 9) ∷ (any (λ h. hasParent (nodeNamed b h)) hs, 11) ∷ []
 
 abbrev pub twiceTests : List Handle → List (Bool × ℕ)
 twiceTests hs = (twice hs, 13) ∷ []

@@ -16,8 +16,8 @@ use Rattle.ledger_spec.specs.Bench as plain
 use Rattle.ledger_spec.specs.Look.{interface, top}
 use Rattle.ledger_spec.specs.Calls.{Call, Grow}
 use Rattle.ledger_spec.specs.Answers.{Answer as Plain, answer}
-use Rattle.ledger_spec.specs.Book.{Book, turn, turns, begun}
-use Rattle.ledger_spec.specs.Account.{Under, valuesAt, ratesAt, Right}
+use Rattle.ledger_spec.specs.Book.{Book, turn, turns, newBook}
+use Rattle.ledger_spec.specs.Account.{treeSum, valuesAt, ratesAt, Right}
 use Rattle.ledger_laws.proofs.Answered.{refused-bench}
 use Rattle.ledger_laws.proofs.Always.{broken-only}
 use Rattle.ledger_laws.proofs.Turns.{right}
@@ -85,23 +85,23 @@ follows (next {c = c} x R) W k e =
 
 -- ---- from set-up
 module _ {n : ℕ} {b : List ℕ} (O : Opened n b) {cs : List Call} {rs : List Answer} {b′ : List ℕ} (R : Ran b cs rs b′) where
-  pub from-set-up : Followed (begun n) cs rs b′
-  from-set-up = follows R (O .words) (begun n) (O .seen)
+  pub from-set-up : Followed (newBook n) cs rs b′
+  from-set-up = follows R (O .words) (newBook n) (O .seen)
 
   -- the book on the words that are left
   abbrev pub book : Book
-  book = record { bench = view b′; gone = turns (begun n) cs .gone }
+  book = record { bench = view b′; gone = turns (newBook n) cs .gone }
 
   -- demand 3, of the stored words: sum and speed of each interface without a parent
   pub record RightWords (i : ℕ) : Type 0 where
-    pub sum : off 4611686018427387904 (interfaceAt b′ i .sum) ≡ Under (top (view b′)) (valuesAt book) i
-    pub speed : off 1024 (interfaceAt b′ i .speed) ≡ Under (top (view b′)) (ratesAt book) i
+    pub sum : off 4611686018427387904 (interfaceAt b′ i .sum) ≡ treeSum (top (view b′)) (valuesAt book) i
+    pub speed : off 1024 (interfaceAt b′ i .speed) ≡ treeSum (top (view b′)) (ratesAt book) i
 
   pub right-words : (i : ℕ) → i < 8 → interfaceAt b′ i .parent ≡ Top → RightWords i
   right-words i l t =
-      let e : turns (begun n) cs .bench ≡ view b′ = sym (from-set-up .seen) in
-      let f : turns (begun n) cs ≡ book = λ j. record { bench = e j; gone = turns (begun n) cs .gone } in
-      let free : interface (turns (begun n) cs .bench) i .parent ≡ none
+      let e : turns (newBook n) cs .bench ≡ view b′ = sym (from-set-up .seen) in
+      let f : turns (newBook n) cs ≡ book = λ j. record { bench = e j; gone = turns (newBook n) cs .gone } in
+      let free : interface (turns (newBook n) cs .bench) i .parent ≡ none
       = ap (λ (d : Bench). interface d i .parent) e ∙ view-parent (getD b′ 0 0) (interfaceAt b′) (nodeAt b′) i l ∙ ap upSeen t in
       let Q : Right book i = subst (λ (k : Book). Right k i) f (right n cs i l free) in
       let at = interface-in (getD b′ 0 0) (interfaceAt b′) (nodeAt b′) i l in

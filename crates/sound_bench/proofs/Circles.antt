@@ -7,7 +7,7 @@ use native.Mathlib.Omega.{arith}
 use lib.ListN.{length}
 use Rattle.bench_words.specs.declared.Node.{Node}
 use Rattle.ledger_spec.specs.Bench.{Handle, Member, Bench}
-use Rattle.ledger_spec.specs.Look.{nodeAt, sameHandle}
+use Rattle.ledger_spec.specs.Look.{nodeNamed, sameHandle}
 use Rattle.ledger_spec.specs.Deeds.{sizeOf, sizes}
 use Rattle.ledger_spec.specs.SoundTree.{tally}
 use Rattle.ledger_spec.specs.Knit.{nodes, In, here, there}
@@ -95,11 +95,11 @@ unfolding sumTo
 shift f zero = omega arith
 shift f (suc n) = omega (arith, shift f n)
 
-pub sizes-follow : (b : Bench) (n : ℕ) (A : ℕ → Node) (p : ℕ) → ((i : ℕ) → i < n → sizeOf (nodeAt b (handleAt A (walk i A p))) ≡ A (walk i A p) .size) → sizes b (nodes (follow n A p)) ≡ sumTo (λ i. A (walk i A p) .size) n
+pub sizes-follow : (b : Bench) (n : ℕ) (A : ℕ → Node) (p : ℕ) → ((i : ℕ) → i < n → sizeOf (nodeNamed b (handleAt A (walk i A p))) ≡ A (walk i A p) .size) → sizes b (nodes (follow n A p)) ≡ sumTo (λ i. A (walk i A p) .size) n
 unfolding follow walk sizes sumTo
 sizes-follow b zero A p h = refl
 sizes-follow b (suc n) A p h =
-    ap₂ _+_ (h zero (omega arith)) (sizes-follow b n A (A p .next) (λ i l. ap (λ (q : ℕ). sizeOf (nodeAt b (handleAt A q))) (walk-next i A p) ∙ h (suc i) (omega arith) ∙ ap (λ (q : ℕ). A q .size) (sym (walk-next i A p)))
+    ap₂ _+_ (h zero (omega arith)) (sizes-follow b n A (A p .next) (λ i l. ap (λ (q : ℕ). sizeOf (nodeNamed b (handleAt A q))) (walk-next i A p) ∙ h (suc i) (omega arith) ∙ ap (λ (q : ℕ). A q .size) (sym (walk-next i A p)))
     ∙ same n)
     ∙ sym (shift (λ i. A (walk i A p) .size) n)
   where

@@ -5,7 +5,7 @@ use mathlib.Core.Bool.{true, false, not, _&&_, true≢false}
 use mathlib.Core.List.{List}
 use lib.Dec.{eqb, leb, ltb}
 use borrow.Author.Tests.{eqb-true, eqb-false, eq-eqb, ne-eqb, leb-true, le-leb, ltb-true, lt-ltb, not-true}
-use Rattle.kinds.specs.Names.{sameHandle, nobody}
+use Rattle.kinds.specs.Names.{sameCode, noCode}
 use Rattle.kinds.specs.States.{blossomOf}
 use Rattle.kinds.specs.declared.GrowState.{GrowState}
 use Rattle.kinds.specs.declared.GrowState.the-variants.{Grow, Stay, Shrink}
@@ -19,7 +19,7 @@ use Rattle.bench_words.specs.Store.{nodeAt}
 use Rattle.bench_words.specs.declared.Node.{Node}
 use Rattle.ledger_spec.specs.Look.{climb}
 use Rattle.ledger_spec.proofs.Lists.{and-true, both-true}
-use Rattle.bench_views.specs.View.{valueOf, view}
+use Rattle.bench_views.specs.View.{valueBy, view}
 use Rattle.bench_views.specs.Canon.{walk, Alone}
 use Rattle.sound_words.specs.Below.{allTo, sumTo}
 use Rattle.sound_words.proofs.Belows.{all-each, all-of}
@@ -27,14 +27,14 @@ use Rattle.sound_rings.specs.Rings.{isInside, memberOf, memberTest, sizeIn, rin
 use Rattle.sound_seats.specs.Seats.{isStay, aloneTest, seatIn, parentTest}
 use Rattle.sound_nodes.specs.Nodes.{nearTest}
 
-same-packed : (g h : Handle) → sameHandle g h ≡ true → g ≡ h
+same-packed : (g h : Handle) → sameCode g h ≡ true → g ≡ h
 same-packed g h e =
     let x = and-true (eqb (g .unit) (h .unit)) _ e in
     let y = and-true (eqb (g .slot) (h .slot)) _ (x .1) in
     λ i. record { unit = eqb-true (g .unit) (h .unit) (x .0) i; slot = eqb-true (g .slot) (h .slot) (y .0) i; serial = record { 0 = eqb-true (g .serial .0) (h .serial .0) (y .1) i } }
 
-same-self : (g h : Handle) → g ≡ h → sameHandle g h ≡ true
-same-self g h e = ap (sameHandle g) (sym e) ∙ both-true (eq-eqb (g .unit) (g .unit) refl) (both-true (eq-eqb (g .slot) (g .slot) refl) (eq-eqb (g .serial .0) (g .serial .0) refl))
+same-self : (g h : Handle) → g ≡ h → sameCode g h ≡ true
+same-self g h e = ap (sameCode g) (sym e) ∙ both-true (eq-eqb (g .unit) (g .unit) refl) (both-true (eq-eqb (g .slot) (g .slot) refl) (eq-eqb (g .serial .0) (g .serial .0) refl))
 
 inside-is : (p : Parent) (h : Handle) → isInside p h ≡ true → p ≡ Inside h
 inside-is Outermost h e = absurd (true≢false (sym e))
@@ -184,8 +184,8 @@ module _ (b : List ℕ) (k t : ℕ) (n : Node) where
   parent-alone e q =
       let x = and-true (eqb (n .place) 0 && eqb (n .next) 0) _ (rw q at e) in
       let y = and-true (eqb (n .place) 0) (eqb (n .next) 0) (x .0) in
-      let z = and-true (sameHandle (n .left) nobody) (sameHandle (n .right) nobody) (x .1) in
-      record { place = eqb-true (n .place) 0 (y .0); next = eqb-true (n .next) 0 (y .1); left = same-packed (n .left) nobody (z .0); right = same-packed (n .right) nobody (z .1) }
+      let z = and-true (sameCode (n .left) noCode) (sameCode (n .right) noCode) (x .1) in
+      record { place = eqb-true (n .place) 0 (y .0); next = eqb-true (n .next) 0 (y .1); left = same-packed (n .left) noCode (z .0); right = same-packed (n .right) noCode (z .1) }
 
   pub parent-seat : parentTest b k t n ≡ true → (q : Handle) → n .parent ≡ Inside q → Seat b k t n q (nodeAt b (q .unit * 64 + q .slot))
   unfolding parentTest seatIn
@@ -193,7 +193,7 @@ module _ (b : List ℕ) (k t : ℕ) (n : Node) where
 
   pub alone-parent : n .parent ≡ Outermost → Alone n → parentTest b k t n ≡ true
   unfolding parentTest aloneTest
-  alone-parent q L = rw q (both-true (both-true (eq-eqb (n .place) 0 (L .place)) (eq-eqb (n .next) 0 (L .next))) (both-true (same-self (n .left) nobody (L .left)) (same-self (n .right) nobody (L .right))))
+  alone-parent q L = rw q (both-true (both-true (eq-eqb (n .place) 0 (L .place)) (eq-eqb (n .next) 0 (L .next))) (both-true (same-self (n .left) noCode (L .left)) (same-self (n .right) noCode (L .right))))
 
   pub seat-parent : (q : Handle) → n .parent ≡ Inside q → Seat b k t n q (nodeAt b (q .unit * 64 + q .slot)) → parentTest b k t n ≡ true
   unfolding parentTest seatIn
@@ -201,14 +201,14 @@ module _ (b : List ℕ) (k t : ℕ) (n : Node) where
 
 -- ---- a value
 module _ (g : GrowState) (bias t w : ℕ) where
-  pub near-says : nearTest g bias t w ≡ true → (1152921504606846976 - w ≤ valueOf g bias t) × (valueOf g bias t ≤ 1152921504606846976 + w)
+  pub near-says : nearTest g bias t w ≡ true → (1152921504606846976 - w ≤ valueBy g bias t) × (valueBy g bias t ≤ 1152921504606846976 + w)
   unfolding nearTest
   near-says e =
       let x = and-true (leb 576460752303423488 bias) _ e in
       let y = and-true (leb bias 2305843009213693952) _ (x .1) in
-      let z = and-true (leb (1152921504606846976 - w) (valueOf g bias t)) (leb (valueOf g bias t) (1152921504606846976 + w)) (y .1) in
-      (leb-true (1152921504606846976 - w) (valueOf g bias t) (z .0), leb-true (valueOf g bias t) (1152921504606846976 + w) (z .1))
+      let z = and-true (leb (1152921504606846976 - w) (valueBy g bias t)) (leb (valueBy g bias t) (1152921504606846976 + w)) (y .1) in
+      (leb-true (1152921504606846976 - w) (valueBy g bias t) (z .0), leb-true (valueBy g bias t) (1152921504606846976 + w) (z .1))
 
-  pub near-holds : 576460752303423488 ≤ bias → bias ≤ 2305843009213693952 → 1152921504606846976 - w ≤ valueOf g bias t → valueOf g bias t ≤ 1152921504606846976 + w → nearTest g bias t w ≡ true
+  pub near-holds : 576460752303423488 ≤ bias → bias ≤ 2305843009213693952 → 1152921504606846976 - w ≤ valueBy g bias t → valueBy g bias t ≤ 1152921504606846976 + w → nearTest g bias t w ≡ true
   unfolding nearTest
-  near-holds a c d f = both-true (le-leb 576460752303423488 bias a) (both-true (le-leb bias 2305843009213693952 c) (both-true (le-leb (1152921504606846976 - w) (valueOf g bias t) d) (le-leb (valueOf g bias t) (1152921504606846976 + w) f)))
+  near-holds a c d f = both-true (le-leb 576460752303423488 bias a) (both-true (le-leb bias 2305843009213693952 c) (both-true (le-leb (1152921504606846976 - w) (valueBy g bias t) d) (le-leb (valueBy g bias t) (1152921504606846976 + w) f)))

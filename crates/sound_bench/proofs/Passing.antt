@@ -23,7 +23,7 @@ use Rattle.bench_words.specs.declared.Up.{Up}
 use Rattle.bench_words.specs.declared.Up.the-variants.{Top, Under}
 use Rattle.ledger_spec.specs.Bench.{Member, stays, defect, blossom}
 use Rattle.ledger_spec.specs.Bench as plain
-use Rattle.ledger_spec.specs.Look.{interface, slotOf, climb, nodeAt as nodeNamed}
+use Rattle.ledger_spec.specs.Look.{interface, slotOf, climb, nodeNamed}
 use Rattle.ledger_spec.specs.Named.{handleNamed, parentNamed, stateNamed}
 use Rattle.ledger_spec.specs.Deeds.{sizeOf}
 use Rattle.ledger_spec.specs.Knit.{nodes, Up as Above}
@@ -32,7 +32,7 @@ use Rattle.ledger_spec.proofs.Lists.{both-true}
 use Rattle.ledger_spec.proofs.Knit.{some-eq}
 use Rattle.ledger_spec.proofs.Tops.{top-root, below}
 use Rattle.ledger_spec.proofs.Passed.{has-node}
-use Rattle.bench_views.specs.View.{upSeen, over, sumUp, valueOf, circleOf, handleAt, memberAt, view}
+use Rattle.bench_views.specs.View.{upSeen, over, sumUp, valueBy, circleOf, handleAt, memberAt, view}
 use Rattle.bench_views.specs.Canon.{walk, Seated, Canon}
 use Rattle.bench_views.specs.Fit.{SoundWords, Fit}
 use Rattle.bench_views.proofs.Views.{interface-in, view-next, view-slot, view-parent}
@@ -182,7 +182,7 @@ module _ (b : List ℕ) (Z : SoundWords b) where
     near =
         let w = width-is b (S .frame) i (below (view b) (S .frame) 8 u lu) (top-root (view b) (S .frame) u) in
         let r = ranged b (C .steady) (F .within) u s lu used present in
-        let x = off-range 1152921504606846975 (valueOf (n .state) (n .bias) t) (W (view b) i) (S .values u s (shownAs b u s d) stands) in
+        let x = off-range 1152921504606846975 (valueBy (n .state) (n .bias) t) (W (view b) i) (S .values u s (shownAs b u s d) stands) in
         near-holds (n .state) (n .bias) t (widthOf b i) (r .least) (r .most) (omega (arith, x .0, w)) (omega (arith, x .1, w))
 
     seat : (q : Packed) → n .parent ≡ Inside q → nodes-in.Seat b (u * 64 + s) (climb 8 (view b) u) n q (A (q .unit * 64 + q .slot))

@@ -20,7 +20,7 @@ use Rattle.ledger_spec.specs.Bench.{Member, rate}
 use Rattle.ledger_spec.specs.Bench as plain
 use Rattle.ledger_spec.specs.Look.{climb}
 use Rattle.ledger_spec.specs.Change.{share}
-use Rattle.ledger_spec.specs.Account.{Σ, gate, over, Under, ratesIn}
+use Rattle.ledger_spec.specs.Account.{Σ, gate, slotSum, treeSum, ratesIn}
 use Rattle.ledger_spec.specs.Named.{stateNamed}
 use Rattle.ledger_spec.proofs.Ints.{swap-mid}
 use Rattle.ledger_spec.proofs.Sums.{Σ-same}
@@ -79,12 +79,12 @@ share-off n t ms e = go (n .class) refl
     go Blossom q = rw q (rate-off (n .state))
     go (Defect v) q = rw q (rate-off (n .state))
 
-rates-tab : (f : ℕ → Option plain.Node) (r : ℕ → ℕ) (n : ℕ) → ((s : ℕ) → s < n → share (f s) ≡ off 1 (r s)) → over share (tab f 0 n) ≡ off n (sumTo r n)
-unfolding tab over sumTo
+rates-tab : (f : ℕ → Option plain.Node) (r : ℕ → ℕ) (n : ℕ) → ((s : ℕ) → s < n → share (f s) ≡ off 1 (r s)) → slotSum share (tab f 0 n) ≡ off n (sumTo r n)
+unfolding tab slotSum sumTo
 rates-tab f r zero h = sym (off-zero 0)
 rates-tab f r (suc n) h =
     let e : n + 1 ≡ suc n = omega arith in
-    ap (over share) (tab-snoc f n) ∙ over-snoc share (tab f 0 n) (f n) ∙ ap₂ (λ (x y : ℤ). x +ℤ y) (rates-tab f r n (λ s l. h s (omega arith))) (h n (omega arith)) ∙ off-sum n 1 (sumTo r n) (r n) ∙ ap (λ (k : ℕ). off k (sumTo r n + r n)) e
+    ap (slotSum share) (tab-snoc f n) ∙ over-snoc share (tab f 0 n) (f n) ∙ ap₂ (λ (x y : ℤ). x +ℤ y) (rates-tab f r n (λ s l. h s (omega arith))) (h n (omega arith)) ∙ off-sum n 1 (sumTo r n) (r n) ∙ ap (λ (k : ℕ). off k (sumTo r n + r n)) e
 
 sum-off : (f : ℕ → ℕ) (n : ℕ) → Σ n (λ u. off 64 (f u)) ≡ off (n * 64) (sumTo f n)
 unfolding Σ sumTo
@@ -94,7 +94,7 @@ sum-off f (suc n) = let e : n * 64 + 64 ≡ suc n * 64 = omega arith in
 
 module _ (b : List ℕ) (few : (u : ℕ) → u < 8 → interfaceAt b u .used ≤ 64) (empty : (k : ℕ) → k < 512 → nodeAt b k .class ≡ Absent → nodeAt b k ≡ noNode) where
   rates-in : (u : ℕ) → u < 8 → ratesIn (view b) u ≡ off (interfaceAt b u .used) (sumTo (rateIn b u) (interfaceAt b u .used))
-  rates-in u lu = ap (λ (f : plain.Interface). over share (f .slots)) (interface-in (getD b 0 0) (interfaceAt b) (nodeAt b) u lu)
+  rates-in u lu = ap (λ (f : plain.Interface). slotSum share (f .slots)) (interface-in (getD b 0 0) (interfaceAt b) (nodeAt b) u lu)
       ∙ rates-tab (slotIn (interfaceAt b) (nodeAt b) u) (rateIn b u) (interfaceAt b u .used) (λ s l. share-off (nodeAt b (u * 64 + s)) _ _ (empty (u * 64 + s) (omega (arith, few u lu))))
 
   term : (i u : ℕ) → u < 8 → gate (eqb (climb 8 (view b) u) i) (ratesIn (view b) u) ≡ off 64 (paceUnder b i u)
@@ -106,6 +106,6 @@ module _ (b : List ℕ) (few : (u : ℕ) → u < 8 → interfaceAt b u .used ≤
           rates-in u lu ∙ sym (off-both-sides (interfaceAt b u .used) (64 - interfaceAt b u .used) (sumTo (rateIn b u) (interfaceAt b u .used))) ∙ ap (λ (k : ℕ). off k (sumTo (rateIn b u) (interfaceAt b u .used) + (64 - interfaceAt b u .used))) e
       go false = sym (off-zero 64)
 
-  pub under-pace : (i : ℕ) → Under (climb 8 (view b)) (ratesIn (view b)) i ≡ off 512 (paceOf b i)
+  pub under-pace : (i : ℕ) → treeSum (climb 8 (view b)) (ratesIn (view b)) i ≡ off 512 (paceOf b i)
   unfolding paceOf
   under-pace i = Σ-same 8 (λ u. off 64 (paceUnder b i u)) (λ u. gate (eqb (climb 8 (view b) u) i) (ratesIn (view b) u)) (term i) ∙ sum-off (paceUnder b i) 8

@@ -22,17 +22,17 @@ use Rattle.bench_words.specs.declared.Up.the-variants.{Top, Under}
 use Rattle.bench_words.proofs.Laws.{GoodHandle, good-node}
 use Rattle.ledger_spec.specs.Bench.{Handle, Member, defect, blossom, stays, fresh}
 use Rattle.ledger_spec.specs.Bench as plain
-use Rattle.ledger_spec.specs.Look.{interface, slotOf, climb, nodeAt as nodeNamed}
+use Rattle.ledger_spec.specs.Look.{interface, slotOf, climb, nodeNamed}
 use Rattle.ledger_spec.specs.Named.{handleNamed, parentNamed, stateNamed}
 use Rattle.ledger_spec.specs.Deeds.{sizeOf}
-use Rattle.ledger_spec.specs.Account.{Under as Sum, ratesIn}
+use Rattle.ledger_spec.specs.Account.{treeSum as Sum, ratesIn}
 use Rattle.ledger_spec.specs.Knit.{mk, nodes, In, Has, Up as Above, Down}
 use Rattle.ledger_spec.specs.Facts.{W, Touching, Circle, Sound}
 use Rattle.ledger_spec.proofs.Lists.{and-true}
 use Rattle.ledger_spec.proofs.Knit.{none-some, some-eq, blossom-eq, class-apart}
 use Rattle.ledger_spec.proofs.Tops.{top-root, below}
 use Rattle.ledger_spec.proofs.Passed.{has-node}
-use Rattle.bench_views.specs.View.{off, upSeen, over, sumUp, valueOf, circleOf, handleAt, view}
+use Rattle.bench_views.specs.View.{off, upSeen, over, sumUp, valueBy, circleOf, handleAt, view}
 use Rattle.bench_views.specs.Canon.{walk}
 use Rattle.bench_views.proofs.Views.{interface-in, view-next, view-eight, view-count, view-slot, view-parent}
 use Rattle.bench_views.proofs.Rings.{slot-held}
@@ -275,8 +275,8 @@ module _ (b : List ℕ) (P : Parts b) (len : length b ≡ 6273) where
       let t = sumUp 8 (interfaceAt b) u in
       let x = near-says (m .state) (m .bias) t (widthOf b (climb 8 (view b) u)) (H .kept .near) in
       let w = W-is (climb 8 (view b) u) (below (view b) (frame b P len) 8 u (H .unit)) (top-root (view b) (frame b P len) u) in
-      subst (λ (z : ℤ). natAbs z ≤ W (view b) (climb 8 (view b) u)) (sym (of-shown b u s (λ y. y .value) (off 1152921504606846976 (valueOf (m .state) (m .bias) t)) (λ c. refl) n (H .shown)))
-      (subst (λ (y : ℕ). natAbs (off 1152921504606846976 (valueOf (m .state) (m .bias) t)) ≤ y) w (range-off 1152921504606846975 (valueOf (m .state) (m .bias) t) (widthOf b (climb 8 (view b) u)) (x .0) (x .1)))
+      subst (λ (z : ℤ). natAbs z ≤ W (view b) (climb 8 (view b) u)) (sym (of-shown b u s (λ y. y .value) (off 1152921504606846976 (valueBy (m .state) (m .bias) t)) (λ c. refl) n (H .shown)))
+      (subst (λ (y : ℕ). natAbs (off 1152921504606846976 (valueBy (m .state) (m .bias) t)) ≤ y) w (range-off 1152921504606846975 (valueBy (m .state) (m .bias) t) (widthOf b (climb 8 (view b) u)) (x .0) (x .1)))
 
   top-none : (p : Up) → upSeen p ≡ none → p ≡ Top
   top-none Top e = refl

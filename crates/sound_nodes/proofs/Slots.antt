@@ -12,7 +12,7 @@ use Rattle.bench_words.specs.declared.Interface.{Interface}
 use Rattle.bench_words.specs.declared.Node.{Node}
 use Rattle.bench_words.proofs.Laws.{GoodParent, good-node}
 use Rattle.ledger_spec.specs.Look.{climb}
-use Rattle.bench_views.specs.View.{valueOf, sumUp, view}
+use Rattle.bench_views.specs.View.{valueBy, sumUp, view}
 use Rattle.bench_trees.specs.Climb.{Climbs}
 use Rattle.sound_words.specs.Below.{allTo, between}
 use Rattle.bench_words.specs.Coding.{blankAt, codedAt}
@@ -34,9 +34,9 @@ module _ (g : GrowState) (bias t w : ℕ) where
   unfolding nearTest
   near-high k l = rw (le-leb 576460752303423488 bias k, lt-leb bias 2305843009213693952 l)
 
-  pub near-row : 576460752303423488 ≤ bias → bias ≤ 2305843009213693952 → (v : ℕ) → v ≡ valueOf g bias t → (leb (1152921504606846976 - w) v && leb v (1152921504606846976 + w)) ≡ nearTest g bias t w
+  pub near-row : 576460752303423488 ≤ bias → bias ≤ 2305843009213693952 → (v : ℕ) → v ≡ valueBy g bias t → (leb (1152921504606846976 - w) v && leb v (1152921504606846976 + w)) ≡ nearTest g bias t w
   unfolding nearTest
-  near-row k l v e = ap (between 1152921504606846976 w) e ∙ sym (ap₂ (λ (x y : Bool). x && (y && between 1152921504606846976 w (valueOf g bias t))) (le-leb 576460752303423488 bias k) (le-leb bias 2305843009213693952 l))
+  near-row k l v e = ap (between 1152921504606846976 w) e ∙ sym (ap₂ (λ (x y : Bool). x && (y && between 1152921504606846976 w (valueBy g bias t))) (le-leb 576460752303423488 bias k) (le-leb bias 2305843009213693952 l))
 
 pub good-parent : (b : List ℕ) (k : ℕ) (n : Node) → n ≡ nodeAt b k → GoodParent (n .parent)
 good-parent b k n e = subst (λ (x : Node). GoodParent (x .parent)) (sym e) (good-node b k .parent)

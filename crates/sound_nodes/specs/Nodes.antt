@@ -11,7 +11,7 @@ use Rattle.kinds.specs.declared.Handle.{Handle}
 use Rattle.bench_words.specs.Store.{nodeAt, interfaceAt}
 use Rattle.bench_words.specs.declared.Node.{Node}
 use Rattle.ledger_spec.specs.Look.{climb}
-use Rattle.bench_views.specs.View.{valueOf, sumUp, view}
+use Rattle.bench_views.specs.View.{valueBy, sumUp, view}
 use Rattle.sound_words.specs.Below.{allTo, between}
 use Rattle.bench_words.specs.Coding.{blankAt, codedAt}
 use Rattle.sound_trees.specs.Width.{widthOf}
@@ -28,7 +28,7 @@ pub record Grounds (b : List ℕ) (u : ℕ) (g : Ground) : Type 0 where
   pub narrow : g .width ≤ 8796093022208
 
 unfoldable pub nearTest : GrowState → ℕ → ℕ → ℕ → Bool
-nearTest g bias t w = leb 576460752303423488 bias && (leb bias 2305843009213693952 && between valueOffset w (valueOf g bias t))
+nearTest g bias t w = leb 576460752303423488 bias && (leb bias 2305843009213693952 && between valueOffset w (valueBy g bias t))
 
 abbrev pub handleIn : ℕ → ℕ → Node → Handle
 handleIn u s n = record { unit = u; slot = s; serial = n .serial }

@@ -6,7 +6,7 @@ use native.Mathlib.Numerals.{add-one}
 use native.Mathlib.Omega.{arith}
 use lib.Dec.{eqb, leb, ltb}
 use borrow.Author.Tests.{eq-eqb, ne-eqb, le-leb, lt-leb, lt-ltb, le-ltb, leb-true}
-use Rattle.kinds.specs.Names.{sameHandle}
+use Rattle.kinds.specs.Names.{sameCode}
 use Rattle.kinds.specs.declared.Class.the-variants.{Absent, Blossom, Defect}
 use Rattle.kinds.specs.declared.Handle.{Handle}
 use Rattle.kinds.specs.declared.Parent.{Parent}
@@ -19,7 +19,7 @@ use Rattle.sound_words.specs.Below.{allTo, sumTo}
 use Rattle.sound_words.proofs.Belows.{all-none, all-more, all-not, sum-none, sum-more}
 use Rattle.sound_rings.specs.Rings.{isInside, memberOf, memberTest, sizeIn, ringTest, classTest}
 
-pub inside-known : (p : Parent) (q h : Handle) (t : Bool) → p ≡ Inside q → t ≡ sameHandle q h → t ≡ isInside p h
+pub inside-known : (p : Parent) (q h : Handle) (t : Bool) → p ≡ Inside q → t ≡ sameCode q h → t ≡ isInside p h
 inside-known p q h t e s = s ∙ sym (ap (λ (x : Parent). isInside x h) e)
 
 pub member-row : (m : Node) (h : Handle) (i next : ℕ) (t : Bool) → t ≡ isInside (m .parent) h

@@ -2,7 +2,7 @@
 use Prim.Native.Nat.{ℕ}
 use mathlib.Core.Bool.{Bool, false, not, _&&_}
 use lib.Dec.{eqb, leb, ltb}
-use Rattle.kinds.specs.Names.{sameHandle}
+use Rattle.kinds.specs.Names.{sameCode}
 use Rattle.kinds.specs.declared.Handle.{Handle}
 use Rattle.kinds.specs.declared.Parent.{Parent}
 use Rattle.kinds.specs.declared.Parent.the-variants.{Outermost, Inside}
@@ -13,7 +13,7 @@ use Rattle.sound_words.specs.Below.{allTo, sumTo}
 
 abbrev pub isInside : Parent → Handle → Bool
 isInside Outermost h = false
-isInside (Inside q) h = sameHandle q h
+isInside (Inside q) h = sameCode q h
 
 -- m links back to the blossom h from place i
 unfoldable pub memberOf : Node → Handle → ℕ → ℕ → Bool

@@ -9,7 +9,7 @@ use native.Mathlib.Omega.{arith}
 use lib.Dec.{eqb, ltb}
 use lib.ListN.{length, List·getD-eq-default}
 use borrow.Author.Tests.{le-leb, lt-leb, lt-ltb, le-ltb}
-use Rattle.kinds.specs.Names.{sameHandle, nobody}
+use Rattle.kinds.specs.Names.{sameCode, noCode}
 use Rattle.kinds.specs.States.{blossomOf}
 use Rattle.kinds.specs.declared.Handle.{Handle}
 use Rattle.kinds.specs.declared.Parent.the-variants.{Outermost, Inside}
@@ -43,10 +43,10 @@ pub going-ends : (A : ℕ → Node) (first steps p i : ℕ) → Going A first st
 going-ends A first steps p i G l = let e : i ≡ steps = omega (arith, G .low) in G .at ∙ ap (λ (k : ℕ). walk k A first) e
 
 -- ---- a node alone
-pub alone-row : (n : Node) (x y : Handle) (s t : Bool) → x ≡ nobody → y ≡ nobody → s ≡ sameHandle (n .left) x → t ≡ sameHandle (n .right) y → ((eqb (n .place) 0 && eqb (n .next) 0) && (s && t)) ≡ aloneTest n
+pub alone-row : (n : Node) (x y : Handle) (s t : Bool) → x ≡ noCode → y ≡ noCode → s ≡ sameCode (n .left) x → t ≡ sameCode (n .right) y → ((eqb (n .place) 0 && eqb (n .next) 0) && (s && t)) ≡ aloneTest n
 unfolding aloneTest
 alone-row n x y s t p q e f =
-    ap₂ (λ (a b : Bool). (eqb (n .place) 0 && eqb (n .next) 0) && (a && b)) (e ∙ ap (sameHandle (n .left)) p) (f ∙ ap (sameHandle (n .right)) q)
+    ap₂ (λ (a b : Bool). (eqb (n .place) 0 && eqb (n .next) 0) && (a && b)) (e ∙ ap (sameCode (n .left)) p) (f ∙ ap (sameCode (n .right)) q)
 
 -- ---- a member
 module _ (b : List ℕ) (k t : ℕ) (n : Node) (q : Handle) (m : Node) (e : m ≡ nodeAt b (q .unit * 64 + q .slot)) where

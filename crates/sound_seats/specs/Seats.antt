@@ -3,7 +3,7 @@ use Prim.Native.Nat.{ℕ, _+_, _*_}
 use mathlib.Core.Bool.{Bool, true, false, _&&_}
 use mathlib.Core.List.{List}
 use lib.Dec.{eqb, leb, ltb}
-use Rattle.kinds.specs.Names.{sameHandle, nobody}
+use Rattle.kinds.specs.Names.{sameCode, noCode}
 use Rattle.kinds.specs.States.{blossomOf}
 use Rattle.kinds.specs.declared.GrowState.{GrowState}
 use Rattle.kinds.specs.declared.GrowState.the-variants.{Grow, Stay, Shrink}
@@ -23,7 +23,7 @@ isStay Shrink = false
 
 -- a node outside any circle has no place and touches nothing
 unfoldable pub aloneTest : Node → Bool
-aloneTest n = (eqb (n .place) 0 && eqb (n .next) 0) && (sameHandle (n .left) nobody && sameHandle (n .right) nobody)
+aloneTest n = (eqb (n .place) 0 && eqb (n .next) 0) && (sameCode (n .left) noCode && sameCode (n .right) noCode)
 
 -- the node n at position k, under the top t, has its place in the circle of m, which q names
 unfoldable pub seatIn : List ℕ → ℕ → ℕ → Node → Handle → Node → Bool

@@ -20,7 +20,7 @@ use Rattle.bench_words.proofs.Laws.{GoodUp, good-interface}
 use Rattle.ledger_spec.specs.Bench.{Bench, fresh}
 use Rattle.ledger_spec.specs.Bench as plain
 use Rattle.ledger_spec.specs.Look.{interface}
-use Rattle.ledger_spec.specs.Tests.{given}
+use Rattle.ledger_spec.specs.Tests.{isSome}
 use Rattle.ledger_spec.specs.Frame.{Frame}
 use Rattle.ledger_spec.proofs.Lists.{and-true, both-true}
 use Rattle.ledger_spec.proofs.Knit.{some-eq, none-some}
@@ -206,7 +206,7 @@ module _ (b : List ℕ) where
       eight = view-eight (getD b 0 0) (interfaceAt b) (nodeAt b);
       rising = λ u p e. let h = parent-held u p e in (L u (h .0) .above p (h .1) .0, good u p (h .1));
       linked = λ u p e. let h = parent-held u p e in
-          ap given (some-halves p (good u p (h .1)) (λ z. not-none u p (L u (h .0) .above p (h .1) .1) (good u p (h .1)) z));
+          ap isSome (some-halves p (good u p (h .1)) (λ z. not-none u p (L u (h .0) .above p (h .1) .1) (good u p (h .1)) z));
       up = λ w u x y e f. let h = parent-held w u e in let g = halves-held u x y f in which w u x y g (L w (h .0) .above u (h .1) .1) (L u (g .low) .both (g .some));
       left = λ u x y f. let g = halves-held u x y f in let H = L u (g .low) .both (g .some) in let s = H .left in
           ap (λ (v : ℕ). interface B v .parent) (g .left) ∙ parent-in (I u .left - 1) (omega (arith, g .low, H .left)) ∙ ap upSeen (H .left-up);
@@ -259,7 +259,7 @@ module _ (b : List ℕ) where
             which z (inr x) = inr (omega (arith, x, both p low z))
 
             go : Dec (I p .left ≡ 0) → (I p .left ≡ u + 1) ⊎ (I p .right ≡ u + 1)
-            go (yes z) = absurd (true≢false (sym (F .linked u p seen) ∙ ap given (no-halves p low z)))
+            go (yes z) = absurd (true≢false (sym (F .linked u p seen) ∙ ap isSome (no-halves p low z)))
             go (no z) = which z (F .up u p (I p .left - 1) (I p .right - 1) seen (some-halves p low z))
 
         halves : (I u .left ≡ 0 → ⊥) → Halves (interfaceAt b) u

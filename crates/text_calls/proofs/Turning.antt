@@ -12,7 +12,7 @@ use Rattle.ledger_spec.specs.Answers.{Answer, whole, ask}
 use Rattle.ledger_spec.specs.Sound.{sound}
 use Rattle.ledger_spec.specs.Check.{checkOf}
 use Rattle.ledger_spec.specs.Grammar.{Line, K, wrong}
-use Rattle.ledger_spec.specs.Lines.{Said, shown, calls, checks, says}
+use Rattle.ledger_spec.specs.Lines.{LineAnswer, shown, calls, checks, says}
 use Rattle.ledger_laws.proofs.Answered.{answer-true}
 use Rattle.ledger_laws.proofs.Asked.{ask-true}
 use Rattle.bench_views.specs.View.{view}
@@ -23,7 +23,7 @@ use Rattle.text_numbers.specs.Numbers.{numbersOf}
 use Rattle.text_calls.specs.Turned.{Turned}
 
 -- what a line says, of a reply
-abbrev toldOf : ℕ → Done → Said
+abbrev toldOf : ℕ → Done → LineAnswer
 toldOf u d = record { numbers = shown (d .number) (d .node .serial) (d .bench) u; bench = d .bench }
 
 sound-calls : (b : Bench) → sound b ≡ true → (u : ℕ) (c : Call) → calls b u c ≡ toldOf u (perform b c)
@@ -39,9 +39,9 @@ module _ (b : List ℕ) (W : SoundWords b) where
       record {
         numbers = t
             ∙ (λ i. shown (A .number i) (A .node i .serial) (A .seen i) u)
-            ∙ sym (ap (λ (s : Said). s .numbers) p);
+            ∙ sym (ap (λ (s : LineAnswer). s .numbers) p);
         words = A .words;
-        seen = A .seen ∙ sym (ap (λ (s : Said). s .bench) p);
+        seen = A .seen ∙ sym (ap (λ (s : LineAnswer). s .bench) p);
       }
 
   -- a check

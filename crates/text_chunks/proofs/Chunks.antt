@@ -8,7 +8,7 @@ use lib.Dec.{lit<}
 use lib.ListN.{length, take}
 use lib.Seq.{take-all, length-take-le, take-append-le}
 use borrow.Author.Tests.{eq-eqb, ne-eqb, lt-ltb}
-use Rattle.ledger_spec.specs.Fields.{upto, after}
+use Rattle.ledger_spec.specs.Fields.{upto, partsAfter}
 use Rattle.ledger_spec.specs.Grammar.{Line, wrong, lineOf}
 use Rattle.ledger_spec.specs.Program.{ended, linesOf}
 use Rattle.text_fields.proofs.Cuts.{upto-none, upto-here, upto-on, after-none, after-here, after-on}
@@ -93,19 +93,19 @@ ended-more : (l m : List ℕ) (ls : List (List ℕ)) → ended (l ∷ m ∷ ls) 
 unfolding ended
 ended-more l m ls = refl
 
-whole-from : (s p : List ℕ) → lines (take 1024 p) s ++ last (left (take 1024 p) s) ≡ ended ((p ++ upto 10 s) ∷ after 10 s)
+whole-from : (s p : List ℕ) → lines (take 1024 p) s ++ last (left (take 1024 p) s) ≡ ended ((p ++ upto 10 s) ∷ partsAfter 10 s)
 whole-from [] p =
     (λ i. lines-none (take 1024 p) i ++ last (left-none (take 1024 p) i)) ∙ last-ended p
     ∙ sym (λ i. ended ((ap (λ (q : List ℕ). p ++ q) (upto-none 10) ∙ append-nil p) i ∷ after-none 10 i))
 whole-from (c ∷ s) p = go (ℕ-discrete c 10) (whole-from s []) (whole-from s (p ++ (c ∷ [])))
   where
-    go : Dec (c ≡ 10) → lines [] s ++ last (left [] s) ≡ ended (upto 10 s ∷ after 10 s)
-        → lines (take 1024 (p ++ (c ∷ []))) s ++ last (left (take 1024 (p ++ (c ∷ []))) s) ≡ ended (((p ++ (c ∷ [])) ++ upto 10 s) ∷ after 10 s)
-        → lines (take 1024 p) (c ∷ s) ++ last (left (take 1024 p) (c ∷ s)) ≡ ended ((p ++ upto 10 (c ∷ s)) ∷ after 10 (c ∷ s))
+    go : Dec (c ≡ 10) → lines [] s ++ last (left [] s) ≡ ended (upto 10 s ∷ partsAfter 10 s)
+        → lines (take 1024 (p ++ (c ∷ []))) s ++ last (left (take 1024 (p ++ (c ∷ []))) s) ≡ ended (((p ++ (c ∷ [])) ++ upto 10 s) ∷ partsAfter 10 s)
+        → lines (take 1024 p) (c ∷ s) ++ last (left (take 1024 p) (c ∷ s)) ≡ ended ((p ++ upto 10 (c ∷ s)) ∷ partsAfter 10 (c ∷ s))
     go (yes e) i j =
         (λ k. lines-end (take 1024 p) c s e k ++ last (left-end (take 1024 p) c s e k))
         ∙ (λ k. line-kept p k ∷ i k)
-        ∙ sym ((λ k. ended ((ap (λ (q : List ℕ). p ++ q) (upto-here 10 c s e) ∙ append-nil p) k ∷ after-here 10 c s e k)) ∙ ended-more p (upto 10 s) (after 10 s))
+        ∙ sym ((λ k. ended ((ap (λ (q : List ℕ). p ++ q) (upto-here 10 c s e) ∙ append-nil p) k ∷ after-here 10 c s e k)) ∙ ended-more p (upto 10 s) (partsAfter 10 s))
     go (no e) i j =
         (λ k. lines-on (take 1024 p) c s e k ++ last (left-on (take 1024 p) c s e k))
         ∙ ap (λ (q : List ℕ). lines q s ++ last (left q s)) (keep-more p c)

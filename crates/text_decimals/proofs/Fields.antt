@@ -7,14 +7,14 @@ use mathlib.Core.List.{List, [], _∷_}
 use lib.ListN.{length, getD, drop, take, length-drop}
 use lib.Seq.{take-all}
 use borrow.Author.Tests.{eq-eqb, ne-eqb}
-use Rattle.ledger_spec.specs.Decimals.{value, natural, number, integer, plusOf, minusOf}
+use Rattle.ledger_spec.specs.Decimals.{afterDigits, natural, numberWithin, integer, plusOf, minusOf}
 
 pub natural-empty : (f : List ℕ) → length f ≡ 0 → natural f ≡ none
 unfolding natural
 natural-empty [] h = refl
 natural-empty (c ∷ f) h = absurd (omega arith)
 
-pub natural-one : (f : List ℕ) → length f ≡ 1 → natural f ≡ value 0 f
+pub natural-one : (f : List ℕ) → length f ≡ 1 → natural f ≡ afterDigits 0 f
 unfolding natural
 natural-one [] h = absurd (omega arith)
 natural-one (c ∷ []) h = refl
@@ -26,7 +26,7 @@ natural-zero [] h k e = absurd (h refl)
 natural-zero (c ∷ []) h k e = absurd (k refl)
 natural-zero (c ∷ d ∷ f) h k e = rw (eq-eqb c 48 e, natural)
 
-pub natural-more : (f : List ℕ) → (length f ≡ 0 → ⊥) → (length f ≡ 1 → ⊥) → (getD f 0 0 ≡ 48 → ⊥) → natural f ≡ value 0 f
+pub natural-more : (f : List ℕ) → (length f ≡ 0 → ⊥) → (length f ≡ 1 → ⊥) → (getD f 0 0 ≡ 48 → ⊥) → natural f ≡ afterDigits 0 f
 unfolding natural
 natural-more [] h k e = absurd (h refl)
 natural-more (c ∷ []) h k e = absurd (k refl)
@@ -37,12 +37,12 @@ unfolding integer
 integer-empty [] h = refl
 integer-empty (c ∷ f) h = absurd (omega arith)
 
-pub integer-minus : (f : List ℕ) → (length f ≡ 0 → ⊥) → getD f 0 0 ≡ 45 → integer f ≡ minusOf (number 1 9223372036854775808 (drop 1 f))
+pub integer-minus : (f : List ℕ) → (length f ≡ 0 → ⊥) → getD f 0 0 ≡ 45 → integer f ≡ minusOf (numberWithin 1 9223372036854775808 (drop 1 f))
 unfolding integer
 integer-minus [] h e = absurd (h refl)
 integer-minus (c ∷ f) h e = rw (eq-eqb c 45 e, integer)
 
-pub integer-plus : (f : List ℕ) → (length f ≡ 0 → ⊥) → (getD f 0 0 ≡ 45 → ⊥) → integer f ≡ plusOf (number 0 9223372036854775807 f)
+pub integer-plus : (f : List ℕ) → (length f ≡ 0 → ⊥) → (getD f 0 0 ≡ 45 → ⊥) → integer f ≡ plusOf (numberWithin 0 9223372036854775807 f)
 unfolding integer
 integer-plus [] h e = absurd (h refl)
 integer-plus (c ∷ f) h e = rw (ne-eqb c 45 e, integer)

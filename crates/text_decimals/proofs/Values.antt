@@ -10,25 +10,25 @@ use lib.Dec.{leb}
 use lib.ListN.{length, getD, drop}
 use lib.Seq.{drop-cons, drop-length}
 use borrow.Author.Tests.{le-leb, lt-leb, leb-true, leb-false}
-use Rattle.ledger_spec.specs.Decimals.{value, between}
+use Rattle.ledger_spec.specs.Decimals.{afterDigits, between}
 
 -- ---- a byte
 
-pub value-none : (n : ℕ) → value n [] ≡ some n
-unfolding value
+pub value-none : (n : ℕ) → afterDigits n [] ≡ some n
+unfolding afterDigits
 value-none n = refl
 
-pub value-digit : (n c : ℕ) (f : List ℕ) → 48 ≤ c → c ≤ 57 → value n (c ∷ f) ≡ value (n * 10 + (c - 48)) f
-unfolding value
-value-digit n c f p q = rw (le-leb 48 c p, le-leb c 57 q, value)
+pub value-digit : (n c : ℕ) (f : List ℕ) → 48 ≤ c → c ≤ 57 → afterDigits n (c ∷ f) ≡ afterDigits (n * 10 + (c - 48)) f
+unfolding afterDigits
+value-digit n c f p q = rw (le-leb 48 c p, le-leb c 57 q, afterDigits)
 
-pub value-low : (n c : ℕ) (f : List ℕ) → c < 48 → value n (c ∷ f) ≡ none
-unfolding value
-value-low n c f p = rw (lt-leb 48 c p, value)
+pub value-low : (n c : ℕ) (f : List ℕ) → c < 48 → afterDigits n (c ∷ f) ≡ none
+unfolding afterDigits
+value-low n c f p = rw (lt-leb 48 c p, afterDigits)
 
-pub value-high : (n c : ℕ) (f : List ℕ) → 57 < c → value n (c ∷ f) ≡ none
-unfolding value
-value-high n c f p = rw (le-leb 48 c (omega arith), lt-leb c 57 p, value)
+pub value-high : (n c : ℕ) (f : List ℕ) → 57 < c → afterDigits n (c ∷ f) ≡ none
+unfolding afterDigits
+value-high n c f p = rw (le-leb 48 c (omega arith), lt-leb c 57 p, afterDigits)
 
 -- the three cases of a byte
 pub data Byte (c : ℕ) : Type 0 where
@@ -83,28 +83,28 @@ between-said l m n (some k) e = go (leb l k) (leb k m) refl refl
 -- ---- too much
 
 -- more digits never make it less
-value-least : (f : List ℕ) (n m : ℕ) → value n f ≡ some m → n ≤ m
+value-least : (f : List ℕ) (n m : ℕ) → afterDigits n f ≡ some m → n ≤ m
 value-least [] n m e = let y = Option·some-injective n m (sym (value-none n) ∙ e) in omega arith
 value-least (c ∷ f) n m e = go (byte c) (value-least f (n * 10 + (c - 48)) m)
   where
-    go : Byte c → (value (n * 10 + (c - 48)) f ≡ some m → n * 10 + (c - 48) ≤ m) → n ≤ m
+    go : Byte c → (afterDigits (n * 10 + (c - 48)) f ≡ some m → n * 10 + (c - 48) ≤ m) → n ≤ m
     go (low p) r = absurd (Option·some-ne-none m (sym e ∙ value-low n c f p))
     go (high p) r = absurd (Option·some-ne-none m (sym e ∙ value-high n c f p))
     go (digit p q) r = let h = r (sym (value-digit n c f p q) ∙ e) in omega arith
 
 -- past the range's end it stays
-past : (l m n : ℕ) (f : List ℕ) → m < n → between l m (value n f) ≡ none
-past l m n f p = go (value n f) refl
+past : (l m n : ℕ) (f : List ℕ) → m < n → between l m (afterDigits n f) ≡ none
+past l m n f p = go (afterDigits n f) refl
   where
-    go : (v : Option ℕ) → value n f ≡ v → between l m v ≡ none
+    go : (v : Option ℕ) → afterDigits n f ≡ v → between l m v ≡ none
     go none e = between-none l m
     go (some k) e = let h = value-least f n k e in between-high l m k (omega arith)
 
 -- one digit more would pass the end
-pub too-much : (l m n c : ℕ) (f : List ℕ) → (48 ≤ c → m < n * 10 + (c - 48)) → between l m (value n (c ∷ f)) ≡ none
+pub too-much : (l m n c : ℕ) (f : List ℕ) → (48 ≤ c → m < n * 10 + (c - 48)) → between l m (afterDigits n (c ∷ f)) ≡ none
 too-much l m n c f h = go (byte c)
   where
-    go : Byte c → between l m (value n (c ∷ f)) ≡ none
+    go : Byte c → between l m (afterDigits n (c ∷ f)) ≡ none
     go (low q) = ap (between l m) (value-low n c f q) ∙ between-none l m
     go (high q) = ap (between l m) (value-high n c f q) ∙ between-none l m
     go (digit q r) = ap (between l m) (value-digit n c f q r) ∙ past l m (n * 10 + (c - 48)) f (h q)
@@ -114,13 +114,13 @@ too-much l m n c f h = go (byte c)
 pub record Going (f : List ℕ) (m n i : ℕ) : Type 0 where
   pub in-range : i ≤ length f
   pub small : n ≤ m
-  pub left : value n (drop i f) ≡ value 0 f
+  pub left : afterDigits n (drop i f) ≡ afterDigits 0 f
 
 pub start : (f : List ℕ) (m : ℕ) → Going f m 0 0
 start f m = record { in-range = omega arith; small = omega arith; left = refl }
 
 module _ (f : List ℕ) (m n i : ℕ) (g : Going f m n i) where
-  here : i < length f → value n (getD f i 0 ∷ drop (suc i) f) ≡ value 0 f
+  here : i < length f → afterDigits n (getD f i 0 ∷ drop (suc i) f) ≡ afterDigits 0 f
   here h = rw (drop-cons f i 0 h) at (g .left)
 
   pub turn : (d : ℕ) → i < length f → 48 ≤ getD f i 0 → getD f i 0 ≤ 57 → d ≡ getD f i 0 - 48 → n * 10 + d ≤ m → Going f m (n * 10 + d) (i + 1)
@@ -130,23 +130,23 @@ module _ (f : List ℕ) (m n i : ℕ) (g : Going f m n i) where
     left = rw (r, add-one) (sym (value-digit n (getD f i 0) (drop (suc i) f) p q) ∙ here h);
   }
 
-  pub low-byte : (l : ℕ) → i < length f → getD f i 0 < 48 → none ≡ between l m (value 0 f)
+  pub low-byte : (l : ℕ) → i < length f → getD f i 0 < 48 → none ≡ between l m (afterDigits 0 f)
   low-byte l h p = sym (ap (between l m) (sym (here h) ∙ value-low n (getD f i 0) (drop (suc i) f) p) ∙ between-none l m)
 
-  pub high-byte : (l : ℕ) → i < length f → 57 < getD f i 0 → none ≡ between l m (value 0 f)
+  pub high-byte : (l : ℕ) → i < length f → 57 < getD f i 0 → none ≡ between l m (afterDigits 0 f)
   high-byte l h p = sym (ap (between l m) (sym (here h) ∙ value-high n (getD f i 0) (drop (suc i) f) p) ∙ between-none l m)
 
-  pub passing : (l : ℕ) → i < length f → (48 ≤ getD f i 0 → m < n * 10 + (getD f i 0 - 48)) → none ≡ between l m (value 0 f)
+  pub passing : (l : ℕ) → i < length f → (48 ≤ getD f i 0 → m < n * 10 + (getD f i 0 - 48)) → none ≡ between l m (afterDigits 0 f)
   passing l h p = sym (ap (between l m) (sym (here h)) ∙ too-much l m n (getD f i 0) (drop (suc i) f) p)
 
-  done : length f ≤ i → value 0 f ≡ some n
+  done : length f ≤ i → afterDigits 0 f ≡ some n
   done h = let e : i ≡ length f = same i (length f) (g .in-range) h in sym (g .left) ∙ rw (e, drop-length) (value-none n)
     where
       same : (a b : ℕ) → a ≤ b → b ≤ a → a ≡ b
       same a b p q = omega arith
 
-  pub too-little : (l : ℕ) → length f ≤ i → n < l → none ≡ between l m (value 0 f)
+  pub too-little : (l : ℕ) → length f ≤ i → n < l → none ≡ between l m (afterDigits 0 f)
   too-little l h p = sym (ap (between l m) (done h) ∙ between-low l m n p)
 
-  pub enough : (l : ℕ) → length f ≤ i → l ≤ n → some n ≡ between l m (value 0 f)
+  pub enough : (l : ℕ) → length f ≤ i → l ≤ n → some n ≡ between l m (afterDigits 0 f)
   enough l h p = sym (ap (between l m) (done h) ∙ between-some l m n p (g .small))

@@ -4,7 +4,7 @@ ghost use mathlib.Core.Path.{_≡_};
 ghost use Prim.Native.Nat.{_+_, _≤_, _<_};
 ghost use lib.ListN.{length};
 ghost use lib.IntN.{pos, negℤ};
-ghost use Rattle.ledger_spec.specs.Decimals.{value, between, number, integer, decimal, signed};
+ghost use Rattle.ledger_spec.specs.Decimals.{afterDigits, between, numberWithin, integer, decimal, signed};
 ghost use Rattle.text_decimals.specs.Read.{numberOf, integerOf};
 ghost use Rattle.text_decimals.specs.Wrote.{Wrote};
 
@@ -27,7 +27,7 @@ fn wide(b: u8) -> u64
 
 // What digits say, leading zeros allowed, if it lies in a range. It never passes the range's end on the way, so no sum can overflow.
 fn value_in(f: &[u8], least: u64, most: u64) -> MaybeNumber
-    ensures { λ r. ⌜ numberOf r ≡ between least most (value 0 (now (f .entry))) ⌝ }
+    ensures { λ r. ⌜ numberOf r ≡ between least most (afterDigits 0 (now (f .entry))) ⌝ }
 {
     let mut n: u64 = 0;
     let mut i = 0;
@@ -57,7 +57,7 @@ fn value_in(f: &[u8], least: u64, most: u64) -> MaybeNumber
 
 // The number that a field says, if it lies in a range, both ends included.
 pub fn number_in(f: &[u8], least: u64, most: u64) -> MaybeNumber
-    ensures { λ r. ⌜ numberOf r ≡ number least most (now (f .entry)) ⌝ }
+    ensures { λ r. ⌜ numberOf r ≡ numberWithin least most (now (f .entry)) ⌝ }
 {
     if f.len() == 0 {
         return MaybeNumber::NoNumber;

@@ -8,7 +8,7 @@ use mathlib.Core.List.{List, [], _∷_, _++_, append-assoc, append-nil}
 use lib.ListN.{length, getD, take, drop, length-drop}
 use lib.Seq.{drop-cons, drop-length, take-suc, getD-drop}
 use borrow.Author.Tests.{lt-ltb, le-ltb}
-use Rattle.ledger_spec.specs.Fields.{upto, after, cut}
+use Rattle.ledger_spec.specs.Fields.{upto, partsAfter, cut}
 use Rattle.text_fields.specs.Places.{from, Ends}
 use Rattle.text_fields.proofs.Cuts.{upto-none, upto-here, upto-on, after-none, after-here, after-on}
 
@@ -25,7 +25,7 @@ pub record Seeking (s : List ℕ) (a e : ℕ) : Type 0 where
   pub low : a ≤ e
   pub high : e ≤ length s
   pub field : upto 32 (drop a s) ≡ take (e - a) (drop a s) ++ upto 32 (drop e s)
-  pub others : after 32 (drop a s) ≡ after 32 (drop e s)
+  pub others : partsAfter 32 (drop a s) ≡ partsAfter 32 (drop e s)
 
 pub seek : (s : List ℕ) (a : ℕ) → a ≤ length s → Seeking s a a
 seek s a h = record { low = omega arith; high = h; field = rw sub-self; others = refl }
@@ -45,7 +45,7 @@ module _ (s : List ℕ) (a e : ℕ) (g : Seeking s a e) where
         high = h;
         field = g .field ∙ ap (λ (l : List ℕ). take (e - a) (drop a s) ++ l) (ap (upto 32) d ∙ upto-on 32 (getD s e 0) (drop (suc e) s) n)
             ∙ sym (ap (λ (l : List ℕ). l ++ upto 32 (drop (suc e) s)) (take-one s a e (g .low) h) ∙ append-assoc (take (e - a) (drop a s)) (getD s e 0 ∷ []) (upto 32 (drop (suc e) s)));
-        others = g .others ∙ ap (after 32) d ∙ after-on 32 (getD s e 0) (drop (suc e) s) n;
+        others = g .others ∙ ap (partsAfter 32) d ∙ after-on 32 (getD s e 0) (drop (suc e) s) n;
       })
 
   pub seek-found : e < length s → getD s e 0 ≡ 32 → Ends s a e
@@ -55,7 +55,7 @@ module _ (s : List ℕ) (a e : ℕ) (g : Seeking s a e) where
         low = g .low;
         high = g .high;
         field = g .field ∙ ap (λ (l : List ℕ). take (e - a) (drop a s) ++ l) (ap (upto 32) d ∙ upto-here 32 (getD s e 0) (drop (suc e) s) n) ∙ append-nil (take (e - a) (drop a s));
-        others = g .others ∙ ap (after 32) d ∙ after-here 32 (getD s e 0) (drop (suc e) s) n ∙ sym (from-more s e h);
+        others = g .others ∙ ap (partsAfter 32) d ∙ after-here 32 (getD s e 0) (drop (suc e) s) n ∙ sym (from-more s e h);
       }
 
   pub seek-out : length s ≤ e → Ends s a e
@@ -65,7 +65,7 @@ module _ (s : List ℕ) (a e : ℕ) (g : Seeking s a e) where
         low = g .low;
         high = g .high;
         field = g .field ∙ ap (λ (l : List ℕ). take (e - a) (drop a s) ++ l) (ap (upto 32) d ∙ upto-none 32) ∙ append-nil (take (e - a) (drop a s));
-        others = g .others ∙ ap (after 32) d ∙ after-none 32 ∙ sym (from-none s e h);
+        others = g .others ∙ ap (partsAfter 32) d ∙ after-none 32 ∙ sym (from-none s e h);
       }
     where
       same : (m n : ℕ) → m ≤ n → n ≤ m → m ≡ n

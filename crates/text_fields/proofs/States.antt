@@ -9,7 +9,7 @@ use mir.Val.{SFits, toZ, ofZ}
 use mir.Facts.{toZ-ofZ}
 use Rattle.ledger_spec.specs.Bench.{State, grows, stays, shrinks}
 use Rattle.ledger_spec.specs.Decimals.{integer}
-use Rattle.ledger_spec.specs.Grammar.{Fields, amount, state, stateIn, step}
+use Rattle.ledger_spec.specs.Grammar.{Fields, anAmount, aState, stateIn, step}
 use Rattle.text_fields.specs.declared.NextLength.{NextLength}
 use Rattle.text_fields.specs.declared.NextLength.the-variants.{Length, NoLength}
 use Rattle.text_fields.specs.declared.NextState.{NextState}
@@ -42,17 +42,17 @@ abbrev turned : Option (ℤ × Fields) → Option (State × Fields)
 turned none = none
 turned (some p) = onward (stateIn (some (p .0))) (p .1)
 
-steps : (fs : Fields) → step state fs ≡ turned (step amount fs)
-steps [] = step-empty state ∙ ap turned (sym (step-empty amount))
+steps : (fs : Fields) → step aState fs ≡ turned (step anAmount fs)
+steps [] = step-empty aState ∙ ap turned (sym (step-empty anAmount))
 steps (f ∷ fs) = go (integer f) refl
   where
-    told : (o : Option State) → stateIn (integer f) ≡ o → step state (f ∷ fs) ≡ onward o fs
-    told none p = step-none state f fs p
-    told (some g) p = step-some state f fs g p
+    told : (o : Option State) → stateIn (integer f) ≡ o → step aState (f ∷ fs) ≡ onward o fs
+    told none p = step-none aState f fs p
+    told (some g) p = step-some aState f fs g p
 
-    go : (o : Option ℤ) → integer f ≡ o → step state (f ∷ fs) ≡ turned (step amount (f ∷ fs))
-    go none p = told none (ap stateIn p) ∙ ap turned (sym (step-none amount f fs p))
-    go (some z) p = told (stateIn (some z)) (ap stateIn p) ∙ ap turned (sym (step-some amount f fs z p))
+    go : (o : Option ℤ) → integer f ≡ o → step aState (f ∷ fs) ≡ turned (step anAmount (f ∷ fs))
+    go none p = told none (ap stateIn p) ∙ ap turned (sym (step-none anAmount f fs p))
+    go (some z) p = told (stateIn (some z)) (ap stateIn p) ∙ ap turned (sym (step-some anAmount f fs z p))
 
 made : (s : List ℕ) (e : ℕ) (o : Option State) → stateOf s (toState e o) ≡ onward o (from s e)
 made s e none = refl
@@ -60,9 +60,9 @@ made s e (some grows) = refl
 made s e (some stays) = refl
 made s e (some shrinks) = refl
 
-module _ (s : List ℕ) (fs : Fields) (n : NextLength) (read : lengthOf s n ≡ step amount fs) where
-  pub state-some : (z : ℤ) (e : ℕ) (r : NextState) → n ≡ Length z e → r ≡ toState e (stateIn (some z)) → stateOf s r ≡ step state fs
+module _ (s : List ℕ) (fs : Fields) (n : NextLength) (read : lengthOf s n ≡ step anAmount fs) where
+  pub state-some : (z : ℤ) (e : ℕ) (r : NextState) → n ≡ Length z e → r ≡ toState e (stateIn (some z)) → stateOf s r ≡ step aState fs
   state-some z e r h k = ap (stateOf s) k ∙ made s e (stateIn (some z)) ∙ ap (λ (x : NextLength). turned (lengthOf s x)) (sym h) ∙ ap turned read ∙ sym (steps fs)
 
-  pub state-none : n ≡ NoLength → none ≡ step state fs
+  pub state-none : n ≡ NoLength → none ≡ step aState fs
   state-none h = ap (λ (x : NextLength). turned (lengthOf s x)) (sym h) ∙ ap turned read ∙ sym (steps fs)

@@ -10,7 +10,7 @@ use Rattle.text_decimals.specs.declared.MaybeNumber.{MaybeNumber}
 use Rattle.text_decimals.specs.declared.MaybeNumber.the-variants.{NoNumber, Number}
 use Rattle.text_decimals.specs.Read.{numberOf}
 use Rattle.text_decimals.proofs.Integers.{number-range}
-use Rattle.ledger_spec.specs.Decimals.{number}
+use Rattle.ledger_spec.specs.Decimals.{numberWithin}
 use Rattle.ledger_spec.specs.Fields.{cut}
 use Rattle.ledger_spec.specs.Grammar.{Fields, step}
 use Rattle.text_fields.specs.declared.NextField.{NextField}
@@ -65,14 +65,14 @@ module _ (s : List ℕ) (e : ℕ) (f : NextField) (q : FieldIs s e f) where
 
   module _ (least most : ℕ) where
     pub number-none : f ≡ NoField → NumberIs s e least most Missed
-    number-none h = record { read = ran-out (number least most) h; further = tt }
+    number-none h = record { read = ran-out (numberWithin least most) h; further = tt }
 
-    module _ (a z : ℕ) (h : f ≡ At a z) (m : MaybeNumber) (read : numberOf m ≡ number least most (take (z - a) (drop a s))) where
+    module _ (a z : ℕ) (h : f ≡ At a z) (m : MaybeNumber) (read : numberOf m ≡ numberWithin least most (take (z - a) (drop a s))) where
       pub number-some : (n : ℕ) → m ≡ Number n → NumberIs s e least most (Got n z)
       number-some n k =
           let i = inside-at a z h in
           let b = number-range least most (take (z - a) (drop a s)) m n read k in
-          record { read = took (number least most) a z n h (sym read ∙ ap numberOf k); further = (omega (arith, i .0, i .1), i .2, b .1) }
+          record { read = took (numberWithin least most) a z n h (sym read ∙ ap numberOf k); further = (omega (arith, i .0, i .1), i .2, b .1) }
 
       pub number-bad : m ≡ NoNumber → NumberIs s e least most Missed
-      number-bad k = record { read = missed (number least most) a z h (sym read ∙ ap numberOf k); further = tt }
+      number-bad k = record { read = missed (numberWithin least most) a z h (sym read ∙ ap numberOf k); further = tt }

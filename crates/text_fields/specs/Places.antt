@@ -10,8 +10,8 @@ use lib.IntN.{ℤ}
 use Rattle.kinds.specs.declared.GrowState.the-variants.{Grow, Stay, Shrink}
 use Rattle.ledger_spec.specs.Bench.{State, grows, stays, shrinks}
 use Rattle.ledger_spec.specs.Named.{stateNamed}
-use Rattle.ledger_spec.specs.Decimals.{number}
-use Rattle.ledger_spec.specs.Fields.{upto, after, cut}
+use Rattle.ledger_spec.specs.Decimals.{numberWithin}
+use Rattle.ledger_spec.specs.Fields.{upto, partsAfter, cut}
 use Rattle.ledger_spec.specs.Grammar.{Fields, step}
 use Rattle.text_fields.specs.declared.NextField.{NextField}
 use Rattle.text_fields.specs.declared.NextField.the-variants.{At, NoField}
@@ -31,7 +31,7 @@ pub record Ends (s : List ℕ) (a e : ℕ) : Type 0 where
   pub low : a ≤ e
   pub high : e ≤ length s
   pub field : upto 32 (drop a s) ≡ take (e - a) (drop a s)
-  pub others : after 32 (drop a s) ≡ from s e
+  pub others : partsAfter 32 (drop a s) ≡ from s e
 
 -- the next field, and where it stands: after the place e, and in the line
 abbrev pub fieldsOf : List ℕ → NextField → Fields
@@ -56,7 +56,7 @@ Further s e most (Got n z) = (e < z) × (z ≤ length s) × (n ≤ most)
 Further s e most Missed = Unit {0}
 
 pub record NumberIs (s : List ℕ) (e least most : ℕ) (r : NextNumber) : Type 0 where
-  pub read : nextOf s r ≡ step (number least most) (from s e)
+  pub read : nextOf s r ≡ step (numberWithin least most) (from s e)
   pub further : Further s e most r
 
 abbrev pub lengthOf : List ℕ → NextLength → Option (ℤ × Fields)

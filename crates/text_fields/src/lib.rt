@@ -7,7 +7,7 @@ ghost use mathlib.Core.Path.{_≡_};
 ghost use mathlib.Core.Option.{some};
 ghost use Prim.Native.Nat.{_≤_};
 ghost use lib.ListN.{length};
-ghost use Rattle.ledger_spec.specs.Grammar.{amount, state, stateIn, step};
+ghost use Rattle.ledger_spec.specs.Grammar.{anAmount, aState, stateIn, step};
 ghost use Rattle.text_fields.specs.Places.{from, Ends, FieldIs, NumberIs, lengthOf, stateOf, toState};
 
 // Where a field starts and ends.
@@ -74,7 +74,7 @@ pub fn next_number(s: &[u8], place: usize, least: u64, most: u64) -> NextNumber
 
 // The signed number in the field after a place.
 pub fn next_length(s: &[u8], place: usize) -> NextLength
-    ensures { λ r. ⌜ lengthOf (now (s .entry)) r ≡ step amount (from (now (s .entry)) place) ⌝ }
+    ensures { λ r. ⌜ lengthOf (now (s .entry)) r ≡ step anAmount (from (now (s .entry)) place) ⌝ }
 {
     match next_field(s, place) {
         NextField::At(a, e) => match text_decimals::integer_in(&s[a..e]) {
@@ -99,7 +99,7 @@ fn state_at(z: i64, e: usize) -> NextState
 
 // The state in the field after a place.
 pub fn next_state(s: &[u8], place: usize) -> NextState
-    ensures { λ r. ⌜ stateOf (now (s .entry)) r ≡ step state (from (now (s .entry)) place) ⌝ }
+    ensures { λ r. ⌜ stateOf (now (s .entry)) r ≡ step aState (from (now (s .entry)) place) ⌝ }
 {
     match next_length(s, place) {
         NextLength::Length(z, e) => state_at(z, e),

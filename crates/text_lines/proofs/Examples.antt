@@ -5,9 +5,9 @@ use lib.IntN.{pos, negsuc}
 use Prim.Native.String.{String}
 use Rattle.ledger_spec.specs.Bench.{grows, stays, shrinks}
 use Rattle.ledger_spec.specs.Bytes.{bytes}
-use Rattle.ledger_spec.specs.Decimals.{value, natural, between, integer}
-use Rattle.ledger_spec.specs.Fields.{upto, after}
-use Rattle.ledger_spec.specs.Grammar.{Line as Said, D, B, E, S, G, F, C, K, wrong, step, serials, rest, lineOf}
+use Rattle.ledger_spec.specs.Decimals.{afterDigits, natural, between, integer}
+use Rattle.ledger_spec.specs.Fields.{upto, partsAfter}
+use Rattle.ledger_spec.specs.Grammar.{Line as Said, D, B, E, S, G, F, C, K, wrong, step, allSerials, rest, lineOf}
 
 abbrev table : List (String × Said)
 table =
@@ -48,7 +48,7 @@ table =
     ∷ []
 
 pub reads : String → Said
-unfolding lineOf rest serials step upto after value natural between integer bytes
+unfolding lineOf rest allSerials step upto partsAfter afterDigits natural between integer bytes
 reads s = lineOf (bytes s)
 
 pub examples : map (λ (e : String × Said). reads (e .0)) table ≡ map (λ (e : String × Said). e .1) table

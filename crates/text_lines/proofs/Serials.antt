@@ -8,7 +8,7 @@ use mathlib.Core.Option.{Option, none, some, Option·some-ne-none, Option·some-
 use mathlib.Core.List.{List, [], _∷_}
 use lib.ListN.{length, set, length-set}
 use lib.Seq.{sets}
-use Rattle.ledger_spec.specs.Grammar.{Line as Said, wrong, Fields, serial, step, serials, gathered, some-serials}
+use Rattle.ledger_spec.specs.Grammar.{Line as Said, wrong, Fields, aSerial, step, allSerials, gathered, some-serials}
 use Rattle.text_fields.specs.declared.NextNumber.{NextNumber}
 use Rattle.text_fields.specs.declared.NextNumber.the-variants.{Got, Missed}
 use Rattle.text_fields.specs.Places.{from, nextOf, NumberIs}
@@ -28,17 +28,17 @@ abbrev pub before : ℕ → Option (List ℕ) → Option (List ℕ)
 before n none = none
 before n (some ns) = some (n ∷ ns)
 
-pub serials-none : serials [] ≡ some []
-unfolding serials
+pub serials-none : allSerials [] ≡ some []
+unfolding allSerials
 serials-none = refl
 
-pub serials-bad : (f : List ℕ) (fs : Fields) → serial f ≡ none → serials (f ∷ fs) ≡ none
-unfolding serials
-serials-bad f fs e = rw (e, serials)
+pub serials-bad : (f : List ℕ) (fs : Fields) → aSerial f ≡ none → allSerials (f ∷ fs) ≡ none
+unfolding allSerials
+serials-bad f fs e = rw (e, allSerials)
 
-pub serials-cons : (f : List ℕ) (fs : Fields) (n : ℕ) → serial f ≡ some n → serials (f ∷ fs) ≡ before n (serials fs)
-unfolding serials
-serials-cons f fs n e = rw (e, serials) (go (serials fs))
+pub serials-cons : (f : List ℕ) (fs : Fields) (n : ℕ) → aSerial f ≡ some n → allSerials (f ∷ fs) ≡ before n (allSerials fs)
+unfolding allSerials
+serials-cons f fs n e = rw (e, allSerials) (go (allSerials fs))
   where
     go : (o : Option (List ℕ)) → elim o as (λ (o : Option (List ℕ)). Option (List ℕ)) [ none ↦ none | some ns ↦ some (n ∷ ns) ] ≡ before n o
     go none = refl
@@ -52,34 +52,34 @@ pair-right : Option (ℕ × Fields) → Fields
 pair-right none = []
 pair-right (some p) = p .1
 
-serials-step : (fs gs : Fields) (n : ℕ) → some (n, gs) ≡ step serial fs → serials fs ≡ before n (serials gs)
+serials-step : (fs gs : Fields) (n : ℕ) → some (n, gs) ≡ step aSerial fs → allSerials fs ≡ before n (allSerials gs)
 unfolding pair-left pair-right
-serials-step [] gs n e = absurd (Option·some-ne-none (n, gs) (e ∙ step-empty serial))
-serials-step (f ∷ fs) gs n e = go (serial f) refl
+serials-step [] gs n e = absurd (Option·some-ne-none (n, gs) (e ∙ step-empty aSerial))
+serials-step (f ∷ fs) gs n e = go (aSerial f) refl
   where
-    go : (o : Option ℕ) → serial f ≡ o → serials (f ∷ fs) ≡ before n (serials gs)
-    go none p = absurd (Option·some-ne-none (n, gs) (e ∙ step-none serial f fs p))
+    go : (o : Option ℕ) → aSerial f ≡ o → allSerials (f ∷ fs) ≡ before n (allSerials gs)
+    go none p = absurd (Option·some-ne-none (n, gs) (e ∙ step-none aSerial f fs p))
     go (some m) p =
-        let y : _≡_ {A = Option (ℕ × Fields)} (some (m, fs)) (some (n, gs)) = sym (e ∙ step-some serial f fs m p) in
-        serials-cons f fs m p ∙ (λ i. before (ap pair-left y i) (serials (ap pair-right y i)))
+        let y : _≡_ {A = Option (ℕ × Fields)} (some (m, fs)) (some (n, gs)) = sym (e ∙ step-some aSerial f fs m p) in
+        serials-cons f fs m p ∙ (λ i. before (ap pair-left y i) (allSerials (ap pair-right y i)))
 
-serials-stop : (f : List ℕ) (fs : Fields) → none ≡ step serial (f ∷ fs) → serials (f ∷ fs) ≡ none
-serials-stop f fs e = go (serial f) refl
+serials-stop : (f : List ℕ) (fs : Fields) → none ≡ step aSerial (f ∷ fs) → allSerials (f ∷ fs) ≡ none
+serials-stop f fs e = go (aSerial f) refl
   where
-    go : (o : Option ℕ) → serial f ≡ o → serials (f ∷ fs) ≡ none
+    go : (o : Option ℕ) → aSerial f ≡ o → allSerials (f ∷ fs) ≡ none
     go none p = serials-bad f fs p
-    go (some m) p = absurd (Option·some-ne-none (m, fs) (sym (e ∙ step-some serial f fs m p)))
+    go (some m) p = absurd (Option·some-ne-none (m, fs) (sym (e ∙ step-some aSerial f fs m p)))
 
 -- ---- from a place of the line
 
-at-end : (s : List ℕ) (e : ℕ) → length s ≤ e → serials (from s e) ≡ some []
-at-end s e h = ap serials (from-none s e h) ∙ serials-none
+at-end : (s : List ℕ) (e : ℕ) → length s ≤ e → allSerials (from s e) ≡ some []
+at-end s e h = ap allSerials (from-none s e h) ∙ serials-none
 
 module _ (s : List ℕ) (e : ℕ) (r : NextNumber) (is : NumberIs s e 1 4294967295 r) where
-  at-got : (v z : ℕ) → r ≡ Got v z → serials (from s e) ≡ before v (serials (from s z))
+  at-got : (v z : ℕ) → r ≡ Got v z → allSerials (from s e) ≡ before v (allSerials (from s z))
   at-got v z h = serials-step (from s e) (from s z) v (sym (ap (nextOf s) h) ∙ is .read)
 
-  at-missed : e < length s → r ≡ Missed → serials (from s e) ≡ none
+  at-missed : e < length s → r ≡ Missed → allSerials (from s e) ≡ none
   at-missed l h = rw (from-more s e l) (serials-stop _ _ (rw (from-more s e l) at (sym (ap (nextOf s) h) ∙ is .read)))
 
 -- ---- counting
@@ -90,7 +90,7 @@ more n (some ns) = All (n + length ns)
 
 pub record Counting (s : List ℕ) (start e n : ℕ) : Type 0 where
   pub few : n ≤ e
-  pub same : counted (serials (from s start)) ≡ more n (serials (from s e))
+  pub same : counted (allSerials (from s start)) ≡ more n (allSerials (from s e))
 
 more-zero : (o : Option (List ℕ)) → counted o ≡ more 0 o
 more-zero none = refl
@@ -104,18 +104,18 @@ more-one n v (some ns) = ap All (shift n (length ns))
     shift a k = omega arith
 
 pub count-start : (s : List ℕ) (e : ℕ) → Counting s e e 0
-count-start s e = record { few = omega arith; same = more-zero (serials (from s e)) }
+count-start s e = record { few = omega arith; same = more-zero (allSerials (from s e)) }
 
 module _ (s : List ℕ) (start e n : ℕ) (g : Counting s start e n) where
   pub count-turn : (r : NextNumber) → NumberIs s e 1 4294967295 r → (v z : ℕ) → r ≡ Got v z → Counting s start z (n + 1)
   count-turn r is v z h =
       let i = got-further s e 1 4294967295 r is v z h in
-      record { few = omega (arith, g .few, i .0); same = g .same ∙ ap (more n) (at-got s e r is v z h) ∙ more-one n v (serials (from s z)) }
+      record { few = omega (arith, g .few, i .0); same = g .same ∙ ap (more n) (at-got s e r is v z h) ∙ more-one n v (allSerials (from s z)) }
 
-  pub count-bad : (r : NextNumber) → NumberIs s e 1 4294967295 r → e < length s → r ≡ Missed → NotAll ≡ counted (serials (from s start))
+  pub count-bad : (r : NextNumber) → NumberIs s e 1 4294967295 r → e < length s → r ≡ Missed → NotAll ≡ counted (allSerials (from s start))
   count-bad r is l h = sym (g .same ∙ ap (more n) (at-missed s e r is l h))
 
-  pub count-end : length s ≤ e → All n ≡ counted (serials (from s start))
+  pub count-end : length s ≤ e → All n ≡ counted (allSerials (from s start))
   count-end l = sym (g .same ∙ ap (more n) (at-end s e l) ∙ ap All (add-zero n))
 
 -- ---- storing
@@ -123,7 +123,7 @@ module _ (s : List ℕ) (start e n : ℕ) (g : Counting s start e n) where
 pub record Storing (s out₀ : List ℕ) (start e n : ℕ) (out : List ℕ) : Type 0 where
   pub long : length out ≡ length out₀
   pub few : n ≤ e
-  pub to-come : (ns : List ℕ) → serials (from s start) ≡ some ns → (ms : List ℕ) × (serials (from s e) ≡ some ms) × (sets out n ms ≡ sets out₀ 0 ns)
+  pub to-come : (ns : List ℕ) → allSerials (from s start) ≡ some ns → (ms : List ℕ) × (allSerials (from s e) ≡ some ms) × (sets out n ms ≡ sets out₀ 0 ns)
 
 pub store-start : (s out : List ℕ) (e : ℕ) → Storing s out e e 0 out
 store-start s out e = record { long = refl; few = omega arith; to-come = λ ns h. (ns, h, refl) }
@@ -141,14 +141,14 @@ module _ (s out₀ : List ℕ) (start e n : ℕ) (out : List ℕ) (g : Storing s
         few = omega (arith, g .few, i .0);
         to-come = λ ns t.
             let w = g .to-come ns t in
-            let k = before-some v (serials (from s z)) (w .0) (sym (at-got s e r is v z h) ∙ w .1) in
+            let k = before-some v (allSerials (from s z)) (w .0) (sym (at-got s e r is v z h) ∙ w .1) in
             (k .0, k .1, rw (o, add-one) (sym (ap (sets out n) (k .2)) ∙ w .2));
       }
 
-  pub store-bad : (r : NextNumber) → NumberIs s e 1 4294967295 r → e < length s → r ≡ Missed → (ns : List ℕ) → serials (from s start) ≡ some ns → out ≡ sets out₀ 0 ns
+  pub store-bad : (r : NextNumber) → NumberIs s e 1 4294967295 r → e < length s → r ≡ Missed → (ns : List ℕ) → allSerials (from s start) ≡ some ns → out ≡ sets out₀ 0 ns
   store-bad r is l h ns t = let w = g .to-come ns t in absurd (Option·some-ne-none (w .0) (sym (w .1) ∙ at-missed s e r is l h))
 
-  pub store-end : length s ≤ e → (ns : List ℕ) → serials (from s start) ≡ some ns → out ≡ sets out₀ 0 ns
+  pub store-end : length s ≤ e → (ns : List ℕ) → allSerials (from s start) ≡ some ns → out ≡ sets out₀ 0 ns
   store-end l ns t =
       let w = g .to-come ns t in
       ap (sets out n) (Option·some-injective [] (w .0) (sym (at-end s e l) ∙ w .1)) ∙ w .2
@@ -161,7 +161,7 @@ read-as m l out out' r e p = record { line = p .line ∙ ap lineShown (sym e); s
 pub read-wrong : (l : Said) (out : List ℕ) → l ≡ wrong → ReadAs l out out Wrong
 read-wrong l out e = read-as wrong l out out Wrong e (record { line = refl; stored = refl })
 
-some-more : (s : List ℕ) (u e : ℕ) → e < length s → some-serials u (from s e) ≡ gathered u (serials (from s e))
+some-more : (s : List ℕ) (u e : ℕ) → e < length s → some-serials u (from s e) ≡ gathered u (allSerials (from s e))
 some-more s u e h = rw (from-more s e h)
 
 counted-none : (o : Option (List ℕ)) → NotAll ≡ counted o → o ≡ none
@@ -175,12 +175,12 @@ counted-all (some ns) k h = (ns, refl, cc)
 pub blossom-end : (s out : List ℕ) (u e : ℕ) → length s ≤ e → ReadAs (some-serials u (from s e)) out out Wrong
 blossom-end s out u e l = read-wrong (some-serials u (from s e)) out (ap (some-serials u) (from-none s e l))
 
-module _ (s out : List ℕ) (u e : ℕ) (k : Count) (l : e < length s) (q : k ≡ counted (serials (from s e))) where
+module _ (s out : List ℕ) (u e : ℕ) (k : Count) (l : e < length s) (q : k ≡ counted (allSerials (from s e))) where
   pub blossom-bad : k ≡ NotAll → ReadAs (some-serials u (from s e)) out out Wrong
-  blossom-bad h = read-wrong (some-serials u (from s e)) out (some-more s u e l ∙ ap (gathered u) (counted-none (serials (from s e)) (sym h ∙ q)))
+  blossom-bad h = read-wrong (some-serials u (from s e)) out (some-more s u e l ∙ ap (gathered u) (counted-none (allSerials (from s e)) (sym h ∙ q)))
 
-  pub blossom-good : (out' : List ℕ) (n : ℕ) → k ≡ All n → ((ns : List ℕ) → serials (from s e) ≡ some ns → out' ≡ sets out 0 ns) → ReadAs (some-serials u (from s e)) out out' (Blossom u n)
+  pub blossom-good : (out' : List ℕ) (n : ℕ) → k ≡ All n → ((ns : List ℕ) → allSerials (from s e) ≡ some ns → out' ≡ sets out 0 ns) → ReadAs (some-serials u (from s e)) out out' (Blossom u n)
   blossom-good out' n h o =
-      let w = counted-all (serials (from s e)) n (sym h ∙ q) in
+      let w = counted-all (allSerials (from s e)) n (sym h ∙ q) in
       read-as (gathered u (some (w .0))) (some-serials u (from s e)) out out' (Blossom u n) (some-more s u e l ∙ ap (gathered u) (w .1))
       (record { line = ap (Blossom u) (w .2); stored = o (w .0) (w .1) })

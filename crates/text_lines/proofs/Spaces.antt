@@ -7,7 +7,7 @@ use mathlib.Core.List.{List, [], _∷_, _++_}
 use lib.IntN.{ℤ, pos, negsuc}
 use Rattle.text_decimals.proofs.Digits.{decimal-small, decimal-more}
 use Rattle.ledger_spec.specs.Decimals.{decimal, signed}
-use Rattle.ledger_spec.specs.Fields.{upto, after, cut}
+use Rattle.ledger_spec.specs.Fields.{upto, partsAfter, cut}
 use Rattle.ledger_spec.specs.Grammar.{Fields}
 use Rattle.text_fields.proofs.Cuts.{upto-none, upto-here, upto-on, after-none, after-here, after-on}
 use Rattle.text_lines.specs.Texts.{spaced}
@@ -55,11 +55,11 @@ upto-space : (f t : List ℕ) → Free f → upto 32 (f ++ (32 ∷ t)) ≡ f
 upto-space [] t p = upto-here 32 32 t refl
 upto-space (c ∷ f) t p = upto-on 32 c (f ++ (32 ∷ t)) (p .0) ∙ ap (λ (l : List ℕ). c ∷ l) (upto-space f t (p .1))
 
-after-end : (f : List ℕ) → Free f → after 32 f ≡ []
+after-end : (f : List ℕ) → Free f → partsAfter 32 f ≡ []
 after-end [] p = after-none 32
 after-end (c ∷ f) p = after-on 32 c f (p .0) ∙ after-end f (p .1)
 
-after-space : (f t : List ℕ) → Free f → after 32 (f ++ (32 ∷ t)) ≡ cut 32 t
+after-space : (f t : List ℕ) → Free f → partsAfter 32 (f ++ (32 ∷ t)) ≡ cut 32 t
 after-space [] t p = after-here 32 32 t refl
 after-space (c ∷ f) t p = after-on 32 c (f ++ (32 ∷ t)) (p .0) ∙ after-space f t (p .1)
 
@@ -84,10 +84,10 @@ spaced-none : spaced [] [] ≡ []
 unfolding spaced
 spaced-none = refl
 
-pub spaced-cut : (s : List ℕ) → spaced (upto 32 s) (after 32 s) ≡ s
+pub spaced-cut : (s : List ℕ) → spaced (upto 32 s) (partsAfter 32 s) ≡ s
 spaced-cut [] = (λ i. spaced (upto-none 32 i) (after-none 32 i)) ∙ spaced-none
 spaced-cut (c ∷ s) = go (ℕ-discrete c 32) (spaced-cut s)
   where
-    go : Dec (c ≡ 32) → spaced (upto 32 s) (after 32 s) ≡ s → spaced (upto 32 (c ∷ s)) (after 32 (c ∷ s)) ≡ c ∷ s
-    go (yes p) i = (λ j. spaced (upto-here 32 c s p j) (after-here 32 c s p j)) ∙ spaced-first (upto 32 s) (after 32 s) ∙ (λ j. sym p j ∷ i j)
-    go (no p) i = (λ j. spaced (upto-on 32 c s p j) (after-on 32 c s p j)) ∙ spaced-cons c (upto 32 s) (after 32 s) ∙ ap (λ (l : List ℕ). c ∷ l) i
+    go : Dec (c ≡ 32) → spaced (upto 32 s) (partsAfter 32 s) ≡ s → spaced (upto 32 (c ∷ s)) (partsAfter 32 (c ∷ s)) ≡ c ∷ s
+    go (yes p) i = (λ j. spaced (upto-here 32 c s p j) (after-here 32 c s p j)) ∙ spaced-first (upto 32 s) (partsAfter 32 s) ∙ (λ j. sym p j ∷ i j)
+    go (no p) i = (λ j. spaced (upto-on 32 c s p j) (after-on 32 c s p j)) ∙ spaced-cons c (upto 32 s) (partsAfter 32 s) ∙ ap (λ (l : List ℕ). c ∷ l) i

@@ -11,9 +11,9 @@ use lib.IntN.{ℤ, pos, negsuc}
 use Rattle.text_decimals.proofs.Values.{between-said}
 use Rattle.text_decimals.proofs.Back.{only-number, only-signed, integer-fits}
 use Rattle.ledger_spec.specs.Bench.{State, grows, stays, shrinks, rate}
-use Rattle.ledger_spec.specs.Decimals.{decimal, natural, number, integer}
-use Rattle.ledger_spec.specs.Fields.{upto, after, cut}
-use Rattle.ledger_spec.specs.Grammar.{Line, D, E, S, G, F, C, K, wrong, Fields, unit, vertex, serial, amount, state, stateIn, letter, follow, then, end, serials, gathered, some-serials, rest, lineOf}
+use Rattle.ledger_spec.specs.Decimals.{decimal, natural, numberWithin, integer}
+use Rattle.ledger_spec.specs.Fields.{upto, partsAfter, cut}
+use Rattle.ledger_spec.specs.Grammar.{Line, D, E, S, G, F, C, K, wrong, Fields, aUnit, aVertex, aSerial, anAmount, aState, stateIn, letter, follow, then, noMore, allSerials, gathered, some-serials, rest, lineOf}
 use Rattle.text_fields.proofs.Steps.{step-some, step-none, step-empty}
 use Rattle.text_lines.specs.Texts.{spaced, letterOf, fieldsOf, lineText, Serials, Fit}
 use Rattle.text_lines.proofs.Serials.{serials-none, serials-cons, serials-bad, before-some}
@@ -38,11 +38,11 @@ taken r k (f ∷ fs) l n e = go (r f) refl
     go none p = absurd (n (sym e ∙ ap (λ (o : Option (_ × Fields)). follow o k) (step-none r f fs p)))
     go (some a) p = record { field = f; others = fs; value = a; are = refl; read = p; goes = sym (ap (λ (o : Option (_ × Fields)). follow o k) (step-some r f fs a p)) ∙ e }
 
-ends : (m : Line) (fs : Fields) (l : Line) → (l ≡ wrong → ⊥) → end m fs ≡ l → (fs ≡ []) × (m ≡ l)
+ends : (m : Line) (fs : Fields) (l : Line) → (l ≡ wrong → ⊥) → noMore m fs ≡ l → (fs ≡ []) × (m ≡ l)
 ends m [] l n e = (refl, e)
 ends m (f ∷ fs) l n e = absurd (n (sym e))
 
-number-from : (least most : ℕ) (f : List ℕ) (n : ℕ) → number least most f ≡ some n → (f ≡ decimal n) × (least ≤ n) × (n ≤ most)
+number-from : (least most : ℕ) (f : List ℕ) (n : ℕ) → numberWithin least most f ≡ some n → (f ≡ decimal n) × (least ≤ n) × (n ≤ most)
 number-from least most f n e = let w = between-said least most n (natural f) e in (only-number least most f n e, w .1, w .2)
 
 state-from : (o : Option ℤ) (g : State) → stateIn o ≡ some g → o ≡ some (rate g)
@@ -53,17 +53,17 @@ state-from (some (pos (suc (suc n)))) g e = absurd (Option·some-ne-none g (sym 
 state-from (some (negsuc zero)) g e = ap (λ (x : State). some (rate x)) (Option·some-injective shrinks g e)
 state-from (some (negsuc (suc n))) g e = absurd (Option·some-ne-none g (sym e))
 
-serials-from : (fs : Fields) (ns : List ℕ) → serials fs ≡ some ns → (fs ≡ map decimal ns) × Serials ns
+serials-from : (fs : Fields) (ns : List ℕ) → allSerials fs ≡ some ns → (fs ≡ map decimal ns) × Serials ns
 serials-from [] ns e = go ns (Option·some-injective [] ns (sym serials-none ∙ e))
   where
     go : (ms : List ℕ) → [] ≡ ms → ([] ≡ map decimal ms) × Serials ms
     go ms p = subst (λ (x : List ℕ). ([] ≡ map decimal x) × Serials x) p (refl, tt)
-serials-from (f ∷ fs) ns e = go (serial f) refl (serials-from fs)
+serials-from (f ∷ fs) ns e = go (aSerial f) refl (serials-from fs)
   where
-    go : (o : Option ℕ) → serial f ≡ o → ((ms : List ℕ) → serials fs ≡ some ms → (fs ≡ map decimal ms) × Serials ms) → (f ∷ fs ≡ map decimal ns) × Serials ns
+    go : (o : Option ℕ) → aSerial f ≡ o → ((ms : List ℕ) → allSerials fs ≡ some ms → (fs ≡ map decimal ms) × Serials ms) → (f ∷ fs ≡ map decimal ns) × Serials ns
     go none p i = absurd (Option·some-ne-none ns (sym e ∙ serials-bad f fs p))
     go (some n) p i =
-        let k = before-some n (serials fs) ns (sym (serials-cons f fs n p) ∙ e) in
+        let k = before-some n (allSerials fs) ns (sym (serials-cons f fs n p) ∙ e) in
         let w = number-from 1 4294967295 f n p in
         let j = i (k .0) (k .1) in
         subst (λ (x : List ℕ). (f ∷ fs ≡ map decimal x) × Serials x) (sym (k .2)) ((λ t. w .0 t ∷ j .0 t), ((w .1, w .2), j .1))
@@ -81,10 +81,10 @@ record Spelt (c u : ℕ) (fs : Fields) (l : Line) : Type 0 where
   fits : u ≤ 255 → Fit l
 
 module _ (c u : ℕ) (fs : Fields) (l : Line) (command : l ≡ wrong → ⊥) where
-  spelt-D : c ≡ 68 → then vertex (λ v. end (D u v)) fs ≡ l → Spelt c u fs l
+  spelt-D : c ≡ 68 → then aVertex (λ v. noMore (D u v)) fs ≡ l → Spelt c u fs l
   unfolding letterOf fieldsOf
   spelt-D p e =
-      let t = taken vertex (λ v. end (D u v)) fs l command e in
+      let t = taken aVertex (λ v. noMore (D u v)) fs l command e in
       let x = ends (D u (t .value)) (t .others) l command (t .goes) in
       let w = number-from 0 4294967295 (t .field) (t .value) (t .read) in
       subst (λ (m : Line). Spelt c u fs m) (x .1) (record {
@@ -97,7 +97,7 @@ module _ (c u : ℕ) (fs : Fields) (l : Line) (command : l ≡ wrong → ⊥) wh
   unfolding letterOf fieldsOf
   spelt-B p e = some-go fs refl
     where
-      from-serials : (gs : Fields) → fs ≡ gs → (1 ≤ length gs) → (o : Option (List ℕ)) → serials gs ≡ o → gathered u o ≡ l → Spelt c u fs l
+      from-serials : (gs : Fields) → fs ≡ gs → (1 ≤ length gs) → (o : Option (List ℕ)) → allSerials gs ≡ o → gathered u o ≡ l → Spelt c u fs l
       from-serials gs q k none r s = absurd (command (sym s))
       from-serials gs q k (some ns) r s =
           let w = serials-from gs ns r in
@@ -109,12 +109,12 @@ module _ (c u : ℕ) (fs : Fields) (l : Line) (command : l ≡ wrong → ⊥) wh
 
       some-go : (gs : Fields) → fs ≡ gs → Spelt c u fs l
       some-go [] q = absurd (command (sym e ∙ ap (some-serials u) q))
-      some-go (f ∷ gs) q = from-serials (f ∷ gs) q (omega arith) (serials (f ∷ gs)) refl (ap (some-serials u) (sym q) ∙ e)
+      some-go (f ∷ gs) q = from-serials (f ∷ gs) q (omega arith) (allSerials (f ∷ gs)) refl (ap (some-serials u) (sym q) ∙ e)
 
-  spelt-E : c ≡ 69 → then serial (λ n. end (E u n)) fs ≡ l → Spelt c u fs l
+  spelt-E : c ≡ 69 → then aSerial (λ n. noMore (E u n)) fs ≡ l → Spelt c u fs l
   unfolding letterOf fieldsOf
   spelt-E p e =
-      let t = taken serial (λ n. end (E u n)) fs l command e in
+      let t = taken aSerial (λ n. noMore (E u n)) fs l command e in
       let x = ends (E u (t .value)) (t .others) l command (t .goes) in
       let w = number-from 1 4294967295 (t .field) (t .value) (t .read) in
       subst (λ (m : Line). Spelt c u fs m) (x .1) (record {
@@ -123,11 +123,11 @@ module _ (c u : ℕ) (fs : Fields) (l : Line) (command : l ≡ wrong → ⊥) wh
         fits = λ h. (h, (w .1, w .2));
       })
 
-  spelt-S : c ≡ 83 → then serial (λ n. then state (λ g. end (S u n g))) fs ≡ l → Spelt c u fs l
+  spelt-S : c ≡ 83 → then aSerial (λ n. then aState (λ g. noMore (S u n g))) fs ≡ l → Spelt c u fs l
   unfolding letterOf fieldsOf
   spelt-S p e =
-      let t = taken serial (λ n. then state (λ g. end (S u n g))) fs l command e in
-      let v = taken state (λ g. end (S u (t .value) g)) (t .others) l command (t .goes) in
+      let t = taken aSerial (λ n. then aState (λ g. noMore (S u n g))) fs l command e in
+      let v = taken aState (λ g. noMore (S u (t .value) g)) (t .others) l command (t .goes) in
       let x = ends (S u (t .value) (v .value)) (v .others) l command (v .goes) in
       let w = number-from 1 4294967295 (t .field) (t .value) (t .read) in
       let y = only-signed (v .field) (rate (v .value)) (state-from (integer (v .field)) (v .value) (v .read)) in
@@ -137,10 +137,10 @@ module _ (c u : ℕ) (fs : Fields) (l : Line) (command : l ≡ wrong → ⊥) wh
         fits = λ h. (h, (w .1, w .2));
       })
 
-  spelt-G : c ≡ 71 → then amount (λ n. end (G u n)) fs ≡ l → Spelt c u fs l
+  spelt-G : c ≡ 71 → then anAmount (λ n. noMore (G u n)) fs ≡ l → Spelt c u fs l
   unfolding letterOf fieldsOf
   spelt-G p e =
-      let t = taken amount (λ n. end (G u n)) fs l command e in
+      let t = taken anAmount (λ n. noMore (G u n)) fs l command e in
       let x = ends (G u (t .value)) (t .others) l command (t .goes) in
       let w = only-signed (t .field) (t .value) (t .read) in
       subst (λ (m : Line). Spelt c u fs m) (x .1) (record {
@@ -149,11 +149,11 @@ module _ (c u : ℕ) (fs : Fields) (l : Line) (command : l ≡ wrong → ⊥) wh
         fits = λ h. (h, integer-fits (t .field) (t .value) (t .read));
       })
 
-  spelt-F : c ≡ 70 → then unit (λ a. then unit (λ b. end (F u a b))) fs ≡ l → Spelt c u fs l
+  spelt-F : c ≡ 70 → then aUnit (λ a. then aUnit (λ b. noMore (F u a b))) fs ≡ l → Spelt c u fs l
   unfolding letterOf fieldsOf
   spelt-F p e =
-      let t = taken unit (λ a. then unit (λ b. end (F u a b))) fs l command e in
-      let v = taken unit (λ b. end (F u (t .value) b)) (t .others) l command (t .goes) in
+      let t = taken aUnit (λ a. then aUnit (λ b. noMore (F u a b))) fs l command e in
+      let v = taken aUnit (λ b. noMore (F u (t .value) b)) (t .others) l command (t .goes) in
       let x = ends (F u (t .value) (v .value)) (v .others) l command (v .goes) in
       let w = number-from 0 255 (t .field) (t .value) (t .read) in
       let y = number-from 0 255 (v .field) (v .value) (v .read) in
@@ -163,7 +163,7 @@ module _ (c u : ℕ) (fs : Fields) (l : Line) (command : l ≡ wrong → ⊥) wh
         fits = λ h. (h, w .2, y .2);
       })
 
-  spelt-C : c ≡ 67 → end (C u) fs ≡ l → Spelt c u fs l
+  spelt-C : c ≡ 67 → noMore (C u) fs ≡ l → Spelt c u fs l
   unfolding letterOf fieldsOf
   spelt-C p e =
       let x = ends (C u) fs l command e in
@@ -173,7 +173,7 @@ module _ (c u : ℕ) (fs : Fields) (l : Line) (command : l ≡ wrong → ⊥) wh
         fits = λ h. h;
       })
 
-  spelt-K : c ≡ 75 → end (K u) fs ≡ l → Spelt c u fs l
+  spelt-K : c ≡ 75 → noMore (K u) fs ≡ l → Spelt c u fs l
   unfolding letterOf fieldsOf
   spelt-K p e =
       let x = ends (K u) fs l command e in
@@ -234,12 +234,12 @@ line-spelt s l command e = go (decLe (length s) 1023)
     go : Dec (length s ≤ 1023) → Reads s l
     go (no h) = absurd (command (sym e ∙ line-long s (omega arith)))
     go (yes h) =
-        let t = taken letter (λ c. then unit (rest c)) (cut 32 s) l command (sym (line-short s h) ∙ e) in
-        let v = taken unit (rest (t .value)) (t .others) l command (t .goes) in
+        let t = taken letter (λ c. then aUnit (rest c)) (cut 32 s) l command (sym (line-short s h) ∙ e) in
+        let v = taken aUnit (rest (t .value)) (t .others) l command (t .goes) in
         let k = rest-spelt (t .value) (v .value) (v .others) l command (v .goes) in
         let w = number-from 0 255 (v .field) (v .value) (v .read) in
         let a : upto 32 s ≡ t .field = cc in
-        let b : after 32 s ≡ t .others = cc in
+        let b : partsAfter 32 s ≡ t .others = cc in
         record {
           text = sym (spaced-cut s) ∙ (λ i. spaced ((a ∙ letter-from (t .field) (t .value) (t .read) ∙ sym (k .letters)) i) ((b ∙ v .are ∙ ap (λ (x : List ℕ). x ∷ v .others) (w .0) ∙ sym (k .fields)) i));
           fit = k .fits (w .2);

@@ -9,7 +9,7 @@ use lib.IntN.{pos, negsuc}
 use Rattle.text_decimals.proofs.Back.{number-back, signed-back}
 use Rattle.ledger_spec.specs.Bench.{State, grows, stays, shrinks, rate}
 use Rattle.ledger_spec.specs.Decimals.{decimal, signed}
-use Rattle.ledger_spec.specs.Grammar.{Line, D, B, E, S, G, F, C, K, wrong, Fields, unit, vertex, serial, amount, state, stateIn, letter, follow, then, end, serials, gathered, rest, lineOf}
+use Rattle.ledger_spec.specs.Grammar.{Line, D, B, E, S, G, F, C, K, wrong, Fields, aUnit, aVertex, aSerial, anAmount, aState, stateIn, letter, follow, then, noMore, allSerials, gathered, rest, lineOf}
 use Rattle.text_fields.proofs.Steps.{step-some}
 use Rattle.text_lines.specs.Texts.{letterOf, fieldsOf, lineText, Serial32, Serials, Fit}
 use Rattle.text_lines.proofs.Serials.{before, serials-none, serials-cons}
@@ -21,39 +21,39 @@ use Rattle.text_lines.proofs.Whole.{line-short}
 reads : {A : Type 0} (r : List ℕ → Option A) (k : A → Fields → Line) (f : List ℕ) (fs : Fields) (a : A) → r f ≡ some a → then r k (f ∷ fs) ≡ k a fs
 reads r k f fs a e = ap (λ (o : Option (_ × Fields)). follow o k) (step-some r f fs a e)
 
-state-back : (g : State) → state (signed (rate g)) ≡ some g
+state-back : (g : State) → aState (signed (rate g)) ≡ some g
 state-back grows = ap stateIn (signed-back (pos 1) (record { sfits = omega arith }))
 state-back stays = ap stateIn (signed-back (pos 0) (record { sfits = omega arith }))
 state-back shrinks = ap stateIn (signed-back (negsuc 0) (record { sfits = omega arith }))
 
-serial-back : (n : ℕ) → Serial32 n → serial (decimal n) ≡ some n
+serial-back : (n : ℕ) → Serial32 n → aSerial (decimal n) ≡ some n
 serial-back n h = number-back 1 4294967295 n (h .0) (h .1)
 
-serials-back : (ns : List ℕ) → Serials ns → serials (map decimal ns) ≡ some ns
+serials-back : (ns : List ℕ) → Serials ns → allSerials (map decimal ns) ≡ some ns
 serials-back [] h = serials-none
 serials-back (n ∷ ns) h = serials-cons (decimal n) (map decimal ns) n (serial-back n (h .0)) ∙ ap (before n) (serials-back ns (h .1))
 
 -- ---- a line
 
-first : (c u : ℕ) (fs : Fields) → u ≤ 255 → then letter (λ d. then unit (rest d)) ((c ∷ []) ∷ decimal u ∷ fs) ≡ rest c u fs
+first : (c u : ℕ) (fs : Fields) → u ≤ 255 → then letter (λ d. then aUnit (rest d)) ((c ∷ []) ∷ decimal u ∷ fs) ≡ rest c u fs
 first c u fs h =
-    reads letter (λ d. then unit (rest d)) (c ∷ []) (decimal u ∷ fs) c refl ∙ reads unit (rest c) (decimal u) fs u (number-back 0 255 u (omega arith) h)
+    reads letter (λ d. then aUnit (rest d)) (c ∷ []) (decimal u ∷ fs) c refl ∙ reads aUnit (rest c) (decimal u) fs u (number-back 0 255 u (omega arith) h)
 
-fields-read : (l : Line) → Fit l → then letter (λ d. then unit (rest d)) (letterOf l ∷ fieldsOf l) ≡ l
+fields-read : (l : Line) → Fit l → then letter (λ d. then aUnit (rest d)) (letterOf l ∷ fieldsOf l) ≡ l
 unfolding letterOf fieldsOf rest
-fields-read (D u v) h = first 68 u (decimal v ∷ []) (h .0) ∙ reads vertex (λ x. end (D u x)) (decimal v) [] v (number-back 0 4294967295 v (omega arith) (h .1))
+fields-read (D u v) h = first 68 u (decimal v ∷ []) (h .0) ∙ reads aVertex (λ x. noMore (D u x)) (decimal v) [] v (number-back 0 4294967295 v (omega arith) (h .1))
 fields-read (B u []) h = absurd (omega (arith, h .1))
 fields-read (B u (n ∷ ns)) h = first 66 u (map decimal (n ∷ ns)) (h .0) ∙ ap (gathered u) (serials-back (n ∷ ns) (h .2))
-fields-read (E u n) h = first 69 u (decimal n ∷ []) (h .0) ∙ reads serial (λ x. end (E u x)) (decimal n) [] n (serial-back n (h .1))
+fields-read (E u n) h = first 69 u (decimal n ∷ []) (h .0) ∙ reads aSerial (λ x. noMore (E u x)) (decimal n) [] n (serial-back n (h .1))
 fields-read (S u n g) h =
     first 83 u (decimal n ∷ signed (rate g) ∷ []) (h .0)
-    ∙ reads serial (λ x. then state (λ y. end (S u x y))) (decimal n) (signed (rate g) ∷ []) n (serial-back n (h .1))
-    ∙ reads state (λ y. end (S u n y)) (signed (rate g)) [] g (state-back g)
-fields-read (G u l) h = first 71 u (signed l ∷ []) (h .0) ∙ reads amount (λ x. end (G u x)) (signed l) [] l (signed-back l (h .1))
+    ∙ reads aSerial (λ x. then aState (λ y. noMore (S u x y))) (decimal n) (signed (rate g) ∷ []) n (serial-back n (h .1))
+    ∙ reads aState (λ y. noMore (S u n y)) (signed (rate g)) [] g (state-back g)
+fields-read (G u l) h = first 71 u (signed l ∷ []) (h .0) ∙ reads anAmount (λ x. noMore (G u x)) (signed l) [] l (signed-back l (h .1))
 fields-read (F p l r) h =
     first 70 p (decimal l ∷ decimal r ∷ []) (h .0)
-    ∙ reads unit (λ x. then unit (λ y. end (F p x y))) (decimal l) (decimal r ∷ []) l (number-back 0 255 l (omega arith) (h .1))
-    ∙ reads unit (λ y. end (F p l y)) (decimal r) [] r (number-back 0 255 r (omega arith) (h .2))
+    ∙ reads aUnit (λ x. then aUnit (λ y. noMore (F p x y))) (decimal l) (decimal r ∷ []) l (number-back 0 255 l (omega arith) (h .1))
+    ∙ reads aUnit (λ y. noMore (F p l y)) (decimal r) [] r (number-back 0 255 r (omega arith) (h .2))
 fields-read (C u) h = first 67 u [] h
 fields-read (K u) h = first 75 u [] h
 fields-read wrong h = absurd h
@@ -89,5 +89,5 @@ fields-free wrong h = absurd h
 pub text-reads : (l : Line) → Fit l → length (lineText l) ≤ 1023 → lineOf (lineText l) ≡ l
 text-reads l h short =
     line-short (lineText l) short
-    ∙ ap (then letter (λ d. then unit (rest d))) (cut-spaced (letterOf l) (fieldsOf l) (letter-free l h) (fields-free l h))
+    ∙ ap (then letter (λ d. then aUnit (rest d))) (cut-spaced (letterOf l) (fieldsOf l) (letter-free l h) (fields-free l h))
     ∙ fields-read l h

@@ -9,7 +9,7 @@ use lib.ListN.{length, getD, take}
 use lib.Seq.{sets, length-take-le}
 use borrow.Author.Tests.{lt-ltb, le-ltb, ne-eqb}
 use Rattle.ledger_spec.specs.Fields.{cut}
-use Rattle.ledger_spec.specs.Grammar.{Line as Said, D, E, S, G, F, C, K, wrong, Fields, unit, vertex, serial, amount, state, letter, step, follow, then, end, some-serials, rest, lineOf}
+use Rattle.ledger_spec.specs.Grammar.{Line as Said, D, E, S, G, F, C, K, wrong, Fields, aUnit, aVertex, aSerial, anAmount, aState, letter, step, follow, then, noMore, some-serials, rest, lineOf}
 use Rattle.text_fields.specs.Places.{from, Ends}
 use Rattle.text_fields.proofs.Steps.{step-some, step-none}
 use Rattle.text_lines.specs.declared.Line.{Line}
@@ -31,30 +31,30 @@ pub line-long : (s : List ℕ) → 1023 < length s → lineOf s ≡ wrong
 unfolding lineOf
 line-long s h = rw (lt-ltb 1023 (length s) h)
 
-pub line-short : (s : List ℕ) → length s ≤ 1023 → lineOf s ≡ then letter (λ c. then unit (rest c)) (cut 32 s)
+pub line-short : (s : List ℕ) → length s ≤ 1023 → lineOf s ≡ then letter (λ c. then aUnit (rest c)) (cut 32 s)
 unfolding lineOf
 line-short s h = rw (le-ltb 1023 (length s) h)
 
 -- the first field ends at z
 module _ (s : List ℕ) (z : ℕ) (short : length s ≤ 1023) (g : Ends s 0 z) where
-  opened : lineOf s ≡ follow (step letter (take z s ∷ from s z)) (λ c. then unit (rest c))
+  opened : lineOf s ≡ follow (step letter (take z s ∷ from s z)) (λ c. then aUnit (rest c))
   opened =
       line-short s short
-      ∙ ap (λ (fs : Fields). follow (step letter fs) (λ c. then unit (rest c))) (λ i. (g .field ∙ ap (λ (k : ℕ). take k s) (sub-zero z)) i ∷ g .others i)
+      ∙ ap (λ (fs : Fields). follow (step letter fs) (λ c. then aUnit (rest c))) (λ i. (g .field ∙ ap (λ (k : ℕ). take k s) (sub-zero z)) i ∷ g .others i)
 
   pub line-bad : (z ≡ 1 → ⊥) → lineOf s ≡ wrong
   line-bad n =
-      opened ∙ ap (λ (o : Option (ℕ × Fields)). follow o (λ c. then unit (rest c)))
+      opened ∙ ap (λ (o : Option (ℕ × Fields)). follow o (λ c. then aUnit (rest c)))
       (step-none letter (take z s) (from s z) (letter-not (take z s) (λ h. n (sym (length-take-le z s (g .high)) ∙ h))))
 
-  pub line-good : z ≡ 1 → lineOf s ≡ then unit (rest (getD s 0 0)) (from s 1)
+  pub line-good : z ≡ 1 → lineOf s ≡ then aUnit (rest (getD s 0 0)) (from s 1)
   line-good n =
-      opened ∙ ap (λ (o : Option (ℕ × Fields)). follow o (λ c. then unit (rest c)))
+      opened ∙ ap (λ (o : Option (ℕ × Fields)). follow o (λ c. then aUnit (rest c)))
       (ap (λ (k : ℕ). step letter (take k s ∷ from s k)) n ∙ step-some letter (take 1 s) (from s 1) (getD s 0 0) (letter-one s (omega (arith, g .high))))
 
 -- ---- a line without serials leaves the lent slice as it was
 
-quiet-end : (l : Said) → serialsIn l ≡ [] → (fs : Fields) → serialsIn (end l fs) ≡ []
+quiet-end : (l : Said) → serialsIn l ≡ [] → (fs : Fields) → serialsIn (noMore l fs) ≡ []
 quiet-end l e [] = e
 quiet-end l e (f ∷ fs) = refl
 
@@ -71,35 +71,35 @@ quiet l out r e p = record { line = p; stored = sym (ap (sets out 0) e) }
 -- ---- after letter and first number
 
 module _ (l u : ℕ) (fs : Fields) (out : List ℕ) (r : Line) where
-  pub rest-D : l ≡ 68 → r ≡ lineShown (then vertex (λ v. end (D u v)) fs) → ReadAs (rest l u fs) out out r
+  pub rest-D : l ≡ 68 → r ≡ lineShown (then aVertex (λ v. noMore (D u v)) fs) → ReadAs (rest l u fs) out out r
   unfolding rest
-  rest-D e p = rw e (quiet _ out r (quiet-then vertex _ (λ a gs. quiet-end _ refl gs) fs) p)
+  rest-D e p = rw e (quiet _ out r (quiet-then aVertex _ (λ a gs. quiet-end _ refl gs) fs) p)
 
   pub rest-B : l ≡ 66 → (out' : List ℕ) → ReadAs (some-serials u fs) out out' r → ReadAs (rest l u fs) out out' r
   unfolding rest
   rest-B e out' p = rw e p
 
-  pub rest-E : l ≡ 69 → r ≡ lineShown (then serial (λ n. end (E u n)) fs) → ReadAs (rest l u fs) out out r
+  pub rest-E : l ≡ 69 → r ≡ lineShown (then aSerial (λ n. noMore (E u n)) fs) → ReadAs (rest l u fs) out out r
   unfolding rest
-  rest-E e p = rw e (quiet _ out r (quiet-then serial _ (λ a gs. quiet-end _ refl gs) fs) p)
+  rest-E e p = rw e (quiet _ out r (quiet-then aSerial _ (λ a gs. quiet-end _ refl gs) fs) p)
 
-  pub rest-S : l ≡ 83 → r ≡ lineShown (then serial (λ n. then state (λ g. end (S u n g))) fs) → ReadAs (rest l u fs) out out r
+  pub rest-S : l ≡ 83 → r ≡ lineShown (then aSerial (λ n. then aState (λ g. noMore (S u n g))) fs) → ReadAs (rest l u fs) out out r
   unfolding rest
-  rest-S e p = rw e (quiet _ out r (quiet-then serial _ (λ a gs. quiet-then state _ (λ b hs. quiet-end _ refl hs) gs) fs) p)
+  rest-S e p = rw e (quiet _ out r (quiet-then aSerial _ (λ a gs. quiet-then aState _ (λ b hs. quiet-end _ refl hs) gs) fs) p)
 
-  pub rest-G : l ≡ 71 → r ≡ lineShown (then amount (λ n. end (G u n)) fs) → ReadAs (rest l u fs) out out r
+  pub rest-G : l ≡ 71 → r ≡ lineShown (then anAmount (λ n. noMore (G u n)) fs) → ReadAs (rest l u fs) out out r
   unfolding rest
-  rest-G e p = rw e (quiet _ out r (quiet-then amount _ (λ a gs. quiet-end _ refl gs) fs) p)
+  rest-G e p = rw e (quiet _ out r (quiet-then anAmount _ (λ a gs. quiet-end _ refl gs) fs) p)
 
-  pub rest-F : l ≡ 70 → r ≡ lineShown (then unit (λ n. then unit (λ m. end (F u n m))) fs) → ReadAs (rest l u fs) out out r
+  pub rest-F : l ≡ 70 → r ≡ lineShown (then aUnit (λ n. then aUnit (λ m. noMore (F u n m))) fs) → ReadAs (rest l u fs) out out r
   unfolding rest
-  rest-F e p = rw e (quiet _ out r (quiet-then unit _ (λ a gs. quiet-then unit _ (λ b hs. quiet-end _ refl hs) gs) fs) p)
+  rest-F e p = rw e (quiet _ out r (quiet-then aUnit _ (λ a gs. quiet-then aUnit _ (λ b hs. quiet-end _ refl hs) gs) fs) p)
 
-  pub rest-C : l ≡ 67 → r ≡ lineShown (end (C u) fs) → ReadAs (rest l u fs) out out r
+  pub rest-C : l ≡ 67 → r ≡ lineShown (noMore (C u) fs) → ReadAs (rest l u fs) out out r
   unfolding rest
   rest-C e p = rw e (quiet _ out r (quiet-end (C u) refl fs) p)
 
-  pub rest-K : l ≡ 75 → r ≡ lineShown (end (K u) fs) → ReadAs (rest l u fs) out out r
+  pub rest-K : l ≡ 75 → r ≡ lineShown (noMore (K u) fs) → ReadAs (rest l u fs) out out r
   unfolding rest
   rest-K e p = rw e (quiet _ out r (quiet-end (K u) refl fs) p)
 

@@ -7,7 +7,7 @@ ghost use mathlib.Core.List.{List};
 ghost use Prim.Native.Nat.{ℕ};
 ghost use lib.ListN.{set};
 ghost use lib.Seq.{sets};
-ghost use Rattle.ledger_spec.specs.Grammar.{serials as «all-serials», «some-serials»};
+ghost use Rattle.ledger_spec.specs.Grammar.{allSerials as «all-serials», «some-serials»};
 ghost use Rattle.text_fields.specs.Places.{from};
 ghost use Rattle.text_lines.specs.Counts.{counted};
 ghost use Rattle.text_lines.specs.Shown.{ReadAs};

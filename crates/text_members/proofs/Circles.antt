@@ -11,7 +11,7 @@ use lib.Dec.{ltb}
 use lib.ListN.{length, take, getD, length-map}
 use lib.Seq.{length-take-le, getD-take}
 use Rattle.ledger_spec.specs.Bench.{Handle, Bench}
-use Rattle.ledger_spec.specs.Look.{nodeAt}
+use Rattle.ledger_spec.specs.Look.{nodeNamed}
 use Rattle.ledger_spec.specs.Tests.{first, any, empty, outside, child, stale, both}
 use Rattle.ledger_spec.specs.Deeds.{newHandle, addBlossom}
 use Rattle.ledger_spec.specs.Refuse.{blossomTests}
@@ -72,7 +72,7 @@ module _ (b : Bench) where
   Alike : List ℕ → List ℕ → Type 0
   Alike ks ws = (handsGiven ws ≡ map (named b) ks) ⊎ ((any (stale b) (handsGiven ws) ≡ true) × (any (stale b) (map (named b) ks) ≡ true))
 
-  any-here : (h : Handle) (hs : List Handle) → nodeAt b h ≡ none → any (stale b) (h ∷ hs) ≡ true
+  any-here : (h : Handle) (hs : List Handle) → nodeNamed b h ≡ none → any (stale b) (h ∷ hs) ≡ true
   unfolding any
   any-here h hs e = rw e
 

@@ -11,7 +11,7 @@ use Rattle.kinds.specs.declared.Handle.{Handle}
 use Rattle.bench_words.specs.Codec.{handleOf, handleWord}
 use Rattle.bench_words.proofs.Laws.{handle-back}
 use Rattle.ledger_spec.specs.Bench.{Bench}
-use Rattle.ledger_spec.specs.Look.{nodeAt}
+use Rattle.ledger_spec.specs.Look.{nodeNamed}
 use Rattle.ledger_spec.specs.Named.{handleNamed}
 use Rattle.bench_views.specs.View.{view}
 use Rattle.bench_views.specs.Fit.{SoundWords}
@@ -32,8 +32,8 @@ module _ (b : List ℕ) (W : SoundWords b) (k : ℕ) where
   -- no node has the serial
   pub names-none : Seeks b k Stale → Names (view b) k 2199023255552
   names-none s = inr (
-    ap (nodeAt (view b)) nobody-given ∙ out-unit b nowhere (omega arith),
-    ap (nodeAt (view b)) (sym (s .same)) ∙ s .finds,
+    ap (nodeNamed (view b)) nobody-given ∙ out-unit b nowhere (omega arith),
+    ap (nodeNamed (view b)) (sym (s .same)) ∙ s .finds,
   )
 
   pub names-late : 4294967295 < k → Names (view b) k 2199023255552

@@ -6,13 +6,13 @@ use mathlib.Core.Option.{none}
 use mathlib.Core.List.{List}
 use lib.ListN.{length, getD}
 use Rattle.ledger_spec.specs.Bench.{Bench}
-use Rattle.ledger_spec.specs.Look.{nodeAt}
+use Rattle.ledger_spec.specs.Look.{nodeNamed}
 use Rattle.ledger_spec.specs.Lines.{named}
 use Rattle.deed_circles.specs.Given.{handGiven}
 
 -- the word w gives the handle of the present node with serial k; where there is none, it names no node either
 abbrev pub Names : Bench → ℕ → ℕ → Type 0
-Names b k w = (handGiven w ≡ named b k) ⊎ ((nodeAt b (handGiven w) ≡ none) × (nodeAt b (named b k) ≡ none))
+Names b k w = (handGiven w ≡ named b k) ⊎ ((nodeNamed b (handGiven w) ≡ none) × (nodeNamed b (named b k) ≡ none))
 
 -- the first n words name what the first n serials name
 pub record AllNamed (b : Bench) (n : ℕ) (ks ws : List ℕ) : Type 0 where

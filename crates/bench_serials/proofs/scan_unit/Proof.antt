@@ -5,7 +5,7 @@ use mathlib.Core.Option.{none}
 use native.Mathlib.Omega.{arith}
 use borrow.Author.Needs.{needs}
 use Rattle.bench_words.specs.declared.Interface.{Interface}
-use Rattle.ledger_spec.specs.Look.{nodeAt}
+use Rattle.ledger_spec.specs.Look.{nodeNamed}
 use Rattle.bench_views.specs.View.{view}
 use Rattle.bench_links.specs.declared.Found.the-variants.{At, Stale}
 use Rattle.bench_links.proofs.Finding.{found-at, found-none}
@@ -15,7 +15,7 @@ use Rattle.bench_serials.proofs.scan_unit.Statement.{statement}
 use Rattle.bench_serials.proofs.scan_unit.Tie as tie
 
 abbrev Inv-loop : tie.InvT-loop
-Inv-loop b unit serial f s₀ s = (t : ℕ) → t < s → nodeAt (view b) (handle unit t (serial .0)) ≡ none
+Inv-loop b unit serial f s₀ s = (t : ℕ) → t < s → nodeNamed (view b) (handle unit t (serial .0)) ≡ none
 
 abbrev μ-loop : tie.MeasureT-loop
 μ-loop b unit serial f s₀ s = f .used - s

@@ -2,7 +2,7 @@
 use mathlib.Core.Path.{_≡_, sym, ap, _∙_}
 use native.Mathlib.Omega.{arith}
 use lib.ListN.{length, length-map}
-use Rattle.ledger_spec.specs.Groups.{rising}
+use Rattle.ledger_spec.specs.Groups.{risingFrom}
 use Rattle.groups.proofs.View.{stops-is}
 use Rattle.group_extends.proofs.Appends.{past-both, too-long, goes-on}
 use Rattle.group_extends.proofs.extend_conflicts.Statement.{statement}
@@ -44,7 +44,7 @@ merged-requires c κs =
     let l = long s in
     let l′ = long′ s in
     let w′ = wide′ s in
-    (s .pre .0 .1, ((omega (arith, s .pre .0 .0, c .before .before .before .before .before .before .if1 .left), past-both (s .args .g) (s .args .h) (omega (arith, l, s .pre .0 .0)) (omega (arith, l′, s .pre .1 .0)) (c .before .before .before .entries-laid .result) (c .before .before .before .entries-laid .ensures)), (s .pre .1 .1 .0, sym (ap (rising 0) (stops-is (s .args .h) (omega (arith, w′, s .pre .1 .1 .0)))) ∙ s .pre .1 .1 .1)))
+    (s .pre .0 .1, ((omega (arith, s .pre .0 .0, c .before .before .before .before .before .before .if1 .left), past-both (s .args .g) (s .args .h) (omega (arith, l, s .pre .0 .0)) (omega (arith, l′, s .pre .1 .0)) (c .before .before .before .entries-laid .result) (c .before .before .before .entries-laid .ensures)), (s .pre .1 .1 .0, sym (ap (risingFrom 0) (stops-is (s .args .h) (omega (arith, w′, s .pre .1 .1 .0)))) ∙ s .pre .1 .1 .1)))
 
 returns-2 : tie.Need-returns-2
 returns-2 c =

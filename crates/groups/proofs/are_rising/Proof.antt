@@ -5,13 +5,13 @@ use native.Mathlib.Omega.{arith}
 use borrow.Author.Needs.{needs}
 use borrow.Author.Tests.{not-true, not-false}
 use lib.ListN.{length, take, drop}
-use Rattle.ledger_spec.specs.Groups.{rising}
+use Rattle.ledger_spec.specs.Groups.{risingFrom}
 use Rattle.groups.proofs.Loops.{rise-ends, rise-low, rise-goes, rise-done}
 use Rattle.groups.proofs.are_rising.Statement.{statement}
 use Rattle.groups.proofs.are_rising.Tie as tie
 
 abbrev Inv-loop : tie.InvT-loop
-Inv-loop n stops least₀ i₀ least i = (i ≤ n) × (rising 0 (take n stops) ≡ rising least (drop i (take n stops)))
+Inv-loop n stops least₀ i₀ least i = (i ≤ n) × (risingFrom 0 (take n stops) ≡ risingFrom least (drop i (take n stops)))
 
 abbrev μ-loop : tie.MeasureT-loop
 μ-loop n stops least₀ i₀ least i = n - i

@@ -4,7 +4,7 @@ use mathlib.Core.Path.{_≡_, _∙_, ap}
 use native.Mathlib.Omega.{arith}
 use borrow.Author.Needs.{needs}
 use lib.ListN.{length, set}
-use Rattle.kinds.specs.Names.{nobody}
+use Rattle.kinds.specs.Names.{noCode}
 use Rattle.link_answers.proofs.Filling.{ringSoFar, ring-none, ring-one, ring-all}
 use Rattle.link_answers.proofs.put_circle.Statement.{statement}
 use Rattle.link_answers.proofs.put_circle.Tie as tie
@@ -54,7 +54,7 @@ loop-again c =
     let s = at .before .before in
     let low = at .before .least .ensures .low in
     let below = c .before .before .loop-test .taken in
-    (omega arith, ap (set (at .loop .out) (at .loop .i + 135)) (c .node-word .ensures) ∙ ring-one (s .args .out .now) (s .args .t2) (at .loop .i) (at .loop .out) nobody (s .pre) (omega (arith, long s, low, below)) (omega (arith, low, below)) (at .loop .inv .1))
+    (omega arith, ap (set (at .loop .out) (at .loop .i + 135)) (c .node-word .ensures) ∙ ring-one (s .args .out .now) (s .args .t2) (at .loop .i) (at .loop .out) noCode (s .pre) (omega (arith, long s, low, below)) (omega (arith, low, below)) (at .loop .inv .1))
 
 returns : tie.Need-returns Inv-loop μ-loop
 returns c =

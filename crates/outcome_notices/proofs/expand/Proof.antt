@@ -107,7 +107,7 @@ returns c =
     let b = s .args .b .now in
     let h = s .args .h in
     let n = load .load-node .result in
-    grow-ends (at .loop .r) _ h (nodeAt b) (n .first) (at .loop .i) (n .count) (members (look.nodeAt (view b) (handleNamed h))) (at .loop .inv .2) (grow-head (at .before .none .result) h (at .before .none .ensures)) (omega arith)
+    grow-ends (at .loop .r) _ h (nodeAt b) (n .first) (at .loop .i) (n .count) (members (look.nodeNamed (view b) (handleNamed h))) (at .loop .inv .2) (grow-head (at .before .none .result) h (at .before .none .ensures)) (omega arith)
     (members-seen b (handleNamed h) (s .pre .0) (s .pre .1) ∙ ap (λ (x : Node). nodes (follow (x .count) (nodeAt b) (x .first))) (sym (load .load-node .ensures)))
 
 pub expand-spec : {M : Type 1} → statement M

@@ -1,7 +1,7 @@
 -- The parent as the view shows it. Assumes nothing.
 use borrow.Author.Needs.{needs}
 use mathlib.Core.Path.{_≡_, ap, sym, _∙_}
-use Rattle.ledger_spec.specs.Tests.{given}
+use Rattle.ledger_spec.specs.Tests.{isSome}
 use Rattle.bench_words.specs.declared.Up.{Up}
 use Rattle.bench_words.specs.declared.Up.the-variants.{Top, Under}
 use Rattle.bench_views.specs.View.{upSeen}
@@ -22,14 +22,14 @@ returns : tie.Need-returns
 returns c =
     let s = c .before .before .before in
     let q : c .before .before .load-interface .result .parent ≡ Top = cc in
-    sym (child-is (s .args .b .now) (s .args .unit) (s .pre) (c .before .before .load-interface .result) (c .before .before .load-interface .ensures) ∙ ap (λ (x : Up). given (upSeen x)) q)
+    sym (child-is (s .args .b .now) (s .args .unit) (s .pre) (c .before .before .load-interface .result) (c .before .before .load-interface .ensures) ∙ ap (λ (x : Up). isSome (upSeen x)) q)
 
 returns-2 : tie.Need-returns-2
 returns-2 c =
     let s = c .before .before .before in
     let p = c .enum-told2 .given .0 .0 in
     let q : c .before .before .load-interface .result .parent ≡ Under p = cc in
-    sym (child-is (s .args .b .now) (s .args .unit) (s .pre) (c .before .before .load-interface .result) (c .before .before .load-interface .ensures) ∙ ap (λ (x : Up). given (upSeen x)) q)
+    sym (child-is (s .args .b .now) (s .args .unit) (s .pre) (c .before .before .load-interface .result) (c .before .before .load-interface .ensures) ∙ ap (λ (x : Up). isSome (upSeen x)) q)
 
 pub is-child-spec : {M : Type 1} → statement M
 is-child-spec =

@@ -6,7 +6,7 @@ use mir.Val.{SFits}
 use mir.Facts.{toZ-ofZ}
 use Rattle.text_decimals.specs.declared.MaybeInteger.the-variants.{NoInteger, Integer}
 use Rattle.text_decimals.specs.Read.{integerOf}
-use Rattle.ledger_spec.specs.Grammar.{amount}
+use Rattle.ledger_spec.specs.Grammar.{anAmount}
 use Rattle.text_fields.specs.declared.NextField.the-variants.{At, NoField}
 use Rattle.text_fields.proofs.Steps.{inside-at, took, missed, ran-out}
 use borrow.Author.Needs.{needs}
@@ -57,7 +57,7 @@ returns c =
     let q : f .result ≡ At (c .before .before .before .before .before .before .a .given .0 .0) (c .before .before .before .before .before .before .a .given .0 .1 .0) = cc in
     let v : m .result ≡ Integer (c .before .z .given .0 .0) = cc in
     let ok : SFits w64 (c .before .z .given .0 .0) = record { sfits = c .known-told2 .given .0 .1 } in
-    rw (toZ-ofZ ok) (took (c .before .before .before .before .before .before .before .before .before .before .args .s .now) (c .before .before .before .before .before .before .before .before .before .before .args .place) (f .result) (f .ensures) amount _ _ (c .before .z .given .0 .0) q (sym (m .ensures) ∙ ap integerOf v))
+    rw (toZ-ofZ ok) (took (c .before .before .before .before .before .before .before .before .before .before .args .s .now) (c .before .before .before .before .before .before .before .before .before .before .args .place) (f .result) (f .ensures) anAmount _ _ (c .before .z .given .0 .0) q (sym (m .ensures) ∙ ap integerOf v))
 
 returns-2 : tie.Need-returns-2
 returns-2 c =
@@ -65,13 +65,13 @@ returns-2 c =
     let m = c .before .before .integer-in in
     let q : f .result ≡ At (c .before .before .before .before .before .a .given .0 .0) (c .before .before .before .before .before .a .given .0 .1 .0) = cc in
     let v : m .result ≡ NoInteger = cc in
-    missed (c .before .before .before .before .before .before .before .before .before .args .s .now) (c .before .before .before .before .before .before .before .before .before .args .place) (f .result) (f .ensures) amount _ _ q (sym (m .ensures) ∙ ap integerOf v)
+    missed (c .before .before .before .before .before .before .before .before .before .args .s .now) (c .before .before .before .before .before .before .before .before .before .args .place) (f .result) (f .ensures) anAmount _ _ q (sym (m .ensures) ∙ ap integerOf v)
 
 returns-3 : tie.Need-returns-3
 returns-3 c =
     let f = c .before .before .next-field in
     let q : f .result ≡ NoField = cc in
-    ran-out (c .before .before .before .before .args .s .now) (c .before .before .before .before .args .place) (f .result) (f .ensures) amount q
+    ran-out (c .before .before .before .before .args .s .now) (c .before .before .before .before .args .place) (f .result) (f .ensures) anAmount q
 
 pub next-length-spec : {M : Type 1} → statement M
 next-length-spec =

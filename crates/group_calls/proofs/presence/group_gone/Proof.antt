@@ -5,7 +5,7 @@ use native.Mathlib.Omega.{arith}
 use borrow.Author.Needs.{needs}
 use lib.ListN.{length, length-map, take}
 use Rattle.ledger_spec.specs.Tests.{any}
-use Rattle.ledger_spec.specs.GroupCalls.{gone, listHandles, stopHandles, groupHandles}
+use Rattle.ledger_spec.specs.GroupCalls.{staleCode, listHandles, stopHandles, groupHandles}
 use Rattle.bench_views.specs.View.{view}
 use Rattle.groups.specs.View.{groupOf}
 use Rattle.groups.specs.declared.Kind.the-variants.{Conflicts}
@@ -23,13 +23,13 @@ wide c = simp length-map at (c .good .1 .0 .1 .1 .1 .1 .0 .1 .0 .1)
 
 -- what conflicts name, in two parts
 names : (c : tie.Start) → c .args .g .kind ≡ Conflicts →
-    any (gone (view (c .args .b .now))) (groupHandles (groupOf (c .args .g))) ≡
-    (any (gone (view (c .args .b .now))) (listHandles (take (c .args .g .listed) (c .args .g .list))) || any (gone (view (c .args .b .now))) (stopHandles (take (c .args .g .stopped) (c .args .g .stops))))
+    any (staleCode (view (c .args .b .now))) (groupHandles (groupOf (c .args .g))) ≡
+    (any (staleCode (view (c .args .b .now))) (listHandles (take (c .args .g .listed) (c .args .g .list))) || any (staleCode (view (c .args .b .now))) (stopHandles (take (c .args .g .stopped) (c .args .g .stops))))
 names c k =
     let l = long c in
     let w = wide c in
     let q = sound-counts (c .args .g) k (c .pre .1) in
-    conflicts-name (gone (view (c .args .b .now))) (c .args .g) k (omega (arith, l, q .0)) (omega (arith, w, q .1))
+    conflicts-name (staleCode (view (c .args .b .now))) (c .args .g) k (omega (arith, l, q .0)) (omega (arith, w, q .1))
 
 enum-told : tie.Need-enum-told
 enum-told c = search needs
@@ -53,7 +53,7 @@ stops-gone-requires c κs =
     (s .pre .0, sound-counts (s .args .g) (c .before .before .before .before .enum-told2 .given .1) (s .pre .1) .1)
 
 returns-2 : tie.Need-returns-2
-returns-2 c = sym (growth-names (gone (view (c .before .before .args .b .now))) (c .before .before .args .g) _ _ (c .enum-told .given .1))
+returns-2 c = sym (growth-names (staleCode (view (c .before .before .args .b .now))) (c .before .before .args .g) _ _ (c .enum-told .given .1))
 
 returns-3 : tie.Need-returns-3
 returns-3 c =

@@ -5,7 +5,7 @@ use native.Mathlib.Omega.{arith}
 use borrow.Author.Needs.{needs}
 use lib.ListN.{length, take, drop}
 use Rattle.ledger_spec.specs.Tests.{any}
-use Rattle.ledger_spec.specs.GroupCalls.{gone, listHandles}
+use Rattle.ledger_spec.specs.GroupCalls.{staleCode, listHandles}
 use Rattle.bench_views.specs.View.{view}
 use Rattle.group_handles.proofs.Handles.{entry-turn, entry-end}
 use Rattle.group_calls.proofs.Turns.{or-yes, or-no}
@@ -13,7 +13,7 @@ use Rattle.group_calls.proofs.presence.list_gone.Statement.{statement}
 use Rattle.group_calls.proofs.presence.list_gone.Tie as tie
 
 abbrev Inv-loop : tie.InvT-loop
-Inv-loop b n list i₀ i = (i ≤ n) × (any (gone (view b)) (listHandles (take n list)) ≡ any (gone (view b)) (listHandles (drop i (take n list))))
+Inv-loop b n list i₀ i = (i ≤ n) × (any (staleCode (view b)) (listHandles (take n list)) ≡ any (staleCode (view b)) (listHandles (drop i (take n list))))
 
 abbrev μ-loop : tie.MeasureT-loop
 μ-loop b n list i₀ i = n - i

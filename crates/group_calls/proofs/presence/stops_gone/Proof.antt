@@ -5,7 +5,7 @@ use native.Mathlib.Omega.{arith}
 use borrow.Author.Needs.{needs}
 use lib.ListN.{length, take, drop}
 use Rattle.ledger_spec.specs.Tests.{any}
-use Rattle.ledger_spec.specs.GroupCalls.{gone, stopHandles}
+use Rattle.ledger_spec.specs.GroupCalls.{staleCode, stopHandles}
 use Rattle.bench_views.specs.View.{view}
 use Rattle.group_handles.proofs.Handles.{stop-turn, stop-end}
 use Rattle.group_calls.proofs.Turns.{or-yes, or-no}
@@ -13,7 +13,7 @@ use Rattle.group_calls.proofs.presence.stops_gone.Statement.{statement}
 use Rattle.group_calls.proofs.presence.stops_gone.Tie as tie
 
 abbrev Inv-loop : tie.InvT-loop
-Inv-loop b n stops i₀ i = (i ≤ n) × (any (gone (view b)) (stopHandles (take n stops)) ≡ any (gone (view b)) (stopHandles (drop i (take n stops))))
+Inv-loop b n stops i₀ i = (i ≤ n) × (any (staleCode (view b)) (stopHandles (take n stops)) ≡ any (staleCode (view b)) (stopHandles (drop i (take n stops))))
 
 abbrev μ-loop : tie.MeasureT-loop
 μ-loop b n stops i₀ i = n - i

@@ -1,7 +1,7 @@
 -- Two units are left, and then the line ends. Assumes nothing.
 use native.Mathlib.Omega.{arith}
 use mathlib.Core.Path.{_≡_, sym, _∙_, ap}
-use Rattle.ledger_spec.specs.Grammar.{unit, then, end, F}
+use Rattle.ledger_spec.specs.Grammar.{aUnit, then, noMore, F}
 use Rattle.text_fields.specs.declared.NextNumber.the-variants.{Got, Missed}
 use Rattle.text_lines.specs.Shown.{lineShown}
 use Rattle.text_lines.proofs.Follow.{got, got-further, missed, ended, goes-on}
@@ -23,7 +23,7 @@ returns c =
     let a = c .before .before .before .before .args in
     let n = c .before .before .next-number in
     let q : n .result ≡ Missed = cc in
-    sym (ap lineShown (missed (a .s .now) (a .place) 0 255 (n .result) (n .ensures) (λ x. then unit (λ y. end (F (a .parent) x y))) q))
+    sym (ap lineShown (missed (a .s .now) (a .place) 0 255 (n .result) (n .ensures) (λ x. then aUnit (λ y. noMore (F (a .parent) x y))) q))
 
 next-number-requires-2 : tie.Need-next-number-requires-2
 next-number-requires-2 c κs = search needs
@@ -41,7 +41,7 @@ returns-2 c =
     let o = c .before .before .next-number2 in
     let q : n .result ≡ Got (c .before .before .before .before .l .given .0 .0) (c .before .before .before .before .l .given .0 .1 .0) = cc in
     let w : o .result ≡ Missed = cc in
-    sym (ap lineShown (got (a .s .now) (a .place) 0 255 (n .result) (n .ensures) _ _ q (λ x. then unit (λ y. end (F (a .parent) x y))) ∙ missed (a .s .now) _ 0 255 (o .result) (o .ensures) (λ y. end (F (a .parent) _ y)) w))
+    sym (ap lineShown (got (a .s .now) (a .place) 0 255 (n .result) (n .ensures) _ _ q (λ x. then aUnit (λ y. noMore (F (a .parent) x y))) ∙ missed (a .s .now) _ 0 255 (o .result) (o .ensures) (λ y. noMore (F (a .parent) _ y)) w))
 
 returns-3 : tie.Need-returns-3
 returns-3 c =
@@ -50,7 +50,7 @@ returns-3 c =
     let o = c .before .before .before .before .next-number2 in
     let q : n .result ≡ Got (c .before .before .before .before .before .before .l .given .0 .0) (c .before .before .before .before .before .before .l .given .0 .1 .0) = cc in
     let w : o .result ≡ Got (c .before .before .m .given .0 .0) (c .before .before .m .given .0 .1 .0) = cc in
-    sym (ap lineShown (got (a .s .now) (a .place) 0 255 (n .result) (n .ensures) _ _ q (λ x. then unit (λ y. end (F (a .parent) x y))) ∙ got (a .s .now) _ 0 255 (o .result) (o .ensures) _ _ w (λ y. end (F (a .parent) _ y)) ∙ goes-on (a .s .now) _ _ (c .if1 .taken)))
+    sym (ap lineShown (got (a .s .now) (a .place) 0 255 (n .result) (n .ensures) _ _ q (λ x. then aUnit (λ y. noMore (F (a .parent) x y))) ∙ got (a .s .now) _ 0 255 (o .result) (o .ensures) _ _ w (λ y. noMore (F (a .parent) _ y)) ∙ goes-on (a .s .now) _ _ (c .if1 .taken)))
 
 cast-t12 : tie.Need-cast-t12
 cast-t12 c =
@@ -73,7 +73,7 @@ returns-4 c =
     let o = c .before .before .before .before .next-number2 in
     let q : n .result ≡ Got (c .before .before .before .before .before .before .l .given .0 .0) (c .before .before .before .before .before .before .l .given .0 .1 .0) = cc in
     let w : o .result ≡ Got (c .before .before .m .given .0 .0) (c .before .before .m .given .0 .1 .0) = cc in
-    sym (ap lineShown (got (a .s .now) (a .place) 0 255 (n .result) (n .ensures) _ _ q (λ x. then unit (λ y. end (F (a .parent) x y))) ∙ got (a .s .now) _ 0 255 (o .result) (o .ensures) _ _ w (λ y. end (F (a .parent) _ y)) ∙ ended (a .s .now) _ _ (c .if1 .left)))
+    sym (ap lineShown (got (a .s .now) (a .place) 0 255 (n .result) (n .ensures) _ _ q (λ x. then aUnit (λ y. noMore (F (a .parent) x y))) ∙ got (a .s .now) _ 0 255 (o .result) (o .ensures) _ _ w (λ y. noMore (F (a .parent) _ y)) ∙ ended (a .s .now) _ _ (c .if1 .left)))
 
 pub fuse-spec : {M : Type 1} → statement M
 fuse-spec =

@@ -3,7 +3,7 @@ use mathlib.Core.Path.{_≡_, sym, _∙_, ap}
 use mir.Syntax.{w64}
 use mir.Val.{SFits}
 use mir.Facts.{toZ-ofZ}
-use Rattle.ledger_spec.specs.Grammar.{end, G}
+use Rattle.ledger_spec.specs.Grammar.{noMore, G}
 use Rattle.text_fields.specs.declared.NextLength.the-variants.{Length, NoLength}
 use Rattle.text_lines.specs.Shown.{lineShown}
 use Rattle.text_lines.proofs.Follow.{length-got, length-missed, ended, goes-on}
@@ -25,14 +25,14 @@ returns c =
     let a = c .before .before .before .before .args in
     let n = c .before .before .next-length in
     let q : n .result ≡ NoLength = cc in
-    sym (ap lineShown (length-missed (a .s .now) (a .place) (n .result) (n .ensures) (λ x. end (G (a .unit) x)) q))
+    sym (ap lineShown (length-missed (a .s .now) (a .place) (n .result) (n .ensures) (λ x. noMore (G (a .unit) x)) q))
 
 returns-2 : tie.Need-returns-2
 returns-2 c =
     let a = c .before .before .before .before .before .before .args in
     let n = c .before .before .before .before .next-length in
     let q : n .result ≡ Length (c .before .before .l .given .0 .0) (c .before .before .l .given .0 .1 .0) = cc in
-    sym (ap lineShown (length-got (a .s .now) (a .place) (n .result) (n .ensures) (λ x. end (G (a .unit) x)) _ _ q ∙ goes-on (a .s .now) _ _ (c .if1 .taken)))
+    sym (ap lineShown (length-got (a .s .now) (a .place) (n .result) (n .ensures) (λ x. noMore (G (a .unit) x)) _ _ q ∙ goes-on (a .s .now) _ _ (c .if1 .taken)))
 
 returns-3 : tie.Need-returns-3
 returns-3 c =
@@ -40,7 +40,7 @@ returns-3 c =
     let n = c .before .before .before .before .next-length in
     let q : n .result ≡ Length (c .before .before .l .given .0 .0) (c .before .before .l .given .0 .1 .0) = cc in
     let ok : SFits w64 (c .before .before .l .given .0 .0) = record { sfits = c .before .known-told .given .0 .1 } in
-    rw (toZ-ofZ ok) (sym (ap lineShown (length-got (a .s .now) (a .place) (n .result) (n .ensures) (λ x. end (G (a .unit) x)) _ _ q ∙ ended (a .s .now) _ _ (c .if1 .left))))
+    rw (toZ-ofZ ok) (sym (ap lineShown (length-got (a .s .now) (a .place) (n .result) (n .ensures) (λ x. noMore (G (a .unit) x)) _ _ q ∙ ended (a .s .now) _ _ (c .if1 .left))))
 
 pub grow-spec : {M : Type 1} → statement M
 grow-spec =

@@ -2,7 +2,7 @@
 use native.Mathlib.Omega.{arith}
 use mathlib.Core.Path.{_≡_, sym, _∙_, ap}
 use Rattle.kinds.specs.declared.GrowState.{GrowState}
-use Rattle.ledger_spec.specs.Grammar.{state, then, end, S}
+use Rattle.ledger_spec.specs.Grammar.{aState, then, noMore, S}
 use Rattle.text_fields.specs.declared.NextNumber.the-variants.{Got, Missed}
 use Rattle.text_fields.specs.declared.NextState.the-variants.{To, NoState}
 use Rattle.text_lines.specs.declared.Line.the-variants.{SetState}
@@ -26,7 +26,7 @@ returns c =
     let a = c .before .before .before .before .args in
     let n = c .before .before .next-number in
     let q : n .result ≡ Missed = cc in
-    sym (ap lineShown (missed (a .s .now) (a .place) 1 4294967295 (n .result) (n .ensures) (λ x. then state (λ y. end (S (a .unit) x y))) q))
+    sym (ap lineShown (missed (a .s .now) (a .place) 1 4294967295 (n .result) (n .ensures) (λ x. then aState (λ y. noMore (S (a .unit) x y))) q))
 
 next-state-requires : tie.Need-next-state-requires
 next-state-requires c κs = search needs
@@ -44,7 +44,7 @@ returns-2 c =
     let o = c .before .before .next-state in
     let q : n .result ≡ Got (c .before .before .before .before .n .given .0 .0) (c .before .before .before .before .n .given .0 .1 .0) = cc in
     let w : o .result ≡ NoState = cc in
-    sym (ap lineShown (got (a .s .now) (a .place) 1 4294967295 (n .result) (n .ensures) _ _ q (λ x. then state (λ y. end (S (a .unit) x y))) ∙ state-missed (a .s .now) _ (o .result) (o .ensures) (λ y. end (S (a .unit) _ y)) w))
+    sym (ap lineShown (got (a .s .now) (a .place) 1 4294967295 (n .result) (n .ensures) _ _ q (λ x. then aState (λ y. noMore (S (a .unit) x y))) ∙ state-missed (a .s .now) _ (o .result) (o .ensures) (λ y. noMore (S (a .unit) _ y)) w))
 
 returns-3 : tie.Need-returns-3
 returns-3 c =
@@ -53,7 +53,7 @@ returns-3 c =
     let o = c .before .before .before .before .next-state in
     let q : n .result ≡ Got (c .before .before .before .before .before .before .n .given .0 .0) (c .before .before .before .before .before .before .n .given .0 .1 .0) = cc in
     let w : o .result ≡ To (c .before .before .g .given .0 .0) (c .before .before .g .given .0 .1 .0) = cc in
-    sym (ap lineShown (got (a .s .now) (a .place) 1 4294967295 (n .result) (n .ensures) _ _ q (λ x. then state (λ y. end (S (a .unit) x y))) ∙ state-got (a .s .now) _ (o .result) (o .ensures) (λ y. end (S (a .unit) _ y)) _ _ w ∙ goes-on (a .s .now) _ _ (c .if1 .taken)))
+    sym (ap lineShown (got (a .s .now) (a .place) 1 4294967295 (n .result) (n .ensures) _ _ q (λ x. then aState (λ y. noMore (S (a .unit) x y))) ∙ state-got (a .s .now) _ (o .result) (o .ensures) (λ y. noMore (S (a .unit) _ y)) _ _ w ∙ goes-on (a .s .now) _ _ (c .if1 .taken)))
 
 cast-t12 : tie.Need-cast-t12
 cast-t12 c =
@@ -70,7 +70,7 @@ returns-4 c =
     let q : n .result ≡ Got (c .before .before .before .before .before .before .n .given .0 .0) (c .before .before .before .before .before .before .n .given .0 .1 .0) = cc in
     let w : o .result ≡ To (c .before .before .g .given .0 .0) (c .before .before .g .given .0 .1 .0) = cc in
     ap (λ (x : GrowState). SetState (a .unit) (record { 0 = c .before .before .before .before .before .before .n .given .0 .0 }) x) (sym (state-same (c .before .before .g .given .0 .0)))
-    ∙ sym (ap lineShown (got (a .s .now) (a .place) 1 4294967295 (n .result) (n .ensures) _ _ q (λ x. then state (λ y. end (S (a .unit) x y))) ∙ state-got (a .s .now) _ (o .result) (o .ensures) (λ y. end (S (a .unit) _ y)) _ _ w ∙ ended (a .s .now) _ _ (c .if1 .left)))
+    ∙ sym (ap lineShown (got (a .s .now) (a .place) 1 4294967295 (n .result) (n .ensures) _ _ q (λ x. then aState (λ y. noMore (S (a .unit) x y))) ∙ state-got (a .s .now) _ (o .result) (o .ensures) (λ y. noMore (S (a .unit) _ y)) _ _ w ∙ ended (a .s .now) _ _ (c .if1 .left)))
 
 pub set-state-spec : {M : Type 1} → statement M
 set-state-spec =
