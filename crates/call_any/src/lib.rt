@@ -5,6 +5,7 @@ use call_told::Answer;
 use kinds::GrowState;
 use kinds::Handle;
 use kinds::Vertex;
+use kinds::numbers;
 ghost use Rattle.ledger_spec.specs.Calls.{Defect, Blossom, Expand, SetState, Grow, Fuse, Clear};
 ghost use Rattle.ledger_spec.specs.Named.{handleNamed, stateNamed};
 ghost use Rattle.deed_circles.specs.Given.{handsGiven, pairsGiven};
@@ -15,7 +16,7 @@ pub fn create_defect_node(b: &mut [u64; WORDS], unit: u8, vertex: Vertex) -> Ans
     ensures { λ r. ⌜ Called (soundWords (now (b .entry))) (now (b .entry)) (Defect unit (vertex .0)) r (now (b .exit)) ⌝ }
 {
     if !sound_lent::is_bench(b) {
-        return Answer::refused(2);
+        return Answer::refused(numbers::BROKEN);
     }
     call_told::create_defect_node(b, unit, vertex)
 }
@@ -25,7 +26,7 @@ pub fn create_blossom(b: &mut [u64; WORDS], unit: u8, members: &[u64], touching:
     ensures { λ r. ⌜ Called (soundWords (now (b .entry))) (now (b .entry)) (Blossom unit (handsGiven (now (members .entry))) (pairsGiven (now (touching .entry)))) r (now (b .exit)) ⌝ }
 {
     if !sound_lent::is_bench(b) {
-        return Answer::refused(2);
+        return Answer::refused(numbers::BROKEN);
     }
     call_told::create_blossom(b, unit, members, touching)
 }
@@ -34,7 +35,7 @@ pub fn expand_blossom(b: &mut [u64; WORDS], unit: u8, node: Handle) -> Answer
     ensures { λ r. ⌜ Called (soundWords (now (b .entry))) (now (b .entry)) (Expand unit (handleNamed node)) r (now (b .exit)) ⌝ }
 {
     if !sound_lent::is_bench(b) {
-        return Answer::refused(2);
+        return Answer::refused(numbers::BROKEN);
     }
     call_told::expand_blossom(b, unit, node)
 }
@@ -43,7 +44,7 @@ pub fn set_grow_state(b: &mut [u64; WORDS], unit: u8, node: Handle, state: GrowS
     ensures { λ r. ⌜ Called (soundWords (now (b .entry))) (now (b .entry)) (SetState unit (handleNamed node) (stateNamed state)) r (now (b .exit)) ⌝ }
 {
     if !sound_lent::is_bench(b) {
-        return Answer::refused(2);
+        return Answer::refused(numbers::BROKEN);
     }
     call_told::set_grow_state(b, unit, node, state)
 }
@@ -52,7 +53,7 @@ pub fn grow(b: &mut [u64; WORDS], unit: u8, length: i64) -> Answer
     ensures { λ r. ⌜ Called (soundWords (now (b .entry))) (now (b .entry)) (Grow unit length) r (now (b .exit)) ⌝ }
 {
     if !sound_lent::is_bench(b) {
-        return Answer::refused(2);
+        return Answer::refused(numbers::BROKEN);
     }
     call_told::grow(b, unit, length)
 }
@@ -61,7 +62,7 @@ pub fn fuse(b: &mut [u64; WORDS], parent: u8, left: u8, right: u8) -> Answer
     ensures { λ r. ⌜ Called (soundWords (now (b .entry))) (now (b .entry)) (Fuse parent left right) r (now (b .exit)) ⌝ }
 {
     if !sound_lent::is_bench(b) {
-        return Answer::refused(2);
+        return Answer::refused(numbers::BROKEN);
     }
     call_told::fuse(b, parent, left, right)
 }
@@ -70,7 +71,7 @@ pub fn clear(b: &mut [u64; WORDS], unit: u8) -> Answer
     ensures { λ r. ⌜ Called (soundWords (now (b .entry))) (now (b .entry)) (Clear unit) r (now (b .exit)) ⌝ }
 {
     if !sound_lent::is_bench(b) {
-        return Answer::refused(2);
+        return Answer::refused(numbers::BROKEN);
     }
     call_told::clear(b, unit)
 }

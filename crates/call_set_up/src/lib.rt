@@ -1,6 +1,7 @@
 // Set-up: any words at all become the empty bench, whose first node will have the serial given. 0 is no serial: WORN (15), and the bench as from serial 1.
 // Assumes nothing.
 use bench_words::WORDS;
+use kinds::numbers;
 ghost use Rattle.call_set_up.specs.Opened.{Opened, OpenedBy};
 
 pub fn set_up(b: &mut [u64; WORDS], first: u32) -> u8
@@ -8,7 +9,7 @@ pub fn set_up(b: &mut [u64; WORDS], first: u32) -> u8
 {
     if first == 0 {
         deed_trees::set_up(b, 1);
-        return 15;
+        return numbers::WORN;
     }
     deed_trees::set_up(b, first);
     0

@@ -1,6 +1,7 @@
 // The trusted add blossom, on words that hold a sound bench: the first refusal of document 01's table that applies, or the work. Members and touching
 // handles are lists of any length, of words of any kind. Assumes nothing.
 use bench_words::WORDS;
+use kinds::numbers;
 use outcomes::Made;
 ghost use mathlib.Core.Path.{_≡_};
 ghost use Prim.Native.Nat.{_<_};
@@ -21,11 +22,11 @@ fn room_number(b: &[u64; WORDS], unit: u8) -> u8
 {
     let f = bench_words::load_interface(b, unit as usize);
     if 64 <= f.used {
-        return 14;
+        return numbers::FULL;
     }
     let next = bench_words::load_next(b);
     if 4294967296 <= next {
-        return 15;
+        return numbers::WORN;
     }
     0
 }
@@ -48,7 +49,7 @@ pub fn blossom_number(b: &[u64; WORDS], unit: u8, members: &[u64], touching: &[u
         return nodes;
     }
     if refuse_circles::given_twice(members) {
-        return 13;
+        return numbers::TWICE;
     }
     room_number(b, unit)
 }

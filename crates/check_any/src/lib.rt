@@ -3,6 +3,7 @@
 use bench_words::WORDS;
 use check_sound::Checked;
 use kinds::NodeIndex;
+use kinds::numbers;
 ghost use mathlib.Core.Path.{_≡_};
 ghost use Rattle.bench_views.specs.View.{view};
 ghost use Rattle.check_sound.specs.Judged.{shownCheck};
@@ -13,7 +14,7 @@ fn broken() -> Checked
     ensures { λ r. ⌜ shownCheck r ≡ (2, (0, 0)) ⌝ }
 {
     Checked {
-        number: 2,
+        number: numbers::BROKEN,
         verdict: 0,
         index: NodeIndex(0),
     }

@@ -1,5 +1,7 @@
 // The plain types that everything names: counters, handles, states, obstacles, notices, and their limits.
 // All are plain data by value; each function is proved by a definition of specs/. Assumes nothing.
+pub mod numbers; // the numbers a call can answer
+
 ghost use mathlib.Core.Path.{_≡_};
 ghost use Rattle.kinds.specs.Names.{sameCode, noCode};
 ghost use Rattle.kinds.specs.States.{againstOf, blossomOf};

@@ -5,6 +5,7 @@ use kinds::Handle;
 use kinds::MaybeNode;
 use kinds::NodeIndex;
 use kinds::Vertex;
+use kinds::numbers;
 use read_sound::Ancestor;
 use read_sound::Belongs;
 use read_sound::Counted;
@@ -24,7 +25,7 @@ pub fn sum_dual_variables(b: &[u64; WORDS], unit: u8) -> Weighed
 {
     if !sound_lent::is_bench(b) {
         return Weighed {
-            number: 2,
+            number: numbers::BROKEN,
             weight: 0,
         };
     }
@@ -36,7 +37,7 @@ pub fn sum_grow_speed(b: &[u64; WORDS], unit: u8) -> Weighed
 {
     if !sound_lent::is_bench(b) {
         return Weighed {
-            number: 2,
+            number: numbers::BROKEN,
             weight: 0,
         };
     }
@@ -49,7 +50,7 @@ pub fn nodes_count(b: &[u64; WORDS], unit: u8) -> Counted
 {
     if !sound_lent::is_bench(b) {
         return Counted {
-            number: 2,
+            number: numbers::BROKEN,
             count: 0,
         };
     }
@@ -62,7 +63,7 @@ pub fn get_node(b: &[u64; WORDS], unit: u8, index: NodeIndex) -> Indexed
 {
     if !sound_lent::is_bench(b) {
         return Indexed {
-            number: 2,
+            number: numbers::BROKEN,
             node: MaybeNode::NoNode,
         };
     }
@@ -75,7 +76,7 @@ pub fn check_ptr_belonging(b: &[u64; WORDS], unit: u8, h: Handle) -> Belongs
 {
     if !sound_lent::is_bench(b) {
         return Belongs {
-            number: 2,
+            number: numbers::BROKEN,
             inside: false,
         };
     }
@@ -87,7 +88,7 @@ pub fn get_dual_variable(b: &[u64; WORDS], h: Handle) -> Weighed
 {
     if !sound_lent::is_bench(b) {
         return Weighed {
-            number: 2,
+            number: numbers::BROKEN,
             weight: 0,
         };
     }
@@ -100,7 +101,7 @@ pub fn get_ancestor_blossom(b: &[u64; WORDS], h: Handle) -> Ancestor
 {
     if !sound_lent::is_bench(b) {
         return Ancestor {
-            number: 2,
+            number: numbers::BROKEN,
             node: Handle::nobody(),
             links: 0,
         };
@@ -114,7 +115,7 @@ pub fn get_secondary_ancestor_blossom(b: &[u64; WORDS], h: Handle) -> Second
 {
     if !sound_lent::is_bench(b) {
         return Second {
-            number: 2,
+            number: numbers::BROKEN,
             node: Handle::nobody(),
         };
     }
@@ -127,7 +128,7 @@ pub fn get_representative_vertex(b: &[u64; WORDS], h: Handle) -> Represented
 {
     if !sound_lent::is_bench(b) {
         return Represented {
-            number: 2,
+            number: numbers::BROKEN,
             vertex: Vertex(0),
         };
     }
@@ -141,7 +142,7 @@ pub fn get_all_vertices(b: &[u64; WORDS], h: Handle, out: &mut [u32]) -> Counted
 {
     if !sound_lent::is_bench(b) {
         return Counted {
-            number: 2,
+            number: numbers::BROKEN,
             count: 0,
         };
     }

@@ -8,6 +8,7 @@ use kinds::Handle;
 use kinds::MaybeNode;
 use kinds::NodeIndex;
 use kinds::Vertex;
+use kinds::numbers;
 ghost use mathlib.Core.Path.{_≡_};
 ghost use Prim.Native.Nat.{_<_, _/_, _%_};
 ghost use Rattle.bench_words.specs.Store.{interfaceAt};
@@ -69,12 +70,12 @@ pub fn unit_number(b: &[u64; WORDS], unit: u8) -> u8
     ensures { λ r. ⌜ r ≡ first (unitTests (view (now (b .entry))) unit) ⌝ }
 {
     if 8 <= unit {
-        return 3;
+        return numbers::UNIT;
     }
     let f = bench_words::load_interface(b, unit as usize);
     let up = f.parent;
     match up {
-        Up::Under(_) => 4,
+        Up::Under(_) => numbers::CHILD,
         Up::Top => 0,
     }
 }
@@ -124,7 +125,7 @@ pub fn get_dual_variable(b: &[u64; WORDS], h: Handle) -> Weighed
     let found = bench_links::find(b, h);
     match found {
         Found::Stale => Weighed {
-            number: 8,
+            number: numbers::STALE,
             weight: 0,
         },
         Found::At(_) => {
@@ -168,7 +169,7 @@ pub fn get_node(b: &[u64; WORDS], unit: u8, index: NodeIndex) -> Indexed
     let spot = bench_orders::locate(b, unit as usize, index.0 as usize);
     match spot {
         Spot::Past => Indexed {
-            number: 18,
+            number: numbers::RANGE,
             node: MaybeNode::NoNode,
         },
         Spot::Slot(k) => {
@@ -214,7 +215,7 @@ pub fn get_ancestor_blossom(b: &[u64; WORDS], h: Handle) -> Ancestor
     let found = bench_links::find(b, h);
     match found {
         Found::Stale => Ancestor {
-            number: 8,
+            number: numbers::STALE,
             node: Handle::nobody(),
             links: 0,
         },
@@ -238,14 +239,14 @@ pub fn get_secondary_ancestor_blossom(b: &[u64; WORDS], h: Handle) -> Second
     let found = bench_links::find(b, h);
     match found {
         Found::Stale => Second {
-            number: 8,
+            number: numbers::STALE,
             node: Handle::nobody(),
         },
         Found::At(_) => {
             let o = bench_links::outermost(b, h);
             if o.links == 0 {
                 return Second {
-                    number: 12,
+                    number: numbers::TOP,
                     node: Handle::nobody(),
                 };
             }
@@ -263,7 +264,7 @@ pub fn get_representative_vertex(b: &[u64; WORDS], h: Handle) -> Represented
     let found = bench_links::find(b, h);
     match found {
         Found::Stale => Represented {
-            number: 8,
+            number: numbers::STALE,
             vertex: Vertex(0),
         },
         Found::At(k) => {
@@ -273,8 +274,7 @@ pub fn get_representative_vertex(b: &[u64; WORDS], h: Handle) -> Represented
     }
 }
 
-// All vertices under a node, depth first in circle order, into the front of a slice; SMALL (19) where it is shorter than the defect size. Entries past
-// the vertices stay as they are.
+// All vertices under a node, depth first in circle order, into the front of a slice, whose rest stays; SMALL (19) where it is shorter than the defect size.
 pub fn get_all_vertices(b: &[u64; WORDS], h: Handle, out: &mut [u32]) -> Counted
     requires { ⌜ Fit (now b) ⌝ }
     ensures { λ r. ⌜ shownVertices r (now (out .exit)) ≡ verticesInto (view (now (b .entry))) (handleNamed h) (now (out .entry)) ⌝ }
@@ -282,14 +282,14 @@ pub fn get_all_vertices(b: &[u64; WORDS], h: Handle, out: &mut [u32]) -> Counted
     let found = bench_links::find(b, h);
     match found {
         Found::Stale => Counted {
-            number: 8,
+            number: numbers::STALE,
             count: 0,
         },
         Found::At(k) => {
             let n = bench_words::load_node(b, k);
             if (out.len() as u64) < n.size {
                 return Counted {
-                    number: 19,
+                    number: numbers::SMALL,
                     count: 0,
                 };
             }

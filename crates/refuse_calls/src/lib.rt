@@ -5,6 +5,7 @@ use bench_words::Up;
 use bench_words::WORDS;
 use kinds::Handle;
 use kinds::Parent;
+use kinds::numbers;
 ghost use mathlib.Core.Path.{_≡_};
 ghost use mathlib.Core.Bool.{_||_};
 ghost use Prim.Native.Nat.{_<_};
@@ -28,11 +29,11 @@ pub fn defect_number(b: &[u64; WORDS], unit: u8) -> u8
     }
     let f = bench_words::load_interface(b, unit as usize);
     if 64 <= f.used {
-        return 14;
+        return numbers::FULL;
     }
     let next = bench_words::load_next(b);
     if 4294967296 <= next {
-        return 15;
+        return numbers::WORN;
     }
     0
 }
@@ -47,11 +48,11 @@ pub fn grow_number(b: &[u64; WORDS], unit: u8, length: i64) -> u8
         return number;
     }
     if length < 0 {
-        return 5;
+        return numbers::LENGTH;
     }
     let f = bench_words::load_interface(b, unit as usize);
     if 1099511627776 < f.progress + (length as u64) {
-        return 5;
+        return numbers::LENGTH;
     }
     0
 }
@@ -67,17 +68,17 @@ pub fn named_number(b: &[u64; WORDS], unit: u8, h: Handle) -> u8
     }
     let found = bench_links::find(b, h);
     match found {
-        Found::Stale => 8,
+        Found::Stale => numbers::STALE,
         Found::At(_) => {
             if bench_links::is_foreign(b, unit, h) {
-                return 9;
+                return numbers::FOREIGN;
             }
             0
         }
     }
 }
 
-// And MEMBER (11).
+// And INSIDE (11).
 pub fn state_number(b: &[u64; WORDS], unit: u8, h: Handle) -> u8
     requires { ⌜ Canon (now b) ⌝ }
     ensures { λ r. ⌜ r ≡ first (stateTests (view (now (b .entry))) unit (handleNamed h)) ⌝ }
@@ -90,11 +91,11 @@ pub fn state_number(b: &[u64; WORDS], unit: u8, h: Handle) -> u8
     let parent = node.parent;
     match parent {
         Parent::Outermost => 0,
-        Parent::Inside(_) => 11,
+        Parent::Inside(_) => numbers::INSIDE,
     }
 }
 
-// And DEFECT (10) before MEMBER.
+// And KIND (10) before INSIDE.
 pub fn expand_number(b: &[u64; WORDS], unit: u8, h: Handle) -> u8
     requires { ⌜ Canon (now b) ⌝ }
     ensures { λ r. ⌜ r ≡ first (expandTests (view (now (b .entry))) unit (handleNamed h)) ⌝ }
@@ -106,12 +107,12 @@ pub fn expand_number(b: &[u64; WORDS], unit: u8, h: Handle) -> u8
     let n = bench_words::load_node(b, (h.unit as usize) * 64 + (h.slot as usize));
     let class = n.class;
     if !class.is_blossom() {
-        return 10;
+        return numbers::KIND;
     }
     let parent = n.parent;
     match parent {
         Parent::Outermost => 0,
-        Parent::Inside(_) => 11,
+        Parent::Inside(_) => numbers::INSIDE,
     }
 }
 
@@ -180,21 +181,21 @@ fn is_used(b: &[u64; WORDS], unit: u8) -> bool
     f.left != 0
 }
 
-// UNIT, CHILD, ORDER (16), USED (17).
+// UNIT, CHILD, PAIR (16), USED (17).
 pub fn fuse_number(b: &[u64; WORDS], parent: u8, left: u8, right: u8) -> u8
     ensures { λ r. ⌜ r ≡ first (fuseTests (view (now (b .entry))) parent left right) ⌝ }
 {
     if any_outside(parent, left, right) {
-        return 3;
+        return numbers::UNIT;
     }
     if any_child(b, parent, left, right) {
-        return 4;
+        return numbers::CHILD;
     }
     if out_of_order(parent, left, right) {
-        return 16;
+        return numbers::PAIR;
     }
     if is_used(b, parent) {
-        return 17;
+        return numbers::USED;
     }
     0
 }

@@ -3,6 +3,7 @@
 use bench_links::Found;
 use bench_words::WORDS;
 use kinds::Parent;
+use kinds::numbers;
 ghost use mathlib.Core.Path.{_≡_};
 ghost use mathlib.Core.Bool.{not};
 ghost use mathlib.Core.Option.{none};
@@ -56,15 +57,15 @@ fn word_number(b: &[u64; WORDS], unit: u8, w: u64) -> u8
 {
     let found = bench_links::find_word(b, w);
     match found {
-        Found::Stale => 8,
+        Found::Stale => numbers::STALE,
         Found::At(k) => {
             if is_far(b, unit, k / 64) {
-                return 9;
+                return numbers::FOREIGN;
             }
             let n = bench_words::load_node(b, k);
             let parent = n.parent;
             match parent {
-                Parent::Inside(_) => 11,
+                Parent::Inside(_) => numbers::INSIDE,
                 Parent::Outermost => 0,
             }
         }
@@ -150,17 +151,17 @@ pub fn shape_number(members: &[u64], touching: &[u64]) -> u8
 {
     let n = members.len();
     if n == 0 {
-        return 6;
+        return numbers::CIRCLE;
     }
     if 64 < n {
-        return 6;
+        return numbers::CIRCLE;
     }
     let m = touching.len();
     if m == 0 {
         return 0;
     }
     if m / 2 + m % 2 != n {
-        return 7;
+        return numbers::TOUCH;
     }
     0
 }
@@ -171,7 +172,7 @@ fn touching_number(b: &[u64; WORDS], unit: u8, touching: &[u64]) -> u8
     ensures { λ r. ⌜ r ≡ touchMark (view (now (b .entry))) unit (both (pairsGiven (now (touching .entry)))) ⌝ }
 {
     if touching.len() % 2 == 1 {
-        return 8;
+        return numbers::STALE;
     }
     let number = list_number(b, unit, touching);
     if number == 11 {
