@@ -157,10 +157,3 @@ module _ (b : List ℕ) (h : Handle) {r : Found} (f : Finds b h r) where
 
   pub found-none : r ≡ Stale → nodeNamed (view b) h ≡ none
   found-none e = subst (λ (x : Found). Finds b h x) e f
-
-  pub found-stands : (r ≡ Stale → ⊥) → Stands b h
-  found-stands ne = go r refl
-    where
-      go : (x : Found) → r ≡ x → Stands b h
-      go (At k) e = found-at k e .stands
-      go Stale e = absurd (ne e)

@@ -5,7 +5,6 @@ use mathlib.Core.Logic.{by-cases}
 use mathlib.Core.List.{List}
 use native.Mathlib.Decide.{ℕ-discrete}
 use native.Mathlib.Omega.{arith}
-use lib.IntN.{natAbs}
 use lib.ListN.{length, getD, set}
 use lib.Seq.{getD-set-other}
 use Rattle.bench_words.specs.Store.{nodeAt, interfaceAt, storeNode, storeInterface, base, ibase, interfaceWords, nodeWords}
@@ -13,12 +12,7 @@ use Rattle.bench_words.proofs.Laws.{Good, GoodUp, inside, inside-interface, sto
 use Rattle.bench_words.specs.declared.Node.{Node}
 use Rattle.bench_words.specs.declared.Interface.{Interface}
 use Rattle.ledger_spec.specs.Bench as plain
-use Rattle.ledger_spec.specs.Look.{interface}
-use Rattle.ledger_spec.specs.Frame.{Frame}
-use Rattle.bench_views.specs.View.{view, upSeen}
-use Rattle.bench_views.specs.Records.{Steady}
 use Rattle.bench_views.specs.Canon.{Coded}
-use Rattle.bench_views.proofs.Views.{interface-in, view-count, view-parent}
 
 pub coded-node : (b : List ℕ) (k : ℕ) (n : Node) → length b ≡ 6273 → k < 512 → Good n → Coded b → Coded (storeNode b k n)
 coded-node b k n len lk g c =
@@ -50,14 +44,4 @@ coded-first b x c =
       spare = λ m z l h. getD-set-other b 0 m x 0 (λ e. omega arith) ∙ c .spare m z l h;
       units = λ u lu j lj. getD-set-other b 0 (ibase u + (1 + j)) x 0 (λ e. omega arith) ∙ c .units u lu j lj ∙ ap (λ (w : Interface). getD (interfaceWords w) j 0) (sym (interface-first b x u));
       nodes = λ i li j lj. getD-set-other b 0 (base i + (1 + j)) x 0 (λ e. omega arith) ∙ c .nodes i li j lj ∙ ap (λ (w : Node). getD (nodeWords w) j 0) (sym (node-first b x i));
-    }
-
--- the ranges that a call's work asks of the words, from the view
-pub steady-of : (b : List ℕ) → length b ≡ 6273 → Frame (view b) → ((u : ℕ) → u < 8 → length (interface (view b) u .slots) ≤ 64) → ((u : ℕ) → u < 8 → natAbs (interface (view b) u .progress) ≤ 1099511627776) → Steady b
-steady-of b len F slots progress =
-    record {
-      len = len;
-      slots = λ u lu. omega (arith, slots u lu, view-count (getD b 0 0) (interfaceAt b) (nodeAt b) u lu);
-      progress = λ u lu. subst (λ (f : plain.Interface). natAbs (f .progress) ≤ 1099511627776) (interface-in (getD b 0 0) (interfaceAt b) (nodeAt b) u lu) (progress u lu);
-      rising = λ u p lu e. F .rising u p (view-parent (getD b 0 0) (interfaceAt b) (nodeAt b) u lu ∙ ap upSeen e) .0;
     }

@@ -7,7 +7,7 @@ use mathlib.Core.List.{List}
 use native.Mathlib.Decide.{ℕ-discrete, decLt}
 use native.Mathlib.Omega.{arith}
 use borrow.Author.Tests.{eq-eqb, ne-eqb}
-use lib.IntN.{ℤ, pos, _+ℤ_, _-ℤ_, -ℤ-+ℤ-cancel}
+use lib.IntN.{ℤ, pos, _+ℤ_, -ℤ-+ℤ-cancel}
 use lib.ListN.{length, getD}
 use lib.Seq.{ext-getD}
 use Rattle.bench_words.specs.Store.{nodeAt, interfaceAt, base, ibase, interfaceWords, nodeWords}

@@ -16,7 +16,7 @@ use Rattle.ledger_spec.specs.Walk.{parentIn, outermost}
 use Rattle.ledger_spec.specs.Check.{memberVerdict, isUnder}
 use Rattle.ledger_spec.proofs.Knit.{none-some, same-handle}
 use Rattle.ledger_spec.proofs.Chains.{outer-none}
-use Rattle.check_laws.proofs.Steps.{member-defect, member-two, strict-defect, strict-blossom}
+use Rattle.ledger_laws.proofs.Steps.{member-defect, member-two, strict-defect, strict-blossom}
 use Rattle.check_circles.specs.Found.{larger, ownBy, touchVerdict, underVerdict, touchBy, memberBy}
 
 -- ---- the same handle, in code and in the ledger

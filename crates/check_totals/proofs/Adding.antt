@@ -16,8 +16,8 @@ use Rattle.ledger_spec.specs.Look.{slotOf}
 use Rattle.ledger_spec.specs.Change.{worth}
 use Rattle.ledger_spec.specs.Reads.{slotsOf}
 use Rattle.ledger_spec.specs.Check.{totalOf}
-use Rattle.check_laws.specs.Clean.{Entry}
-use Rattle.check_laws.proofs.Steps.{total-none, total-more}
+use Rattle.ledger_laws.specs.Clean.{Entry}
+use Rattle.ledger_laws.proofs.Steps.{total-none, total-more}
 use Rattle.bench_views.specs.View.{off, valueBy, sumUp, circleOf, slotSeen, nodeSeen, view}
 use Rattle.bench_views.specs.Records.{Ranged}
 use Rattle.bench_views.specs.Fit.{Fit}

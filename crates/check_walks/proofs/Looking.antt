@@ -17,8 +17,8 @@ use Rattle.ledger_spec.specs.Named.{handleNamed}
 use Rattle.ledger_spec.specs.Tests.{any}
 use Rattle.ledger_spec.specs.Reads.{slotsOf}
 use Rattle.ledger_spec.specs.Check.{indexIn, memberVerdict, strictMember, circleVerdict, strictCircle, finding}
-use Rattle.check_laws.specs.Clean.{Entry}
-use Rattle.check_laws.proofs.Steps.{strict-on, strict-bad, walk-empty, walk-again, walk-new, walk-ring, walk-bad, strict-empty, strict-vertex, strict-ring, strict-six}
+use Rattle.ledger_laws.specs.Clean.{Entry}
+use Rattle.ledger_laws.proofs.Steps.{strict-on, strict-bad, walk-empty, walk-again, walk-new, walk-ring, walk-bad, strict-empty, strict-vertex, strict-ring, strict-six}
 use Rattle.bench_views.specs.View.{view, nodeSeen, slotSeen, sumUp, circleOf}
 use Rattle.bench_views.proofs.Views.{view-slot}
 use Rattle.bench_views.proofs.Slots.{slot-absent, slot-defect, slot-ring}

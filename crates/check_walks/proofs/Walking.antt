@@ -10,8 +10,8 @@ use lib.ListN.{drop, getD, replicate, drop-of-length-le}
 use lib.Seq.{drop-cons}
 use Rattle.ledger_spec.specs.Bench.{Bench}
 use Rattle.ledger_spec.specs.Reads.{slotsOf}
-use Rattle.check_laws.specs.Clean.{Entry}
-use Rattle.check_laws.proofs.Steps.{walk-none, strict-none}
+use Rattle.ledger_laws.specs.Clean.{Entry}
+use Rattle.ledger_laws.proofs.Steps.{walk-none, strict-none}
 use Rattle.bench_views.specs.View.{view}
 use Rattle.check_places.specs.Places.{Places}
 use Rattle.check_seen.specs.Met.{known, Keeps}

@@ -8,7 +8,7 @@ use lib.ListN.{getD}
 use Rattle.ledger_spec.specs.Bench.{Bench}
 use Rattle.ledger_spec.specs.Reads.{slotsOf}
 use Rattle.ledger_spec.specs.Check.{finding, strictFinding}
-use Rattle.check_laws.specs.Clean.{Entry}
+use Rattle.ledger_laws.specs.Clean.{Entry}
 use Rattle.bench_views.specs.View.{view}
 use Rattle.check_seen.specs.Met.{known, Keeps}
 use Rattle.check_walks.specs.declared.Judged.{Judged}

@@ -1,6 +1,6 @@
 -- Expand, done: the members are let out, the blossom's slot is emptied and the speed set. Every node is the empty slot, a member let out, or as it was;
 -- a node that was seated in the blossom is one of its members, so every seat that is left is in a circle that is left. Assumes nothing.
-use Prim.Native.Nat.{ℕ, _+_, _-_, _*_, _/_, _%_, _<_, _≤_}
+use Prim.Native.Nat.{ℕ, _+_, _*_, _/_, _%_, _<_, _≤_}
 use mathlib.Core.Path.{_≡_, refl, ap, ap₂, sym, _∙_, subst, fun-ext}
 use mathlib.Core.Logic.{_≢_, by-cases}
 use mathlib.Core.List.{List}

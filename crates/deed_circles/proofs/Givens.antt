@@ -1,6 +1,6 @@
 -- What the passed tests of add blossom say of the words given: each is a packed handle of a node that stands, in the tree and without a parent, at a
 -- place of its own; touching handles come two a member or not at all, since one left over would be stale. Assumes nothing.
-use Prim.Native.Nat.{ℕ, zero, suc, _+_, _-_, _*_, _/_, _%_, _<_, _≤_}
+use Prim.Native.Nat.{ℕ, zero, suc, _+_, _*_, _/_, _%_, _<_, _≤_}
 use mathlib.Core.Path.{_≡_, refl, ap, sym, _∙_, subst}
 use mathlib.Core.Logic.{_≢_, by-cases, ⊎-elim}
 use mathlib.Core.Bool.{Bool, true, false}

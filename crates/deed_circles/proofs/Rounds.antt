@@ -1,6 +1,6 @@
 -- Nodes marked one after the other, over interfaces and nodes as functions, while the speed is kept aside: after i turns the view is the bench with
 -- the first i handles marked. Each turn is one mark of the ledger, since the places are apart and no circle changes. Assumes nothing.
-use Prim.Native.Nat.{ℕ, zero, suc, _+_, _-_, _*_, _/_, _%_, _<_, _≤_}
+use Prim.Native.Nat.{ℕ, zero, suc, _+_, _*_, _/_, _%_, _<_, _≤_}
 use mathlib.Core.Path.{_≡_, refl, ap, ap₂, sym, _∙_, fun-ext}
 use mathlib.Core.Logic.{_≢_, by-cases}
 use mathlib.Core.Option.{Option, none}

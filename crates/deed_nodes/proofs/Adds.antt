@@ -1,6 +1,6 @@
 -- A node added in the next slot, over interfaces and nodes as functions. No circle goes through a slot that is not used, so the old slots show what
 -- they showed; and the ledger's own readings of `push` say the same of every part. Assumes nothing.
-use Prim.Native.Nat.{ℕ, suc, _+_, _-_, _*_, _/_, _%_, _<_, _≤_}
+use Prim.Native.Nat.{ℕ, suc, _+_, _*_, _/_, _%_, _<_, _≤_}
 use mathlib.Core.Path.{_≡_, refl, ap, ap₂, sym, _∙_}
 use mathlib.Core.Logic.{_≢_}
 use mathlib.Core.Option.{some}

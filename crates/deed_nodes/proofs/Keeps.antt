@@ -1,6 +1,6 @@
 -- Canonical words stay canonical: where no class and no link changes; and for each blossom whose members are as they were, its circle and the seats
 -- in it. A walk along such a circle meets the same nodes, since each of them names the same next one. Assumes nothing.
-use Prim.Native.Nat.{ℕ, zero, suc, _+_, _-_, _*_, _/_, _%_, _<_, _≤_}
+use Prim.Native.Nat.{ℕ, zero, suc, _+_, _*_, _/_, _%_, _<_, _≤_}
 use mathlib.Core.Path.{_≡_, refl, ap, ap₂, sym, _∙_, subst}
 use mathlib.Core.List.{List}
 use native.Mathlib.Decide.{decLt}

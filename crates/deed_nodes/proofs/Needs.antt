@@ -1,6 +1,6 @@
 -- What a call's passed tests say of the words: a handle that is not stale names a node in a used slot, whose words are in range; an interface that
 -- may be named has its speed and sum in range. The ledger's own readings of the tests, carried through the view. Assumes nothing.
-use Prim.Native.Nat.{ℕ, _+_, _-_, _*_, _<_, _≤_}
+use Prim.Native.Nat.{ℕ, _+_, _*_, _<_, _≤_}
 use mathlib.Core.Path.{_≡_, refl, ap, sym, _∙_, subst}
 use mathlib.Core.Bool.{false}
 use mathlib.Core.Option.{none, some}

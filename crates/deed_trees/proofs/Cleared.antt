@@ -1,6 +1,6 @@
 -- Clear, done: every interface of the tree is reset, and the others are as they were. A circle lies in one tree, so a blossom that is left keeps its
 -- members, and a member that is left keeps its blossom. Assumes nothing.
-use Prim.Native.Nat.{ℕ, zero, suc, _+_, _-_, _*_, _/_, _%_, _<_}
+use Prim.Native.Nat.{ℕ, zero, suc, _+_, _*_, _/_, _%_, _<_}
 use mathlib.Core.Path.{_≡_, refl, ap, ap₂, sym, _∙_, subst}
 use mathlib.Core.Logic.{_≢_, by-cases}
 use mathlib.Core.Option.{none}

@@ -14,7 +14,7 @@ use Rattle.bench_words.specs.Store.{nodeAt, interfaceAt, storeInterface}
 use Rattle.bench_words.proofs.Laws.{interface-same, interface-other, store-interface-out, store-interface-node, length-store-interface}
 use Rattle.bench_words.specs.declared.Node.{Node}
 use Rattle.bench_words.specs.declared.Interface.{Interface}
-use Rattle.bench_words.specs.declared.Up.the-variants.{Top, Under}
+use Rattle.bench_words.specs.declared.Up.the-variants.{Under}
 use Rattle.ledger_spec.specs.Bench as plain
 use Rattle.ledger_spec.specs.Look.{interface}
 use Rattle.ledger_spec.specs.Tests.{first, used}

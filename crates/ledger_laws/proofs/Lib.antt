@@ -22,3 +22,7 @@ pub mod Untouched
 pub mod Effects
 pub mod GroupSound
 pub mod GroupLaws
+pub mod Steps
+pub mod Rings
+pub mod Walked
+pub mod Clean

@@ -10,8 +10,6 @@ use native.Mathlib.Nat.{mul-le-mul}
 use lib.Dec.{eqb}
 use lib.ListN.{length}
 use lib.IntN.{ℤ, pos, _+ℤ_, _*ℤ_, natAbs}
-use mir.Syntax.{w64}
-use mir.Val.{SFits}
 use Rattle.ledger_spec.specs.Bench.{Node, Bench}
 use Rattle.ledger_spec.specs.Look.{interface, slotOf, top, tree}
 use Rattle.ledger_spec.specs.Change.{share}
@@ -21,7 +19,7 @@ use Rattle.ledger_spec.specs.Sound.{rates}
 use Rattle.ledger_spec.specs.Account.{Σ, gate, slotSum, treeSum, ratesIn}
 use Rattle.ledger_spec.specs.Frame.{Frame}
 use Rattle.ledger_spec.specs.Facts.{W, Sound}
-use Rattle.ledger_spec.proofs.Range.{abs-add, abs-mul, abs-rate, fits-of}
+use Rattle.ledger_spec.proofs.Range.{abs-add, abs-mul, abs-rate}
 use Rattle.ledger_spec.proofs.Tops.{top-root, below}
 use Rattle.ledger_spec.proofs.Trees.{along, tree-sum, gather-rates}
 use Rattle.ledger_spec.proofs.Gathered.{held-unit}
@@ -85,9 +83,3 @@ module _ (b : Bench) (S : Sound b) where
 
   pub sum-bound : (i : ℕ) → i < 8 → interface b i .parent ≡ none → natAbs (interface b i .sum) ≤ 2 ^ 52
   sum-bound i h free = omega (arith, S .sums i h free, W-bound i h free)
-
-  pub value-fits : (u s : ℕ) (n : Node) → slotOf b u s ≡ some n → SFits w64 (n .value)
-  value-fits u s n e = fits-of (n .value) (omega (arith, value-bound u s n e))
-
-  pub sum-fits : (i : ℕ) → i < 8 → interface b i .parent ≡ none → SFits w64 (interface b i .sum)
-  sum-fits i h free = fits-of (interface b i .sum) (omega (arith, sum-bound i h free))

@@ -1,6 +1,6 @@
 -- The four ways in which a call changes a bench: a node put where there was one (or taken away), a node added, an interface replaced,
 -- and the speed that follows. Every call that touches nodes is made of these. Assumes nothing.
-use Prim.Native.Nat.{ℕ, suc, _+_}
+use Prim.Native.Nat.{ℕ, suc}
 use mathlib.Core.Option.{Option, none, some}
 use mathlib.Core.List.{List, [], _∷_, _++_}
 use lib.ListN.{set}

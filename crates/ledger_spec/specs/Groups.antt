@@ -1,6 +1,6 @@
 -- Obstacle groups: a growth (length, flag), or conflicts, a list and pending stops by vertex. What each call does to one, and when there is no
 -- room. A length is the ℤ that a contract has for an `i64`; obstacles are those of crate `kinds`. Assumes nothing.
-use Prim.Native.Nat.{ℕ, suc, _+_}
+use Prim.Native.Nat.{ℕ, suc}
 use mathlib.Core.Bool.{Bool, true, false, cond, _&&_, _||_}
 use mathlib.Core.Option.{Option, none, some}
 use mathlib.Core.List.{List, [], _∷_, _++_}

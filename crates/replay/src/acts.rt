@@ -1,6 +1,8 @@
 // The lines that change the bench: what the public call answers, with its notices.
 use crate::nodes;
 use crate::says;
+use crate::tapes;
+use crate::tapes::ROOM;
 use bench_words::WORDS;
 use call_told::Answer;
 use kinds::GrowState;
@@ -8,7 +10,6 @@ use kinds::Handle;
 use kinds::Notice;
 use kinds::Vertex;
 use outcome_notices::Notices;
-use tapes::ROOM;
 
 pub fn unit_of(z: i64) -> u8 {
     let n = tapes::natural(z);

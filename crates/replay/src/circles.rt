@@ -1,8 +1,9 @@
 // The lines that make a blossom: by serials alone, by serials with their touching pairs, and with lists of any two lengths.
 use crate::acts;
 use crate::nodes;
+use crate::tapes;
+use crate::tapes::ROOM;
 use bench_words::WORDS;
-use tapes::ROOM;
 ghost use Prim.Native.Nat.{_≤_};
 
 // Members and touching handles of one line, at most: more than any circle holds.

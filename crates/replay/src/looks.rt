@@ -1,11 +1,12 @@
 // The lines that read: of an interface, of a node.
 use crate::nodes;
 use crate::says;
+use crate::tapes;
+use crate::tapes::ROOM;
 use bench_words::WORDS;
 use kinds::Handle;
 use kinds::MaybeNode;
 use kinds::NodeIndex;
-use tapes::ROOM;
 
 const VERTICES: usize = 1024;
 

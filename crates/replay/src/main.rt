@@ -6,12 +6,13 @@ mod looks;
 mod nodes;
 mod packs;
 mod says;
+mod tapes;
 mod tries;
 mod turns;
 
 use crate::packs::Four;
+use crate::tapes::ROOM;
 use bench_words::WORDS;
-use tapes::ROOM;
 
 const LINE: usize = 4096;
 

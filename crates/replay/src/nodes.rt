@@ -1,5 +1,7 @@
 // Nodes by their serials, which is how a recording names them, and the dump of a tree, slot by slot.
 use crate::says;
+use crate::tapes;
+use crate::tapes::ROOM;
 use bench_words::Node;
 use bench_words::WORDS;
 use kinds::Class;
@@ -7,7 +9,6 @@ use kinds::Handle;
 use kinds::MaybeNode;
 use kinds::NodeIndex;
 use kinds::Parent;
-use tapes::ROOM;
 
 // Whether slot k holds a node of this serial.
 fn holds(b: &[u64; WORDS], k: usize, serial: i64) -> bool {

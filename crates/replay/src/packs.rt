@@ -2,6 +2,8 @@
 use crate::acts;
 use crate::nodes;
 use crate::says;
+use crate::tapes;
+use crate::tapes::ROOM;
 use bench_words::WORDS;
 use group_takes::MaybeObstacle;
 use groups::Group;
@@ -10,7 +12,6 @@ use kinds::MaybePair;
 use kinds::Obstacle;
 use kinds::Pair;
 use kinds::Vertex;
-use tapes::ROOM;
 
 pub struct Four {
     pub a: Group,

@@ -1,4 +1,6 @@
 // What a line answers, as numbers: handles by their serials, obstacles and groups whole.
+use crate::tapes;
+use crate::tapes::ROOM;
 use groups::Group;
 use groups::Kind;
 use kinds::GrowState;
@@ -6,7 +8,6 @@ use kinds::Handle;
 use kinds::MaybePair;
 use kinds::Obstacle;
 use kinds::Pair;
-use tapes::ROOM;
 
 pub fn bit(yes: bool) -> i64 {
     if yes {

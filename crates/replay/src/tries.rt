@@ -1,7 +1,8 @@
 // A refused line, looked at twice: every word is as it was before; and on the same words with no next serial, which no bench has, the line is BROKEN
 // whatever else is wrong with it, and again every word stays.
+use crate::tapes;
+use crate::tapes::ROOM;
 use bench_words::WORDS;
-use tapes::ROOM;
 
 // A number that no answer ends in: said where a refused line did what it should not.
 const WRONG: i64 = -77;

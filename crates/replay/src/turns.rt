@@ -6,9 +6,10 @@ use crate::nodes;
 use crate::packs;
 use crate::packs::Four;
 use crate::packs::Packed;
+use crate::tapes;
+use crate::tapes::ROOM;
 use crate::tries;
 use bench_words::WORDS;
-use tapes::ROOM;
 
 // The lines that change the bench.
 fn changes(

@@ -9,6 +9,7 @@ use mathlib.Core.List.{List, [], _∷_}
 use native.Mathlib.Decide.{ℕ-discrete}
 use lib.ListN.{getD}
 use lib.IntN.{ℤ, _+ℤ_}
+use Rattle.bench_words.specs.Codec.{sumOffset, speedOffset}
 use Rattle.bench_words.specs.Store.{nodeAt, interfaceAt}
 use Rattle.bench_words.specs.declared.Up.the-variants.{Top}
 use Rattle.ledger_spec.specs.Bench.{Bench}
@@ -94,8 +95,8 @@ module _ {n : ℕ} {b : List ℕ} (O : Opened n b) {cs : List Call} {rs : List A
 
   -- demand 3, of the stored words: sum and speed of each interface without a parent
   pub record RightWords (i : ℕ) : Type 0 where
-    pub sum : off 4611686018427387904 (interfaceAt b′ i .sum) ≡ treeSum (top (view b′)) (valuesAt book) i
-    pub speed : off 1024 (interfaceAt b′ i .speed) ≡ treeSum (top (view b′)) (ratesAt book) i
+    pub sum : off sumOffset (interfaceAt b′ i .sum) ≡ treeSum (top (view b′)) (valuesAt book) i
+    pub speed : off speedOffset (interfaceAt b′ i .speed) ≡ treeSum (top (view b′)) (ratesAt book) i
 
   pub right-words : (i : ℕ) → i < 8 → interfaceAt b′ i .parent ≡ Top → RightWords i
   right-words i l t =

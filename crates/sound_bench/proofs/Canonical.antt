@@ -19,7 +19,7 @@ use Rattle.ledger_spec.specs.Frame.{Frame}
 use Rattle.bench_views.specs.Records.{Steady, noNode}
 use Rattle.bench_views.specs.View.{view}
 use Rattle.bench_views.specs.Canon.{walk, Seated, Alone, Coded, Canon}
-use Rattle.sound_words.proofs.Codings.{Coding, blank-none, blank-coded, link-words, spare-words}
+use Rattle.sound_trees.proofs.Codings.{Coding, blank-none, blank-coded, link-words, spare-words}
 use Rattle.sound_trees.proofs.Framing.{Linked, interface-says, interface-coded, linked-frame, linked-steady}
 use Rattle.sound_nodes.specs.Nodes.{handleIn}
 use Rattle.sound_bench.proofs.Seeing.{by-place}

@@ -15,7 +15,7 @@ use Rattle.ledger_spec.proofs.Lists.{not-in-nil, in-cases, tally-yes, tally-no}
 use Rattle.ledger_spec.proofs.Knit.{same-handle, same-self}
 use Rattle.bench_views.specs.View.{follow, handleAt, memberAt}
 use Rattle.bench_views.specs.Canon.{walk}
-use Rattle.sound_words.specs.Below.{sumTo}
+use Rattle.sound_trees.specs.Below.{sumTo}
 
 pub length-follow : (n : ℕ) (A : ℕ → Node) (p : ℕ) → length (follow n A p) ≡ n
 unfolding follow

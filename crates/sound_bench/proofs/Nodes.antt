@@ -1,7 +1,7 @@
 -- The tests of a node and the facts that they say, both ways: its class and circle, its parent and place, its value. Assumes nothing.
 use Prim.Native.Nat.{ℕ, _+_, _-_, _*_, _<_, _≤_}
 use mathlib.Core.Path.{_≡_, refl, sym, _∙_, ap}
-use mathlib.Core.Bool.{true, false, not, _&&_, true≢false}
+use mathlib.Core.Bool.{true, not, _&&_, true≢false}
 use mathlib.Core.List.{List}
 use lib.Dec.{eqb, leb, ltb}
 use borrow.Author.Tests.{eqb-true, eqb-false, eq-eqb, ne-eqb, leb-true, le-leb, ltb-true, lt-ltb, not-true}
@@ -21,8 +21,8 @@ use Rattle.ledger_spec.specs.Look.{climb}
 use Rattle.ledger_spec.proofs.Lists.{and-true, both-true}
 use Rattle.bench_views.specs.View.{valueBy, view}
 use Rattle.bench_views.specs.Canon.{walk, Alone}
-use Rattle.sound_words.specs.Below.{allTo, sumTo}
-use Rattle.sound_words.proofs.Belows.{all-each, all-of}
+use Rattle.sound_trees.specs.Below.{allTo, sumTo}
+use Rattle.sound_trees.proofs.Belows.{all-each, all-of}
 use Rattle.sound_rings.specs.Rings.{isInside, memberOf, memberTest, sizeIn, ringTest, classTest}
 use Rattle.sound_seats.specs.Seats.{isStay, aloneTest, seatIn, parentTest}
 use Rattle.sound_nodes.specs.Nodes.{nearTest}

@@ -11,10 +11,10 @@ use Rattle.bench_words.specs.Store.{nodeAt, interfaceAt}
 use Rattle.ledger_spec.specs.Look.{climb}
 use Rattle.ledger_spec.proofs.Lists.{and-true, both-true}
 use Rattle.bench_views.specs.View.{sumUp, view}
-use Rattle.sound_words.specs.Below.{allTo}
+use Rattle.sound_trees.specs.Below.{allTo}
 use Rattle.bench_words.specs.Coding.{blankAt, codedAt}
-use Rattle.sound_words.proofs.Belows.{all-each, all-of}
-use Rattle.sound_words.proofs.Codings.{Coding, coded-words, words-coded}
+use Rattle.sound_trees.proofs.Belows.{all-each, all-of}
+use Rattle.sound_trees.proofs.Codings.{Coding, coded-words, words-coded}
 use Rattle.sound_trees.specs.Links.{interfaceTest}
 use Rattle.sound_trees.specs.Width.{widthOf}
 use Rattle.sound_rings.specs.Rings.{classTest}

@@ -39,9 +39,9 @@ use Rattle.bench_views.proofs.Views.{interface-in, view-next, view-slot, view-p
 use Rattle.bench_views.proofs.Rings.{slot-held, Ringed, ringed}
 use Rattle.bench_views.proofs.Ranges.{off-range, ranged}
 use Rattle.bench_views.proofs.Fits.{fit-of}
-use Rattle.sound_words.specs.Below.{allTo, between}
-use Rattle.sound_words.proofs.Belows.{all-of}
-use Rattle.sound_words.proofs.Codings.{none-blank, words-link, words-spare}
+use Rattle.sound_trees.specs.Below.{allTo, between}
+use Rattle.sound_trees.proofs.Belows.{all-of}
+use Rattle.sound_trees.proofs.Codings.{none-blank, words-link, words-spare}
 use Rattle.sound_trees.specs.Width.{widthOf}
 use Rattle.sound_trees.proofs.Framing.{interface-holds, frame-linked}
 use Rattle.sound_trees.proofs.Widths.{width-is}

@@ -7,8 +7,8 @@ use lib.Dec.{eqb, leb}
 use lib.ListN.{length, getD}
 use borrow.Author.Tests.{eq-eqb, ne-eqb, le-leb, lt-leb}
 use Rattle.bench_views.specs.Records.{Steady}
-use Rattle.sound_words.specs.Below.{allTo}
-use Rattle.sound_words.proofs.Belows.{all-each}
+use Rattle.sound_trees.specs.Below.{allTo}
+use Rattle.sound_trees.proofs.Belows.{all-each}
 use Rattle.sound_trees.specs.Links.{interfaceTest}
 use Rattle.sound_trees.proofs.Framing.{interface-says, linked-steady}
 use Rattle.sound_nodes.specs.Nodes.{slotsTest}

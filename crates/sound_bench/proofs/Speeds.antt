@@ -31,7 +31,7 @@ use Rattle.ledger_spec.proofs.Interfaces.{over-snoc}
 use Rattle.bench_views.proofs.Offsets.{off-zero}
 use Rattle.bench_views.proofs.Tabs.{tab-snoc}
 use Rattle.bench_views.proofs.Views.{interface-in}
-use Rattle.sound_words.specs.Below.{sumTo}
+use Rattle.sound_trees.specs.Below.{sumTo}
 use Rattle.sound_tops.specs.Tops.{rateIn, paceUnder, paceOf}
 
 -- ---- near

@@ -36,8 +36,8 @@ use Rattle.bench_views.specs.View.{off, upSeen, over, sumUp, valueBy, circleOf,
 use Rattle.bench_views.specs.Canon.{walk}
 use Rattle.bench_views.proofs.Views.{interface-in, view-next, view-eight, view-count, view-slot, view-parent}
 use Rattle.bench_views.proofs.Rings.{slot-held}
-use Rattle.sound_words.specs.Below.{allTo, between}
-use Rattle.sound_words.proofs.Belows.{all-each}
+use Rattle.sound_trees.specs.Below.{allTo, between}
+use Rattle.sound_trees.proofs.Belows.{all-each}
 use Rattle.sound_trees.specs.Width.{widthOf}
 use Rattle.sound_trees.proofs.Widths.{width-is}
 use Rattle.sound_nodes.specs.Nodes.{handleIn}

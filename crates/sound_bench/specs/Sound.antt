@@ -5,7 +5,7 @@ use mathlib.Core.Bool.{Bool, not, _&&_}
 use mathlib.Core.List.{List}
 use lib.Dec.{eqb, leb}
 use lib.ListN.{getD}
-use Rattle.sound_words.specs.Below.{allTo}
+use Rattle.sound_trees.specs.Below.{allTo}
 use Rattle.sound_trees.specs.Links.{interfaceTest}
 use Rattle.sound_nodes.specs.Nodes.{slotsTest}
 use Rattle.sound_tops.specs.Tops.{topTest}

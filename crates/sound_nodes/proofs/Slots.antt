@@ -14,7 +14,7 @@ use Rattle.bench_words.proofs.Laws.{GoodParent, good-node}
 use Rattle.ledger_spec.specs.Look.{climb}
 use Rattle.bench_views.specs.View.{valueBy, sumUp, view}
 use Rattle.bench_trees.specs.Climb.{Climbs}
-use Rattle.sound_words.specs.Below.{allTo, between}
+use Rattle.sound_trees.specs.Below.{allTo, between}
 use Rattle.bench_words.specs.Coding.{blankAt, codedAt}
 use Rattle.sound_trees.specs.Width.{widthOf}
 use Rattle.sound_rings.specs.Rings.{classTest}

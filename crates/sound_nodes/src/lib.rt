@@ -6,7 +6,7 @@ use kinds::Handle;
 ghost use mathlib.Core.Path.{_≡_};
 ghost use Prim.Native.Nat.{_<_, _≤_};
 ghost use Rattle.bench_views.specs.Records.{Steady};
-ghost use Rattle.sound_words.specs.Below.{allTo};
+ghost use Rattle.sound_trees.specs.Below.{allTo};
 ghost use Rattle.sound_nodes.specs.Nodes.{Grounds, nearTest, nodeTest, slotTest, slotsTest};
 
 // What the nodes of one interface have in common: the top of their tree, T and W.

@@ -15,8 +15,8 @@ use Rattle.kinds.specs.declared.Vertex.{Vertex}
 use Rattle.bench_words.specs.declared.Node.{Node}
 use Rattle.ledger_spec.proofs.Lists.{and-true}
 use Rattle.bench_views.specs.Canon.{walk}
-use Rattle.sound_words.specs.Below.{allTo, sumTo}
-use Rattle.sound_words.proofs.Belows.{all-none, all-more, all-not, sum-none, sum-more}
+use Rattle.sound_trees.specs.Below.{allTo, sumTo}
+use Rattle.sound_trees.proofs.Belows.{all-none, all-more, all-not, sum-none, sum-more}
 use Rattle.sound_rings.specs.Rings.{isInside, memberOf, memberTest, sizeIn, ringTest, classTest}
 
 pub inside-known : (p : Parent) (q h : Handle) (t : Bool) → p ≡ Inside q → t ≡ sameCode q h → t ≡ isInside p h

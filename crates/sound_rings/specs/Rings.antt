@@ -9,7 +9,7 @@ use Rattle.kinds.specs.declared.Parent.the-variants.{Outermost, Inside}
 use Rattle.bench_words.specs.declared.Node.{Node}
 use Rattle.bench_views.specs.View.{byClass}
 use Rattle.bench_views.specs.Canon.{walk}
-use Rattle.sound_words.specs.Below.{allTo, sumTo}
+use Rattle.sound_trees.specs.Below.{allTo, sumTo}
 
 abbrev pub isInside : Parent → Handle → Bool
 isInside Outermost h = false

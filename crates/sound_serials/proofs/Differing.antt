@@ -6,7 +6,7 @@ use mathlib.Core.List.{List}
 use borrow.Author.Tests.{eq-eqb, ne-eqb}
 use Rattle.bench_words.specs.Store.{nodeAt}
 use Rattle.bench_words.specs.declared.Node.{Node}
-use Rattle.sound_words.specs.Below.{allTo}
+use Rattle.sound_trees.specs.Below.{allTo}
 use Rattle.sound_serials.specs.Different.{serialAt, unlike, onceTest}
 
 pub serial-of : (b : List ℕ) (k : ℕ) (n : Node) → n ≡ nodeAt b k → n .serial .0 ≡ serialAt b k

@@ -10,8 +10,8 @@ use lib.Dec.{eqb}
 use lib.ListN.{length, getD, set, length-set}
 use lib.Seq.{getD-set-same, getD-set-other}
 use borrow.Author.Tests.{eq-eqb, ne-eqb}
-use Rattle.sound_words.specs.Below.{allTo}
-use Rattle.sound_words.proofs.Belows.{all-none, all-more, all-of, all-done}
+use Rattle.sound_trees.specs.Below.{allTo}
+use Rattle.sound_trees.proofs.Belows.{all-none, all-more, all-of, all-done}
 use Rattle.sound_serials.specs.Different.{serialAt, unlike, onceTest, Marks}
 
 pub mark-none : (t : List ℕ) (x : ℕ) → x ≡ 0 → Marks t x t true

@@ -6,7 +6,7 @@ use mathlib.Core.List.{List}
 use lib.Dec.{eqb}
 use lib.ListN.{length, getD}
 use Rattle.bench_words.specs.Store.{nodeAt}
-use Rattle.sound_words.specs.Below.{allTo}
+use Rattle.sound_trees.specs.Below.{allTo}
 
 abbrev pub serialAt : List ℕ → ℕ → ℕ
 serialAt b k = nodeAt b k .serial .0

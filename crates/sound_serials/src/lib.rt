@@ -4,7 +4,7 @@ use bench_words::WORDS;
 ghost use mathlib.Core.Path.{_≡_};
 ghost use Prim.Native.Nat.{_<_, _≤_};
 ghost use lib.ListN.{length};
-ghost use Rattle.sound_words.specs.Below.{allTo};
+ghost use Rattle.sound_trees.specs.Below.{allTo};
 ghost use Rattle.sound_serials.specs.Different.{serialAt, unlike, onceTest, Marks};
 
 fn serial_at(b: &[u64; WORDS], k: usize) -> u32

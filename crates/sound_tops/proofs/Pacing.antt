@@ -15,8 +15,8 @@ use Rattle.ledger_spec.specs.Look.{climb}
 use Rattle.bench_views.specs.Records.{rateOf, Steady}
 use Rattle.bench_views.specs.View.{over, view}
 use Rattle.bench_trees.specs.Climb.{Climbs}
-use Rattle.sound_words.specs.Below.{sumTo, between}
-use Rattle.sound_words.proofs.Belows.{sum-none, sum-more}
+use Rattle.sound_trees.specs.Below.{sumTo, between}
+use Rattle.sound_trees.proofs.Belows.{sum-none, sum-more}
 use Rattle.sound_trees.specs.Width.{widthOf}
 use Rattle.sound_tops.specs.Tops.{rateIn, paceUnder, paceOf, topIn, topTest}
 

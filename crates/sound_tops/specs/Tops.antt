@@ -9,7 +9,7 @@ use Rattle.bench_words.specs.declared.Interface.{Interface}
 use Rattle.ledger_spec.specs.Look.{climb}
 use Rattle.bench_views.specs.Records.{rateOf}
 use Rattle.bench_views.specs.View.{over, view}
-use Rattle.sound_words.specs.Below.{sumTo, between}
+use Rattle.sound_trees.specs.Below.{sumTo, between}
 use Rattle.sound_trees.specs.Width.{widthOf}
 
 -- the share of slot s of interface u, one higher than it is

@@ -5,7 +5,7 @@ use bench_words::WORDS;
 ghost use mathlib.Core.Path.{_≡_};
 ghost use Prim.Native.Nat.{_<_, _≤_};
 ghost use Rattle.bench_views.specs.Records.{Steady};
-ghost use Rattle.sound_words.specs.Below.{allTo, sumTo};
+ghost use Rattle.sound_trees.specs.Below.{allTo, sumTo};
 ghost use Rattle.sound_tops.specs.Tops.{rateIn, paceUnder, paceOf, topTest};
 
 // The shares of the speed of an interface's first slots, each one higher than it is.

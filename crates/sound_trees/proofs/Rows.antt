@@ -16,9 +16,9 @@ use Rattle.bench_views.specs.Records.{Steady}
 use Rattle.bench_views.specs.View.{view}
 use Rattle.bench_views.proofs.Sums.{bounded}
 use Rattle.bench_trees.specs.Climb.{Climbs}
-use Rattle.sound_words.specs.Below.{sumTo}
+use Rattle.sound_trees.specs.Below.{sumTo}
 use Rattle.bench_words.specs.Coding.{spareAt, linkAt}
-use Rattle.sound_words.proofs.Belows.{sum-none, sum-more}
+use Rattle.sound_trees.proofs.Belows.{sum-none, sum-more}
 use Rattle.sound_trees.specs.Links.{isUnder, upTest, downTest, interfaceTest}
 use Rattle.sound_trees.specs.Width.{progressUnder, widthOf}
 

@@ -1,5 +1,5 @@
 -- W by tops is the ledger's W down the halves. Assumes nothing.
-use Prim.Native.Nat.{ℕ, zero, suc, _+_, _<_}
+use Prim.Native.Nat.{ℕ, zero, suc, _<_}
 use mathlib.Core.Path.{_≡_, refl, sym, _∙_, ap, ap₂}
 use mathlib.Core.Bool.{Bool, true, false}
 use mathlib.Core.Option.{none}
@@ -18,7 +18,7 @@ use Rattle.ledger_spec.proofs.Sums.{Σ-same}
 use Rattle.ledger_spec.proofs.Bounds.{progressIn, W-under}
 use Rattle.bench_views.specs.View.{view}
 use Rattle.bench_views.proofs.Views.{interface-in}
-use Rattle.sound_words.specs.Below.{sumTo}
+use Rattle.sound_trees.specs.Below.{sumTo}
 use Rattle.sound_trees.specs.Width.{widthOf}
 
 gate-pos : (c : Bool) (n : ℕ) → gate c (pos n) ≡ pos (pick c n 0)

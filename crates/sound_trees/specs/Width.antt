@@ -6,7 +6,7 @@ use Rattle.bench_words.specs.Codec.{pick}
 use Rattle.bench_words.specs.Store.{interfaceAt}
 use Rattle.ledger_spec.specs.Look.{top}
 use Rattle.bench_views.specs.View.{view}
-use Rattle.sound_words.specs.Below.{sumTo}
+use Rattle.sound_trees.specs.Below.{sumTo}
 
 -- the progress of u, if it climbs to i
 abbrev pub progressUnder : List ℕ → ℕ → ℕ → ℕ

@@ -7,7 +7,7 @@ ghost use Prim.Native.Nat.{_<_, _≤_};
 ghost use Rattle.bench_words.specs.Store.{interfaceAt};
 ghost use Rattle.bench_words.proofs.Laws.{GoodUp};
 ghost use Rattle.bench_views.specs.Records.{Steady};
-ghost use Rattle.sound_words.specs.Below.{allTo};
+ghost use Rattle.sound_trees.specs.Below.{allTo};
 ghost use Rattle.sound_trees.specs.Links.{isUnder, upTest, downTest, interfaceTest};
 ghost use Rattle.sound_trees.specs.Width.{progressUnder, widthOf};
 

@@ -4,8 +4,8 @@ use borrow.Author.Needs.{needs}
 use Prim.Native.Nat.{_-_, _≤_}
 use mathlib.Core.Path.{_≡_, sym}
 use mathlib.Core.Bool.{true}
-use Rattle.sound_words.specs.Below.{allTo}
-use Rattle.sound_words.proofs.Belows.{all-none, all-more, all-not, all-done}
+use Rattle.sound_trees.specs.Below.{allTo}
+use Rattle.sound_trees.proofs.Belows.{all-none, all-more, all-not, all-done}
 use Rattle.sound_serials.specs.Different.{unlike}
 use Rattle.sound_serials.proofs.Differing.{like-no, unlike-yes}
 use Rattle.sound_serials.proofs.is_new.Statement.{statement}

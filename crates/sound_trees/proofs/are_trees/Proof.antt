@@ -6,8 +6,8 @@ use Prim.Native.Nat.{_-_, _≤_}
 use mathlib.Core.Path.{_≡_}
 use mathlib.Core.Path.{sym, _∙_}
 use mathlib.Core.Bool.{true}
-use Rattle.sound_words.specs.Below.{allTo}
-use Rattle.sound_words.proofs.Belows.{all-none, all-more, all-not, all-done}
+use Rattle.sound_trees.specs.Below.{allTo}
+use Rattle.sound_trees.proofs.Belows.{all-none, all-more, all-not, all-done}
 use Rattle.sound_trees.specs.Links.{interfaceTest}
 use Rattle.sound_trees.proofs.are_trees.Statement.{statement}
 use Rattle.sound_trees.proofs.are_trees.Tie as tie

@@ -6,7 +6,7 @@ use Rattle.replay.proofs.acts.notices.Reads as reads
 use Rattle.replay.proofs.acts.notices.Lts as lts
 use Rattle.replay.proofs.acts.told.Reads as told-reads
 use Rattle.replay.proofs.says.few.Reads as few-reads
-use Rattle.tapes.proofs.say.Reads as say-reads
+use Rattle.replay.proofs.tapes.say.Reads as say-reads
 
 abbrev Inv-loop : tie.InvT-loop
 Inv-loop out₀ n list at₀ i₀ out at i = i ≤ list .count

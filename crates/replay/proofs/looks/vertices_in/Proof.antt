@@ -7,8 +7,8 @@ use Rattle.replay.proofs.looks.vertices_in.Lts as lts
 use Rattle.read_any.proofs.get_all_vertices.Reads as get-all-vertices-reads
 use Rattle.replay.proofs.looks.vertex.Reads as vertex-reads
 use Rattle.replay.proofs.nodes.small.Reads as small-reads
-use Rattle.tapes.proofs.say.Reads as say-reads
-use Rattle.tapes.proofs.vertices_within.Reads as vertices-within-reads
+use Rattle.replay.proofs.tapes.say.Reads as say-reads
+use Rattle.replay.proofs.tapes.vertices_within.Reads as vertices-within-reads
 
 abbrev Inv-loop : tie.InvT-loop
 Inv-loop b out₀ room vs most m n₀ i₀ out n i = i ≤ most

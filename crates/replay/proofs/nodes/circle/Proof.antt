@@ -6,7 +6,7 @@ use Rattle.replay.proofs.nodes.circle.Reads as reads
 use Rattle.replay.proofs.nodes.circle.Lts as lts
 use Rattle.replay.proofs.nodes.member.Reads as member-reads
 use Rattle.replay.proofs.nodes.small.Reads as small-reads
-use Rattle.tapes.proofs.say.Reads as say-reads
+use Rattle.replay.proofs.tapes.say.Reads as say-reads
 
 abbrev Inv-loop : tie.InvT-loop
 Inv-loop b out₀ n count first said₀ at₀ i₀ out said at i = i ≤ count

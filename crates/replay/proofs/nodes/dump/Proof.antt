@@ -7,7 +7,7 @@ use Rattle.replay.proofs.nodes.dump.Lts as lts
 use Rattle.read_any.proofs.nodes_count.Reads as nodes-count-reads
 use Rattle.replay.proofs.nodes.slot.Reads as slot-reads
 use Rattle.replay.proofs.nodes.small.Reads as small-reads
-use Rattle.tapes.proofs.say.Reads as say-reads
+use Rattle.replay.proofs.tapes.say.Reads as say-reads
 
 abbrev Inv-loop : tie.InvT-loop
 Inv-loop b out₀ unit c a n₀ i₀ out n i = i ≤ 512

@@ -7,7 +7,7 @@ use Rattle.replay.proofs.says.conflicts.Lts as lts
 use Rattle.replay.proofs.says.entry.Reads as entry-reads
 use Rattle.replay.proofs.says.few.Reads as few-reads
 use Rattle.replay.proofs.says.pending.Reads as pending-reads
-use Rattle.tapes.proofs.say.Reads as say-reads
+use Rattle.replay.proofs.tapes.say.Reads as say-reads
 
 abbrev Inv-loop : tie.InvT-loop
 Inv-loop out₀ n g at₀ i₀ out at i = i ≤ g .listed

@@ -14,8 +14,8 @@ use Rattle.ledger_spec.specs.Check.{circleVerdict, finding}
 use Rattle.ledger_spec.specs.Knit.{In, here, there}
 use Rattle.ledger_spec.proofs.Lists.{or-false, not-in-nil, in-cases}
 use Rattle.ledger_spec.proofs.Knit.{none-some, some-eq}
-use Rattle.check_laws.specs.Clean.{Entry, vertexOf, vertexAt}
-use Rattle.check_laws.proofs.Steps.{walk-none, walk-empty, walk-again, walk-new, walk-ring, walk-bad}
+use Rattle.ledger_laws.specs.Clean.{Entry, vertexOf, vertexAt}
+use Rattle.ledger_laws.proofs.Steps.{walk-none, walk-empty, walk-again, walk-new, walk-ring, walk-bad}
 
 -- a slot whose circle, if it has one, has no finding
 abbrev pub Passes : Bench → Entry → Type 0

@@ -1,7 +1,7 @@
 // A recording's lines: a letter and numbers in, numbers out. A row has room for what any recorded line holds; what is past it is left out, and
 // then does not compare. Assumes nothing.
 use text_fields::NextLength;
-ghost use Rattle.tapes.specs.Counts.{Counts};
+ghost use Rattle.replay.specs.Counts.{Counts};
 
 pub const ROOM: usize = 8192;
 

@@ -1,12 +1,12 @@
 -- What holds of every number below n passes the test of all, and the other way round. Assumes nothing.
-use Prim.Native.Nat.{ℕ, zero, suc, _+_, _*_, _<_, _≤_}
+use Prim.Native.Nat.{ℕ, zero, suc, _+_, _<_}
 use mathlib.Core.Path.{_≡_, refl, sym, _∙_, ap, ap₂}
 use mathlib.Core.Bool.{Bool, true, false, true≢false}
 use native.Mathlib.Decide.{ℕ-discrete}
 use native.Mathlib.Numerals.{add-one}
 use native.Mathlib.Omega.{arith}
 use Rattle.ledger_spec.proofs.Lists.{and-true, both-true}
-use Rattle.sound_words.specs.Below.{allTo, sumTo}
+use Rattle.sound_trees.specs.Below.{allTo, sumTo}
 
 pub all-each : (f : ℕ → Bool) (n : ℕ) → allTo f n ≡ true → (i : ℕ) → i < n → f i ≡ true
 unfolding allTo
@@ -49,11 +49,6 @@ sum-none f = refl
 pub sum-more : (f : ℕ → ℕ) (n : ℕ) → sumTo f (n + 1) ≡ sumTo f n + f n
 unfolding sumTo
 sum-more f n = ap (sumTo f) (add-one n)
-
-pub sum-le : (f : ℕ → ℕ) (m n : ℕ) → ((i : ℕ) → i < n → f i ≤ m) → sumTo f n ≤ n * m
-unfolding sumTo
-sum-le f m zero h = omega arith
-sum-le f m (suc n) h = omega (arith, sum-le f m n (λ i l. h i (omega arith)), h n (omega arith))
 
 pub sum-same : (f g : ℕ → ℕ) (n : ℕ) → ((i : ℕ) → i < n → f i ≡ g i) → sumTo f n ≡ sumTo g n
 unfolding sumTo

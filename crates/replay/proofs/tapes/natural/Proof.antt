@@ -1,8 +1,8 @@
 -- A number that is not negative fits the unsigned type. Assumes nothing.
 use borrow.Author.Needs.{needs}
 use Rattle.text_decimals.proofs.Signs.{plain}
-use Rattle.tapes.proofs.natural.Statement.{statement}
-use Rattle.tapes.proofs.natural.Tie as tie
+use Rattle.replay.proofs.tapes.natural.Statement.{statement}
+use Rattle.replay.proofs.tapes.natural.Tie as tie
 
 returns : tie.Need-returns
 returns c = search needs

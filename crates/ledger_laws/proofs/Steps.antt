@@ -12,7 +12,7 @@ use Rattle.ledger_spec.specs.Change.{worth}
 use Rattle.ledger_spec.specs.Tests.{any, stale, isDefect}
 use Rattle.ledger_spec.specs.Walk.{outermost}
 use Rattle.ledger_spec.specs.Check.{indexIn, memberVerdict, circleVerdict, finding, totalOf, isUnder, strictMember, strictCircle, strictFinding}
-use Rattle.check_laws.specs.Clean.{Entry}
+use Rattle.ledger_laws.specs.Clean.{Entry}
 
 -- ---- a member
 module _ (b : Bench) (m : Member) where

@@ -4,7 +4,7 @@ use mathlib.Core.Path.{sym}
 use mathlib.Core.List.{List}
 use lib.ListN.{length}
 use lib.Seq.{length-take-le}
-use Rattle.tapes.specs.Counts.{Counts}
+use Rattle.replay.specs.Counts.{Counts}
 
 pub counts : (n : ℕ) (xs : List ℕ) → n ≤ length xs → Counts n xs
 counts n xs h = (h, sym (length-take-le n xs h))

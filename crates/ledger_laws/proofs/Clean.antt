@@ -15,10 +15,10 @@ use Rattle.ledger_spec.specs.Reads.{slotsOf}
 use Rattle.ledger_spec.specs.Check.{totalOf, verdict}
 use Rattle.ledger_spec.specs.Book.{turns, newBook}
 use Rattle.ledger_spec.proofs.Ints.{zero-diff, diff-zero}
 use Rattle.ledger_laws.proofs.Five.{found, verdict-found, verdict-zero, verdict-five, five-only, went, five, five-went}
-use Rattle.check_laws.specs.Clean.{Ordered, Clean}
-use Rattle.check_laws.proofs.Rings.{ring-weak, weak-ring}
-use Rattle.check_laws.proofs.Walked.{Tidy, walk-tidy, tidy-walk}
+use Rattle.ledger_laws.specs.Clean.{Ordered, Clean}
+use Rattle.ledger_laws.proofs.Rings.{ring-weak, weak-ring}
+use Rattle.ledger_laws.proofs.Walked.{Tidy, walk-tidy, tidy-walk}
 
 module _ (b : Bench) (u : ℕ) where
   -- ---- the walk finds nothing exactly there

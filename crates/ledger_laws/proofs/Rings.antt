@@ -14,8 +14,8 @@ use Rattle.ledger_spec.specs.Check.{memberVerdict, circleVerdict}
 use Rattle.ledger_spec.specs.Knit.{In, here, there}
 use Rattle.ledger_spec.proofs.Lists.{and-true, both-true, or-false, not-in-nil, in-cases}
 use Rattle.ledger_spec.proofs.Knit.{same-handle, same-self}
-use Rattle.check_laws.specs.Clean.{Near, Weak}
-use Rattle.check_laws.proofs.Steps.{member-defect, member-two, member-four, member-three, member-near, nearBoth, circle-on, circle-bad, circle-none}
+use Rattle.ledger_laws.specs.Clean.{Near, Weak}
+use Rattle.ledger_laws.proofs.Steps.{member-defect, member-two, member-four, member-three, member-near, nearBoth, circle-on, circle-bad, circle-none}
 
 -- ---- a handle that names no node
 module _ (b : Bench) (t : Handle) where

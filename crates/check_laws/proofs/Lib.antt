@@ -1,4 +1,0 @@
-pub mod Steps
-pub mod Rings
-pub mod Walked
-pub mod Clean

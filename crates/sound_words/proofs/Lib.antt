@@ -1,2 +1,0 @@
-pub mod Belows
-pub mod Codings
