@@ -52,6 +52,7 @@ defect-came b F u v P w s x e = go (ℕ-discrete w u) (ℕ-discrete s (length (i
     go : Dec (w ≡ u) → Dec (s ≡ length (interface b u .slots)) → Stem b 0 w s x ⊎ New b (addDefect b u v) w s x
     go (yes p) (yes q) = inr (record {
       bare = ap₂ (slotOf b) p q ∙ bare b u;
+      serial = ap (λ (n : Node). n .serial) x-is;
       ring = defect-ring (addDefect b u v) x v (ap (λ (n : Node). n .class) x-is) (ap (λ (n : Node). n .size) x-is);
       value = ap (λ (n : Node). n .value) x-is;
     })
@@ -130,6 +131,7 @@ module _ (b : Bench) (S : Sound b) (u : ℕ) (hs : List Handle) (ts : List (Hand
           (ap₂ (slotOf b′) (sym f) (sym g) ∙ blossom-member b u hs ts low h i (away b u hs ts P h i) ∙ ap₂ (λ (y z : ℕ). restate (slotOf b y z) stays (some (newHandle b u))) f g) e)
       go (miss m) (yes p) (yes q) = inr (record {
         bare = ap₂ (slotOf b) p q ∙ bare b u;
+        serial = ap (λ (n : Node). n .serial) x-is;
         ring = subst (Ring b′) (sym x-is) new-ring;
         value = ap (λ (n : Node). n .value) x-is;
       })

@@ -26,3 +26,6 @@ pub mod Steps
 pub mod Rings
 pub mod Walked
 pub mod Clean
+pub mod Made
+pub mod Never
+pub mod Stale

@@ -26,6 +26,7 @@ pub record Stem (b : Bench) (d u s : ℕ) (x : Node) : Type 0 where
 
 pub record New (b b′ : Bench) (u s : ℕ) (x : Node) : Type 0 where
   pub bare : slotOf b u s ≡ none
+  pub serial : x .serial ≡ b .next
   pub ring : Ring b′ x
   pub value : x .value ≡ pos 0
 

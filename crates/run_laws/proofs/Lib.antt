@@ -1,3 +1,4 @@
 pub mod Running
 pub mod Fused
 pub mod Once
+pub mod NeverWords
