@@ -14,7 +14,7 @@ use lib.Signed.{ltZ}
 use mir.Syntax.{w64}
 use mir.Val.{SFits}
 use Rattle.ledger_spec.specs.Bench.{Handle, State, stays, grows, Node, Bench}
-use Rattle.ledger_spec.specs.Look.{interface, slotOf, nodeAt}
+use Rattle.ledger_spec.specs.Look.{interface, slotOf, nodeNamed}
 use Rattle.ledger_spec.specs.Tests.{first}
 use Rattle.ledger_spec.specs.Deeds.{newHandle, members}
 use Rattle.ledger_spec.specs.Calls.{Call, Defect, Blossom, Expand, SetState, Grow, Fuse, Clear, nobody}
@@ -86,7 +86,7 @@ module _ (b : Bench) (S : Sound b) where
   new u O r w = (O .low, r, w)
 
   -- the members of a blossom
-  below : (u : ℕ) (h : Handle) (P : ExpandPassed b u h) (g : Handle) → In g (members (nodeAt b h)) → Good g
+  below : (u : ℕ) (h : Handle) (P : ExpandPassed b u h) (g : Handle) → In g (members (nodeNamed b h)) → Good g
   below u h P g i = present g (D .node) (D .has)
     where
       D : Down (slotOf b) g (mk (h .unit) (h .slot) (P .named .node))
@@ -106,7 +106,7 @@ module _ (b : Bench) (S : Sound b) where
       good-states stays hs f (shrinkPrepared hs ∷ blossomAdded (newHandle b u) ∷ []) (good-ring hs f, (new u (P .here) (P .room) (P .unworn), tt))
   good-tells (Expand u h) e =
       let P = expand-passed b u h e in
-      (present h (P .named .node) (P .named .has), subst AllGood (append-nil (map (λ (g : Handle). stateSet g grows) (members (nodeAt b h)))) (good-states grows (members (nodeAt b h)) (below u h P) [] tt))
+      (present h (P .named .node) (P .named .has), subst AllGood (append-nil (map (λ (g : Handle). stateSet g grows) (members (nodeNamed b h)))) (good-states grows (members (nodeNamed b h)) (below u h P) [] tt))
   good-tells (SetState u h s) e = let P = state-passed b u h e in (present h (P .named .node) (P .named .has), tt)
   good-tells (Grow u l) e = (short u l (grow-passed b u l e), tt)
   good-tells (Fuse p l r) e = tt

@@ -10,7 +10,7 @@ use native.Mathlib.Omega.{arith}
 use lib.Dec.{eqb}
 use borrow.Author.Tests.{eqb-true}
 use Rattle.ledger_spec.specs.Bench.{Handle, Node, Bench}
-use Rattle.ledger_spec.specs.Look.{slotOf, nodeAt}
+use Rattle.ledger_spec.specs.Look.{slotOf, nodeNamed}
 use Rattle.ledger_spec.specs.Tests.{first}
 use Rattle.ledger_spec.specs.Deeds.{newHandle}
 use Rattle.ledger_spec.specs.Calls.{Call, Defect, Blossom, Expand, SetState, Grow, Fuse, Clear}
@@ -81,10 +81,10 @@ deed-born b S (Fuse p l r) e = from-came b (deedOf b (Fuse p l r)) still (fuse-c
 deed-born b S (Clear u) e = from-came b (deedOf b (Clear u)) still (clear-came b u)
 
 -- ---- a handle that names no node any more
-still-none : (b b′ : Bench) → Born b b′ → (h : Handle) → h .serial < b .next → nodeAt b h ≡ none → nodeAt b′ h ≡ none
-still-none b b′ B h l e = go (nodeAt b′ h) refl
+still-none : (b b′ : Bench) → Born b b′ → (h : Handle) → h .serial < b .next → nodeNamed b h ≡ none → nodeNamed b′ h ≡ none
+still-none b b′ B h l e = go (nodeNamed b′ h) refl
   where
-    go : (o : Option Node) → nodeAt b′ h ≡ o → nodeAt b′ h ≡ none
+    go : (o : Option Node) → nodeNamed b′ h ≡ o → nodeNamed b′ h ≡ none
     go none z = z
     go (some x) z = absurd (was (B (h .unit) (h .slot) x (H .stands)))
       where
@@ -95,18 +95,18 @@ still-none b b′ B h l e = go (nodeAt b′ h) refl
         was (inl p) = omega (arith, p, l, H .serial)
         was (inr r) = none-some e (has-node b h (r .0) (record { stands = r .1; serial = r .2 ∙ H .serial }))
 
-never-once : (b : Bench) (c : Call) (h : Handle) → h .serial < b .next → nodeAt b h ≡ none → nodeAt (answer b c .bench) h ≡ none
-never-once b c h l e = after (λ (d : Bench). nodeAt d h ≡ none) b c e (λ S z. still-none b (deedOf b c) (deed-born b S c z) h l e)
+never-once : (b : Bench) (c : Call) (h : Handle) → h .serial < b .next → nodeNamed b h ≡ none → nodeNamed (answer b c .bench) h ≡ none
+never-once b c h l e = after (λ (d : Bench). nodeNamed d h ≡ none) b c e (λ S z. still-none b (deedOf b c) (deed-born b S c z) h l e)
 
 -- a handle of a serial that was given out, naming no present node, names none after any calls
-pub never-again : (k : Book) (cs : List Call) (h : Handle) → h .serial < k .bench .next → nodeAt (k .bench) h ≡ none → nodeAt (turns k cs .bench) h ≡ none
+pub never-again : (k : Book) (cs : List Call) (h : Handle) → h .serial < k .bench .next → nodeNamed (k .bench) h ≡ none → nodeNamed (turns k cs .bench) h ≡ none
 unfolding turns turn
 never-again k [] h l e = e
 never-again k (c ∷ cs) h l e = never-again (turn k c) cs h (omega (arith, l, next-grows (k .bench) c)) (never-once (k .bench) c h l e)
 
 -- a handle that named a node once and names none later, names none ever after
-pub gone-for-ever : (k : Book) → Sound (k .bench) → (cs ds : List Call) (h : Handle) (n : Node) → nodeAt (k .bench) h ≡ some n → nodeAt (turns k cs .bench) h ≡ none
-    → nodeAt (turns (turns k cs) ds .bench) h ≡ none
+pub gone-for-ever : (k : Book) → Sound (k .bench) → (cs ds : List Call) (h : Handle) (n : Node) → nodeNamed (k .bench) h ≡ some n → nodeNamed (turns k cs .bench) h ≡ none
+    → nodeNamed (turns (turns k cs) ds .bench) h ≡ none
 gone-for-ever k S cs ds h n e f = never-again (turns k cs) ds h (omega (arith, l, next-never-falls k cs)) f
   where
     H : Has (slotOf (k .bench)) h n

@@ -11,12 +11,12 @@ use lib.Dec.{eqb, ltb}
 use lib.ListN.{length}
 use lib.IntN.{pos}
 use Rattle.ledger_spec.specs.Bench.{Handle, Bench}
-use Rattle.ledger_spec.specs.Look.{nodeAt}
-use Rattle.ledger_spec.specs.Tests.{first, any, given, empty, outside, child, stale, foreign, both}
+use Rattle.ledger_spec.specs.Look.{nodeNamed}
+use Rattle.ledger_spec.specs.Tests.{first, any, isSome, empty, outside, child, stale, foreign, both}
 use Rattle.ledger_spec.specs.Refuse.{blossomTests, expandTests, stateTests}
 use Rattle.ledger_spec.specs.Calls.{nobody, Call, Defect, Blossom, Expand, SetState, Grow, Fuse, Clear}
 use Rattle.ledger_spec.specs.Reads.{said, nodeTests, valueOf, belongs}
-use Rattle.ledger_spec.specs.Walk.{outerOf, underTests, underOf, firstVertex, sizeTests, verticesInto}
+use Rattle.ledger_spec.specs.Walk.{outerOf, belowTests, belowOf, firstVertex, sizeTests, verticesInto}
 use Rattle.ledger_spec.specs.Sound.{sound}
 use Rattle.ledger_spec.specs.Answers.{answer}
 use Rattle.ledger_spec.specs.Knit.{In, here, there}
@@ -32,7 +32,7 @@ pub record Refused (n : ℕ) : Type 0 where
 pub record Nameless (b : Bench) (h : Handle) : Type 0 where
   pub value : valueOf b h ≡ (8, pos 0)
   pub outer : outerOf b h ≡ (8, (nobody, 0))
-  pub under : underOf b h ≡ (8, nobody)
+  pub under : belowOf b h ≡ (8, nobody)
   pub vertex : firstVertex b h ≡ (8, 0)
   pub vertices : (out : List ℕ) → verticesInto b h out ≡ (8, (0, out))
   pub belonging : (u : ℕ) → belongs b u h .1 ≡ false
@@ -62,9 +62,9 @@ any-yes p h hs (there {g} {hs = tl} i) e = ap (λ (t : Bool). p g || t) (any-yes
     or-true true = refl
     or-true false = refl
 
-module _ (b : Bench) (h : Handle) (e : nodeAt b h ≡ none) where
+module _ (b : Bench) (h : Handle) (e : nodeNamed b h ≡ none) where
   is-stale : stale b h ≡ true
-  is-stale = ap (λ o. not (given o)) e
+  is-stale = ap (λ o. not (isSome o)) e
 
   first-eight : (t : Bool) (ts : List (Bool × ℕ)) → t ≡ true → first ((t, 8) ∷ ts) ≡ 8
   unfolding first
@@ -109,7 +109,7 @@ module _ (b : Bench) (h : Handle) (e : nodeAt b h ≡ none) where
   tests-refused (Clear u) i = absurd (not-in-nil i)
 
   pub nameless : Nameless b h
-  unfolding valueOf outerOf underOf firstVertex verticesInto belongs underTests sizeTests
+  unfolding valueOf outerOf belowOf firstVertex verticesInto belongs belowTests sizeTests
   nameless = record {
     value = said-eight _ _ (pos 0) node-eight;
     outer = said-eight _ _ (nobody, 0) node-eight;
