@@ -1,11 +1,14 @@
 //! The benchmark: the original's bare calls and the linked ledger's in one run, over the fixed list and call by call. Best of several passes, each side in turn, by
 //! processor time. Prints a table, and writes the same numbers as lines of tabs for the picture.
 use crate::ledger::state;
+use crate::nests::{self, BY_CALLS, BY_HAND};
+use crate::words::encode;
 use dual_ledger::{lent, Bench, DualModule, GrowState, Handle};
 use oracle::line::{read, Line};
 use oracle::timing::{self, by_kind, keep, kind, least, processor, whole, Original, Timed, KINDS};
 use original::pointers::RwLockPtr;
 use std::fmt::Write;
+use std::hint::black_box;
 
 const PASSES: usize = 7;
 
@@ -101,7 +104,7 @@ impl Timed for Linked {
 struct Row {
     what: String,
     nodes: usize,
-    original: f64,
+    original: Option<f64>,
     trusted: f64,
     told: Option<f64>,
     public: Option<f64>,
@@ -118,11 +121,11 @@ fn list(lines: &[Line]) -> Vec<Row> {
         let times = [by_kind(lines, Original::new(n, false, false)), by_kind(lines, Linked::new(n, false)), by_kind(lines, Linked::new(n, true))];
         kinds.iter_mut().flatten().zip(times.iter().flatten()).for_each(|(best, time)| *best = least(*best, *time));
     }
-    let mut rows = vec![Row { what: "list".to_string(), nodes: n, original: all[0], trusted: all[1], told: Some(all[2]), public: None }];
+    let mut rows = vec![Row { what: "list".to_string(), nodes: n, original: Some(all[0]), trusted: all[1], told: Some(all[2]), public: None }];
     for (at, letter) in KINDS.chars().enumerate() {
         if let (Some(original), Some(trusted)) = (kinds[0][at], kinds[1][at]) {
             let nodes = lines.iter().filter(|line| kind(line) == at).count();
-            rows.push(Row { what: letter.to_string(), nodes, original, trusted, told: kinds[2][at], public: None });
+            rows.push(Row { what: letter.to_string(), nodes, original: Some(original), trusted, told: kinds[2][at], public: None });
         }
     }
     rows
@@ -180,7 +183,14 @@ fn singles(nodes: usize) -> Vec<Row> {
     let node = theirs.nodes.last().cloned().flatten().expect("there are nodes");
     let (grow, set) = (Line::Grow(top as u32, 1), |at: u64| Line::SetState(top as u32, last.serial(), (at % 3) as i64 - 1));
     let sets = [set(0), set(1), set(2)];
-    let row = |what: &str, original, trusted, told, public| Row { what: what.to_string(), nodes, original, trusted, told, public: Some(public) };
+    let row = |what: &str, original, trusted, told, public| Row {
+        what: what.to_string(),
+        nodes,
+        original: Some(original),
+        trusted,
+        told,
+        public: Some(public),
+    };
     vec![
         row(
             "grow",
@@ -213,17 +223,49 @@ fn singles(nodes: usize) -> Vec<Row> {
     ]
 }
 
+/// The walk up from the defect of a nest of so many links, which stand in place of nodes. The deepest nest is made by hand, and the original has it not.
+fn walk(links: usize) -> Row {
+    let (mut theirs, mut ours) = (Original::new(1000, false, false), Linked::new(1000, false));
+    let bench = if links > BY_CALLS {
+        Bench::from_words(&encode(&nests::by_hand(links))).expect("the nest made by hand is sound")
+    } else {
+        for line in nests::lines(links) {
+            let line = read(&line).expect("a line of the language");
+            theirs.call(&line);
+            ours.call(&line);
+        }
+        ours.bench
+    };
+    let node = Handle::new(0, 0, 1);
+    assert_eq!(bench.ancestor_and_links(node).map(|(_, links)| links as usize), Ok(links));
+    let original = theirs.nodes.get(1).cloned().flatten();
+    Row {
+        what: "get_ancestor_blossom".to_string(),
+        nodes: links,
+        original: original.map(|node| once(|_| drop(black_box(node.get_ancestor_blossom())))),
+        trusted: once(|_| keep(bench.ancestor_and_links(node))),
+        told: None,
+        public: Some(once(|_| keep(lent::ancestor_and_links(bench.words(), node)))),
+    }
+}
+
+/// What a link of the walk takes, by its shortest and its longest.
+fn slope(walks: &[Row]) -> f64 {
+    let (first, last) = (&walks[0], &walks[walks.len() - 1]);
+    (last.trusted - first.trusted) / (last.nodes - first.nodes) as f64
+}
+
 fn shown(time: Option<f64>) -> String {
     time.map_or("-".to_string(), |time| format!("{time:.0}"))
 }
 
 fn table(rows: &[Row]) -> String {
-    let mut out = format!("{:18} {:>9} {:>9} {:>9} {:>9} {:>9} {:>7}\n", "ns", "nodes", "original", "trusted", "told", "public", "ratio");
+    let mut out = format!("{:20} {:>9} {:>9} {:>9} {:>9} {:>9} {:>7}\n", "ns", "nodes", "original", "trusted", "told", "public", "ratio");
     for row in rows {
-        let ratio = row.original / row.trusted;
-        let (what, nodes, original, trusted) = (&row.what, row.nodes, row.original, row.trusted);
-        let (told, public) = (shown(row.told), shown(row.public));
-        writeln!(out, "{what:18} {nodes:>9} {original:>9.0} {trusted:>9.0} {told:>9} {public:>9} {ratio:>7.1}").expect("a string takes all");
+        let ratio = row.original.map_or("-".to_string(), |original| format!("{:.1}", original / row.trusted));
+        let (what, nodes, trusted) = (&row.what, row.nodes, row.trusted);
+        let (original, told, public) = (shown(row.original), shown(row.told), shown(row.public));
+        writeln!(out, "{what:20} {nodes:>9} {original:>9} {trusted:>9.0} {told:>9} {public:>9} {ratio:>7}").expect("a string takes all");
     }
     out
 }
@@ -233,13 +275,17 @@ pub fn run(list_file: &str, numbers: &str) -> Result<(), String> {
     let text = std::fs::read_to_string(list_file).map_err(|why| format!("{list_file}: {why}"))?;
     let mut rows = list(&timing::read(&text)?);
     rows.extend([1, 8, 64, 448].into_iter().flat_map(singles));
+    let walks: Vec<Row> = [1, 16, 64, BY_CALLS, BY_HAND].into_iter().map(walk).collect();
+    let link = slope(&walks);
+    rows.extend(walks);
     let tabs: String = rows
         .iter()
-        .map(|r| format!("{}\t{}\t{:.1}\t{:.1}\t{}\t{}\n", r.what, r.nodes, r.original, r.trusted, shown(r.told), shown(r.public)))
+        .map(|r| format!("{}\t{}\t{}\t{:.1}\t{}\t{}\n", r.what, r.nodes, shown(r.original), r.trusted, shown(r.told), shown(r.public)))
         .collect();
     std::fs::write(numbers, tabs).map_err(|why| format!("{numbers}: {why}"))?;
     print!("{}", table(&rows));
     println!("original: bare calls over a dual module that counts. trusted: a Bench's calls. told: with notices to a module that counts. public: on any words, tested first.");
     println!("In rows D to C, operations of the list in place of nodes; ratio: original to trusted.");
+    println!("get_ancestor_blossom: links in place of nodes, {BY_CALLS} the most by calls, {BY_HAND} the most of a sound bench; a link takes {link:.2} ns, trusted.");
     Ok(())
 }

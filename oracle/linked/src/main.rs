@@ -6,6 +6,7 @@ mod damage_groups;
 mod group_words;
 mod groups;
 mod ledger;
+mod nests;
 mod openings;
 mod reads;
 mod runs;
@@ -51,9 +52,11 @@ fn differ(run: &Run, lines: Vec<String>, why: String) -> ! {
 /// Edges that runs of chance seldom meet: the whole case, P1 to P9, corners.
 const EDGES: &str = include_str!("../../scenes/edges.txt");
 
-/// Compares the edges, then runs until there are so many accepted, refused and damaged.
+/// Compares the edges and the deepest nests, then runs until there are so many accepted, refused and damaged.
 fn scale(accepted: usize, refused: usize, damaged: usize, seed: u64) {
     played(EDGES);
+    let asked = nests::compare().unwrap_or_else(|why| fail(why));
+    println!("nests of {} links by calls and of {} by hand: {asked} reads", nests::BY_CALLS, nests::BY_HAND);
     let (mut table, began, mut said) = (Table::default(), Instant::now(), 0);
     let mut at = 0;
     while table.accepted() < accepted || table.refused() < refused {

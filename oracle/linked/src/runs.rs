@@ -5,6 +5,7 @@ use crate::table::Table;
 use crate::words::encode;
 use oracle::generator::{Plan, Player};
 use oracle::line::{numbers, read, Line};
+use oracle::model::Model;
 use oracle::replay::{Replay, Turn};
 use std::time::Instant;
 
@@ -45,29 +46,30 @@ impl Sides {
 
     /// Every read of everything: each interface, each index, each present node, each group.
     fn everything(&mut self) -> Result<usize, String> {
-        let lines = self.reads();
+        let lines = reads(&self.replay.model, self.ledger.groups.len());
         let ask = |line: &Line| self.turn(line).map(|_| ()).map_err(|why| format!("{line:?}: {why}"));
         lines.iter().try_for_each(ask)?;
         Ok(lines.len())
     }
+}
 
-    fn reads(&self) -> Vec<Line> {
-        let bench = &self.replay.model.bench;
-        let mut lines = vec![];
-        for unit in (0..8).filter(|unit| self.replay.model.is_top(*unit)) {
-            let u = unit as u32;
-            lines.extend([Line::Sum(u), Line::Speed(u), Line::Count(u), Line::Dump(u), Line::Check(u), Line::Strict(u)]);
-            lines.extend((0..bench.slots(unit).len() as u32).map(|index| Line::HandleAt(u, index)));
-            for h in bench.present(unit) {
-                let s = h.serial;
-                lines.extend([Line::Value(s), Line::Outer(s), Line::First(s), Line::Belongs(u, s), Line::Belongs(7, s)]);
-                lines.push(Line::Vertices(s, bench.at(h).size as u32 + 1));
-                lines.extend(bench.at(h).parent.map(|_| Line::Under(s)));
-            }
+/// The lines that read everything of a bench and of so many groups.
+pub fn reads(model: &Model, groups: usize) -> Vec<Line> {
+    let bench = &model.bench;
+    let mut lines = vec![];
+    for unit in (0..8).filter(|unit| model.is_top(*unit)) {
+        let u = unit as u32;
+        lines.extend([Line::Sum(u), Line::Speed(u), Line::Count(u), Line::Dump(u), Line::Check(u), Line::Strict(u)]);
+        lines.extend((0..bench.slots(unit).len() as u32).map(|index| Line::HandleAt(u, index)));
+        for h in bench.present(unit) {
+            let s = h.serial;
+            lines.extend([Line::Value(s), Line::Outer(s), Line::First(s), Line::Belongs(u, s), Line::Belongs(7, s)]);
+            lines.push(Line::Vertices(s, bench.at(h).size as u32 + 1));
+            lines.extend(bench.at(h).parent.map(|_| Line::Under(s)));
         }
-        lines.extend((0..self.ledger.groups.len()).flat_map(|g| [Line::Asked(g), Line::Content(g)]));
-        lines
     }
+    lines.extend((0..groups).flat_map(|g| [Line::Asked(g), Line::Content(g)]));
+    lines
 }
 
 /// A run: which plan, from which seed, how many lines, and whether everything is read after each.
@@ -104,6 +106,16 @@ impl Run {
         }
         Ok(())
     }
+}
+
+/// These lines by all three, everything being read after the last: the model as they leave it, and how many reads.
+pub fn agree<S: AsRef<str>>(lines: &[S]) -> Result<(Model, usize), String> {
+    let mut sides = Sides::default();
+    for line in lines {
+        sides.turn(&read(line.as_ref())?).map_err(|why| format!("{}: {why}", line.as_ref()))?;
+    }
+    let asked = sides.everything()?;
+    Ok((sides.replay.model, asked))
 }
 
 /// The first difference over these lines, everything being read after each, or after the last alone.
