@@ -8,9 +8,9 @@ use mathlib.Core.List.{List}
 use native.Mathlib.Omega.{arith}
 use lib.ListN.{length}
 use Rattle.ledger_spec.specs.Bench.{Handle, Node, Bench}
-use Rattle.ledger_spec.specs.Look.{nodeAt, top}
+use Rattle.ledger_spec.specs.Look.{nodeNamed, top}
 use Rattle.ledger_spec.specs.Calls.{nobody}
-use Rattle.ledger_spec.specs.Walk.{parentOf, linksFrom, outermost, outerOf}
+use Rattle.ledger_spec.specs.Walk.{parentIn, linksFrom, outermost, outerOf}
 use Rattle.ledger_spec.specs.Chain.{Chain, end, link, blossomsIn}
 use Rattle.ledger_spec.specs.Facts.{Sound}
 use Rattle.ledger_spec.proofs.Chains.{chain, chain-one, links-few}
@@ -18,7 +18,8 @@ use Rattle.bench_views.specs.View.{view}
 use Rattle.bench_views.proofs.Fits.{facts}
 use Rattle.sound_bench.specs.Sound.{soundWords}
 use Rattle.sound_bench.proofs.Theorem.{sound-says}
-use Rattle.sound_lent.specs.Verdict.{asked}
+use Rattle.ledger_spec.specs.Answers.{outerRead}
+use Rattle.sound_lent.specs.Verdict.{readWords}
 use Rattle.sound_lent.proofs.Asking.{asked-by}
 use Rattle.read_sound.specs.Shown.{shownAncestor}
 use Rattle.read_sound.specs.declared.Ancestor.{Ancestor}
@@ -27,12 +28,12 @@ use Rattle.read_sound.proofs.Saying.{outer-no, outer-yes}
 use Rattle.read_any.specs.Links.{Followed, Walked}
 
 -- a chain of no link starts at its end
-no-link : {b : Bench} {h t : Handle} {k : ℕ} → Chain b h k t → k ≡ 0 → parentOf (nodeAt b h) ≡ none
+no-link : {b : Bench} {h t : Handle} {k : ℕ} → Chain b h k t → k ≡ 0 → parentIn (nodeNamed b h) ≡ none
 no-link (end e) z = e
 no-link (link p e c) z = absurd (omega arith)
 
 -- ---- of a present node
-module _ (b : Bench) (S : Sound b) (h : Handle) (n : Node) (e : nodeAt b h ≡ some n) where
+module _ (b : Bench) (S : Sound b) (h : Handle) (n : Node) (e : nodeNamed b h ≡ some n) where
   followed : Followed b h (outermost b h) (linksFrom 512 b h)
   followed = record {
     present = stale-no b h n e;
@@ -59,10 +60,10 @@ module _ (b : Bench) (h : Handle) (r : Ancestor) where
 
 -- ---- the read of any words, by its contract
 module _ (b : List ℕ) (h : Handle) (r : Ancestor) where
-  pub links-answered : length b ≡ 6273 → shownAncestor r ≡ asked b (nobody, 0) (outerOf (view b) h) → Walked (view b) h r
+  pub links-answered : length b ≡ 6273 → shownAncestor r ≡ readWords b (outerRead (view b) h) → Walked (view b) h r
   links-answered len e = words (soundWords b) refl
     where
-      node : (o : Option Node) → nodeAt (view b) h ≡ o → soundWords b ≡ true → shownAncestor r ≡ outerOf (view b) h → Walked (view b) h r
+      node : (o : Option Node) → nodeNamed (view b) h ≡ o → soundWords b ≡ true → shownAncestor r ≡ outerOf (view b) h → Walked (view b) h r
       node none f w q = none-followed (view b) h r 8 (λ z. omega arith) (q ∙ sym (outer-no (view b) h f))
       node (some n) f w q =
           some-followed (view b) h r (outermost (view b) h) (linksFrom 512 (view b) h) (followed (view b) (facts b (sound-says b len w)) h n f)
@@ -70,4 +71,4 @@ module _ (b : List ℕ) (h : Handle) (r : Ancestor) where
 
       words : (s : Bool) → soundWords b ≡ s → Walked (view b) h r
       words false w = none-followed (view b) h r 2 (λ z. omega arith) (e ∙ asked-by b (nobody, 0) (outerOf (view b) h) false w)
-      words true w = node (nodeAt (view b) h) refl w (e ∙ asked-by b (nobody, 0) (outerOf (view b) h) true w)
+      words true w = node (nodeNamed (view b) h) refl w (e ∙ asked-by b (nobody, 0) (outerOf (view b) h) true w)

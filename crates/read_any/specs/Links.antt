@@ -4,9 +4,9 @@ use mathlib.Core.Path.{_≡_}
 use mathlib.Core.Bool.{false}
 use mathlib.Core.Option.{none}
 use Rattle.ledger_spec.specs.Bench.{Handle, Bench}
-use Rattle.ledger_spec.specs.Look.{nodeAt, top}
+use Rattle.ledger_spec.specs.Look.{nodeNamed, top}
 use Rattle.ledger_spec.specs.Tests.{stale}
-use Rattle.ledger_spec.specs.Walk.{parentOf}
+use Rattle.ledger_spec.specs.Walk.{parentIn}
 use Rattle.ledger_spec.specs.Chain.{Chain, blossomsIn}
 use Rattle.ledger_spec.specs.Named.{handleNamed}
 use Rattle.read_sound.specs.declared.Ancestor.{Ancestor}
@@ -18,8 +18,8 @@ pub record Followed (b : Bench) (h t : Handle) (links : ℕ) : Type 0 where
   pub chain : Chain b h links t
   pub only : (k : ℕ) (g : Handle) → Chain b h k g → (k ≡ links) × (g ≡ t)
   pub few : links ≤ blossomsIn b (top b (h .unit))
-  pub free : parentOf (nodeAt b h) ≡ none → links ≡ 0
-  pub bare : links ≡ 0 → parentOf (nodeAt b h) ≡ none
+  pub free : parentIn (nodeNamed b h) ≡ none → links ≡ 0
+  pub bare : links ≡ 0 → parentIn (nodeNamed b h) ≡ none
 
 -- an answer of the read: accepted, its links are the chain's; refused, 0
 pub record Walked (b : Bench) (h : Handle) (r : Ancestor) : Type 0 where
