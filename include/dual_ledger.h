@@ -201,6 +201,67 @@ uint8_t dual_ledger_group_extend(const uint64_t *bench, uint64_t *group, const u
 #define DUAL_LEDGER_ROOM 20 /* list or stops would pass 128 at any step */
 #define DUAL_LEDGER_NOTHING 21 /* growth asked of (largest weight, any flag) */
 
+/* ---- stack: the most bytes that a function needs below its caller's frame on x86-64, its return address included. The C library's memcpy
+ * and its like are not counted, nor is binding them at the first call (link with -z now, or statically). A function that goes
+ * down a nest by calling itself is counted for the deepest that a sound bench can hold. By oracle/stack; tests/linked holds
+ * every row by painted stacks.
+ *
+ *   dual_ledger_check_ptr_belonging                     904
+ *   dual_ledger_clear                                   920
+ *   dual_ledger_create_blossom                         7880
+ *   dual_ledger_create_defect_node                     3816
+ *   dual_ledger_empty_group                           34056
+ *   dual_ledger_expand_blossom                         7256
+ *   dual_ledger_fuse                                    888
+ *   dual_ledger_get_all_vertices                      35912   80 a level, of 448
+ *   dual_ledger_get_ancestor_blossom                    904
+ *   dual_ledger_get_dual_variable                       904
+ *   dual_ledger_get_node                               1544
+ *   dual_ledger_get_representative_vertex               872
+ *   dual_ledger_get_secondary_ancestor_blossom          888
+ *   dual_ledger_group_add                            102232
+ *   dual_ledger_group_extend                         110488
+ *   dual_ledger_group_get_none_zero_growth            35416
+ *   dual_ledger_group_is_active                       35416
+ *   dual_ledger_group_is_empty                        35432
+ *   dual_ledger_group_is_sound                        35400
+ *   dual_ledger_group_peek                            46760
+ *   dual_ledger_group_pop                             57016
+ *   dual_ledger_grow                                   3800
+ *   dual_ledger_is_sound                                856
+ *   dual_ledger_nodes_count                            1544
+ *   dual_ledger_sanity_check                          14248
+ *   dual_ledger_set_grow_state                         3816
+ *   dual_ledger_set_up                                   40
+ *   dual_ledger_strict_check                          14248
+ *   dual_ledger_sum_dual_variables                      872
+ *   dual_ledger_sum_grow_speed                          872
+ *   dual_ledger_told_create_blossom                    6248
+ *   dual_ledger_told_create_defect_node                 200
+ *   dual_ledger_told_expand_blossom                    5624
+ *   dual_ledger_told_grow                                40
+ *   dual_ledger_told_set_grow_state                     200
+ *   dual_ledger_trusted_check_ptr_belonging              56
+ *   dual_ledger_trusted_clear                            88
+ *   dual_ledger_trusted_create_blossom                  792
+ *   dual_ledger_trusted_create_defect_node              184
+ *   dual_ledger_trusted_expand_blossom                  152
+ *   dual_ledger_trusted_fuse                             24
+ *   dual_ledger_trusted_get_all_vertices              35880   80 a level, of 448
+ *   dual_ledger_trusted_get_ancestor_blossom             24
+ *   dual_ledger_trusted_get_dual_variable                72
+ *   dual_ledger_trusted_get_node                       1544
+ *   dual_ledger_trusted_get_representative_vertex         8
+ *   dual_ledger_trusted_get_secondary_ancestor_blossom     40
+ *   dual_ledger_trusted_grow                              8
+ *   dual_ledger_trusted_nodes_count                    1528
+ *   dual_ledger_trusted_sanity_check                  14232
+ *   dual_ledger_trusted_set_grow_state                  152
+ *   dual_ledger_trusted_strict_check                  14232
+ *   dual_ledger_trusted_sum_dual_variables                8
+ *   dual_ledger_trusted_sum_grow_speed                    8
+ * ---- end of the stack's table */
+
 #ifdef __cplusplus
 }
 #endif

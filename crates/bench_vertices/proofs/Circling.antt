@@ -85,6 +85,11 @@ module _ (b : List ℕ) (F : Fit b) where
 abbrev pub rest : List ℕ → ℕ → ℕ → List ℕ
 rest b m p = each (λ g. verticesOf (view b) g) (follow m (nodeAt b) p)
 
+-- what holds at each turn on the way down from k: a present node stands at p, and its first vertex is k's
+pub record Down (b : List ℕ) (k p : ℕ) : Type 0 where
+  pub placed : Placed b p
+  pub same : getD (under b p) 0 0 ≡ getD (under b k) 0 0
+
 -- what holds at each turn along the circle of k
 pub record Going (b : List ℕ) (k at : ℕ) (out₀ : List ℕ) (i p m : ℕ) (out : List ℕ) : Type 0 where
   pub ring : nodeAt b k .class ≡ Blossom

@@ -1,5 +1,6 @@
 // The vertices under a node: the walk into a circle's members, depth first in circle order. A member's serial is lower than its blossom's, so the
-// recursion ends. Everything here only reads the bench. Assumes nothing.
+// walks end: down to the first vertex by a loop, with no call for a level; to all of them by recursion. Everything here only reads the bench.
+// Assumes nothing.
 use bench_words::WORDS;
 use kinds::Class;
 use kinds::Vertex;
@@ -15,12 +16,21 @@ pub fn first_vertex(b: &[u64; WORDS], k: usize) -> Vertex
     requires { ⌜ Placed (now b) k ⌝ }
     ensures { λ r. ⌜ r .0 ≡ getD (under (now (b .entry)) k) 0 0 ⌝ }
 {
-    let n = bench_words::load_node(b, k);
-    let class = n.class;
-    match class {
-        Class::Absent => Vertex(0),
-        Class::Defect(v) => v,
-        Class::Blossom => first_vertex(b, n.first as usize),
+    let mut p = k;
+    loop {
+        let n = bench_words::load_node(b, p);
+        let class = n.class;
+        match class {
+            Class::Absent => {
+                return Vertex(0);
+            }
+            Class::Defect(v) => {
+                return v;
+            }
+            Class::Blossom => {
+                p = n.first as usize;
+            }
+        }
     }
 }
 
