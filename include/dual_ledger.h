@@ -1,4 +1,5 @@
-/* The proved dual ledger, for C. Link libdual_ledger.a, which `rust/archive` makes for this machine.
+/* The proved dual ledger, for C. Link libdual_ledger.a, which `rust/archive` makes for this machine (include/cmake and include/pkgconfig have files for CMake and
+ * pkg-config). What the words mean is said in docs/MANUAL.md; its sections are named here as [Refusals], [Reads] and so on.
  *
  * A bench is DUAL_LEDGER_WORDS words that the caller owns and lends; a group is DUAL_LEDGER_GROUP_WORDS. No function keeps a pointer, allocates,
  * prints or stops the program. Pointers must be valid for what they are said to hold, and what is written must not overlap what else is lent.
@@ -8,6 +9,11 @@
  * stays as it was but for the answer, whose values are then 0 or none. (dual_ledger_set_up alone makes a bench although it answers WORN.)
  *
  * A handle is one word: (serial * 64 + slot) * 8 + interface, below DUAL_LEDGER_NO_NODE. A word that is no handle names no node.
+ *
+ * Threads: there is no state but what is lent. Functions may run at once on any threads as long as nothing that one of them writes is lent to another; reads of
+ * one bench may run at once.
+ *
+ * The archive needs memcpy, memmove and memset of the C library and nothing else. It has some 0.8 MB; what a program does not use is left out by the linker.
  *
  * Three forms. dual_ledger_NAME takes any words at all and tests them first (BROKEN if they hold no sound bench). dual_ledger_trusted_NAME tests
  * nothing about the words: lend it only words that dual_ledger_set_up and accepted or refused calls of this library alone have written, or that
@@ -23,13 +29,23 @@
 extern "C" {
 #endif
 
+/* The version of this header and of the archive beside it: major * 10000 + minor * 100 + patch, and as text. */
+#define DUAL_LEDGER_VERSION 200
+#define DUAL_LEDGER_VERSION_TEXT "0.2.0"
+
 #define DUAL_LEDGER_WORDS 6273
 #define DUAL_LEDGER_ANSWER_WORDS 199
 #define DUAL_LEDGER_OBSTACLE_WORDS 5
 #define DUAL_LEDGER_GROUP_WORDS 1413
 #define DUAL_LEDGER_NO_NODE ((uint64_t)2199023255552u)
 
-/* The answer of a call that tells notices:
+/* A handle of its parts, and the parts of a handle. (An interface above 7 or a slot above 63 would run into the next part.) */
+#define DUAL_LEDGER_HANDLE(interface, slot, serial) (((uint64_t)(serial) * 64u + (uint64_t)(slot)) * 8u + (uint64_t)(interface))
+#define DUAL_LEDGER_HANDLE_INTERFACE(handle) ((uint8_t)((uint64_t)(handle) % 8u))
+#define DUAL_LEDGER_HANDLE_SLOT(handle) ((uint8_t)((uint64_t)(handle) / 8u % 64u))
+#define DUAL_LEDGER_HANDLE_SERIAL(handle) ((uint32_t)((uint64_t)(handle) / 512u))
+
+/* The answer of a call that tells notices [Notices]:
  *   word 0              the node made or named, as a handle; 0 where there is none
  *   word 1              how many notices follow, at most 66
  *   word 2              how many members the circle of "shrink prepared" has, at most 64
@@ -45,7 +61,7 @@ extern "C" {
 #define DUAL_LEDGER_BLOSSOM_REMOVED 7 /* the blossom */
 #define DUAL_LEDGER_GROWN 8           /* the length, as a signed word */
 
-/* An obstacle: its kind, then four words, 0 where nothing is said.
+/* An obstacle [Obstacle groups]: its kind, then four words, 0 where nothing is said.
  *   growth      length as a signed word, whether some boundary node is empty (1 or 0)
  *   conflict    node, what touches there, node, what touches there
  *   virtual     node, what touches there, the virtual vertex, whether it is a mirror (1 or 0)
@@ -147,7 +163,15 @@ uint8_t dual_ledger_trusted_get_secondary_ancestor_blossom(const uint64_t *bench
 uint8_t dual_ledger_trusted_get_representative_vertex(const uint64_t *bench, uint64_t node, uint32_t *vertex);
 uint8_t dual_ledger_trusted_get_all_vertices(const uint64_t *bench, uint64_t node, uint32_t *out, size_t out_len, uint64_t *count);
 
-/* ---- the check */
+/* ---- the check [The check] */
+
+#define DUAL_LEDGER_SOUND 0            /* nothing was found */
+#define DUAL_LEDGER_VERTEX_TWICE 1     /* a vertex was seen before; the index of the later */
+#define DUAL_LEDGER_DEFECT_TOUCH 2     /* a defect member touches by another node; the member's index, as for 3, 4 and 6 */
+#define DUAL_LEDGER_OTHER_OUTERMOST 3  /* a blossom member touches by a node of another outermost blossom */
+#define DUAL_LEDGER_TOUCH_GONE 4       /* a node that a blossom member touches by is gone */
+#define DUAL_LEDGER_SUM_DIFFERS 5      /* the sum is not the total of the values */
+#define DUAL_LEDGER_NOT_UNDER 6        /* the strict check's alone: a blossom member touches by a node that is not under it */
 
 /* The Rust's check: verdict 0 to 5 and the index of the first finding. */
 uint8_t dual_ledger_sanity_check(const uint64_t *bench, uint8_t unit, uint64_t *verdict, uint64_t *index);
@@ -177,7 +201,27 @@ uint8_t dual_ledger_group_add(const uint64_t *bench, uint64_t *group, const uint
 /* Adds what another group holds. */
 uint8_t dual_ledger_group_extend(const uint64_t *bench, uint64_t *group, const uint64_t *other);
 
-/* ---- the numbers of document 01 */
+/* ---- text records [Lines] [Answers]. hints are 512 numbers that the caller keeps from line to line; they may hold anything, no answer depends on them, and
+ * zeros are right to begin with. The bench of a record is set up from serial 1. */
+
+#define DUAL_LEDGER_HINTS 512
+#define DUAL_LEDGER_HELD 1024
+#define DUAL_LEDGER_ANSWER_BYTES 57
+
+/* Does what a line says, its newline left out. Answers its number, and the three others; on words that hold no sound bench BROKEN and 0, 0, 0. */
+uint8_t dual_ledger_text_line(uint64_t *bench, const uint8_t *line, size_t line_len, uint16_t *hints, uint64_t *serial, int64_t *speed, int64_t *sum);
+uint8_t dual_ledger_trusted_text_line(uint64_t *bench, const uint8_t *line, size_t line_len, uint16_t *hints, uint64_t *serial, int64_t *speed, int64_t *sum);
+/* Does the lines that a chunk of a record ends, and writes their answers, wrote bytes, at the front of out. line keeps DUAL_LEDGER_HELD bytes of a line that is
+ * not ended yet, of which *held are in use: 0 to begin with. However a record is cut, the answers are those of the whole. Answers 0; SMALL where out has
+ * less than DUAL_LEDGER_ANSWER_BYTES bytes for each byte of the chunk; BROKEN where *held is above DUAL_LEDGER_HELD or the words hold no sound bench. */
+uint8_t dual_ledger_text_chunk(uint64_t *bench, const uint8_t *chunk, size_t chunk_len, uint8_t *line, size_t *held, uint16_t *hints, uint8_t *out,
+                               size_t out_len, size_t *wrote);
+uint8_t dual_ledger_trusted_text_chunk(uint64_t *bench, const uint8_t *chunk, size_t chunk_len, uint8_t *line, size_t *held, uint16_t *hints, uint8_t *out,
+                                       size_t out_len, size_t *wrote);
+/* The record ends: where something is held, a line without newline, its answer LINE is written. SMALL where out has less than DUAL_LEDGER_ANSWER_BYTES bytes. */
+uint8_t dual_ledger_text_end(size_t held, uint8_t *out, size_t out_len, size_t *wrote);
+
+/* ---- the numbers [Refusals] */
 
 #define DUAL_LEDGER_LINE 1 /* text program: line not of the grammar */
 #define DUAL_LEDGER_BROKEN 2 /* bench or group words that are not sound */
@@ -200,6 +244,13 @@ uint8_t dual_ledger_group_extend(const uint64_t *bench, uint64_t *group, const u
 #define DUAL_LEDGER_SMALL 19 /* slice shorter than the defect size */
 #define DUAL_LEDGER_ROOM 20 /* list or stops would pass 128 at any step */
 #define DUAL_LEDGER_NOTHING 21 /* growth asked of (largest weight, any flag) */
+
+/* The name of a number: "STALE" for 8; "ACCEPTED" for 0; NULL for a number that no function answers. */
+static inline const char *dual_ledger_refusal_name(uint8_t number) {
+    static const char *const names[22] = {"ACCEPTED", "LINE", "BROKEN", "UNIT", "CHILD", "LENGTH", "CIRCLE", "TOUCH", "STALE", "FOREIGN", "KIND", "INSIDE",
+                                          "TOP",      "TWICE", "FULL",  "WORN", "PAIR",  "USED",   "RANGE",  "SMALL", "ROOM",  "NOTHING"};
+    return number < 22 ? names[number] : NULL;
+}
 
 /* ---- stack: the most bytes that a function needs below its caller's frame on x86-64, its return address included. The C library's memcpy
  * and its like are not counted, nor is binding them at the first call (link with -z now, or statically). A function that goes

@@ -1,4 +1,4 @@
-//! Finds the archive libdual_ledger.a, or has it made: in the folder that DUAL_LEDGER_LIB names; else in the repository's target/staticlib, if it is no
+//! Finds the archive libdual_ledger.a, or has it made: in the folder that DUAL_LEDGER_LIB names, from where cargo was called, from the crate or from the repository; else in the repository's target/staticlib, if it is no
 //! older than the sources it was proved from; else by rust/archive, which needs the Rattle toolchain.
 use std::path::{Path, PathBuf};
 use std::process::Command;
@@ -32,7 +32,7 @@ fn make(script: &Path) -> PathBuf {
     });
     if !ran.status.success() {
         let said = String::from_utf8_lossy(&ran.stderr);
-        fail(format!("{} could not make {ARCHIVE}; set DUAL_LEDGER_LIB to a folder that holds it, or mend this: {}", script.display(), said.trim()))
+        fail(format!("no {ARCHIVE}, and it could not be made. {}", said.trim()))
     }
     let archive = PathBuf::from(String::from_utf8_lossy(&ran.stdout).trim());
     archive.parent().map(Path::to_path_buf).unwrap_or_else(|| fail(format!("{} named no archive", script.display())))
@@ -41,11 +41,12 @@ fn make(script: &Path) -> PathBuf {
 fn folder(root: &Path) -> PathBuf {
     println!("cargo:rerun-if-env-changed=DUAL_LEDGER_LIB");
     if let Some(named) = env::var_os("DUAL_LEDGER_LIB").map(PathBuf::from) {
-        println!("cargo:rerun-if-changed={}", named.join(ARCHIVE).display());
-        if !named.join(ARCHIVE).exists() {
-            fail(format!("DUAL_LEDGER_LIB is {}, and there is no {ARCHIVE} in it", named.display()))
-        }
-        return named;
+        let called = env::var_os("PWD").map(PathBuf::from);
+        let from = [called, Some(root.join("rust")), Some(root.to_path_buf())];
+        let found = from.into_iter().flatten().map(|place| place.join(&named)).find(|folder| folder.join(ARCHIVE).exists());
+        let folder = found.unwrap_or_else(|| fail(format!("DUAL_LEDGER_LIB is {}, and there is no {ARCHIVE} in it", named.display())));
+        println!("cargo:rerun-if-changed={}", folder.join(ARCHIVE).display());
+        return folder.canonicalize().unwrap_or(folder);
     }
     let (sources, built) = (root.join("crates"), root.join("target/staticlib"));
     println!("cargo:rerun-if-changed={}", sources.display());

@@ -3,6 +3,8 @@ use crate::linked::{trusted, Sound, Words};
 use crate::reads::sound as asked;
 use crate::refusal::settled;
 use crate::{GrowState, Handle, Refusal, Telling, Verdict};
+use alloc::boxed::Box;
+use alloc::vec::Vec;
 
 /// Eight interfaces, numbers 0 to 7, with 64 slots each. What the original keeps in one `DualModuleInterfacePtr` stands in one interface here, and halves are fused
 /// into a third by number.
@@ -62,8 +64,8 @@ impl Bench {
         self.0.words()
     }
 
-    /// The same calls with their notices given to a dual module.
-    pub fn telling<'a, M>(&'a mut self, module: &'a mut M) -> Telling<'a, M> {
+    /// The same calls with their notices given to a dual module, which may be a `dyn DualModule`.
+    pub fn telling<'a, M: ?Sized>(&'a mut self, module: &'a mut M) -> Telling<'a, M> {
         Telling { bench: self, module }
     }
 }
@@ -71,38 +73,45 @@ impl Bench {
 /// # Calls
 impl Bench {
     /// Adds the node of a vertex to an interface: growing, with value 0.
+    #[doc = errors!(create_defect_node)]
     pub fn create_defect_node(&mut self, interface: u8, vertex: u32) -> Result<Handle, Refusal> {
         let mut node = Handle::NONE;
         settled(trusted::create_defect_node(&mut self.0, interface, vertex, &mut node), node)
     }
 
     /// Makes a blossom of the members, in circle order. `touching` has two handles for each member, or is empty: then each member touches by itself.
+    #[doc = errors!(create_blossom)]
     pub fn create_blossom(&mut self, interface: u8, circle: &[Handle], touching: &[[Handle; 2]]) -> Result<Handle, Refusal> {
         let mut node = Handle::NONE;
         settled(trusted::create_blossom(&mut self.0, interface, circle, touching, &mut node), node)
     }
 
     /// Takes a blossom apart: its members are outermost again and grow, and its value stays in the sum.
+    #[doc = errors!(expand_blossom)]
     pub fn expand_blossom(&mut self, interface: u8, blossom: Handle) -> Result<(), Refusal> {
         settled(trusted::expand_blossom(&mut self.0, interface, blossom), ())
     }
 
     /// Sets the state of an outermost node.
+    #[doc = errors!(set_grow_state)]
     pub fn set_grow_state(&mut self, interface: u8, node: Handle, state: GrowState) -> Result<(), Refusal> {
         settled(trusted::set_grow_state(&mut self.0, interface, node, state.rate()), ())
     }
 
     /// Grows an interface, and what is fused into it.
+    #[doc = errors!(grow)]
     pub fn grow(&mut self, interface: u8, length: i64) -> Result<(), Refusal> {
         settled(trusted::grow(&mut self.0, interface, length), ())
     }
 
     /// Makes two interfaces the halves of a third of higher number.
+    #[doc = errors!(fuse)]
     pub fn fuse(&mut self, parent: u8, left: u8, right: u8) -> Result<(), Refusal> {
         settled(trusted::fuse(&mut self.0, parent, left, right), ())
     }
 
     /// Empties an interface and what is fused into it; serials go on.
+    #[doc = errors!(clear)]
     pub fn clear(&mut self, interface: u8) -> Result<(), Refusal> {
         settled(trusted::clear(&mut self.0, interface), ())
     }
@@ -111,78 +120,92 @@ impl Bench {
 /// # Reads and checks
 impl Bench {
     /// The stored sum of an interface without a parent, its halves counted in.
+    #[doc = errors!(sum_dual_variables)]
     pub fn sum_dual_variables(&self, interface: u8) -> Result<i64, Refusal> {
         asked::sum_dual_variables(&self.0, interface)
     }
 
     /// Its speed: growing nodes less shrinking ones.
+    #[doc = errors!(sum_grow_speed)]
     pub fn sum_grow_speed(&self, interface: u8) -> Result<i64, Refusal> {
         asked::sum_grow_speed(&self.0, interface)
     }
 
     /// How many slots its tree has, used or emptied.
+    #[doc = errors!(nodes_count)]
     pub fn nodes_count(&self, interface: u8) -> Result<u32, Refusal> {
         asked::nodes_count(&self.0, interface)
     }
 
     /// The node at an index of its tree: left half, right half, own. None for an emptied slot.
+    #[doc = errors!(get_node)]
     pub fn get_node(&self, interface: u8, index: u32) -> Result<Option<Handle>, Refusal> {
         asked::get_node(&self.0, interface, index)
     }
 
     /// Whether the node stands in the tree of an interface. A stale handle does not.
+    #[doc = errors!(check_ptr_belonging)]
     pub fn check_ptr_belonging(&self, interface: u8, node: Handle) -> Result<bool, Refusal> {
         asked::check_ptr_belonging(&self.0, interface, node)
     }
 
     /// The node's value now.
+    #[doc = errors!(get_dual_variable)]
     pub fn get_dual_variable(&self, node: Handle) -> Result<i64, Refusal> {
         asked::get_dual_variable(&self.0, node)
     }
 
     /// The outermost blossom around the node, itself if it is in none.
+    #[doc = errors!(get_ancestor_blossom)]
     pub fn get_ancestor_blossom(&self, node: Handle) -> Result<Handle, Refusal> {
         asked::get_ancestor_blossom(&self.0, node)
     }
 
     /// The outermost blossom, and how many parent links lead to it.
+    #[doc = errors!(get_ancestor_blossom)]
     pub fn ancestor_and_links(&self, node: Handle) -> Result<(Handle, u32), Refusal> {
         asked::ancestor_and_links(&self.0, node)
     }
 
     /// The node below the outermost blossom on the way there.
+    #[doc = errors!(get_secondary_ancestor_blossom)]
     pub fn get_secondary_ancestor_blossom(&self, node: Handle) -> Result<Handle, Refusal> {
         asked::get_secondary_ancestor_blossom(&self.0, node)
     }
 
     /// The node's first vertex.
+    #[doc = errors!(get_representative_vertex)]
     pub fn get_representative_vertex(&self, node: Handle) -> Result<u32, Refusal> {
         asked::get_representative_vertex(&self.0, node)
     }
 
     /// All the node's vertices, depth first in circle order.
+    #[doc = errors!(get_all_vertices)]
     pub fn get_all_vertices(&self, node: Handle) -> Result<Vec<u32>, Refusal> {
         asked::get_all_vertices(&self.0, node)
     }
 
     /// All the node's vertices into the first entries of a slice, and how many; entries past them stay.
+    #[doc = errors!(get_all_vertices_into)]
     pub fn get_all_vertices_into(&self, node: Handle, out: &mut [u32]) -> Result<usize, Refusal> {
         asked::get_all_vertices_into(&self.0, node, out)
     }
 
     /// The check of the original.
+    #[doc = errors!(sanity_check)]
     pub fn sanity_check(&self, interface: u8) -> Result<Verdict, Refusal> {
         asked::sanity_check(&self.0, interface)
     }
 
     /// The strict check: as the other, and besides that touching nodes lie under their members.
+    #[doc = errors!(strict_check)]
     pub fn strict_check(&self, interface: u8) -> Result<Verdict, Refusal> {
         asked::strict_check(&self.0, interface)
     }
 }
 
-impl std::fmt::Debug for Bench {
-    fn fmt(&self, f: &mut std::fmt::Formatter) -> std::fmt::Result {
+impl core::fmt::Debug for Bench {
+    fn fmt(&self, f: &mut core::fmt::Formatter) -> core::fmt::Result {
         f.debug_struct("Bench").field("next_serial", &self.words()[0]).finish_non_exhaustive()
     }
 }

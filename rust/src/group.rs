@@ -2,6 +2,8 @@
 use crate::linked::{group, GroupWords, ObstacleWords, GROUP_WORDS};
 use crate::refusal::settled;
 use crate::{Bench, Handle, Refusal};
+use alloc::boxed::Box;
+use alloc::vec::Vec;
 
 /// What stands in the way, as the original's `MaxUpdateLength`. Pairs are a node and what touches there.
 #[derive(Clone, Copy, Debug, PartialEq, Eq, Hash)]
@@ -176,8 +178,8 @@ impl Group {
     }
 }
 
-impl std::fmt::Debug for Group {
-    fn fmt(&self, f: &mut std::fmt::Formatter) -> std::fmt::Result {
+impl core::fmt::Debug for Group {
+    fn fmt(&self, f: &mut core::fmt::Formatter) -> core::fmt::Result {
         match self.growth() {
             Some((length, flag)) => f.debug_struct("Group").field("length", &length).field("flag", &flag).finish(),
             None => {

@@ -1,5 +1,5 @@
 //! What a node is named by, and the states it can have.
-use std::fmt;
+use core::fmt;
 
 /// A node's name: interface, slot and serial. No serial is used twice in a bench, so a handle of a node that went names nothing from then on, and calls
 /// answer [`Refusal::Stale`](crate::Refusal::Stale). A handle belongs to the bench that gave it out.
@@ -61,6 +61,22 @@ impl Handle {
 impl fmt::Debug for Handle {
     fn fmt(&self, f: &mut fmt::Formatter) -> fmt::Result {
         write!(f, "Handle({}, {}, {})", self.interface(), self.slot(), self.serial())
+    }
+}
+
+/// As the serial that a record names it by; `no node` for a word that is no handle.
+///
+/// ```
+/// use dual_ledger::Handle;
+/// assert_eq!(Handle::new(2, 5, 17).to_string(), "serial 17 (interface 2, slot 5)");
+/// assert_eq!(Handle::new(9, 5, 17).to_string(), "no node");
+/// ```
+impl fmt::Display for Handle {
+    fn fmt(&self, f: &mut fmt::Formatter) -> fmt::Result {
+        if self.0 >= LIMIT {
+            return f.write_str("no node");
+        }
+        write!(f, "serial {} (interface {}, slot {})", self.serial(), self.interface(), self.slot())
     }
 }
 

@@ -13,11 +13,13 @@
 //! assert_eq!(lent::get_dual_variable(&words, node), Err(Refusal::Broken));
 //! ```
 use crate::linked::{any, AnswerWords, Words};
+use crate::text::any_line;
 use crate::reads::{reads, MOST_VERTICES};
 use crate::refusal::settled;
-use crate::{GrowState, Handle, Refusal, Told, Verdict};
+use crate::{GrowState, Handle, Refusal, Reply, Told, Verdict};
+use alloc::vec::Vec;
 
-reads!(any, Words);
+reads!(any, Words, " [`Broken`](Refusal::Broken)");
 
 fn told(call: impl FnOnce(&mut AnswerWords) -> u8) -> Result<Told, Refusal> {
     let mut answer = Told::blank();
@@ -39,36 +41,56 @@ pub fn is_sound(words: &Words) -> bool {
 }
 
 /// Adds the node of a vertex to an interface: growing, with value 0.
+#[doc = errors!(create_defect_node)]
+#[doc = " [`Broken`](Refusal::Broken)"]
 pub fn create_defect_node(words: &mut Words, interface: u8, vertex: u32) -> Result<Told, Refusal> {
     told(|answer| any::create_defect_node(words, interface, vertex, answer))
 }
 
 /// Makes a blossom of the members, in circle order. `touching` has two handles for each member, or is empty: then each member touches by itself.
+#[doc = errors!(create_blossom)]
+#[doc = " [`Broken`](Refusal::Broken)"]
 pub fn create_blossom(words: &mut Words, interface: u8, circle: &[Handle], touching: &[[Handle; 2]]) -> Result<Told, Refusal> {
     told(|answer| any::create_blossom(words, interface, circle, touching, answer))
 }
 
 /// Takes a blossom apart: its members are outermost again and grow, and its value stays in the sum.
+#[doc = errors!(expand_blossom)]
+#[doc = " [`Broken`](Refusal::Broken)"]
 pub fn expand_blossom(words: &mut Words, interface: u8, blossom: Handle) -> Result<Told, Refusal> {
     told(|answer| any::expand_blossom(words, interface, blossom, answer))
 }
 
 /// Sets the state of an outermost node.
+#[doc = errors!(set_grow_state)]
+#[doc = " [`Broken`](Refusal::Broken)"]
 pub fn set_grow_state(words: &mut Words, interface: u8, node: Handle, state: GrowState) -> Result<Told, Refusal> {
     told(|answer| any::set_grow_state(words, interface, node, state.rate(), answer))
 }
 
 /// Grows an interface, and what is fused into it.
+#[doc = errors!(grow)]
+#[doc = " [`Broken`](Refusal::Broken)"]
 pub fn grow(words: &mut Words, interface: u8, length: i64) -> Result<Told, Refusal> {
     told(|answer| any::grow(words, interface, length, answer))
 }
 
 /// Makes two interfaces the halves of a third of higher number. Tells nothing.
+#[doc = errors!(fuse)]
+#[doc = " [`Broken`](Refusal::Broken)"]
 pub fn fuse(words: &mut Words, parent: u8, left: u8, right: u8) -> Result<(), Refusal> {
     settled(any::fuse(words, parent, left, right), ())
 }
 
 /// Empties an interface and what is fused into it; serials go on. Tells nothing.
+#[doc = errors!(clear)]
+#[doc = " [`Broken`](Refusal::Broken)"]
 pub fn clear(words: &mut Words, interface: u8) -> Result<(), Refusal> {
     settled(any::clear(words, interface), ())
+}
+
+/// Does what a line of a text record says (docs/MANUAL.md, Lines), its newline left out. Of words that hold no sound bench the reply is
+/// [`Broken`](Refusal::Broken), and every word is as it was.
+pub fn line(words: &mut Words, line: &[u8]) -> Reply {
+    any_line(words, line)
 }

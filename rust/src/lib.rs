@@ -1,7 +1,8 @@
 //! The proved dual ledger, for Rust: where a decoder calls fusion-blossom's `DualModuleInterface`, it calls a [`Bench`].
 //!
 //! The work is done by functions in Rattle, each proved to meet its contract, linked from `libdual_ledger.a`; this crate gives them Rust's types. No call panics,
-//! and a refused one names its [`Refusal`] and changes nothing. docs/MIGRATING.md goes from the original to this, call by call.
+//! and a refused one names its [`Refusal`] and changes nothing. docs/MANUAL.md says what every word means, docs/MIGRATING.md goes from the original to this,
+//! call by call. [`Session`] runs text records.
 //!
 //! ```
 //! use dual_ledger::{Bench, GrowState, Refusal, Verdict};
@@ -23,9 +24,16 @@
 //! # Ok(())
 //! # }
 //! ```
+//!
+//! Without the default feature `std` the crate needs `core` and `alloc` alone; the command `dual-ledger` and `std::error::Error` for [`Refusal`] come with it.
+#![cfg_attr(not(feature = "std"), no_std)]
 #![deny(unsafe_code)]
 #![warn(missing_docs)]
 
+extern crate alloc;
+
+#[macro_use]
+mod errors;
 mod bench;
 mod group;
 mod handle;
@@ -35,15 +43,18 @@ mod notice;
 mod reads;
 mod refusal;
 mod telling;
+mod text;
 mod verdict;
 
 pub use bench::Bench;
 pub use group::{Group, Obstacle};
 pub use handle::{GrowState, Handle};
-pub use linked::{GROUP_WORDS, WORDS};
+pub use errors::REFUSALS;
+pub use linked::{GroupWords, Words, GROUP_WORDS, WORDS};
 pub use notice::{Notice, Told};
 pub use refusal::Refusal;
 pub use telling::{DualModule, Telling};
+pub use text::{Reply, Session};
 pub use verdict::Verdict;
 
 /// The guide's program, run as an example.

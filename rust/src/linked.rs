@@ -7,14 +7,21 @@
 #![allow(unsafe_code)]
 
 use crate::Handle;
+use alloc::boxed::Box;
 
 /// How many words a bench has.
 pub const WORDS: usize = 6273;
 /// How many words a group has.
 pub const GROUP_WORDS: usize = 1413;
 
+/// The words of a bench.
 pub type Words = [u64; WORDS];
+/// The words of a group.
 pub type GroupWords = [u64; GROUP_WORDS];
+/// Where nodes were found by their serials; it may hold anything.
+pub type Hints = [u16; 512];
+/// What is held of a line that is not ended.
+pub type Held = [u8; 1024];
 pub type ObstacleWords = [u64; 5];
 pub type Touching = [[Handle; 2]];
 
@@ -30,7 +37,7 @@ pub struct AnswerWords {
     pub circle: [Handle; 64],
 }
 
-const _: () = assert!(std::mem::size_of::<AnswerWords>() == 199 * 8);
+const _: () = assert!(core::mem::size_of::<AnswerWords>() == 199 * 8);
 
 /// Words that hold a sound bench.
 #[derive(Clone, PartialEq, Eq)]
@@ -173,5 +180,44 @@ pub mod group {
         group_pop(group: &mut GroupWords, obstacle: &mut ObstacleWords) -> u8;
         group_add(bench: &Words, group: &mut GroupWords, obstacle: &ObstacleWords) -> u8;
         group_extend(bench: &Words, group: &mut GroupWords, other: &GroupWords) -> u8;
+    }
+}
+
+/// The text engine, on sound words (a line on any words too).
+pub mod text {
+    use super::*;
+
+    macro_rules! link_line {
+        ($name:ident $link:literal $bench:ty) => {
+            pub fn $name(bench: &mut $bench, line: &[u8], hints: &mut Hints, serial: &mut u64, speed: &mut i64, sum: &mut i64) -> u8 {
+                extern "C" {
+                    #[link_name = $link]
+                    fn linked(bench: &mut $bench, line: *const u8, bytes: usize, hints: &mut Hints, serial: &mut u64, speed: &mut i64, sum: &mut i64) -> u8;
+                }
+                // SAFETY: as above; the line is of the length said
+                unsafe { linked(bench, line.as_ptr(), line.len(), hints, serial, speed, sum) }
+            }
+        };
+    }
+    link_line!(line "dual_ledger_trusted_text_line" Sound);
+    link_line!(line_of_any "dual_ledger_text_line" Words);
+
+    pub fn chunk(bench: &mut Sound, chunk: &[u8], buf: &mut Held, held: &mut usize, hints: &mut Hints, out: &mut [u8], wrote: &mut usize) -> u8 {
+        #[rustfmt::skip]
+        extern "C" {
+            #[link_name = "dual_ledger_trusted_text_chunk"]
+            fn linked(bench: &mut Sound, chunk: *const u8, bytes: usize, buf: &mut Held, held: &mut usize, hints: &mut Hints, out: *mut u8, room: usize, wrote: &mut usize) -> u8;
+        }
+        // SAFETY: as above; both slices are of the lengths said, and `out` is lent alone
+        unsafe { linked(bench, chunk.as_ptr(), chunk.len(), buf, held, hints, out.as_mut_ptr(), out.len(), wrote) }
+    }
+
+    pub fn end(held: usize, out: &mut [u8], wrote: &mut usize) -> u8 {
+        extern "C" {
+            #[link_name = "dual_ledger_text_end"]
+            fn linked(held: usize, out: *mut u8, room: usize, wrote: &mut usize) -> u8;
+        }
+        // SAFETY: as above; the slice is of the length said and lent alone
+        unsafe { linked(held, out.as_mut_ptr(), out.len(), wrote) }
     }
 }

@@ -1,9 +1,9 @@
 //! The numbers that a call can be refused by.
-use std::fmt;
+use core::fmt;
 
 macro_rules! refusals {
     ($($name:ident = $number:literal, $words:literal, $about:literal;)*) => {
-        /// Why a call was refused. The names and numbers are the specification's; where several apply, the lowest is given.
+        /// Why a call was refused. The names and numbers are the manual's (docs/MANUAL.md, Refusals); where several apply, the lowest is given.
         #[derive(Clone, Copy, Debug, PartialEq, Eq, PartialOrd, Ord, Hash)]
         #[repr(u8)]
         pub enum Refusal {
@@ -14,14 +14,15 @@ macro_rules! refusals {
             /// All of them, in rising order.
             pub const ALL: [Refusal; 21] = [$(Refusal::$name),*];
 
-            /// The name in the specification's table.
+            /// The name in the manual's table.
             pub fn name(self) -> &'static str {
                 match self {
                     $(Refusal::$name => $words,)*
                 }
             }
 
-            fn about(self) -> &'static str {
+            /// When it is given, in a few words.
+            pub fn about(self) -> &'static str {
                 match self {
                     $(Refusal::$name => $about,)*
                 }
@@ -55,7 +56,7 @@ refusals! {
 }
 
 impl Refusal {
-    /// The specification's number, 1 to 21.
+    /// The manual's number, 1 to 21.
     pub fn number(self) -> u8 {
         self as u8
     }
@@ -72,6 +73,7 @@ impl fmt::Display for Refusal {
     }
 }
 
+#[cfg(feature = "std")]
 impl std::error::Error for Refusal {}
 
 /// What a number means for the value beside it.

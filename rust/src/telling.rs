@@ -37,7 +37,7 @@ pub trait DualModule {
     }
 }
 
-/// A bench with the dual module that its calls are told to: [`Bench::telling`] makes one.
+/// A bench with the dual module that its calls are told to: [`Bench::telling`] makes one. The module may be a `&mut dyn DualModule`.
 ///
 /// ```
 /// use dual_ledger::{Bench, DualModule, GrowState, Handle, Refusal};
@@ -70,48 +70,55 @@ pub trait DualModule {
 /// # Ok(())
 /// # }
 /// ```
-pub struct Telling<'a, M> {
+pub struct Telling<'a, M: ?Sized> {
     pub(crate) bench: &'a mut Bench,
     pub(crate) module: &'a mut M,
 }
 
-impl<M: DualModule> Telling<'_, M> {
+impl<M: DualModule + ?Sized> Telling<'_, M> {
     /// The bench, to read from.
     pub fn bench(&self) -> &Bench {
         self.bench
     }
 
     /// Adds the node of a vertex, as [`Bench::create_defect_node`] does.
+    #[doc = errors!(create_defect_node)]
     pub fn create_defect_node(&mut self, interface: u8, vertex: u32) -> Result<Handle, Refusal> {
         self.told(|bench, answer| told::create_defect_node(bench, interface, vertex, answer))
     }
 
     /// Makes a blossom, as [`Bench::create_blossom`] does.
+    #[doc = errors!(create_blossom)]
     pub fn create_blossom(&mut self, interface: u8, circle: &[Handle], touching: &[[Handle; 2]]) -> Result<Handle, Refusal> {
         self.told(|bench, answer| told::create_blossom(bench, interface, circle, touching, answer))
     }
 
     /// Takes a blossom apart, as [`Bench::expand_blossom`] does.
+    #[doc = errors!(expand_blossom)]
     pub fn expand_blossom(&mut self, interface: u8, blossom: Handle) -> Result<(), Refusal> {
         self.told(|bench, answer| told::expand_blossom(bench, interface, blossom, answer)).map(|_| ())
     }
 
     /// Sets a state, as [`Bench::set_grow_state`] does.
+    #[doc = errors!(set_grow_state)]
     pub fn set_grow_state(&mut self, interface: u8, node: Handle, state: GrowState) -> Result<(), Refusal> {
         self.told(|bench, answer| told::set_grow_state(bench, interface, node, state.rate(), answer)).map(|_| ())
     }
 
     /// Grows an interface, as [`Bench::grow`] does.
+    #[doc = errors!(grow)]
     pub fn grow(&mut self, interface: u8, length: i64) -> Result<(), Refusal> {
         self.told(|bench, answer| told::grow(bench, interface, length, answer)).map(|_| ())
     }
 
     /// Fuses two interfaces, as [`Bench::fuse`] does; nothing is told.
+    #[doc = errors!(fuse)]
     pub fn fuse(&mut self, parent: u8, left: u8, right: u8) -> Result<(), Refusal> {
         self.bench.fuse(parent, left, right)
     }
 
     /// Clears an interface, as [`Bench::clear`] does; nothing is told.
+    #[doc = errors!(clear)]
     pub fn clear(&mut self, interface: u8) -> Result<(), Refusal> {
         self.bench.clear(interface)
     }

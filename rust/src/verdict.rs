@@ -1,6 +1,7 @@
 //! What the checks find.
+use core::fmt;
 
-/// The first finding of a check, with the index of the node it is about. The numbers are the specification's.
+/// The first finding of a check, with the index of the node it is about. The numbers are the manual's (docs/MANUAL.md, The check).
 #[derive(Clone, Copy, Debug, PartialEq, Eq, Hash)]
 pub enum Verdict {
     /// 0: nothing was found.
@@ -34,7 +35,7 @@ impl Verdict {
         }
     }
 
-    /// The specification's number, 0 to 6.
+    /// The manual's number, 0 to 6.
     pub fn number(self) -> u8 {
         match self {
             Verdict::Sound => 0,
@@ -52,6 +53,28 @@ impl Verdict {
         match self {
             Verdict::Sound | Verdict::SumDiffers => 0,
             Verdict::VertexTwice(at) | Verdict::DefectTouch(at) | Verdict::OtherOutermost(at) | Verdict::TouchGone(at) | Verdict::NotUnder(at) => at,
+        }
+    }
+}
+
+/// The number, and what was found.
+///
+/// ```
+/// use dual_ledger::Verdict;
+/// assert_eq!(Verdict::Sound.to_string(), "0: sound");
+/// assert_eq!(Verdict::VertexTwice(4).to_string(), "1: the vertex at index 4 was seen before");
+/// ```
+impl fmt::Display for Verdict {
+    fn fmt(&self, f: &mut fmt::Formatter) -> fmt::Result {
+        let (number, at) = (self.number(), self.index());
+        match self {
+            Verdict::Sound => write!(f, "{number}: sound"),
+            Verdict::VertexTwice(_) => write!(f, "{number}: the vertex at index {at} was seen before"),
+            Verdict::DefectTouch(_) => write!(f, "{number}: the defect at index {at} touches by another node"),
+            Verdict::OtherOutermost(_) => write!(f, "{number}: the blossom at index {at} touches by a node of another outermost blossom"),
+            Verdict::TouchGone(_) => write!(f, "{number}: a node that the blossom at index {at} touches by is gone"),
+            Verdict::SumDiffers => write!(f, "{number}: the sum is not the total of the values"),
+            Verdict::NotUnder(_) => write!(f, "{number}: the blossom at index {at} touches by a node that is not under it"),
         }
     }
 }

@@ -3,6 +3,7 @@
 mod obstacles; // groups of obstacles
 mod open_calls; // the calls on any words
 mod open_reads; // the reads and checks on any words
+mod text; // the text program's lines and chunks
 mod told_calls; // the calls on sound words, with notices
 mod trusted_calls; // the calls on sound words, without notices
 mod trusted_reads; // the reads and checks on sound words

@@ -1,0 +1,87 @@
+//! What the command was asked for.
+use std::ffi::OsString;
+use std::path::PathBuf;
+
+pub const HELP: &str = "\
+Runs text records of the dual ledger (docs/MANUAL.md) by its proved functions.
+
+dual-ledger check [--jobs N] [--quiet] [--answers OUT] FILE..
+    runs each file, a record of its own, and shows the refused lines: file, line, number, name, why.
+    --jobs N       on so many cores; else on all
+    --quiet        shows nothing but what failed
+    --answers OUT  writes what `ledger` would write, all files in the order named; a file OUT is there
+                   only when it is whole; - is standard output
+
+dual-ledger ages [--csv | --json] [--quiet] FILE
+    runs a record and prints each node that ever was: serial, interface, vertex or members, the lines
+    of making and going, its value then or now; at the end the sums, added up.
+    --csv, --json  as one table, as one object
+    --quiet        does not show refused lines
+
+A FILE named - is standard input. Status 0: all was read, answered and written. Status 1: it was not,
+and a message says why; a last line without newline counts as cut. Status 2: called wrongly.
+
+dual-ledger --help, dual-ledger --version
+";
+
+pub enum Form {
+    Text,
+    Csv,
+    Json,
+}
+
+pub struct Args {
+    pub files: Vec<PathBuf>,
+    pub jobs: usize,
+    pub is_quiet: bool,
+    pub answers: Option<PathBuf>,
+    pub form: Form,
+}
+
+pub enum Asked {
+    Help,
+    Version,
+    Check(Args),
+    Ages(Args),
+}
+
+impl Args {
+    /// The words after the program's name.
+    pub fn read(mut words: impl Iterator<Item = OsString>) -> Result<Asked, String> {
+        let first = words.next().ok_or("what is to be done? check or ages")?;
+        let is_check = match first.to_str() {
+            Some("--help" | "-h" | "help") => return Ok(Asked::Help),
+            Some("--version" | "-V") => return Ok(Asked::Version),
+            Some("check") => true,
+            Some("ages") => false,
+            _ => return Err(format!("there is no subcommand {}", first.to_string_lossy())),
+        };
+        let jobs = std::thread::available_parallelism().map_or(1, usize::from);
+        let mut args = Args { files: vec![], jobs, is_quiet: false, answers: None, form: Form::Text };
+        let mut no_more_options = false;
+        while let Some(word) = words.next() {
+            match word.to_str() {
+                Some("--") if !no_more_options => no_more_options = true,
+                Some("--help" | "-h") if !no_more_options => return Ok(Asked::Help),
+                Some("--quiet" | "-q") if !no_more_options => args.is_quiet = true,
+                Some("--jobs" | "-j") if is_check && !no_more_options => args.jobs = count(words.next())?,
+                Some("--answers") if is_check && !no_more_options => args.answers = Some(words.next().ok_or("--answers wants a file")?.into()),
+                Some("--csv") if !is_check && !no_more_options => args.form = Form::Csv,
+                Some("--json") if !is_check && !no_more_options => args.form = Form::Json,
+                Some(option) if !no_more_options && option.starts_with('-') && option != "-" => return Err(format!("there is no option {option} here")),
+                _ => args.files.push(word.into()),
+            }
+        }
+        match (is_check, args.files.len()) {
+            (_, 0) => Err("which file? - is standard input".to_string()),
+            (true, _) => Ok(Asked::Check(args)),
+            (false, 1) => Ok(Asked::Ages(args)),
+            (false, _) => Err("ages takes one file".to_string()),
+        }
+    }
+}
+
+fn count(word: Option<OsString>) -> Result<usize, String> {
+    let given = word.as_ref().and_then(|word| word.to_str()).and_then(|word| word.parse().ok());
+    given.filter(|jobs| *jobs > 0).ok_or_else(|| "--jobs wants a number from 1".to_string())
+}
