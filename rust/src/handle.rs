@@ -92,6 +92,12 @@ pub enum GrowState {
 }
 
 impl GrowState {
+    /// Whether two regions that meet, with these states, cannot both go on so.
+    pub fn is_against(self, other: GrowState) -> bool {
+        use GrowState::{Grow, Stay};
+        matches!((self, other), (Grow, Grow | Stay) | (Stay, Grow))
+    }
+
     /// What one unit of growth adds to the value.
     pub fn rate(self) -> i8 {
         match self {

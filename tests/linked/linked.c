@@ -1,5 +1,5 @@
-/* The linked library from C, by its header alone: document 01's worked cases, a blossom with its notices word by word, every read and check in both forms,
- * groups of obstacles, and refusals with all that was lent compared before and after. Ends with 0 and one line, or names the first difference. */
+/* The linked library from C, by its header alone: the manual's worked cases, a blossom with its notices word by word, every read and check in both forms,
+ * text records in lines and in chunks of every size, groups of obstacles, and refusals with all that was lent compared before and after. Ends with 0 and one line, or names the first difference. */
 #include "dual_ledger.h"
 
 #include <inttypes.h>
@@ -28,7 +28,7 @@ static void same_words(const char *what, const uint64_t *got, const uint64_t *ex
     }
 }
 
-static uint64_t handle(uint64_t serial, uint64_t slot, uint64_t unit) { return (serial * 64 + slot) * 8 + unit; }
+static uint64_t handle(uint64_t serial, uint64_t slot, uint64_t unit) { return DUAL_LEDGER_HANDLE(unit, slot, serial); }
 
 /* ---- a line of the text program: number, serial, speed, sum */
 
@@ -276,6 +276,90 @@ static void reads(void) {
     check(0, 0, 5, 0), check_strictly(0, 0, 5, 0);
 }
 
+/* ---- text records: lines, chunks cut anywhere, the end */
+
+static const char record[] = "D 0 3\nG 0 5\nB 0 1\nS 0 2 -1\nG 0 1\nE 0 1\nK 0\n\nC 0\nS 0 2 1";
+static const char replies[] = "0 1 1 0\n0 0 1 5\n0 2 1 5\n0 2 -1 5\n0 0 -1 4\n10 0 -1 4\n0 0 -1 4\n1 0 0 0\n0 0 0 0\n1 0 0 0\n";
+static uint16_t hints[DUAL_LEDGER_HINTS];
+
+static void one_line(int is_trusted, const char *line, int number, uint64_t serial, int64_t speed, int64_t sum) {
+    const uint8_t *bytes = (const uint8_t *)line;
+    uint64_t k = 77;
+    int64_t v = 77, w = 77;
+    size_t n = strlen(line);
+    uint8_t got = is_trusted ? dual_ledger_trusted_text_line(bench, bytes, n, hints, &k, &v, &w) : dual_ledger_text_line(bench, bytes, n, hints, &k, &v, &w);
+    same(line, got, number), same(line, (int64_t)k, (int64_t)serial), same(line, v, speed), same(line, w, sum);
+}
+
+static void text_lines(int is_trusted) {
+    same("set-up", dual_ledger_set_up(bench, 1), 0);
+    one_line(is_trusted, "D 0 3", 0, 1, 1, 0);
+    one_line(is_trusted, "G 0 5", 0, 0, 1, 5);
+    one_line(is_trusted, "S 0 1 -1", 0, 1, -1, 5);
+    one_line(is_trusted, "G 0 7", 0, 0, -1, -2);
+    one_line(is_trusted, "E 0 9", DUAL_LEDGER_STALE, 0, -1, -2);
+    one_line(is_trusted, "E 0 9 ", DUAL_LEDGER_LINE, 0, 0, 0);
+    one_line(is_trusted, "", DUAL_LEDGER_LINE, 0, 0, 0);
+}
+
+/* The record in pieces of so many bytes. */
+static void text_chunks(int is_trusted, size_t piece) {
+    static uint8_t held_line[DUAL_LEDGER_HELD], out[DUAL_LEDGER_ANSWER_BYTES * 64], all[1024];
+    const uint8_t *bytes = (const uint8_t *)record;
+    size_t held = 0, wrote = 0, total = 0, length = strlen(record);
+    same("set-up", dual_ledger_set_up(bench, 1), 0);
+    for (size_t at = 0; at < length; at += piece) {
+        size_t n = length - at < piece ? length - at : piece;
+        uint8_t number = is_trusted ? dual_ledger_trusted_text_chunk(bench, bytes + at, n, held_line, &held, hints, out, sizeof out, &wrote)
+                                    : dual_ledger_text_chunk(bench, bytes + at, n, held_line, &held, hints, out, sizeof out, &wrote);
+        same("a chunk", number, 0);
+        memcpy(all + total, out, wrote), total += wrote;
+    }
+    same("what is held", (int64_t)held, 7);
+    same("the end", dual_ledger_text_end(held, out, DUAL_LEDGER_ANSWER_BYTES, &wrote), 0);
+    memcpy(all + total, out, wrote), total += wrote;
+    same("answers", (int64_t)total, (int64_t)strlen(replies)), same("answers", memcmp(all, replies, total), 0);
+}
+
+/* Too little room, too much held: refused, and all is as it was. */
+static void text_refusals(int is_trusted) {
+    uint8_t chunk[2] = {0}, line[DUAL_LEDGER_HELD] = {0}, out[DUAL_LEDGER_ANSWER_BYTES * 2] = {0};
+    size_t held = 3, wrote = 77;
+    same("set-up", dual_ledger_set_up(bench, 1), 0), memcpy(kept, bench, sizeof bench);
+    for (int k = 0; k < 2; k++) {
+        size_t room = k ? sizeof out : sizeof out - 1;
+        held = k ? DUAL_LEDGER_HELD + 1 : 3;
+        uint8_t number = is_trusted ? dual_ledger_trusted_text_chunk(bench, chunk, 2, line, &held, hints, out, room, &wrote)
+                                    : dual_ledger_text_chunk(bench, chunk, 2, line, &held, hints, out, room, &wrote);
+        same("a chunk refused", number, k ? DUAL_LEDGER_BROKEN : DUAL_LEDGER_SMALL);
+        same("what is held", (int64_t)held, k ? DUAL_LEDGER_HELD + 1 : 3), same("written", (int64_t)wrote, 0);
+        same_words("a chunk refused", bench, kept, DUAL_LEDGER_WORDS);
+    }
+    same("no room at the end", dual_ledger_text_end(1, out, DUAL_LEDGER_ANSWER_BYTES - 1, &wrote), DUAL_LEDGER_SMALL);
+    bench[3]++;
+    held = 0;
+    same("broken: chunk", dual_ledger_text_chunk(bench, chunk, 1, line, &held, hints, out, sizeof out, &wrote), DUAL_LEDGER_BROKEN);
+    one_line(0, "D 0 3", DUAL_LEDGER_BROKEN, 0, 0, 0);
+}
+
+static void text(void) {
+    for (int is_trusted = 0; is_trusted < 2; is_trusted++) {
+        text_lines(is_trusted), text_refusals(is_trusted);
+        for (size_t piece = 1; piece <= 64; piece++) text_chunks(is_trusted, piece);
+    }
+}
+
+/* ---- the header's names */
+
+static void names(void) {
+    uint64_t node = DUAL_LEDGER_HANDLE(5, 63, 4294967295u);
+    same("a handle's parts", DUAL_LEDGER_HANDLE_INTERFACE(node), 5), same("a handle's parts", DUAL_LEDGER_HANDLE_SLOT(node), 63);
+    same("a handle's parts", DUAL_LEDGER_HANDLE_SERIAL(node), 4294967295u);
+    same("the name of 8", strcmp(dual_ledger_refusal_name(DUAL_LEDGER_STALE), "STALE"), 0);
+    same("the name of 21", strcmp(dual_ledger_refusal_name(DUAL_LEDGER_NOTHING), "NOTHING"), 0);
+    same("the name of 22", dual_ledger_refusal_name(22) == NULL, 1), same("the name of 0", strcmp(dual_ledger_refusal_name(0), "ACCEPTED"), 0);
+}
+
 /* ---- refusals: the number, no value, and every word as it was */
 
 static void refused(const char *what, uint8_t got, int number) {
@@ -429,6 +513,8 @@ int main(void) {
     notices();
     largest_circle();
     reads();
+    text();
+    names();
     refusals();
     broken();
     groups();

@@ -3,3 +3,4 @@ pub mod Handing
 pub mod Telling
 pub mod Once
 pub mod Agree
+pub mod Texting

@@ -24,4 +24,4 @@ pub record LineBy (b line : List ℕ) (n k v w : ℕ) (b′ : List ℕ) : Type 0
 -- the same on any words: BROKEN where they hold no sound bench
 pub record LineLeft (b line : List ℕ) (n k v w : ℕ) (b′ : List ℕ) : Type 0 where
   pub sound : soundWords b ≡ true → LineBy b line n k v w b′
-  pub broken : soundWords b ≡ false → ((n, k, v, w) ≡ (2, 0, 0, 0)) × (b′ ≡ b)
+  pub broken : soundWords b ≡ false → (n ≡ 2) × (k ≡ 0) × (v ≡ 0) × (w ≡ 0) × (b′ ≡ b)

@@ -1,0 +1,199 @@
+//! The command `dual-ledger`, as a script meets it: what it prints and its status, on whole records and on everything that can go wrong.
+use std::fs;
+use std::io::{Read, Write};
+use std::path::PathBuf;
+use std::process::{Command, Output, Stdio};
+
+const RECORD: &str = "D 0 3\nD 0 8\nD 0 9\nG 0 5\nB 0 1 2 3\nG 0 2\nS 0 4 -1\nG 0 1\nE 0 4\nK 0\n";
+const ANSWERS: &str = "0 1 1 0\n0 2 2 0\n0 3 3 0\n0 0 3 15\n0 4 1 15\n0 0 1 17\n0 4 -1 17\n0 0 -1 16\n0 4 3 16\n0 5 3 16\n";
+
+/// A folder of a test's own.
+struct Folder(PathBuf);
+
+impl Folder {
+    fn new(name: &str) -> Folder {
+        let path = std::env::temp_dir().join(format!("dual-ledger-{}-{name}", std::process::id()));
+        fs::create_dir_all(&path).unwrap();
+        Folder(path)
+    }
+    fn with(self, name: &str, text: &str) -> Folder {
+        fs::write(self.0.join(name), text).unwrap();
+        self
+    }
+    fn command(&self, words: &[&str]) -> Command {
+        let mut command = Command::new(env!("CARGO_BIN_EXE_dual-ledger"));
+        command.args(words).current_dir(&self.0).stdin(Stdio::null());
+        command
+    }
+    fn run(&self, words: &[&str]) -> (i32, String, String) {
+        said(self.command(words).output().unwrap())
+    }
+}
+
+impl Drop for Folder {
+    fn drop(&mut self) {
+        let _ = fs::remove_dir_all(&self.0);
+    }
+}
+
+fn said(output: Output) -> (i32, String, String) {
+    let text = |bytes: Vec<u8>| String::from_utf8(bytes).unwrap();
+    (output.status.code().unwrap(), text(output.stdout), text(output.stderr))
+}
+
+#[test]
+fn a_whole_record() {
+    let folder = Folder::new("whole").with("shot.txt", RECORD);
+    assert_eq!(folder.run(&["check", "shot.txt"]), (0, "shot.txt: 10 lines, 0 refused\n".into(), "".into()));
+    assert_eq!(folder.run(&["check", "--quiet", "shot.txt"]), (0, "".into(), "".into()));
+    assert_eq!(folder.run(&["check", "--quiet", "--answers", "-", "shot.txt"]), (0, ANSWERS.into(), "".into()));
+    assert_eq!(folder.run(&["check", "--quiet", "--answers", "out.txt", "shot.txt", "shot.txt"]), (0, "".into(), "".into()));
+    assert_eq!(fs::read_to_string(folder.0.join("out.txt")).unwrap(), ANSWERS.repeat(2));
+    assert!(!folder.0.join("out.txt.part").exists());
+}
+
+#[test]
+fn every_refusal_in_words() {
+    let full = (0..64).map(|vertex| format!("D 5 {vertex}\n")).collect::<String>();
+    let many = format!("B 5{}\n", " 1".repeat(65));
+    let lines = [
+        ("D 8 1", "3 UNIT: there is no interface 8, only 0 to 7"),
+        ("F 2 0 9", "3 UNIT: there is no interface 9, only 0 to 7"),
+        ("G 0 -4", "5 LENGTH: a growth of -4 is negative"),
+        ("G 0 1099511627777", "5 LENGTH: the progress of interface 0 would pass 2^40"),
+        ("E 0 900", "8 STALE: serial 900 names no present node"),
+        ("B 5 1 2 900", "8 STALE: serial 900 names no present node"),
+        ("S 0 1 1", "9 FOREIGN: serial 1 stands in the tree of interface 5, not of 0"),
+        ("E 5 1", "10 KIND: serial 1 is a defect, and only blossoms are expanded"),
+        ("D 5 64", "14 FULL: all 64 slots of interface 5 are used"),
+        ("B 5 1 2 2", "13 TWICE: serial 2 is named twice"),
+        ("F 3 1 1", "16 PAIR: interface 1 cannot be both halves"),
+        ("F 1 0 2", "16 PAIR: interface 1 is not of a higher number than both its halves"),
+        ("F 5 0 1", "17 USED: interface 5 has slots used, progress or halves already"),
+        ("F 6 5 0", ""),
+        ("B 6 1 2", ""),
+        ("S 6 1 0", "11 INSIDE: serial 1 lies in a blossom, outermost 65"),
+        ("D 5 1", "4 CHILD: interface 5 is a half of interface 6"),
+        ("", "1 LINE: it is empty"),
+        ("X 0", "1 LINE: no line begins with 'X'"),
+        ("D 0", "1 LINE: after D there are to be two numbers"),
+        ("D 0 1 2", "1 LINE: after D there are to be two numbers"),
+        ("D 256 1", "1 LINE: a number is out of its range"),
+        ("D 0 -0", "1 LINE: '-0' is not a plain number"),
+        (" D 0 1", "1 LINE: two spaces, or a space at an end"),
+        ("D\t0 1", "1 LINE: it has a byte that is no letter, digit, space or minus"),
+    ];
+    let mut record = full + &many;
+    let mut expected = "r.txt:65: 6 CIRCLE: 65 members are more than 64\n".to_string();
+    for (at, (line, why)) in lines.iter().enumerate() {
+        record += &format!("{line}\n");
+        if !why.is_empty() {
+            expected += &format!("r.txt:{}: {why}\n", at + 66);
+        }
+    }
+    expected += &format!("r.txt: {} lines, {} refused\n", 65 + lines.len(), lines.len() - 1);
+    let folder = Folder::new("words").with("r.txt", &record);
+    assert_eq!(folder.run(&["check", "r.txt"]), (0, expected, "".into()));
+}
+
+#[test]
+fn many_files_in_their_order() {
+    let mut folder = Folder::new("many");
+    let names: Vec<String> = (0..40).map(|at| format!("{at}.txt")).collect();
+    let (mut answers, mut expected) = (String::new(), String::new());
+    for (at, name) in names.iter().enumerate() {
+        folder = folder.with(name, &format!("{}E 7 9\n", RECORD.repeat(1 + at % 3 * 50)));
+        let lines = 10 * (1 + at % 3 * 50) + 1;
+        let (_, own, _) = folder.run(&["check", "--answers", "-", "--quiet", name]);
+        expected += &format!("{name}:{lines}: 8 STALE: serial 9 names no present node\n").repeat(usize::from(at % 3 == 0));
+        let _ = lines;
+        answers += &own;
+    }
+    let words: Vec<&str> = ["check", "--jobs", "3", "--quiet", "--answers", "-"].into_iter().chain(names.iter().map(String::as_str)).collect();
+    assert_eq!(folder.run(&words), (0, answers, "".into()));
+    let (_, shown, _) = folder.run(&["check", "0.txt", "3.txt"]);
+    assert_eq!(shown, "0.txt:11: 8 STALE: serial 9 names no present node\n0.txt: 11 lines, 1 refused\n3.txt:11: 8 STALE: serial 9 names no present node\n3.txt: 11 lines, 1 refused\n");
+    assert!(!expected.is_empty());
+}
+
+#[test]
+fn what_goes_wrong_has_a_message_and_a_status() {
+    let folder = Folder::new("wrong").with("shot.txt", RECORD).with("cut.txt", "D 0 3\nG 0 1");
+    let long = folder.0.join("long.txt");
+    fs::write(&long, RECORD.repeat(100_000)).unwrap();
+    let fails = |words: &[&str], why: &str| {
+        let (status, _, message) = folder.run(words);
+        assert_eq!((status, message.as_str()), (1, why), "{words:?}");
+    };
+    // a full disk, of the answers and of standard output
+    fails(&["check", "--quiet", "--answers", "/dev/full", "shot.txt"], "dual-ledger: /dev/full: No space left on device\n");
+    fails(&["check", "--quiet", "--answers", "/dev/full", "long.txt"], "dual-ledger: /dev/full: No space left on device\n");
+    for words in [&["check", "shot.txt"][..], &["check", "--quiet", "--answers", "-", "long.txt"], &["ages", "shot.txt"], &["ages", "--json", "long.txt", "-q"], &["--help"]] {
+        let full = fs::File::options().write(true).open("/dev/full").unwrap();
+        let (status, _, message) = said(folder.command(words).stdout(full).output().unwrap());
+        assert_eq!((status, message.as_str()), (1, "dual-ledger: standard output: No space left on device\n"), "{words:?}");
+    }
+    // a directory, a missing file, one that cannot be written
+    for subcommand in ["check", "ages"] {
+        fails(&[subcommand, "--quiet", "."], "dual-ledger: .: Is a directory\n");
+        fails(&[subcommand, "--quiet", "none.txt"], "dual-ledger: none.txt: No such file or directory\n");
+    }
+    fails(&["check", "--quiet", "--answers", "none/out.txt", "shot.txt"], "dual-ledger: none/out.txt.part: No such file or directory\n");
+    // cut in the middle: answered, but not as whole
+    fails(&["check", "--quiet", "--answers", "out.txt", "shot.txt", "cut.txt"], "dual-ledger: cut.txt: the input is cut: its last line has no newline\n");
+    assert!(!folder.0.join("out.txt").exists() && !folder.0.join("out.txt.part").exists());
+    fails(&["ages", "--quiet", "cut.txt"], "dual-ledger: cut.txt: the input is cut: line 2 has no newline, and was not done\n");
+    // one file of several
+    let (status, shown, message) = folder.run(&["check", "none.txt", "shot.txt"]);
+    assert_eq!((status, shown.as_str()), (1, "shot.txt: 10 lines, 0 refused\n"));
+    assert_eq!(message, "dual-ledger: none.txt: No such file or directory\n");
+}
+
+#[test]
+fn a_closed_pipe() {
+    let folder = Folder::new("pipe");
+    fs::write(folder.0.join("long.txt"), RECORD.repeat(100_000)).unwrap();
+    for words in [&["check", "--quiet", "--answers", "-", "long.txt"][..], &["check", "long.txt"], &["ages", "--quiet", "long.txt"]] {
+        let mut child = folder.command(words).stdout(Stdio::piped()).stderr(Stdio::piped()).spawn().unwrap();
+        let mut first = [0; 5];
+        child.stdout.as_mut().unwrap().read_exact(&mut first).unwrap();
+        drop(child.stdout.take());
+        let (status, _, message) = said(child.wait_with_output().unwrap());
+        assert_eq!((status, message.as_str()), (1, "dual-ledger: standard output: Broken pipe\n"), "{words:?}");
+    }
+}
+
+#[test]
+fn standard_input() {
+    let folder = Folder::new("input");
+    let mut child = folder.command(&["check", "--answers", "-", "--quiet", "-"]).stdin(Stdio::piped()).stdout(Stdio::piped()).spawn().unwrap();
+    child.stdin.take().unwrap().write_all(RECORD.as_bytes()).unwrap();
+    assert_eq!(said(child.wait_with_output().unwrap()), (0, ANSWERS.into(), "".into()));
+}
+
+#[test]
+fn called_wrongly() {
+    let folder = Folder::new("called").with("shot.txt", RECORD);
+    for words in [&[][..], &["frobnicate"], &["check"], &["check", "--csv", "shot.txt"], &["ages", "shot.txt", "shot.txt"], &["check", "--jobs", "0", "shot.txt"], &["check", "--jobs"]] {
+        let (status, shown, message) = folder.run(words);
+        assert_eq!((status, shown.as_str()), (2, ""), "{words:?}");
+        assert!(message.starts_with("dual-ledger: ") && message.ends_with("Try 'dual-ledger --help'.\n"), "{message}");
+    }
+    let (status, help, _) = folder.run(&["--help"]);
+    assert!(status == 0 && help.contains("dual-ledger check") && help.contains("dual-ledger ages"));
+    assert_eq!(folder.run(&["--version"]).1, format!("dual-ledger {}\n", env!("CARGO_PKG_VERSION")));
+}
+
+#[test]
+fn ages_in_three_forms() {
+    let folder = Folder::new("ages").with("shot.txt", &format!("{RECORD}D 1 20\nG 1 6\nF 2 0 1\nG 2 5\nS 2 4 1\n"));
+    let (status, csv, message) = folder.run(&["ages", "--csv", "shot.txt"]);
+    assert_eq!((status, message.as_str()), (0, "shot.txt:15: 8 STALE: serial 4 names no present node\n"));
+    assert_eq!(csv.lines().nth(4), Some("node,4,0,,1 2 3,5,9,expanded,1,,,"));
+    assert_eq!(csv.lines().last(), Some("interface,,2,,,,,,,42,41,1"));
+    let (_, text, _) = folder.run(&["ages", "--quiet", "shot.txt"]);
+    assert_eq!(text.lines().nth(4), Some("     4          0  blossom of 1 2 3        5  9, expanded      1"));
+    assert!(text.ends_with("        2          42              41                     1  adds up\n"));
+    let (_, json, _) = folder.run(&["ages", "--quiet", "--json", "shot.txt"]);
+    assert!(json.contains(r#"{"serial":4,"interface":0,"members":[1,2,3],"made":5,"gone":9,"how":"expanded","value":1}"#));
+}
