@@ -1,5 +1,6 @@
 //! The original dual module as oracle: driven line by line, beside a plain model of document 01. oracle/README.md says how it is used.
 
+pub mod ages;
 pub mod bare;
 pub mod coverage;
 pub mod driver;

@@ -3,7 +3,7 @@ use oracle::coverage::Coverage;
 use oracle::generator::plans::{ALL, MIXED, TEXT};
 use oracle::generator::Player;
 use oracle::line::numbers;
-use oracle::{bare, recording, recordings, shots, text, timing};
+use oracle::{ages, bare, recording, recordings, shots, text, timing};
 use std::io::{stdin, stdout, Read, Write};
 use std::process::exit;
 
@@ -18,6 +18,7 @@ list          the fixed list of a million operations in shots, as text lines
 time FILE     nanoseconds by kind of the operations in such a list (release build)
 linked        the linked ledger beside the original and the model: `linked small`, `linked scale`, `linked play FILE`
 bench         times of the original and the linked ledger in one run; makes docs/benchmark.svg
+ages [COUNT]  `dual-ledger ages` beside the model, on so many generated records (1,000)
 raw           text lines on standard input, answered by the original alone
 text          text lines on standard input, answered as `ledger` is to answer them
 lines PLAN COUNT SEED   lines of a plan: text and mixed are lines of the text program, the others of recordings";
@@ -112,6 +113,10 @@ fn main() {
         ["bare", path] => bare(path),
         ["list"] => print(&shots::list(1_000_000, 1)),
         ["time", path] => print(&timing::report(&read(path)).unwrap_or_else(|why| fail(why))),
+        ["ages", command, count] => {
+            let count = count.parse().unwrap_or_else(|_| fail(format!("`{count}` is no number")));
+            print(&ages::compare(command, count).unwrap_or_else(|why| fail(why)))
+        }
         ["raw"] => print(&text::raw(input()).into_iter().map(|answer| answer + "\n").collect::<String>()),
         ["text"] => print(&text::run(&input()).unwrap_or_else(|why| fail(why))),
         _ => fail(HELP),

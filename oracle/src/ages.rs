@@ -1,0 +1,104 @@
+//! The ages of a record by the model, as `dual-ledger ages --csv` prints them, worked out another way: which nodes went by a line is seen from the bench before
+//! and after it, and what blossoms had when they went is kept by the interface whose slot they held.
+use crate::generator::plans::{MIXED, TEXT};
+use crate::generator::Player;
+use crate::line::Line;
+use crate::model::bench::{Bench, Class, FACES};
+use crate::model::Model;
+use crate::text;
+use std::collections::BTreeMap;
+use std::fmt::Write;
+use std::process::Command;
+
+struct Aged {
+    unit: usize,
+    of: String,
+    made: usize,
+    gone: String,
+    value: i64,
+}
+
+/// Serial, interface, what it is of and value of each present node.
+fn present(bench: &Bench) -> BTreeMap<u32, (usize, String, i64)> {
+    let mut found = BTreeMap::new();
+    for (unit, face) in bench.faces.iter().enumerate() {
+        for node in face.slots.iter().flatten() {
+            let of = match &node.class {
+                Class::Defect(vertex) => format!("{vertex},"),
+                Class::Blossom(circle) => format!(",{}", circle.iter().map(|member| member.node.serial.to_string()).collect::<Vec<_>>().join(" ")),
+            };
+            found.insert(node.serial, (unit, of, node.value));
+        }
+    }
+    found
+}
+
+pub fn csv(input: &[u8]) -> String {
+    let mut model = Model::new(1);
+    let mut ages: BTreeMap<u32, Aged> = BTreeMap::new();
+    let mut expanded = [0; FACES];
+    for (at, (bytes, can_be)) in text::lines(input).enumerate() {
+        let Some(line) = text::read(bytes).filter(|_| can_be) else { continue };
+        let before = present(&model.bench);
+        let cleared = match line {
+            Line::Clear(unit) if (unit as usize) < FACES => model.bench.tree(unit as usize),
+            _ => vec![],
+        };
+        if model.answer(&line)[0] != 0 {
+            continue;
+        }
+        let after = present(&model.bench);
+        cleared.into_iter().for_each(|unit| expanded[unit] = 0);
+        for (serial, (unit, _, value)) in before.iter().filter(|(serial, _)| !after.contains_key(serial)) {
+            let is_expanded = matches!(line, Line::Expand(..));
+            let node = ages.get_mut(serial).expect("it was made");
+            node.gone = format!("{},{}", at + 1, if is_expanded { "expanded" } else { "cleared" });
+            node.value = *value;
+            expanded[*unit] += if is_expanded { *value } else { 0 };
+        }
+        for (serial, (unit, of, _)) in after.into_iter().filter(|(serial, _)| !before.contains_key(serial)) {
+            ages.insert(serial, Aged { unit, of, made: at + 1, gone: ",".to_string(), value: 0 });
+        }
+    }
+    let now = present(&model.bench);
+    let mut out = "row,serial,interface,vertex,members,made,gone,how,value,sum,present,expanded\n".to_string();
+    for (serial, aged) in &ages {
+        let value = now.get(serial).map_or(aged.value, |(_, _, value)| *value);
+        writeln!(out, "node,{serial},{},{},{},{},{value},,,", aged.unit, aged.of, aged.made, aged.gone).expect("a string takes it");
+    }
+    for (unit, face) in model.bench.faces.iter().enumerate().filter(|(_, face)| face.parent.is_none()) {
+        let tree = model.bench.tree(unit);
+        let total: i64 = now.values().filter(|(own, _, _)| tree.contains(own)).map(|(_, _, value)| value).sum();
+        let gone: i64 = tree.iter().map(|own| expanded[*own]).sum();
+        let has_slots = tree.iter().any(|own| !model.bench.faces[*own].slots.is_empty());
+        if has_slots || face.sum != 0 || gone != 0 {
+            writeln!(out, "interface,,{unit},,,,,,,{},{total},{gone}", face.sum).expect("a string takes it");
+        }
+    }
+    out
+}
+
+/// Generated records, the ages of each by a command and by the model; how many were compared, or the first that differs.
+pub fn compare(command: &str, count: u64) -> Result<String, String> {
+    let path = std::env::temp_dir().join(format!("ages-{}.txt", std::process::id()));
+    let (mut nodes, mut gone, mut sums, mut lines) = (0, 0, 0, 0);
+    for seed in 0..count {
+        let plan = if seed % 2 == 0 { TEXT } else { MIXED };
+        let mut player = Player::new(plan, seed + 1);
+        let length = 20 + seed % 400;
+        let record: String = (0..length).map(|_| if seed % 2 == 0 { player.accepted() } else { player.line() } + "\n").collect();
+        std::fs::write(&path, &record).map_err(|why| why.to_string())?;
+        let output = Command::new(command).args(["ages", "--csv", "--quiet"]).arg(&path).output().map_err(|why| format!("{command}: {why}"))?;
+        let (theirs, ours) = (String::from_utf8_lossy(&output.stdout).into_owned(), csv(record.as_bytes()));
+        if theirs != ours || !output.status.success() {
+            let line = theirs.lines().zip(ours.lines()).find(|(theirs, ours)| theirs != ours);
+            return Err(format!("seed {seed}: {line:?}, status {}; the record is {}", output.status, path.display()));
+        }
+        lines += length;
+        nodes += ours.lines().filter(|line| line.starts_with("node")).count();
+        gone += ours.lines().filter(|line| line.contains(",expanded,")).count();
+        sums += ours.lines().filter(|line| line.starts_with("interface")).count();
+    }
+    let _ = std::fs::remove_file(&path);
+    Ok(format!("ages: {count} records of {lines} lines: {nodes} nodes, {gone} of them expanded, and {sums} sums, all as the model has them\n"))
+}
