@@ -77,7 +77,15 @@ impl PathModule {
     }
 
     /// A region and what stands beside it, a region or a virtual vertex, so far apart.
-    fn meet(&self, bench: &Bench, group: &mut Group, own: (Handle, Region), other: Option<(Handle, Region)>, gap: i64, end: u32) -> Result<(), Refusal> {
+    fn meet(
+        &self,
+        bench: &Bench,
+        group: &mut Group,
+        own: (Handle, Region),
+        other: Option<(Handle, Region)>,
+        gap: i64,
+        end: u32,
+    ) -> Result<(), Refusal> {
         let rate = i64::from(own.1.state.rate()) + other.map_or(0, |(_, region)| i64::from(region.state.rate()));
         if rate <= 0 {
             return Ok(());
@@ -195,7 +203,10 @@ fn main() -> Result<(), Refusal> {
     let mut group = module.compute_maximum_update_length(&bench)?;
     assert_eq!(group.pop()?, Some(Obstacle::BlossomNeedExpand(blossom)));
     bench.telling(&mut module).expand_blossom(0, blossom)?;
-    println!("expanded: {}", module.in_order().iter().map(|(_, region)| format!("[{}, {}]", region.left, region.right)).collect::<Vec<_>>().join(" "));
+    println!(
+        "expanded: {}",
+        module.in_order().iter().map(|(_, region)| format!("[{}, {}]", region.left, region.right)).collect::<Vec<_>>().join(" ")
+    );
     assert_eq!(module.in_order().iter().map(|(_, region)| (region.left, region.right)).collect::<Vec<_>>(), [(25, 35), (35, 45), (45, 55)]);
     Ok(())
 }

@@ -13,9 +13,9 @@
 //! assert_eq!(lent::get_dual_variable(&words, node), Err(Refusal::Broken));
 //! ```
 use crate::linked::{any, AnswerWords, Words};
-use crate::text::any_line;
 use crate::reads::{reads, MOST_VERTICES};
 use crate::refusal::settled;
+use crate::text::any_line;
 use crate::{GrowState, Handle, Refusal, Reply, Told, Verdict};
 use alloc::vec::Vec;
 

@@ -47,9 +47,9 @@ mod text;
 mod verdict;
 
 pub use bench::Bench;
+pub use errors::REFUSALS;
 pub use group::{Group, Obstacle};
 pub use handle::{GrowState, Handle};
-pub use errors::REFUSALS;
 pub use linked::{GroupWords, Words, GROUP_WORDS, WORDS};
 pub use notice::{Notice, Told};
 pub use refusal::Refusal;

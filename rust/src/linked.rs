@@ -192,7 +192,15 @@ pub mod text {
             pub fn $name(bench: &mut $bench, line: &[u8], hints: &mut Hints, serial: &mut u64, speed: &mut i64, sum: &mut i64) -> u8 {
                 extern "C" {
                     #[link_name = $link]
-                    fn linked(bench: &mut $bench, line: *const u8, bytes: usize, hints: &mut Hints, serial: &mut u64, speed: &mut i64, sum: &mut i64) -> u8;
+                    fn linked(
+                        bench: &mut $bench,
+                        line: *const u8,
+                        bytes: usize,
+                        hints: &mut Hints,
+                        serial: &mut u64,
+                        speed: &mut i64,
+                        sum: &mut i64,
+                    ) -> u8;
                 }
                 // SAFETY: as above; the line is of the length said
                 unsafe { linked(bench, line.as_ptr(), line.len(), hints, serial, speed, sum) }

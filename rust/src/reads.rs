@@ -127,7 +127,7 @@ pub(crate) mod sound {
     use super::MOST_VERTICES;
     use crate::linked::{trusted, Sound};
     use crate::refusal::settled;
-    use alloc::vec::Vec;
     use crate::{Handle, Refusal, Verdict};
+    use alloc::vec::Vec;
     reads!(trusted, Sound, "");
 }

@@ -124,7 +124,13 @@ fn what_goes_wrong_has_a_message_and_a_status() {
     // a full disk, of the answers and of standard output
     fails(&["check", "--quiet", "--answers", "/dev/full", "shot.txt"], "dual-ledger: /dev/full: No space left on device\n");
     fails(&["check", "--quiet", "--answers", "/dev/full", "long.txt"], "dual-ledger: /dev/full: No space left on device\n");
-    for words in [&["check", "shot.txt"][..], &["check", "--quiet", "--answers", "-", "long.txt"], &["ages", "shot.txt"], &["ages", "--json", "long.txt", "-q"], &["--help"]] {
+    for words in [
+        &["check", "shot.txt"][..],
+        &["check", "--quiet", "--answers", "-", "long.txt"],
+        &["ages", "shot.txt"],
+        &["ages", "--json", "long.txt", "-q"],
+        &["--help"],
+    ] {
         let full = fs::File::options().write(true).open("/dev/full").unwrap();
         let (status, _, message) = said(folder.command(words).stdout(full).output().unwrap());
         assert_eq!((status, message.as_str()), (1, "dual-ledger: standard output: No space left on device\n"), "{words:?}");
@@ -136,7 +142,10 @@ fn what_goes_wrong_has_a_message_and_a_status() {
     }
     fails(&["check", "--quiet", "--answers", "none/out.txt", "shot.txt"], "dual-ledger: none/out.txt.part: No such file or directory\n");
     // cut in the middle: answered, but not as whole
-    fails(&["check", "--quiet", "--answers", "out.txt", "shot.txt", "cut.txt"], "dual-ledger: cut.txt: the input is cut: its last line has no newline\n");
+    fails(
+        &["check", "--quiet", "--answers", "out.txt", "shot.txt", "cut.txt"],
+        "dual-ledger: cut.txt: the input is cut: its last line has no newline\n",
+    );
     assert!(!folder.0.join("out.txt").exists() && !folder.0.join("out.txt.part").exists());
     fails(&["ages", "--quiet", "cut.txt"], "dual-ledger: cut.txt: the input is cut: line 2 has no newline, and was not done\n");
     // one file of several
@@ -170,7 +179,15 @@ fn standard_input() {
 #[test]
 fn called_wrongly() {
     let folder = Folder::new("called").with("shot.txt", RECORD);
-    for words in [&[][..], &["frobnicate"], &["check"], &["check", "--csv", "shot.txt"], &["ages", "shot.txt", "shot.txt"], &["check", "--jobs", "0", "shot.txt"], &["check", "--jobs"]] {
+    for words in [
+        &[][..],
+        &["frobnicate"],
+        &["check"],
+        &["check", "--csv", "shot.txt"],
+        &["ages", "shot.txt", "shot.txt"],
+        &["check", "--jobs", "0", "shot.txt"],
+        &["check", "--jobs"],
+    ] {
         let (status, shown, message) = folder.run(words);
         assert_eq!((status, shown.as_str()), (2, ""), "{words:?}");
         assert!(message.starts_with("dual-ledger: ") && message.ends_with("Try 'dual-ledger --help'.\n"), "{message}");

@@ -14,7 +14,7 @@ use Rattle.dual_ledger.specs.Texts.{LineBy, LineLeft}
 
 -- speed and sum are read again from 64 bits
 module _ (b line : List ℕ) (r : Reply) (b′ : List ℕ) (f : SFits w64 (r .speed)) (g : SFits w64 (r .sum)) {v w : ℕ}
-         (p : v ≡ signedWord (toZ w64 (ofZ w64 (r .speed)))) (q : w ≡ signedWord (toZ w64 (ofZ w64 (r .sum)))) where
+    (p : v ≡ signedWord (toZ w64 (ofZ w64 (r .speed)))) (q : w ≡ signedWord (toZ w64 (ofZ w64 (r .sum)))) where
   speed : v ≡ signedWord (r .speed)
   speed = p ∙ ap signedWord (toZ-ofZ f)
 

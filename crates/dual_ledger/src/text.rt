@@ -18,11 +18,11 @@ pub extern "C" fn dual_ledger_text_line(
 ) -> u8
     ensures { λ r. ⌜ LineLeft (now (bench .entry)) (now (line .entry)) r (now (serial .exit)) (now (speed .exit)) (now (sum .exit)) (now (bench .exit)) ⌝ }
 {
-    let a = link_text::line_on_any(bench, line, hints);
-    *serial = a.serial as u64;
-    *speed = link_answers::signed_word(a.speed);
-    *sum = link_answers::signed_word(a.sum);
-    a.number
+    let any = link_text::line_on_any(bench, line, hints);
+    *serial = any.serial as u64;
+    *speed = link_answers::signed_word(any.speed);
+    *sum = link_answers::signed_word(any.sum);
+    any.number
 }
 
 #[no_mangle]
@@ -37,11 +37,11 @@ pub extern "C" fn dual_ledger_trusted_text_line(
     requires { ⌜ SoundWords (now bench) ⌝ }
     ensures { λ r. ⌜ LineBy (now (bench .entry)) (now (line .entry)) r (now (serial .exit)) (now (speed .exit)) (now (sum .exit)) (now (bench .exit)) ⌝ }
 {
-    let a = link_text::line_on_sound(bench, line, hints);
-    *serial = a.serial as u64;
-    *speed = link_answers::signed_word(a.speed);
-    *sum = link_answers::signed_word(a.sum);
-    a.number
+    let said = link_text::line_on_sound(bench, line, hints);
+    *serial = said.serial as u64;
+    *speed = link_answers::signed_word(said.speed);
+    *sum = link_answers::signed_word(said.sum);
+    said.number
 }
 
 #[no_mangle]

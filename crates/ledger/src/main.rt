@@ -33,9 +33,15 @@ fn say(text: &[u8]) {
 }
 
 fn help() {
-    say(b"ledger: reads a record from standard input, writes a line of four numbers for each of its lines.\n");
-    say(b"The lines: D unit vertex, B unit serial.., E unit serial, S unit serial state, G unit length,\n");
-    say(b"F parent left right, C unit, K unit. The numbers: number, serial, speed, sum. docs/MANUAL.md says\n");
+    say(
+        b"ledger: reads a record from standard input, writes a line of four numbers for each of its lines.\n",
+    );
+    say(
+        b"The lines: D unit vertex, B unit serial.., E unit serial, S unit serial state, G unit length,\n",
+    );
+    say(
+        b"F parent left right, C unit, K unit. The numbers: number, serial, speed, sum. docs/MANUAL.md says\n",
+    );
     say(b"what they mean. It has no exit status: a script uses 'dual-ledger check'.\n");
     say(b"ledger --help, ledger --version\n");
 }

@@ -63,7 +63,9 @@ pub struct Book {
 }
 
 fn fields(line: &[u8]) -> impl Iterator<Item = u32> + '_ {
-    line.split(|byte| *byte == b' ').skip(1).map(|field| field.iter().fold(0u32, |n, digit| n.wrapping_mul(10).wrapping_add(u32::from(digit.wrapping_sub(b'0')))))
+    line.split(|byte| *byte == b' ')
+        .skip(1)
+        .map(|field| field.iter().fold(0u32, |n, digit| n.wrapping_mul(10).wrapping_add(u32::from(digit.wrapping_sub(b'0')))))
 }
 
 /// The nodes of an interface's tree.
@@ -134,7 +136,7 @@ impl Book {
                 total += value;
             }
             let expanded = self.expanded[interface as usize];
-            if bench.nodes_count(interface).map_or(false, |count| count > 0) || stored != 0 || expanded != 0 {
+            if bench.nodes_count(interface).is_ok_and(|count| count > 0) || stored != 0 || expanded != 0 {
                 sums.push(Sum { interface, stored, present: total, expanded });
             }
         }

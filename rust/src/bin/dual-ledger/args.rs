@@ -68,7 +68,9 @@ impl Args {
                 Some("--answers") if is_check && !no_more_options => args.answers = Some(words.next().ok_or("--answers wants a file")?.into()),
                 Some("--csv") if !is_check && !no_more_options => args.form = Form::Csv,
                 Some("--json") if !is_check && !no_more_options => args.form = Form::Json,
-                Some(option) if !no_more_options && option.starts_with('-') && option != "-" => return Err(format!("there is no option {option} here")),
+                Some(option) if !no_more_options && option.starts_with('-') && option != "-" => {
+                    return Err(format!("there is no option {option} here"))
+                }
                 _ => args.files.push(word.into()),
             }
         }

@@ -25,7 +25,7 @@ fn parent_of(bench: &Bench, interface: i128) -> Option<u8> {
 }
 
 fn is_child(bench: &Bench, interface: i128) -> bool {
-    u8::try_from(interface).map_or(false, |unit| bench.nodes_count(unit) == Err(Refusal::Child))
+    u8::try_from(interface).is_ok_and(|unit| bench.nodes_count(unit) == Err(Refusal::Child))
 }
 
 /// Whether the node has a parent, and the outermost blossom around it.
@@ -58,7 +58,7 @@ fn line_words(line: &[u8]) -> String {
     if !["D", "B", "E", "S", "G", "F", "C", "K"].contains(&fields[0]) {
         return format!("no line begins with '{}'", fields[0]);
     }
-    let is_plain = |field: &&&str| field.parse::<i128>().map_or(false, |number| number.to_string() == **field);
+    let is_plain = |field: &&&str| field.parse::<i128>().is_ok_and(|number| number.to_string() == **field);
     if let Some(wrong) = fields[1..].iter().find(|field| !is_plain(field)) {
         return format!("'{wrong}' is not a plain number");
     }

@@ -28,7 +28,7 @@ impl Answers {
         if path.as_os_str() == "-" {
             return Ok(Answers { to: BufWriter::new(Box::new(io::stdout())), name: "standard output".to_string(), whole: None });
         }
-        let is_special = fs::metadata(path).map_or(false, |found| !found.is_file());
+        let is_special = fs::metadata(path).is_ok_and(|found| !found.is_file());
         if is_special {
             let file = File::options().write(true).open(path).map_err(|trouble| said(&name, &trouble))?;
             return Ok(Answers { to: BufWriter::new(Box::new(file)), name, whole: None });

@@ -9,6 +9,9 @@ use Rattle.dual_ledger.proofs.text.dual_ledger_trusted_text_line.Tie as
 line-on-sound-requires : tie.Need-line-on-sound-requires
 line-on-sound-requires c κs = search needs
 
+cast-serial : tie.Need-cast-serial
+cast-serial c = search needs
+
 signed-word-requires : tie.Need-signed-word-requires
 signed-word-requires c κs = search needs
 
@@ -25,4 +28,4 @@ returns c =
     line-by (a .bench .now) (a .line .now) r _ f g (c .before .before .signed-word .ensures) (c .signed-word2 .ensures) (c .before .before .before .before .before .line-on-sound .ensures)
 
 pub dual-ledger-trusted-text-line-spec : {M : Type 1} → statement M
-dual-ledger-trusted-text-line-spec = tie.close (tie.spec line-on-sound-requires signed-word-requires signed-word-requires-2 returns)
+dual-ledger-trusted-text-line-spec = tie.close (tie.spec line-on-sound-requires cast-serial signed-word-requires signed-word-requires-2 returns)
