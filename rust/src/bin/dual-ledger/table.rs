@@ -16,37 +16,24 @@ fn digits(number: i64) -> usize {
     own + usize::from(number < 0)
 }
 
-fn of_width(of: &Of) -> usize {
-    match of {
-        Of::Vertex(vertex) => 7 + digits(i64::from(*vertex)),
-        Of::Members(members) => 10 + members.iter().map(|member| 1 + digits(i64::from(*member))).sum::<usize>(),
-    }
-}
-
 pub fn text(out: &mut impl Write, nodes: &[Node], sums: &[Sum]) -> io::Result<()> {
     let serial = widest("serial", nodes.last().iter().map(|node| digits(i64::from(node.handle.serial()))));
-    let of = widest("of", nodes.iter().map(|node| of_width(&node.of)));
     let made = widest("made at", nodes.last().iter().map(|node| digits(node.made as i64)));
     let gone_width = |node: &Node| node.gone.map_or(0, |(line, how)| digits(line as i64) + 2 + how.word().len());
     let gone = widest("gone at", nodes.iter().map(gone_width));
     let value = widest("value", nodes.iter().map(|node| digits(node.value)));
-    writeln!(out, "{:>serial$}  interface  {:of$}  {:>made$}  {:gone$}  {:>value$}", "serial", "of", "made at", "gone at", "value")?;
-    let mut what = String::new();
-    let mut went = String::new();
+    writeln!(out, "{:>serial$}  interface  {:>made$}  {:gone$}  {:>value$}  of", "serial", "made at", "gone at", "value")?;
     for node in nodes {
-        use std::fmt::Write as _;
-        what.clear();
-        went.clear();
+        write!(out, "{:>serial$}  {:>9}  {:>made$}  ", node.handle.serial(), node.handle.interface(), node.made)?;
+        match node.gone {
+            Some((line, how)) => write!(out, "{line}, {:width$}", how.word(), width = gone - 2 - digits(line as i64))?,
+            None => write!(out, "{:gone$}", "")?,
+        }
+        write!(out, "  {:>value$}  ", node.value)?;
         match &node.of {
-            Of::Vertex(vertex) => write!(what, "vertex {vertex}"),
-            Of::Members(members) => write!(what, "blossom of {}", spaced(members, " ")),
+            Of::Vertex(vertex) => writeln!(out, "vertex {vertex}")?,
+            Of::Members(members) => writeln!(out, "members {}", spaced(members, " "))?,
         }
-        .expect("a string takes it");
-        if let Some((line, how)) = node.gone {
-            write!(went, "{line}, {}", how.word()).expect("a string takes it");
-        }
-        let (own, interface) = (node.handle.serial(), node.handle.interface());
-        writeln!(out, "{own:>serial$}  {interface:>9}  {what:of$}  {:>made$}  {went:gone$}  {:>value$}", node.made, node.value)?;
     }
     writeln!(out, "\ninterface  stored sum  values present  in expanded blossoms")?;
     for sum in sums {
