@@ -8,7 +8,8 @@ use std::io::{stdin, stdout, Read, Write};
 use std::process::exit;
 
 const HELP: &str = "\
-build         installs what is needed and builds; every command does so where something is missing
+install       installs what is needed (apt-get); every other command says so where something is missing, and installs it only where CI is set
+build         builds
 test          the same, then all tests
 record        makes recordings/ again, byte for byte, and prints what they cover
 cover FILE    what a recording covers

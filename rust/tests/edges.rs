@@ -1,4 +1,4 @@
-//! The specification's edges and worked case, by a bench's calls.
+//! The manual's edges and worked case, by a bench's calls.
 use dual_ledger::{Bench, Group, GrowState, Obstacle, Refusal, Verdict};
 
 #[test]
