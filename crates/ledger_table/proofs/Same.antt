@@ -27,8 +27,8 @@ use Rattle.ledger_spec.proofs.Holds.{holds}
 use Rattle.ledger_laws.proofs.SoundCalls.{opened-sound}
 use Rattle.ledger_laws.proofs.Answered.{answer-false}
 use Rattle.ledger_laws.proofs.Always.{answer-sound}
-use Rattle.ledger_table.specs.Talk.{Ledger, plain, Desk, fresh, Turn, acts, calls, adds, extends, changes, checked, dumped, vertices, reads, nat, under, regroups, performs, opens, turn}
-use Rattle.ledger_table.specs.Replay.{texts, sameBytes, answered, plus, along, replayed}
+use Rattle.ledger_table.specs.Talk.{Ledger, plain, Desk, newDesk, Turn, acts, callsSaid, adds, extends, changes, checked, dumped, vertices, reads, nat, byLetter, regroups, performs, opens, deskTurn}
+use Rattle.ledger_table.specs.Replay.{numbersText, sameBytes, answered, plus, along, replayed}
 use Rattle.ledger_table.specs.Quick.{tested, nextFits, quickly}
 
 -- ---- the two tests agree on every bench that a text can reach
@@ -83,20 +83,20 @@ module _ (t : Bench → Bool) (k : Desk) (c : ℕ) (l : List ℤ) where
 
   performs-here : (x : Option Call) → performs (tested t) k c l x ≡ performs here k c l x
   unfolding here performs changes adds extends acts
-  performs-here none = regroups-here (under c (changes (tested t) k l))
+  performs-here none = regroups-here (byLetter c (changes (tested t) k l))
   performs-here (some x) = refl
 
   opens-here : (s : Bool) → opens (tested t) k c l s ≡ opens here k c l s
   unfolding opens
   opens-here true = refl
-  opens-here false = performs-here (under c (calls (k .bench) l))
+  opens-here false = performs-here (byLetter c (callsSaid (k .bench) l))
 
-  turn-here : turn (tested t) k c l ≡ turn (tested (λ b. t (k .bench))) k c l
-  unfolding here turn
+  turn-here : deskTurn (tested t) k c l ≡ deskTurn (tested (λ b. t (k .bench))) k c l
+  unfolding here deskTurn
   turn-here = opens-here (eqb c (code "N"))
 
-turn-same : (k : Desk) (c : ℕ) (l : List ℤ) → Reached (k .bench) → turn plain k c l ≡ turn (tested nextFits) k c l
-turn-same k c l R = ap (λ (L : Ledger). turn L k c l) plain-tested ∙ turn-here sound k c l ∙ ap (λ (s : Bool). turn (tested (λ b. s)) k c l) (R .agree) ∙ sym (turn-here nextFits k c l)
+turn-same : (k : Desk) (c : ℕ) (l : List ℤ) → Reached (k .bench) → deskTurn plain k c l ≡ deskTurn (tested nextFits) k c l
+turn-same k c l R = ap (λ (L : Ledger). deskTurn L k c l) plain-tested ∙ turn-here sound k c l ∙ ap (λ (s : Bool). deskTurn (tested (λ b. s)) k c l) (R .agree) ∙ sym (turn-here nextFits k c l)
 
 -- only set-up and calls change the bench
 module _ (k : Desk) (c : ℕ) (l : List ℤ) (R : Reached (k .bench)) where
@@ -107,16 +107,16 @@ module _ (k : Desk) (c : ℕ) (l : List ℤ) (R : Reached (k .bench)) where
 
   performs-reached : (x : Option Call) → Reached (performs plain k c l x .desk .bench)
   unfolding performs acts
-  performs-reached none = regroups-reached (under c (changes plain k l))
+  performs-reached none = regroups-reached (byLetter c (changes plain k l))
   performs-reached (some x) = answer-reached (k .bench) x R
 
   opens-reached : (s : Bool) → Reached (opens plain k c l s .desk .bench)
   unfolding opens
   opens-reached true = set-up-reached (nat l 0)
-  opens-reached false = performs-reached (under c (calls (k .bench) l))
+  opens-reached false = performs-reached (byLetter c (callsSaid (k .bench) l))
 
-  turn-reached : Reached (turn plain k c l .desk .bench)
-  unfolding turn
+  turn-reached : Reached (deskTurn plain k c l .desk .bench)
+  unfolding deskTurn
   turn-reached = opens-reached (eqb c (code "N"))
 
 -- ---- lines
@@ -136,7 +136,7 @@ along-same k last ([] ∷ ls) R = along-same k last ls R
 along-same k last ((c ∷ s) ∷ ls) R = go (eqb c 35) (eqb c 61) (λ k′ last′ R′. along-same k′ last′ ls R′)
   where
     on : Ledger → Turn → ℕ × ℕ
-    on L t = along L (t .desk) (texts (t .says)) ls
+    on L t = along L (t .desk) (numbersText (t .says)) ls
 
     by : Ledger → Bool → Bool → ℕ × ℕ
     by L x y = elim x [
@@ -148,13 +148,13 @@ along-same k last ((c ∷ s) ∷ ls) R = go (eqb c 35) (eqb c 61) (λ k′ last�
     go true y ih = ih k last R
     go false true ih = ap (plus (sameBytes last (drop 1 s))) (ih k last R)
     go false false ih = let t : Turn = answered plain k (c ∷ s) in
-        ih (t .desk) (texts (t .says)) (answered-reached k (c ∷ s) R) ∙ ap (on (tested nextFits)) (answered-same k (c ∷ s) R)
+        ih (t .desk) (numbersText (t .says)) (answered-reached k (c ∷ s) R) ∙ ap (on (tested nextFits)) (answered-same k (c ∷ s) R)
 
 -- ---- texts
 
 pub replay-same : (s : String) → replayed s ≡ quickly s
 unfolding replayed quickly
-replay-same s = along-same (fresh (setUp 1)) [] (cut 10 (bytes s)) (opened-reached 1 (omega arith))
+replay-same s = along-same (newDesk (setUp 1)) [] (cut 10 (bytes s)) (opened-reached 1 (omega arith))
 
 -- what the quick replay counts, the plain ledger's counts
 pub by-quick : (s : String) {n : ℕ × ℕ} → quickly s ≡ n → replayed s ≡ n

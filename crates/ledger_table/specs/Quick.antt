@@ -14,8 +14,8 @@ use Rattle.ledger_spec.specs.Answers.{whole, broken}
 use Rattle.ledger_spec.specs.Groups.{soundGroup, added, extended}
 use Rattle.ledger_spec.specs.GroupCalls.{handlesOf, groupHandles, staleCode, vertexOf, orElse}
 use Rattle.ledger_spec.specs.Opened.{run}
-use Rattle.ledger_table.specs.Talk.{Ledger, joined, members, triples, pairs, shownSlot, acts, calls, adds, extends, popsOne, changes, shows, checked, dumped, vertices, asked, reads, under, regroups, performs, opens, turn}
-use Rattle.ledger_table.specs.Replay.{texts, sameBytes, answered, along, replay}
+use Rattle.ledger_table.specs.Talk.{Ledger, flattened, serialsSaid, triples, pairs, shownSlot, acts, callsSaid, adds, extends, popsOne, changes, shows, checked, dumped, vertices, groupAsked, reads, byLetter, regroups, performs, opens, deskTurn}
+use Rattle.ledger_table.specs.Replay.{numbersText, sameBytes, answered, along, replay}
 
 -- the plain ledger with test t where it has `sound`
 abbrev pub tested : (Bench → Bool) → Ledger
@@ -38,5 +38,5 @@ nextFits b = leb (b .next) (2 ^ 32)
 
 -- with every definition open
 unfoldable pub quickly : String → ℕ × ℕ
-unfolding run joined members triples pairs shownSlot acts calls adds extends popsOne changes shows checked dumped vertices asked reads under regroups performs opens turn texts sameBytes answered along replay
+unfolding run flattened serialsSaid triples pairs shownSlot acts callsSaid adds extends popsOne changes shows checked dumped vertices groupAsked reads byLetter regroups performs opens deskTurn numbersText sameBytes answered along replay
 quickly s = replay (tested nextFits) s

@@ -12,22 +12,22 @@ use Rattle.ledger_spec.specs.Bench.{setUp}
 use Rattle.ledger_spec.specs.Decimals.{signed, integer}
 use Rattle.ledger_spec.specs.Fields.{partsAfter, cut}
 use Rattle.ledger_spec.specs.Bytes.{bytes}
-use Rattle.ledger_table.specs.Talk.{Ledger, plain, Desk, fresh, Turn, turn}
+use Rattle.ledger_table.specs.Talk.{Ledger, plain, Desk, newDesk, Turn, deskTurn}
 
 abbrev pub orZero : Option ℤ → ℤ
 orZero none = pos 0
 orZero (some z) = z
 
-abbrev pub letterOf : List (List ℕ) → ℕ
-letterOf [] = 0
-letterOf ([] ∷ fs) = 0
-letterOf ((c ∷ f) ∷ fs) = c
+abbrev pub letterSaid : List (List ℕ) → ℕ
+letterSaid [] = 0
+letterSaid ([] ∷ fs) = 0
+letterSaid ((c ∷ f) ∷ fs) = c
 
 -- numbers with one space between
-unfoldable pub texts : List ℤ → List ℕ
-texts [] = []
-texts (z ∷ []) = signed z
-texts (z ∷ w ∷ zs) = signed z ++ (32 ∷ texts (w ∷ zs))
+unfoldable pub numbersText : List ℤ → List ℕ
+numbersText [] = []
+numbersText (z ∷ []) = signed z
+numbersText (z ∷ w ∷ zs) = signed z ++ (32 ∷ numbersText (w ∷ zs))
 
 unfoldable pub sameBytes : List ℕ → List ℕ → Bool
 sameBytes [] [] = true
@@ -36,7 +36,7 @@ sameBytes (c ∷ s) [] = false
 sameBytes (c ∷ s) (d ∷ t) = eqb c d && sameBytes s t
 
 unfoldable pub answered : Ledger → Desk → List ℕ → Turn
-answered L k s = turn L k (letterOf (cut 32 s)) (map (λ (f : List ℕ). orZero (integer f)) (partsAfter 32 s))
+answered L k s = deskTurn L k (letterSaid (cut 32 s)) (map (λ (f : List ℕ). orZero (integer f)) (partsAfter 32 s))
 
 abbrev pub plus : Bool → ℕ × ℕ → ℕ × ℕ
 plus true t = (suc (t .0), t .1)
@@ -50,13 +50,13 @@ along L k last ((c ∷ s) ∷ ls) = elim (eqb c 35) [
   | true ↦ along L k last ls
   | false ↦ elim (eqb c 61) [
     | true ↦ plus (sameBytes last (drop 1 s)) (along L k last ls)
-    | false ↦ let t : Turn = answered L k (c ∷ s) in along L (t .desk) (texts (t .says)) ls
+    | false ↦ let t : Turn = answered L k (c ∷ s) in along L (t .desk) (numbersText (t .says)) ls
   ]
 ]
 
 -- answers compared, and how many of them differ: by any ledger, and by the plain one
 unfoldable pub replay : Ledger → String → ℕ × ℕ
-replay L s = along L (fresh (setUp 1)) [] (cut 10 (bytes s))
+replay L s = along L (newDesk (setUp 1)) [] (cut 10 (bytes s))
 
 unfoldable pub replayed : String → ℕ × ℕ
 replayed s = replay plain s

@@ -15,12 +15,10 @@ use Rattle.kinds.specs.declared.MaybePair.the-variants.{NoPair, WithPair}
 use Rattle.kinds.specs.declared.Obstacle.{Obstacle}
 use Rattle.kinds.specs.declared.Obstacle.the-variants.{NonZeroGrow, Conflicting, TouchingVirtual, BlossomNeedExpand, VertexShrinkStop}
 use Rattle.ledger_spec.specs.Bench.{Handle, State, grows, stays, shrinks, rate, Member, defect, blossom, Node, Bench}
-use Rattle.ledger_spec.specs.Calls.{nobody, setUpCall, Call, Defect, Blossom, Expand, SetState, Grow, Fuse, Clear}
+use Rattle.ledger_spec.specs.Calls.{setUpCall, Call, Defect, Blossom, Expand, SetState, Grow, Fuse, Clear}
 use Rattle.ledger_spec.specs.Notices.{Notice, defectAdded, stateSet, shrinkPrepared, blossomAdded, blossomRemoved, grown}
-use Rattle.ledger_spec.specs.Reads.{slotsOf, sumOf, speedOf, countOf, handleAtIndex, valueOf, belongs}
-use Rattle.ledger_spec.specs.Walk.{outerOf, belowOf, firstVertex, verticesInto}
-use Rattle.ledger_spec.specs.Check.{checkOf, strictOf}
-use Rattle.ledger_spec.specs.Answers.{Answer, answer, ask}
+use Rattle.ledger_spec.specs.Reads.{slotsOf}
+use Rattle.ledger_spec.specs.Answers.{Answer, answer, ask, Read, sumRead, speedRead, countRead, indexRead, belongsRead, valueRead, outerRead, belowRead, firstRead, verticesRead, checkRead, strictRead}
 use Rattle.ledger_spec.specs.Lines.{named, shown}
 use Rattle.ledger_spec.specs.Groups.{Group, growth, conflicts, emptyGroup}
 use Rattle.ledger_spec.specs.GroupCalls.{isEmpty, isActive, growthOf, peek, pop, add, extend}
@@ -41,8 +39,8 @@ pub record Desk : Type 0 where
   pub bench : Bench
   pub groups : List Group
 
-abbrev pub fresh : Bench → Desk
-fresh b = record { bench = b; groups = replicate 4 emptyGroup }
+abbrev pub newDesk : Bench → Desk
+newDesk b = record { bench = b; groups = replicate 4 emptyGroup }
 
 -- what is answered, and the desk after it
 pub record Turn : Type 0 where
@@ -67,19 +65,19 @@ nat l k = natAbs (arg l k)
 abbrev pub flag : ℤ → Bool
 flag z = eqb (natAbs z) 1
 
-abbrev pub stateOf : ℤ → State
-stateOf (pos zero) = stays
-stateOf (pos (suc n)) = grows
-stateOf (negsuc n) = shrinks
+abbrev pub stateSaid : ℤ → State
+stateSaid (pos zero) = stays
+stateSaid (pos (suc n)) = grows
+stateSaid (negsuc n) = shrinks
 
-unfoldable pub joined : {A : Type 0} → (A → List ℤ) → List A → List ℤ
-joined f [] = []
-joined f (x ∷ xs) = f x ++ joined f xs
+unfoldable pub flattened : {A : Type 0} → (A → List ℤ) → List A → List ℤ
+flattened f [] = []
+flattened f (x ∷ xs) = f x ++ flattened f xs
 
 -- a row of numbers by threes and twos
-unfoldable pub members : ℕ → List ℤ → List ℕ
-members zero l = []
-members (suc k) l = natAbs (getD l 0 (pos 0)) ∷ members k (drop 1 l)
+unfoldable pub serialsSaid : ℕ → List ℤ → List ℕ
+serialsSaid zero l = []
+serialsSaid (suc k) l = natAbs (getD l 0 (pos 0)) ∷ serialsSaid k (drop 1 l)
 
 unfoldable pub triples : ℕ → List ℤ → List (ℕ × ℕ × ℕ)
 triples zero l = []
@@ -113,7 +111,7 @@ shownSlot t = elim (t .2) [
   | none ↦ pos 0 ∷ []
   | some n ↦ elim (n .class) [
     | defect v ↦ pos 1 ∷ num (n .serial) ∷ rate (n .state) ∷ parentSerial (n .parent) ∷ num (n .size) ∷ n .value ∷ num v ∷ []
-    | blossom ms ↦ pos 2 ∷ num (n .serial) ∷ rate (n .state) ∷ parentSerial (n .parent) ∷ num (n .size) ∷ n .value ∷ num (length ms) ∷ joined shownMember ms
+    | blossom ms ↦ pos 2 ∷ num (n .serial) ∷ rate (n .state) ∷ parentSerial (n .parent) ∷ num (n .size) ∷ n .value ∷ num (length ms) ∷ flattened shownMember ms
   ]
 ]
 
@@ -134,8 +132,8 @@ shownTaken (some o) = shownObstacle o
 
 abbrev pub shownGroup : Group → List ℤ
 shownGroup (growth l f) = pos 1 ∷ l ∷ bit f ∷ []
-shownGroup (conflicts l s) = pos 2 ∷ num (length l) ∷ (joined (λ (e : Entry). shownObstacle (e .obstacle)) l
-    ++ (num (length s) ∷ joined (λ (x : Stop). num (x .vertex .0) ∷ shownObstacle (x .obstacle)) s))
+shownGroup (conflicts l s) = pos 2 ∷ num (length l) ∷ (flattened (λ (e : Entry). shownObstacle (e .obstacle)) l
+    ++ (num (length s) ∷ flattened (λ (x : Stop). num (x .vertex .0) ∷ shownObstacle (x .obstacle)) s))
 
 abbrev pub shownLength : Option ℤ → List ℤ
 shownLength none = pos 0 ∷ pos 0 ∷ []
@@ -153,21 +151,21 @@ four t = num (t .0) ∷ num (t .1) ∷ t .2 ∷ t .3 ∷ []
 -- a call that names interface u: four numbers, then its notices
 unfoldable pub acts : Ledger → Desk → ℕ → Call → Turn
 acts L k u c = let a : Answer = L .answer (k .bench) c in record {
-  says = four (shown (a .number) (a .node .serial) (a .bench) u) ++ (num (length (a .notices)) ∷ joined shownNotice (a .notices));
+  says = four (shown (a .number) (a .node .serial) (a .bench) u) ++ (num (length (a .notices)) ∷ flattened shownNotice (a .notices));
   desk = record { bench = a .bench; groups = k .groups };
 }
 
 -- what each letter calls, with the numbers l behind it
-unfoldable pub calls : Bench → List ℤ → List (Char × Call)
-calls b l =
+unfoldable pub callsSaid : Bench → List ℤ → List (Char × Call)
+callsSaid b l =
     let u : ℕ = nat l 0 in
     let t : List (ℕ × ℕ × ℕ) = triples 400 (drop 1 l) in
     ("D", Defect u (nat l 1))
     ∷ ("B", Blossom u (map (λ (z : ℤ). named b (natAbs z)) (drop 1 l)) [])
     ∷ ("b", Blossom u (map (λ (x : ℕ × ℕ × ℕ). named b (x .0)) t) (map (λ (x : ℕ × ℕ × ℕ). (named b (x .1), named b (x .2))) t))
-    ∷ ("t", Blossom u (map (named b) (members (nat l 1) (drop 2 l))) (map (λ (x : ℕ × ℕ). (named b (x .0), named b (x .1))) (pairs 400 (drop (2 + nat l 1) l))))
+    ∷ ("t", Blossom u (map (named b) (serialsSaid (nat l 1) (drop 2 l))) (map (λ (x : ℕ × ℕ). (named b (x .0), named b (x .1))) (pairs 400 (drop (2 + nat l 1) l))))
     ∷ ("E", Expand u (named b (nat l 1)))
-    ∷ ("S", SetState u (named b (nat l 1)) (stateOf (arg l 2)))
+    ∷ ("S", SetState u (named b (nat l 1)) (stateSaid (arg l 2)))
     ∷ ("G", Grow u (arg l 1))
     ∷ ("F", Fuse u (nat l 1) (nat l 2))
     ∷ ("C", Clear u)
@@ -212,22 +210,26 @@ changes L k l =
 unfoldable pub shows : {A : Type 0} → (A → List ℤ) → ℕ × A → List ℤ
 shows f r = num (r .0) ∷ f (r .1)
 
+-- a read, by this ledger
+abbrev pub asks : {A : Type 0} → Ledger → Bench → Read A → ℕ × A
+asks L b r = L .ask b (r .zero) (r .own)
+
 unfoldable pub checked : Ledger → Bench → ℕ → List ℤ
-checked L b u = let r : ℕ × (ℕ × ℕ) = L .ask b (0, 0) (checkOf b u) in four (shown (r .0) (r .1 .0) b u) ++ (num (r .1 .1) ∷ [])
+checked L b u = let r : ℕ × (ℕ × ℕ) = asks L b (checkRead b u) in four (shown (r .0) (r .1 .0) b u) ++ (num (r .1 .1) ∷ [])
 
 unfoldable pub dumped : Ledger → Bench → ℕ → List ℤ
-dumped L b u = elim (L .ask b 0 (countOf b u) .0) [
-  | zero ↦ pos 0 ∷ num (length (slotsOf b u)) ∷ joined shownSlot (slotsOf b u)
+dumped L b u = elim (asks L b (countRead b u) .0) [
+  | zero ↦ pos 0 ∷ num (length (slotsOf b u)) ∷ flattened shownSlot (slotsOf b u)
   | suc n ↦ num (suc n) ∷ pos 0 ∷ []
 ]
 
 -- all vertices, into so many entries that hold 77
 unfoldable pub vertices : Ledger → Bench → Handle → ℕ → List ℤ
 vertices L b h room =
-    shows (λ (r : ℕ × List ℕ). num (r .0) ∷ map num (r .1)) (L .ask b (0, replicate room 77) (verticesInto b h (replicate room 77)))
+    shows (λ (r : ℕ × List ℕ). num (r .0) ∷ map num (r .1)) (asks L b (verticesRead b h (replicate room 77)))
 
-unfoldable pub asked : Group → List ℤ
-asked g = pos 0 ∷ bit (isEmpty g .1) ∷ bit (isActive g .1) ∷ shows shownLength (growthOf g)
+unfoldable pub groupAsked : Group → List ℤ
+groupAsked g = pos 0 ∷ bit (isEmpty g .1) ∷ bit (isActive g .1) ∷ shows shownLength (growthOf g)
 
 unfoldable pub reads : Ledger → Desk → List ℤ → List (Char × List ℤ)
 reads L k l =
@@ -236,19 +238,19 @@ reads L k l =
     let h : Handle = named b (nat l 0) in
     let g : Group = group k (nat l 0) in
     ("K", checked L b u)
-    ∷ ("k", shows (λ (r : ℕ × ℕ). num (r .0) ∷ num (r .1) ∷ []) (L .ask b (0, 0) (strictOf b u)))
-    ∷ ("s", shows (λ (z : ℤ). z ∷ []) (L .ask b (pos 0) (sumOf b u)))
-    ∷ ("p", shows (λ (z : ℤ). z ∷ []) (L .ask b (pos 0) (speedOf b u)))
-    ∷ ("n", shows (λ (n : ℕ). num n ∷ []) (L .ask b 0 (countOf b u)))
-    ∷ ("h", shows shownHandle (L .ask b none (handleAtIndex b u (nat l 1))))
-    ∷ ("i", shows (λ (f : Bool). bit f ∷ []) (L .ask b false (belongs b u (named b (nat l 1)))))
+    ∷ ("k", shows (λ (r : ℕ × ℕ). num (r .0) ∷ num (r .1) ∷ []) (asks L b (strictRead b u)))
+    ∷ ("s", shows (λ (z : ℤ). z ∷ []) (asks L b (sumRead b u)))
+    ∷ ("p", shows (λ (z : ℤ). z ∷ []) (asks L b (speedRead b u)))
+    ∷ ("n", shows (λ (n : ℕ). num n ∷ []) (asks L b (countRead b u)))
+    ∷ ("h", shows shownHandle (asks L b (indexRead b u (nat l 1))))
+    ∷ ("i", shows (λ (f : Bool). bit f ∷ []) (asks L b (belongsRead b u (named b (nat l 1)))))
     ∷ ("d", dumped L b u)
-    ∷ ("v", shows (λ (z : ℤ). z ∷ []) (L .ask b (pos 0) (valueOf b h)))
-    ∷ ("o", shows (λ (r : Handle × ℕ). num (r .0 .serial) ∷ num (r .1) ∷ []) (L .ask b (nobody, 0) (outerOf b h)))
-    ∷ ("u", shows (λ (g : Handle). num (g .serial) ∷ []) (L .ask b nobody (belowOf b h)))
-    ∷ ("f", shows (λ (n : ℕ). num n ∷ []) (L .ask b 0 (firstVertex b h)))
+    ∷ ("v", shows (λ (z : ℤ). z ∷ []) (asks L b (valueRead b h)))
+    ∷ ("o", shows (λ (r : Handle × ℕ). num (r .0 .serial) ∷ num (r .1) ∷ []) (asks L b (outerRead b h)))
+    ∷ ("u", shows (λ (g : Handle). num (g .serial) ∷ []) (asks L b (belowRead b h)))
+    ∷ ("f", shows (λ (n : ℕ). num n ∷ []) (asks L b (firstRead b h)))
     ∷ ("a", vertices L b h (nat l 1))
-    ∷ ("y", asked g)
+    ∷ ("y", groupAsked g)
     ∷ ("l", shows shownTaken (peek g))
     ∷ ("m", pos 0 ∷ shownGroup g)
     ∷ []
@@ -256,9 +258,9 @@ reads L k l =
 -- ---- a line
 
 -- what stands under a letter
-unfoldable pub under : {A : Type 0} → ℕ → List (Char × A) → Option A
-under c [] = none
-under c (r ∷ rs) = elim (eqb c (code (r .0))) [ true ↦ some (r .1) | false ↦ under c rs ]
+unfoldable pub byLetter : {A : Type 0} → ℕ → List (Char × A) → Option A
+byLetter c [] = none
+byLetter c (r ∷ rs) = elim (eqb c (code (r .0))) [ true ↦ some (r .1) | false ↦ byLetter c rs ]
 
 -- a letter that stands nowhere says nothing
 abbrev pub orNothing : Option (List ℤ) → List ℤ
@@ -266,17 +268,17 @@ orNothing none = []
 orNothing (some l) = l
 
 unfoldable pub regroups : Ledger → Desk → ℕ → List ℤ → Option (List ℤ × Group) → Turn
-regroups L k c l none = record { says = orNothing (under c (reads L k l)); desk = k }
+regroups L k c l none = record { says = orNothing (byLetter c (reads L k l)); desk = k }
 regroups L k c l (some r) = record { says = r .0; desk = record { bench = k .bench; groups = set (k .groups) (nat l 0) (r .1) } }
 
 unfoldable pub performs : Ledger → Desk → ℕ → List ℤ → Option Call → Turn
-performs L k c l none = regroups L k c l (under c (changes L k l))
+performs L k c l none = regroups L k c l (byLetter c (changes L k l))
 performs L k c l (some x) = acts L k (nat l 0) x
 
 unfoldable pub opens : Ledger → Desk → ℕ → List ℤ → Bool → Turn
-opens L k c l true = record { says = num (setUpCall (nat l 0) .number) ∷ []; desk = fresh (setUpCall (nat l 0) .bench) }
-opens L k c l false = performs L k c l (under c (calls (k .bench) l))
+opens L k c l true = record { says = num (setUpCall (nat l 0) .number) ∷ []; desk = newDesk (setUpCall (nat l 0) .bench) }
+opens L k c l false = performs L k c l (byLetter c (callsSaid (k .bench) l))
 
 -- N sets up; the other letters stand for calls, changes of groups and reads
-unfoldable pub turn : Ledger → Desk → ℕ → List ℤ → Turn
-turn L k c l = opens L k c l (eqb c (code "N"))
+unfoldable pub deskTurn : Ledger → Desk → ℕ → List ℤ → Turn
+deskTurn L k c l = opens L k c l (eqb c (code "N"))
