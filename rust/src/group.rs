@@ -144,11 +144,13 @@ impl Group {
     }
 
     /// Adds an obstacle; every node that it names must be present in the bench.
+    #[doc = errors!(add)]
     pub fn add(&mut self, bench: &Bench, obstacle: Obstacle) -> Result<(), Refusal> {
         settled(group::group_add(bench.words(), &mut self.0, &obstacle.words()), ())
     }
 
     /// Adds what another group holds; every node that it names must be present in the bench.
+    #[doc = errors!(extend)]
     pub fn extend(&mut self, bench: &Bench, other: &Group) -> Result<(), Refusal> {
         settled(group::group_extend(bench.words(), &mut self.0, &other.0), ())
     }
