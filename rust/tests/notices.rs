@@ -1,5 +1,5 @@
 //! What a dual module is told, and the same calls on lent words.
-use dual_ledger::{lent, Bench, DualModule, GrowState, Handle, Notice, Refusal};
+use dual_ledger::{lent, Bench, DualModule, GrowState, Handle, Notice, Refusal, Reply};
 
 #[derive(Default)]
 struct Notes(Vec<String>);
@@ -66,6 +66,29 @@ fn lent_words() {
     lent::fuse(&mut words, 2, 0, 1).unwrap();
     lent::clear(&mut words, 2).unwrap();
     assert_eq!(lent::nodes_count(&words, 0), Ok(0));
+}
+
+#[test]
+fn lines_on_lent_words() {
+    let mut words = [77; dual_ledger::WORDS];
+    let said = |refusal, serial, speed, sum| Reply { refusal, serial, speed, sum };
+    assert_eq!(lent::line(&mut words, b"D 0 3"), said(Some(Refusal::Broken), 0, 0, 0));
+    assert!(words == [77; dual_ledger::WORDS]);
+    lent::set_up(&mut words, 1).unwrap();
+    assert_eq!(lent::line(&mut words, b"D 0 3"), said(None, 1, 1, 0));
+    assert_eq!(lent::line(&mut words, b"G 0 5"), said(None, 0, 1, 5));
+    assert_eq!(lent::line(&mut words, b"S 0 1 -1"), said(None, 1, -1, 5));
+    assert_eq!(lent::line(&mut words, b"G 0 7"), said(None, 0, -1, -2));
+    assert_eq!(lent::line(&mut words, b"E 0 2"), said(Some(Refusal::Stale), 0, -1, -2));
+    assert_eq!(lent::line(&mut words, b"E 0 2\n"), said(Some(Refusal::Line), 0, 0, 0));
+}
+
+#[test]
+fn a_module_known_only_at_run_time() {
+    let (mut bench, mut notes) = (Bench::default(), Notes::default());
+    let module: &mut dyn DualModule = &mut notes;
+    bench.telling(module).create_defect_node(0, 3).unwrap();
+    assert_eq!(notes.0, ["defect 1 at 3"]);
 }
 
 #[test]

@@ -5,6 +5,7 @@ use crate::input::{self, Progress};
 use crate::output::{said, Answers};
 use dual_ledger::{Refusal, Session};
 use std::io::{self, BufWriter, Write};
+use std::panic::{catch_unwind, AssertUnwindSafe};
 use std::path::Path;
 use std::sync::atomic::{AtomicBool, AtomicU64, AtomicUsize, Ordering};
 use std::sync::mpsc::{sync_channel, Receiver, SyncSender};
@@ -86,13 +87,11 @@ impl Run<'_> {
 
     fn file(&mut self, path: &Path) -> Result<(u64, bool), String> {
         let from = input::open(path).map_err(|trouble| input::reason(&trouble))?;
-        let (lines, rest) = input::parts(from, |part| self.part(part))?;
-        let before = self.answers.len();
+        let (lines, _) = input::parts(from, |part| self.part(part))?;
         let is_cut = self.session.end(&mut self.answers);
         if is_cut {
             self.refused += 1;
             if !self.shared.args.is_quiet {
-                let _ = (before, rest);
                 let line = lines + 1;
                 self.tell(News::Refused(format!("{}:{line}: 1 LINE: the last line has no newline, and was not done", self.name)))?;
             }
@@ -114,7 +113,9 @@ fn work(shared: &Shared, senders: &[SyncSender<News>]) {
         let at = shared.next.fetch_add(1, Ordering::Relaxed);
         let (Some(path), Some(to)) = (shared.args.files.get(at), senders.get(at)) else { return };
         let mut run = Run { session: Session::new(), name: path.display().to_string(), answers: vec![], refused: 0, shared, to: to.clone() };
-        let (lines, trouble) = match run.file(path) {
+        // whatever happens, the file's end is told: somebody waits for it
+        let ended = catch_unwind(AssertUnwindSafe(|| run.file(path))).unwrap_or_else(|_| Err("this program is at fault".to_string()));
+        let (lines, trouble) = match ended {
             Ok((lines, true)) => (lines, Some("the input is cut: its last line has no newline".to_string())),
             Ok((lines, false)) => (lines, None),
             Err(why) => (0, Some(why)),
