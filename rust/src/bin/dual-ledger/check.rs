@@ -8,7 +8,8 @@ use std::io::{self, BufWriter, Write};
 use std::panic::{catch_unwind, AssertUnwindSafe};
 use std::path::Path;
 use std::sync::atomic::{AtomicBool, AtomicU64, AtomicUsize, Ordering};
-use std::sync::mpsc::{sync_channel, Receiver, SyncSender};
+use std::sync::mpsc::{sync_channel, Receiver, RecvTimeoutError, SyncSender};
+use std::time::Duration;
 
 /// So many bytes of answers are handed on at once, and so many parcels wait for a file's turn.
 const PARCEL: usize = 1 << 18;
@@ -132,8 +133,14 @@ fn gather(args: &Args, shared: &Shared, from: Vec<Receiver<News>>, answers: &mut
     let written = |trouble: io::Error| said("standard output", &trouble);
     let (mut progress, mut are_whole) = (Progress::new(!args.is_quiet), true);
     for (at, (path, from)) in args.files.iter().zip(from).enumerate() {
-        for news in from {
+        loop {
+            let got = from.recv_timeout(Duration::from_millis(200));
             progress.at(|| format!("{} lines, file {} of {}", shared.lines.load(Ordering::Relaxed), at + 1, args.files.len()));
+            let news = match got {
+                Ok(news) => news,
+                Err(RecvTimeoutError::Timeout) => continue,
+                Err(RecvTimeoutError::Disconnected) => return Err(format!("{}: its run ended early", path.display())),
+            };
             match news {
                 News::Refused(line) => {
                     progress.clear();
