@@ -1,0 +1,4 @@
+pub mod Stores
+pub mod Seen
+pub mod Slides
+pub mod Lengths

@@ -1,0 +1,4 @@
+pub mod Forms
+pub mod Groups
+pub mod Place
+pub mod Moves

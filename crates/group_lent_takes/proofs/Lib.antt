@@ -1,0 +1,3 @@
+pub mod Asking
+pub mod Adding
+pub mod Taking
