@@ -28,7 +28,7 @@ use Rattle.group_lent_room.proofs.Words.{coming-is, other-stop, other-i
 
 -- ---- room
 
-room-yes : (l : List Entry) (s : List Stop) → length l ≤ 128 → length s ≤ 128 → roomFor l s ≡ some (l, s)
+pub room-yes : (l : List Entry) (s : List Stop) → length l ≤ 128 → length s ≤ 128 → roomFor l s ≡ some (l, s)
 unfolding roomFor
 room-yes l s h k = rw (le-leb (length l) 128 h, le-leb (length s) 128 k)
 
@@ -44,7 +44,7 @@ room-short l s h = go (leb (length l) 128)
     go true = rw (lt-leb (length s) 128 h)
     go false = refl
 
-given-grouped : (o : Option Lists) → given (grouped o) ≡ given o
+pub given-grouped : (o : Option Lists) → given (grouped o) ≡ given o
 given-grouped none = refl
 given-grouped (some ls) = refl
 
@@ -90,10 +90,10 @@ module _ (ws vs : List ℕ) (a : Listing ws) (b : Listing vs) where
   abbrev both : List Entry
   both = listIn ws ++ listIn vs
 
-  both-long : length both ≡ listed ws + listed vs
+  pub both-long : length both ≡ listed ws + listed vs
   both-long = length-append (listIn ws) (listIn vs) ∙ ap₂ (λ (i j : ℕ). i + j) (run-long (entryAt ws) 0 (listed ws)) (run-long (entryAt vs) 0 (listed vs))
 
-  whole-is : (o : Option Lists) → roomFor both (stopsIn ws) ≡ o → whole ≡ given (andThen o (addStops (stopsIn vs)))
+  pub whole-is : (o : Option Lists) → roomFor both (stopsIn ws) ≡ o → whole ≡ given (andThen o (addStops (stopsIn vs)))
   unfolding extended
   whole-is o e =
       ap₂ (λ (g h : Group). given (extended g h)) (seen-conflicts ws (a .kind)) (seen-conflicts vs (b .kind))

@@ -47,7 +47,7 @@ to-growth a f (TouchingVirtual p w m) v e = absurd (false≢true e)
 to-growth a f (BlossomNeedExpand n) v e = absurd (false≢true e)
 to-growth a f (VertexShrinkStop n p) v e = refl
 
-to-conflicts : (l : List Entry) (s : List Stop) (o : Obstacle) (v : ℕ) → isStop o ≡ true → addToConflicts l s o v ≡ grouped (addStop (record { vertex = record { 0 = v }; obstacle = o }) l s)
+pub to-conflicts : (l : List Entry) (s : List Stop) (o : Obstacle) (v : ℕ) → isStop o ≡ true → addToConflicts l s o v ≡ grouped (addStop (record { vertex = record { 0 = v }; obstacle = o }) l s)
 unfolding addToConflicts
 to-conflicts l s (NonZeroGrow b h) v e = absurd (false≢true e)
 to-conflicts l s (Conflicting p q) v e = absurd (false≢true e)
