@@ -1,0 +1,130 @@
+// Every call on groups over any words (include/dual_ledger.h): tested once, then the call on sound words. BROKEN (2) where they hold no sound group, no sound
+// bench or no obstacle; refused, every word of the group stays. Assumes nothing.
+use bench_words::WORDS;
+use group_lent::Five;
+use group_lent::GROUP;
+use group_lent::OBSTACLE;
+use groups::Asked;
+use groups::Told;
+use kinds::MaybeLength;
+ghost use mathlib.Core.Path.{_≡_};
+ghost use mathlib.Core.Bool.{false};
+ghost use mathlib.Core.Option.{none};
+ghost use Rattle.ledger_spec.specs.GroupCalls.{isEmpty, isActive, growthOf};
+ghost use Rattle.groups.specs.Shown.{shownTold, shownAsked};
+ghost use Rattle.group_lent_any.specs.Any.{Judged, askedOf, PeekedAny, PoppedAny, AddedAny, ExtendedAny};
+
+const BROKEN: u8 = 2;
+
+// Whether the words hold a sound group.
+pub fn is_group(w: &[u64; GROUP]) -> bool
+    ensures { λ r. ⌜ Judged (now (w .entry)) r ⌝ }
+{
+    group_lent::all_words(w);
+    group_lent_sound::is_sound(w)
+}
+
+pub fn is_empty(w: &[u64; GROUP]) -> Told
+    ensures { λ r. ⌜ shownTold r ≡ askedOf (now (w .entry)) false isEmpty ⌝ }
+{
+    if !is_group(w) {
+        return Told {
+            number: BROKEN,
+            yes: false,
+        };
+    }
+    let yes = group_lent_takes::is_empty(w);
+    Told { number: 0, yes }
+}
+
+pub fn is_active(w: &[u64; GROUP]) -> Told
+    ensures { λ r. ⌜ shownTold r ≡ askedOf (now (w .entry)) false isActive ⌝ }
+{
+    if !is_group(w) {
+        return Told {
+            number: BROKEN,
+            yes: false,
+        };
+    }
+    let yes = group_lent_takes::is_active(w);
+    Told { number: 0, yes }
+}
+
+pub fn get_none_zero_growth(w: &[u64; GROUP]) -> Asked
+    ensures { λ r. ⌜ shownAsked r ≡ askedOf (now (w .entry)) none growthOf ⌝ }
+{
+    if !is_group(w) {
+        return Asked {
+            number: BROKEN,
+            length: MaybeLength::NoLength,
+        };
+    }
+    group_lent_takes::get_none_zero_growth(w)
+}
+
+pub fn peek(w: &[u64; GROUP], o: &mut [u64; OBSTACLE]) -> u8
+    ensures { λ r. ⌜ PeekedAny (now (w .entry)) r (now (o .exit)) ⌝ }
+{
+    if !is_group(w) {
+        let none = Five {
+            kind: 0,
+            a: 0,
+            b: 0,
+            c: 0,
+            d: 0,
+        };
+        group_lent::put_in(o, none);
+        return BROKEN;
+    }
+    group_lent_calls::peek(w, o)
+}
+
+pub fn pop(w: &mut [u64; GROUP], o: &mut [u64; OBSTACLE]) -> u8
+    ensures { λ r. ⌜ PoppedAny (now (w .entry)) r (now (o .exit)) (now (w .exit)) ⌝ }
+{
+    if !is_group(w) {
+        let none = Five {
+            kind: 0,
+            a: 0,
+            b: 0,
+            c: 0,
+            d: 0,
+        };
+        group_lent::put_in(o, none);
+        return BROKEN;
+    }
+    group_lent_calls::pop(w, o)
+}
+
+// BROKEN too where the obstacle's words are no obstacle's.
+pub fn add(b: &[u64; WORDS], w: &mut [u64; GROUP], o: &[u64; OBSTACLE]) -> u8
+    ensures { λ r. ⌜ AddedAny (now (b .entry)) (now (w .entry)) (now (o .entry)) r (now (w .exit)) ⌝ }
+{
+    if !sound_lent::is_bench(b) {
+        return BROKEN;
+    }
+    if !is_group(w) {
+        return BROKEN;
+    }
+    let f = group_lent::five_in(o);
+    if !group_lent::is_form(f) {
+        return BROKEN;
+    }
+    group_lent_calls::add(b, w, o)
+}
+
+// BROKEN too where the other group's words are no sound group's.
+pub fn extend(b: &[u64; WORDS], w: &mut [u64; GROUP], other: &[u64; GROUP]) -> u8
+    ensures { λ r. ⌜ ExtendedAny (now (b .entry)) (now (w .entry)) (now (other .entry)) r (now (w .exit)) ⌝ }
+{
+    if !sound_lent::is_bench(b) {
+        return BROKEN;
+    }
+    if !is_group(w) {
+        return BROKEN;
+    }
+    if !is_group(other) {
+        return BROKEN;
+    }
+    group_lent_calls::extend(b, w, other)
+}
