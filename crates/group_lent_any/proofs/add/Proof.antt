@@ -1,49 +1,41 @@
+-- BROKEN, or the call on sound words. Assumes nothing.
+use mathlib.Core.Path.{refl, sym, _∙_}
+use mathlib.Core.Bool.{_&&_}
 use borrow.Author.Needs.{needs}
+use Rattle.sound_bench.specs.Sound.{soundWords}
+use Rattle.group_lent.specs.Forms.{isForm, fiveAt}
+use Rattle.group_lent_sound.specs.Test.{soundIn}
+use borrow.Author.Tests.{not-true, not-false}
+use Rattle.group_lent_any.proofs.Judging.{picks, skips, first-fails, second-fails, third-fails, all-pass, is-not, is-yes, says-sound}
 use Rattle.group_lent_any.proofs.add.Statement.{statement}
 use Rattle.group_lent_any.proofs.add.Tie as tie
-use Rattle.group_lent_any.proofs.add.Reads as reads
-use Rattle.group_lent_any.proofs.add.Lts as lts
-use Rattle.group_lent.proofs.five_in.Reads as five-in-reads
-use Rattle.group_lent.proofs.is_form.Reads as is-form-reads
-use Rattle.group_lent_any.proofs.is_group.Reads as is-group-reads
-use Rattle.group_lent_calls.proofs.add.Reads as add-reads
-use Rattle.sound_lent.proofs.is_bench.Reads as is-bench-reads
 
--- src/lib.rt:103:9
 is-bench-requires : tie.Need-is-bench-requires
 is-bench-requires c κs = search needs
 
--- src/lib.rt:104:9
 returns : tie.Need-returns
-returns c = ?
+returns c = let s = c .before .before in skips (soundWords (s .args .b .now) && (soundIn (s .args .w .now) && (isForm (fiveAt (s .args .o .now) 0)))) _ _ (first-fails (soundWords (s .args .b .now)) (soundIn (s .args .w .now)) (isForm (fiveAt (s .args .o .now) 0)) (sym (c .before .is-bench .ensures .is) ∙ not-true _ (c .if1 .taken))) (refl, refl)
 
--- src/lib.rt:106:9
 is-group-requires : tie.Need-is-group-requires
 is-group-requires c κs = search needs
 
--- src/lib.rt:107:9
 returns-2 : tie.Need-returns-2
-returns-2 c = ?
+returns-2 c = let s = c .before .before .before .before .before in skips _ _ _ (second-fails _ _ _ (sym (c .before .before .before .before .is-bench .ensures .is) ∙ not-false _ (c .before .before .before .if1 .left)) (is-not (s .args .w .now) _ (c .before .is-group .ensures) (c .if2 .taken))) (refl, refl)
 
--- src/lib.rt:109:9
 five-in-requires : tie.Need-five-in-requires
 five-in-requires c κs = search needs
 
--- src/lib.rt:110:9
 is-form-requires : tie.Need-is-form-requires
 is-form-requires c κs = search needs
 
--- src/lib.rt:111:9
 returns-3 : tie.Need-returns-3
-returns-3 c = ?
+returns-3 c = let s = c .before .before .before .before .before .before .before .before in skips _ _ _ (third-fails _ _ _ (sym (c .before .before .before .before .before .before .before .is-bench .ensures .is) ∙ not-false _ (c .before .before .before .before .before .before .if1 .left)) (is-yes (s .args .w .now) _ (c .before .before .before .before .is-group .ensures) (c .before .before .before .if2 .left)) (sym (rw (c .before .before .five-in .ensures) at (c .before .is-form .ensures)) ∙ not-true _ (c .if3 .taken))) (refl, refl)
 
--- src/lib.rt:113:5
 add-requires : tie.Need-add-requires
-add-requires c κs = ?
+add-requires c κs = let s = c .before .before .before .before .before .before .before .before .before in ((c .before .before .before .before .before .before .before .before .is-bench .ensures .says (not-false _ (c .before .before .before .before .before .before .before .if1 .left)), says-sound (s .args .w .now) _ (c .before .before .before .before .before .is-group .ensures) (c .before .before .before .before .if2 .left)), sym (rw (c .before .before .before .five-in .ensures) at (c .before .before .is-form .ensures)) ∙ not-false _ (c .before .if3 .left))
 
--- src/lib.rt:100:1
 returns-4 : tie.Need-returns-4
-returns-4 c = ?
+returns-4 c = let s = c .before .before .before .before .before .before .before .before .before .before in picks _ _ _ (all-pass _ _ _ (sym (c .before .before .before .before .before .before .before .before .before .is-bench .ensures .is) ∙ not-false _ (c .before .before .before .before .before .before .before .before .if1 .left)) (is-yes (s .args .w .now) _ (c .before .before .before .before .before .before .is-group .ensures) (c .before .before .before .before .before .if2 .left)) (sym (rw (c .before .before .before .before .five-in .ensures) at (c .before .before .before .is-form .ensures)) ∙ not-false _ (c .before .before .if3 .left))) (c .add .ensures)
 
 pub add-spec : {M : Type 1} → statement M
 add-spec =

@@ -1,43 +1,37 @@
+-- BROKEN, or the call on sound words. Assumes nothing.
+use mathlib.Core.Path.{refl, sym, _∙_}
+use mathlib.Core.Bool.{_&&_}
 use borrow.Author.Needs.{needs}
+use Rattle.sound_bench.specs.Sound.{soundWords}
+use Rattle.group_lent_sound.specs.Test.{soundIn}
+use borrow.Author.Tests.{not-true, not-false}
+use Rattle.group_lent_any.proofs.Judging.{picks, skips, first-fails, second-fails, third-fails, all-pass, is-not, is-yes, says-sound}
 use Rattle.group_lent_any.proofs.extend.Statement.{statement}
 use Rattle.group_lent_any.proofs.extend.Tie as tie
-use Rattle.group_lent_any.proofs.extend.Reads as reads
-use Rattle.group_lent_any.proofs.extend.Lts as lts
-use Rattle.group_lent_any.proofs.is_group.Reads as is-group-reads
-use Rattle.group_lent_calls.proofs.extend.Reads as extend-reads
-use Rattle.sound_lent.proofs.is_bench.Reads as is-bench-reads
 
--- src/lib.rt:120:9
 is-bench-requires : tie.Need-is-bench-requires
 is-bench-requires c κs = search needs
 
--- src/lib.rt:121:9
 returns : tie.Need-returns
-returns c = ?
+returns c = let s = c .before .before in skips (soundWords (s .args .b .now) && (soundIn (s .args .w .now) && (soundIn (s .args .other .now)))) _ _ (first-fails (soundWords (s .args .b .now)) (soundIn (s .args .w .now)) (soundIn (s .args .other .now)) (sym (c .before .is-bench .ensures .is) ∙ not-true _ (c .if1 .taken))) (refl, refl)
 
--- src/lib.rt:123:9
 is-group-requires : tie.Need-is-group-requires
 is-group-requires c κs = search needs
 
--- src/lib.rt:124:9
 returns-2 : tie.Need-returns-2
-returns-2 c = ?
+returns-2 c = let s = c .before .before .before .before .before in skips _ _ _ (second-fails _ _ _ (sym (c .before .before .before .before .is-bench .ensures .is) ∙ not-false _ (c .before .before .before .if1 .left)) (is-not (s .args .w .now) _ (c .before .is-group .ensures) (c .if2 .taken))) (refl, refl)
 
--- src/lib.rt:126:9
 is-group-requires-2 : tie.Need-is-group-requires-2
 is-group-requires-2 c κs = search needs
 
--- src/lib.rt:127:9
 returns-3 : tie.Need-returns-3
-returns-3 c = ?
+returns-3 c = let s = c .before .before .before .before .before .before .before in skips _ _ _ (third-fails _ _ _ (sym (c .before .before .before .before .before .before .is-bench .ensures .is) ∙ not-false _ (c .before .before .before .before .before .if1 .left)) (is-yes (s .args .w .now) _ (c .before .before .before .is-group .ensures) (c .before .before .if2 .left)) (is-not (s .args .other .now) _ (c .before .is-group2 .ensures) (c .if3 .taken))) (refl, refl)
 
--- src/lib.rt:129:5
 extend-requires : tie.Need-extend-requires
-extend-requires c κs = ?
+extend-requires c κs = let s = c .before .before .before .before .before .before .before .before in (c .before .before .before .before .before .before .before .is-bench .ensures .says (not-false _ (c .before .before .before .before .before .before .if1 .left)), (says-sound (s .args .w .now) _ (c .before .before .before .before .is-group .ensures) (c .before .before .before .if2 .left), says-sound (s .args .other .now) _ (c .before .before .is-group2 .ensures) (c .before .if3 .left)))
 
--- src/lib.rt:117:1
 returns-4 : tie.Need-returns-4
-returns-4 c = ?
+returns-4 c = let s = c .before .before .before .before .before .before .before .before .before in picks _ _ _ (all-pass _ _ _ (sym (c .before .before .before .before .before .before .before .before .is-bench .ensures .is) ∙ not-false _ (c .before .before .before .before .before .before .before .if1 .left)) (is-yes (s .args .w .now) _ (c .before .before .before .before .before .is-group .ensures) (c .before .before .before .before .if2 .left)) (is-yes (s .args .other .now) _ (c .before .before .before .is-group2 .ensures) (c .before .before .if3 .left))) (c .extend .ensures)
 
 pub extend-spec : {M : Type 1} → statement M
 extend-spec =

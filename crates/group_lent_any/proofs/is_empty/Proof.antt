@@ -1,26 +1,22 @@
+-- BROKEN, or the read on a sound group. Assumes nothing.
+use mathlib.Core.Bool.{false}
 use borrow.Author.Needs.{needs}
+use Rattle.ledger_spec.specs.GroupCalls.{isEmpty}
+use Rattle.group_lent_any.proofs.Judging.{asked-no, asked-yes, says-sound}
 use Rattle.group_lent_any.proofs.is_empty.Statement.{statement}
 use Rattle.group_lent_any.proofs.is_empty.Tie as tie
-use Rattle.group_lent_any.proofs.is_empty.Reads as reads
-use Rattle.group_lent_any.proofs.is_empty.Lts as lts
-use Rattle.group_lent_any.proofs.is_group.Reads as is-group-reads
-use Rattle.group_lent_takes.proofs.is_empty.Reads as is-empty-reads
 
--- src/lib.rt:30:9
 is-group-requires : tie.Need-is-group-requires
 is-group-requires c κs = search needs
 
--- src/lib.rt:31:9
 returns : tie.Need-returns
-returns c = ?
+returns c = let s = c .before .before in asked-no (s .args .w .now) _ (c .before .is-group .ensures) false isEmpty (c .if1 .taken)
 
--- src/lib.rt:36:9
 is-empty-requires : tie.Need-is-empty-requires
-is-empty-requires c κs = ?
+is-empty-requires c κs = let s = c .before .before in says-sound (s .args .w .now) _ (c .before .is-group .ensures) (c .if1 .left)
 
--- src/lib.rt:27:1
 returns-2 : tie.Need-returns-2
-returns-2 c = ?
+returns-2 c = let s = c .before .before .before in asked-yes (s .args .w .now) _ (c .before .before .is-group .ensures) false isEmpty (c .before .if1 .left) _ (c .is-empty .ensures)
 
 pub is-empty-spec : {M : Type 1} → statement M
 is-empty-spec = tie.close (tie.spec is-group-requires returns is-empty-requires returns-2)

@@ -1,31 +1,24 @@
+-- BROKEN, or the call on a sound group. Assumes nothing.
+use mathlib.Core.Path.{refl}
 use borrow.Author.Needs.{needs}
+use Rattle.group_lent_any.proofs.Judging.{picks, skips, is-not, is-yes, says-sound}
 use Rattle.group_lent_any.proofs.peek.Statement.{statement}
 use Rattle.group_lent_any.proofs.peek.Tie as tie
-use Rattle.group_lent_any.proofs.peek.Reads as reads
-use Rattle.group_lent_any.proofs.peek.Lts as lts
-use Rattle.group_lent.proofs.put_in.Reads as put-in-reads
-use Rattle.group_lent_any.proofs.is_group.Reads as is-group-reads
-use Rattle.group_lent_calls.proofs.peek.Reads as peek-reads
 
--- src/lib.rt:68:9
 is-group-requires : tie.Need-is-group-requires
 is-group-requires c κs = search needs
 
--- src/lib.rt:76:9
 put-in-requires : tie.Need-put-in-requires
 put-in-requires c κs = search needs
 
--- src/lib.rt:77:9
 returns : tie.Need-returns
-returns c = ?
+returns c = let s = c .before .before .before .before in skips _ _ _ (is-not (s .args .w .now) _ (c .before .before .before .is-group .ensures) (c .before .before .if1 .taken)) (refl, c .put-in .ensures)
 
--- src/lib.rt:79:5
 peek-requires : tie.Need-peek-requires
-peek-requires c κs = ?
+peek-requires c κs = let s = c .before .before .before in says-sound (s .args .w .now) _ (c .before .before .is-group .ensures) (c .before .if1 .left)
 
--- src/lib.rt:65:1
 returns-2 : tie.Need-returns-2
-returns-2 c = ?
+returns-2 c = let s = c .before .before .before .before in picks _ _ _ (is-yes (s .args .w .now) _ (c .before .before .before .is-group .ensures) (c .before .before .if1 .left)) (c .peek .ensures)
 
 pub peek-spec : {M : Type 1} → statement M
 peek-spec = tie.close (tie.spec is-group-requires put-in-requires returns peek-requires returns-2)
