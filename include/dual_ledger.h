@@ -67,7 +67,8 @@ extern "C" {
  *   virtual     node, what touches there, the virtual vertex, whether it is a mirror (1 or 0)
  *   expand      the blossom
  *   stop        the node
- *   stop, pair  the node, the pair's node, what touches there */
+ *   stop, pair  the node, the pair's node, what touches there
+ * Nodes are handles: every word of 2^41 and more is one and the same, and names no node. */
 #define DUAL_LEDGER_NO_OBSTACLE 0
 #define DUAL_LEDGER_NON_ZERO_GROW 1
 #define DUAL_LEDGER_CONFLICTING 2
@@ -77,7 +78,9 @@ extern "C" {
 #define DUAL_LEDGER_VERTEX_SHRINK_STOP_PAIR 6
 
 /* A group: words 0 to 2 are 1, the length as a signed word and a flag for a growth, or 2, 0, 0 for conflicts; words 3 and 4 are how many are listed and
- * how many stops are pending; words 5 + 5 i are entry i of the list, an obstacle; words 645 + 6 i are stop i, its vertex and then an obstacle. */
+ * how many stops are pending; words 5 + 5 i are entry i of the list, an obstacle; words 645 + 6 i are stop i, its vertex and then an obstacle.
+ * Words past the counts, and words 3 and more of a growth, say nothing: they may hold anything, and a call leaves them unless it writes an entry or a
+ * stop there. */
 
 /* ---- set-up */
 
@@ -134,7 +137,7 @@ uint8_t dual_ledger_sum_dual_variables(const uint64_t *bench, uint8_t unit, int6
 uint8_t dual_ledger_sum_grow_speed(const uint64_t *bench, uint8_t unit, int64_t *speed);
 /* How many slots its tree has, used or emptied. */
 uint8_t dual_ledger_nodes_count(const uint64_t *bench, uint8_t unit, uint64_t *count);
-/* The handle at an index of its tree, left half, right half, own; DUAL_LEDGER_NO_NODE for an emptied slot, and where refused. */
+/* The handle at an index of its tree, left half, right half, own; DUAL_LEDGER_NO_NODE for an emptied slot, 0 where refused. */
 uint8_t dual_ledger_get_node(const uint64_t *bench, uint8_t unit, uint32_t index, uint64_t *node);
 /* 1 where the node stands in the tree of interface unit, else 0. */
 uint8_t dual_ledger_check_ptr_belonging(const uint64_t *bench, uint8_t unit, uint64_t node, uint64_t *inside);
@@ -182,7 +185,7 @@ uint8_t dual_ledger_trusted_strict_check(const uint64_t *bench, uint8_t unit, ui
 
 /* ---- groups of obstacles. Words of a group or an obstacle that are not written as above, and groups that are not sound, are refused as BROKEN. */
 
-/* Makes the words the empty group. */
+/* Makes any words the empty group: words 0 to 2 are written, the others stay. */
 void dual_ledger_empty_group(uint64_t *group);
 /* 1 where the words are a sound group, else 0. */
 uint8_t dual_ledger_group_is_sound(const uint64_t *group);
@@ -200,6 +203,17 @@ uint8_t dual_ledger_group_pop(uint64_t *group, uint64_t *obstacle);
 uint8_t dual_ledger_group_add(const uint64_t *bench, uint64_t *group, const uint64_t *obstacle);
 /* Adds what another group holds. */
 uint8_t dual_ledger_group_extend(const uint64_t *bench, uint64_t *group, const uint64_t *other);
+
+/* ---- groups of obstacles, on words that hold a sound group (dual_ledger_empty_group's, dual_ledger_group_is_sound's, or those that the calls on groups
+ * alone have written); for add and extend the bench's words hold a sound bench, as above, and the obstacle's are written as above. Nothing is tested but
+ * STALE, ROOM, KIND and NOTHING, and each call reads and writes only the words that it is about. */
+uint8_t dual_ledger_trusted_group_is_empty(const uint64_t *group, uint64_t *yes);
+uint8_t dual_ledger_trusted_group_is_active(const uint64_t *group, uint64_t *yes);
+uint8_t dual_ledger_trusted_group_get_none_zero_growth(const uint64_t *group, uint64_t *asked, int64_t *length);
+uint8_t dual_ledger_trusted_group_peek(const uint64_t *group, uint64_t *obstacle);
+uint8_t dual_ledger_trusted_group_pop(uint64_t *group, uint64_t *obstacle);
+uint8_t dual_ledger_trusted_group_add(const uint64_t *bench, uint64_t *group, const uint64_t *obstacle);
+uint8_t dual_ledger_trusted_group_extend(const uint64_t *bench, uint64_t *group, const uint64_t *other);
 
 /* ---- text records [Lines] [Answers]. hints are 512 numbers that the caller keeps from line to line; they may hold anything, no answer depends on them, and
  * zeros are right to begin with. The bench of a record is set up from serial 1. */

@@ -1,5 +1,5 @@
 //! Groups of obstacles: what stands in the way of growing, as the original's `GroupMaxUpdateLength`.
-use crate::linked::{group, GroupWords, ObstacleWords, GROUP_WORDS};
+use crate::linked::{group, ObstacleWords, SoundGroup, GROUP_WORDS};
 use crate::refusal::settled;
 use crate::{Bench, Handle, Refusal};
 use alloc::boxed::Box;
@@ -21,10 +21,10 @@ pub enum Obstacle {
 }
 
 impl Obstacle {
-    /// Words that are no handle are written as the one word for it that an obstacle may have.
+    /// Words that are no handle are all one, and written as the first of them.
     fn words(self) -> ObstacleWords {
         let flag = u64::from;
-        let hand = |node: Handle| node.word().min(Handle::NONE.word());
+        let hand = |node: Handle| node.min(Handle::NONE).word();
         match self {
             Obstacle::NonZeroGrow(length, empty) => [1, length as u64, flag(empty), 0, 0],
             Obstacle::Conflicting((a, b), (c, d)) => [2, hand(a), hand(b), hand(c), hand(d)],
@@ -37,7 +37,7 @@ impl Obstacle {
 
     /// None for the words of no obstacle.
     fn from_words(words: &[u64]) -> Option<Obstacle> {
-        let at = |place: usize| Handle::from_word(words[place]);
+        let at = |place: usize| Handle::from_word(words[place]).min(Handle::NONE);
         match words[0] {
             1 => Some(Obstacle::NonZeroGrow(words[1] as i64, words[2] == 1)),
             2 => Some(Obstacle::Conflicting((at(1), at(2)), (at(3), at(4)))),
@@ -69,17 +69,39 @@ impl Obstacle {
 /// # Ok(())
 /// # }
 /// ```
-#[derive(Clone, PartialEq, Eq)]
-pub struct Group(Box<GroupWords>);
+///
+/// Each call touches only what it is about; the words of a dropped group serve the next one of the thread, so that a new group costs next to nothing.
+pub struct Group(Option<Box<SoundGroup>>);
 
 impl Default for Group {
     /// The empty group: a growth of the largest weight.
     fn default() -> Self {
-        let mut words = Box::new([0; GROUP_WORDS]);
-        group::empty_group(&mut words);
-        Group(words)
+        Group(Some(SoundGroup::empty()))
     }
 }
+
+impl Clone for Group {
+    fn clone(&self) -> Self {
+        Group(self.0.clone())
+    }
+}
+
+impl Drop for Group {
+    fn drop(&mut self) {
+        if let Some(words) = self.0.take() {
+            SoundGroup::keep(words);
+        }
+    }
+}
+
+/// Two groups are equal where they are the same growth, or hold the same obstacles: what else stands in their words says nothing.
+impl PartialEq for Group {
+    fn eq(&self, other: &Group) -> bool {
+        self.growth() == other.growth() && self.list().eq(other.list()) && self.stops().eq(other.stops())
+    }
+}
+
+impl Eq for Group {}
 
 impl Group {
     /// The empty group.
@@ -92,26 +114,34 @@ impl Group {
     /// # Errors
     /// [`Refusal::Broken`] where the words hold no sound group.
     pub fn from_words(words: &[u64; GROUP_WORDS]) -> Result<Group, Refusal> {
-        let is_sound = group::group_is_sound(words) == 1;
-        is_sound.then(|| Group(Box::new(*words))).ok_or(Refusal::Broken)
+        SoundGroup::tested(words).map(|words| Group(Some(words))).ok_or(Refusal::Broken)
     }
 
     /// The words, to be kept or sent.
     pub fn words(&self) -> &[u64; GROUP_WORDS] {
-        &self.0
+        self.held().words()
+    }
+
+    /// They are taken out only when the group is dropped.
+    fn held(&self) -> &SoundGroup {
+        self.0.as_ref().expect("a group has words until it is dropped")
+    }
+
+    fn held_mut(&mut self) -> &mut SoundGroup {
+        self.0.as_mut().expect("a group has words until it is dropped")
     }
 
     /// Whether no obstacle stands in the way: a growth of the largest weight.
     pub fn is_empty(&self) -> bool {
         let mut yes = 0;
-        group::group_is_empty(&self.0, &mut yes);
+        group::group_is_empty(self.held(), &mut yes);
         yes == 1
     }
 
     /// Whether it is anything but the empty group.
     pub fn is_active(&self) -> bool {
         let mut yes = 0;
-        group::group_is_active(&self.0, &mut yes);
+        group::group_is_active(self.held(), &mut yes);
         yes == 1
     }
 
@@ -121,7 +151,7 @@ impl Group {
     /// [`Refusal::Nothing`] for a growth of the largest weight.
     pub fn get_none_zero_growth(&self) -> Result<Option<i64>, Refusal> {
         let (mut asked, mut length) = (0, 0);
-        let number = group::group_get_none_zero_growth(&self.0, &mut asked, &mut length);
+        let number = group::group_get_none_zero_growth(self.held(), &mut asked, &mut length);
         settled(number, (asked == 1).then_some(length))
     }
 
@@ -131,7 +161,7 @@ impl Group {
     /// [`Refusal::Kind`] for a growth.
     pub fn peek(&self) -> Result<Option<Obstacle>, Refusal> {
         let mut words = [0; 5];
-        settled(group::group_peek(&self.0, &mut words), Obstacle::from_words(&words))
+        settled(group::group_peek(self.held(), &mut words), Obstacle::from_words(&words))
     }
 
     /// Takes the last of the list, else the stop of the smallest vertex. That stop goes in either case.
@@ -140,40 +170,40 @@ impl Group {
     /// [`Refusal::Kind`] for a growth.
     pub fn pop(&mut self) -> Result<Option<Obstacle>, Refusal> {
         let mut words = [0; 5];
-        settled(group::group_pop(&mut self.0, &mut words), Obstacle::from_words(&words))
+        settled(group::group_pop(self.held_mut(), &mut words), Obstacle::from_words(&words))
     }
 
     /// Adds an obstacle; every node that it names must be present in the bench.
     #[doc = errors!(add)]
     pub fn add(&mut self, bench: &Bench, obstacle: Obstacle) -> Result<(), Refusal> {
-        settled(group::group_add(bench.words(), &mut self.0, &obstacle.words()), ())
+        settled(group::group_add(&bench.0, self.held_mut(), &obstacle.words()), ())
     }
 
     /// Adds what another group holds; every node that it names must be present in the bench.
     #[doc = errors!(extend)]
     pub fn extend(&mut self, bench: &Bench, other: &Group) -> Result<(), Refusal> {
-        settled(group::group_extend(bench.words(), &mut self.0, &other.0), ())
+        settled(group::group_extend(&bench.0, self.held_mut(), other.held()), ())
     }
 
     /// Length and flag of a growth, of the largest weight too; none of conflicts.
     pub fn growth(&self) -> Option<(i64, bool)> {
-        (self.0[0] == 1).then_some((self.0[1] as i64, self.0[2] == 1))
+        (self.words()[0] == 1).then_some((self.words()[1] as i64, self.words()[2] == 1))
     }
 
     /// The obstacles listed, in the order of the list; none of a growth.
     pub fn list(&self) -> impl Iterator<Item = Obstacle> + '_ {
-        self.0[5..].chunks(5).take(self.count(3)).filter_map(Obstacle::from_words)
+        self.words()[5..].chunks(5).take(self.count(3)).filter_map(Obstacle::from_words)
     }
 
     /// The pending stops by rising vertex; none of a growth.
     pub fn stops(&self) -> impl Iterator<Item = (u32, Obstacle)> + '_ {
-        self.0[645..].chunks(6).take(self.count(4)).filter_map(|stop| Some((stop[0] as u32, Obstacle::from_words(&stop[1..])?)))
+        self.words()[645..].chunks(6).take(self.count(4)).filter_map(|stop| Some((stop[0] as u32, Obstacle::from_words(&stop[1..])?)))
     }
 
     /// A growth says nothing by its counts.
     fn count(&self, word: usize) -> usize {
-        if self.0[0] == 2 {
-            self.0[word] as usize
+        if self.words()[0] == 2 {
+            self.words()[word] as usize
         } else {
             0
         }

@@ -4,10 +4,12 @@
 //! A call of one is right, then, if what is lent is as long as include/dual_ledger.h says and what is written overlaps nothing else. Both hold by the types: an array
 //! has its length, a slice goes with its own, and `&mut` is lent alone. The forms that test nothing ask besides for words that hold a sound bench: they
 //! are declared over `Sound`, which nothing but set-up, the test and those forms themselves can make or change, and a theorem (crates/run_laws) says that every call leaves such words sound.
+//! The same holds of `SoundGroup` by the calls' contracts (crates/group_lent_calls).
 #![allow(unsafe_code)]
 
 use crate::Handle;
 use alloc::boxed::Box;
+use core::cell::RefCell;
 
 /// How many words a bench has.
 pub const WORDS: usize = 6273;
@@ -62,6 +64,48 @@ impl Sound {
     }
 }
 
+/// Words that hold a sound group. What stands past its counts, and all entries of a growth, say nothing: they are whatever stood there before.
+#[derive(Clone)]
+#[repr(transparent)]
+pub struct SoundGroup(GroupWords);
+
+thread_local! {
+    /// Words of groups that were dropped, for the next ones: a new group writes three words and asks for no memory.
+    static SPARE: RefCell<Vec<Box<SoundGroup>>> = const { RefCell::new(Vec::new()) };
+}
+
+impl SoundGroup {
+    /// How many a thread keeps.
+    const SPARES: usize = 16;
+
+    /// The empty group.
+    pub fn empty() -> Box<Self> {
+        let spare = SPARE.try_with(|spare| spare.borrow_mut().pop()).ok().flatten();
+        let mut words = spare.unwrap_or_else(|| Box::new(SoundGroup([0; GROUP_WORDS])));
+        any_group::empty_group(&mut words.0);
+        words
+    }
+
+    /// The words, if they hold a sound group.
+    pub fn tested(words: &GroupWords) -> Option<Box<Self>> {
+        (any_group::group_is_sound(words) == 1).then(|| Box::new(SoundGroup(*words)))
+    }
+
+    pub fn words(&self) -> &GroupWords {
+        &self.0
+    }
+
+    /// Keeps the words for a group to come.
+    pub fn keep(words: Box<Self>) {
+        let _ = SPARE.try_with(|spare| {
+            let mut spare = spare.borrow_mut();
+            if spare.len() < Self::SPARES {
+                spare.push(words);
+            }
+        });
+    }
+}
+
 /// Each function by its name in the archive less `dual_ledger_` and the form.
 macro_rules! link {
     ($form:literal $($name:ident($($arg:ident: $type:ty),*) $(-> $number:ty)?;)*) => { $(
@@ -70,7 +114,7 @@ macro_rules! link {
                 #[link_name = concat!("dual_ledger_", $form, stringify!($name))]
                 fn linked($($arg: $type),*) $(-> $number)?;
             }
-            // SAFETY: arguments are numbers and references of the header's lengths; a form without tests is lent a `Sound`
+            // SAFETY: arguments are numbers and references of the header's lengths; a form without tests is lent a `Sound` or a `SoundGroup`
             unsafe { linked($($arg),*) }
         }
     )* };
@@ -167,19 +211,27 @@ pub mod trusted {
 }
 
 /// Groups of obstacles, of any words.
-pub mod group {
+mod any_group {
     use super::*;
 
     link! { ""
         empty_group(group: &mut GroupWords);
         group_is_sound(group: &GroupWords) -> u8;
-        group_is_empty(group: &GroupWords, yes: &mut u64) -> u8;
-        group_is_active(group: &GroupWords, yes: &mut u64) -> u8;
-        group_get_none_zero_growth(group: &GroupWords, asked: &mut u64, length: &mut i64) -> u8;
-        group_peek(group: &GroupWords, obstacle: &mut ObstacleWords) -> u8;
-        group_pop(group: &mut GroupWords, obstacle: &mut ObstacleWords) -> u8;
-        group_add(bench: &Words, group: &mut GroupWords, obstacle: &ObstacleWords) -> u8;
-        group_extend(bench: &Words, group: &mut GroupWords, other: &GroupWords) -> u8;
+    }
+}
+
+/// Groups of obstacles, of sound words. An obstacle's words are those of an `Obstacle`.
+pub mod group {
+    use super::*;
+
+    link! { "trusted_"
+        group_is_empty(group: &SoundGroup, yes: &mut u64) -> u8;
+        group_is_active(group: &SoundGroup, yes: &mut u64) -> u8;
+        group_get_none_zero_growth(group: &SoundGroup, asked: &mut u64, length: &mut i64) -> u8;
+        group_peek(group: &SoundGroup, obstacle: &mut ObstacleWords) -> u8;
+        group_pop(group: &mut SoundGroup, obstacle: &mut ObstacleWords) -> u8;
+        group_add(bench: &Sound, group: &mut SoundGroup, obstacle: &ObstacleWords) -> u8;
+        group_extend(bench: &Sound, group: &mut SoundGroup, other: &SoundGroup) -> u8;
     }
 }
 

@@ -9,10 +9,13 @@ use mir.Facts.{toZ-ofZ}
 use Rattle.ledger_spec.specs.Bench.{Handle}
 use Rattle.read_sound.specs.Shown.{shownWeight}
 use Rattle.read_sound.specs.declared.Weighed.{Weighed}
-use Rattle.link_answers.specs.Forms.{nodeWord, signedWord, lengthWords, outerWords, worded}
+use Rattle.link_answers.specs.Forms.{nodeWord, signedWord, lengthWords, outerWords, worded, indexedWord, indexed}
 
 pub worded-by : {A : Type 0} (f : A → ℕ) {n w : ℕ} {a : A} {r : ℕ × A} → (n, a) ≡ r → w ≡ f a → (n, w) ≡ worded f r
 worded-by f p k = let q = k ∙ ap f (λ i. p i .1) in λ i. (p i .0, q i)
+
+pub indexed-by : {n w : ℕ} {m : Option Handle} {r : ℕ × Option Handle} → (n, m) ≡ r → w ≡ indexedWord n m → (n, w) ≡ indexed r
+indexed-by p k = let q = k ∙ (λ i. indexedWord (p i .0) (p i .1)) in λ i. (p i .0, q i)
 
 pub outer-by : {n w l : ℕ} {h : Handle} {r : ℕ × (Handle × ℕ)} → (n, (h, l)) ≡ r → w ≡ nodeWord h → (n, (w, l)) ≡ worded outerWords r
 outer-by p k = let q = k ∙ ap nodeWord (λ i. p i .1 .0) in λ i. (p i .0, (q i, p i .1 .1))

@@ -6,6 +6,7 @@ mod open_reads; // the reads and checks on any words
 mod text; // the text program's lines and chunks
 mod told_calls; // the calls on sound words, with notices
 mod trusted_calls; // the calls on sound words, without notices
+mod trusted_groups; // groups of obstacles, on sound words
 mod trusted_reads; // the reads and checks on sound words
 
 use bench_words::WORDS;

@@ -1,29 +1,29 @@
-// Groups of obstacles over words: any words may be lent, and BROKEN (2) is the answer where they are no group's or hold no sound one. Assumes nothing.
+// Groups of obstacles over words: any words may be lent, and BROKEN (2) is the answer where they hold no sound group, no sound bench or no obstacle.
+// Assumes nothing.
 use bench_words::WORDS;
-use link_groups::GROUP;
-use link_groups::OBSTACLE;
+use group_lent::GROUP;
+use group_lent::OBSTACLE;
 ghost use mathlib.Core.Path.{_≡_};
 ghost use mathlib.Core.Bool.{false};
 ghost use mathlib.Core.Option.{none};
-ghost use Rattle.ledger_spec.specs.GroupCalls.{isEmpty, isActive, growthOf, peek};
-ghost use Rattle.groups.specs.Shown.{emptyOf};
-ghost use Rattle.link_groups.specs.Groups.{groupWords, groupRead};
-ghost use Rattle.link_group_calls.specs.Forms.{soundBy, formed, popped, added, extended};
-ghost use Rattle.link_group_calls.specs.Forms.{worded as obstacleWorded};
+ghost use Rattle.ledger_spec.specs.GroupCalls.{isEmpty, isActive, growthOf};
+ghost use Rattle.group_lent_takes.specs.Made.{Emptied};
+ghost use Rattle.group_lent_sound.specs.Test.{soundIn};
+ghost use Rattle.group_lent_any.specs.Any.{askedOf, PeekedAny, PoppedAny, AddedAny, ExtendedAny};
 ghost use Rattle.link_answers.specs.Forms.{flagWord, lengthWords, worded};
 
 #[no_mangle]
 pub extern "C" fn dual_ledger_empty_group(group: &mut [u64; GROUP])
-    ensures { λ _. ⌜ now (group .exit) ≡ groupWords emptyOf ⌝ }
+    ensures { λ _. ⌜ Emptied (now (group .entry)) (now (group .exit)) ⌝ }
 {
-    link_group_calls::empty_group(group);
+    group_lent_takes::empty_group(group);
 }
 
 #[no_mangle]
 pub extern "C" fn dual_ledger_group_is_sound(group: &[u64; GROUP]) -> u8
-    ensures { λ r. ⌜ r ≡ flagWord (soundBy (groupRead (now (group .entry)))) ⌝ }
+    ensures { λ r. ⌜ r ≡ flagWord (soundIn (now (group .entry))) ⌝ }
 {
-    if link_group_calls::group_is_sound(group) {
+    if group_lent_sound::is_sound(group) {
         return 1;
     }
     0
@@ -31,18 +31,18 @@ pub extern "C" fn dual_ledger_group_is_sound(group: &[u64; GROUP]) -> u8
 
 #[no_mangle]
 pub extern "C" fn dual_ledger_group_is_empty(group: &[u64; GROUP], yes: &mut u64) -> u8
-    ensures { λ r. ⌜ (r, now (yes .exit)) ≡ worded flagWord (formed (now (group .entry)) false isEmpty) ⌝ }
+    ensures { λ r. ⌜ (r, now (yes .exit)) ≡ worded flagWord (askedOf (now (group .entry)) false isEmpty) ⌝ }
 {
-    let a = link_group_calls::is_empty(group);
+    let a = group_lent_any::is_empty(group);
     *yes = link_answers::flag_word(a.yes);
     a.number
 }
 
 #[no_mangle]
 pub extern "C" fn dual_ledger_group_is_active(group: &[u64; GROUP], yes: &mut u64) -> u8
-    ensures { λ r. ⌜ (r, now (yes .exit)) ≡ worded flagWord (formed (now (group .entry)) false isActive) ⌝ }
+    ensures { λ r. ⌜ (r, now (yes .exit)) ≡ worded flagWord (askedOf (now (group .entry)) false isActive) ⌝ }
 {
-    let a = link_group_calls::is_active(group);
+    let a = group_lent_any::is_active(group);
     *yes = link_answers::flag_word(a.yes);
     a.number
 }
@@ -53,9 +53,9 @@ pub extern "C" fn dual_ledger_group_get_none_zero_growth(
     asked: &mut u64,
     length: &mut u64,
 ) -> u8
-    ensures { λ r. ⌜ (r, (now (asked .exit), now (length .exit))) ≡ worded lengthWords (formed (now (group .entry)) none growthOf) ⌝ }
+    ensures { λ r. ⌜ (r, (now (asked .exit), now (length .exit))) ≡ worded lengthWords (askedOf (now (group .entry)) none growthOf) ⌝ }
 {
-    let a = link_group_calls::get_none_zero_growth(group);
+    let a = group_lent_any::get_none_zero_growth(group);
     let l = a.length;
     *asked = link_answers::asked_word(l);
     *length = link_answers::length_word(l);
@@ -64,9 +64,9 @@ pub extern "C" fn dual_ledger_group_get_none_zero_growth(
 
 #[no_mangle]
 pub extern "C" fn dual_ledger_group_peek(group: &[u64; GROUP], obstacle: &mut [u64; OBSTACLE]) -> u8
-    ensures { λ r. ⌜ (r, now (obstacle .exit)) ≡ obstacleWorded (formed (now (group .entry)) none peek) ⌝ }
+    ensures { λ r. ⌜ PeekedAny (now (group .entry)) r (now (obstacle .exit)) ⌝ }
 {
-    link_group_calls::peek(group, obstacle)
+    group_lent_any::peek(group, obstacle)
 }
 
 #[no_mangle]
@@ -74,9 +74,9 @@ pub extern "C" fn dual_ledger_group_pop(
     group: &mut [u64; GROUP],
     obstacle: &mut [u64; OBSTACLE],
 ) -> u8
-    ensures { λ r. ⌜ (r, (now (obstacle .exit), now (group .exit))) ≡ popped (now (group .entry)) ⌝ }
+    ensures { λ r. ⌜ PoppedAny (now (group .entry)) r (now (obstacle .exit)) (now (group .exit)) ⌝ }
 {
-    link_group_calls::pop(group, obstacle)
+    group_lent_any::pop(group, obstacle)
 }
 
 #[no_mangle]
@@ -85,9 +85,9 @@ pub extern "C" fn dual_ledger_group_add(
     group: &mut [u64; GROUP],
     obstacle: &[u64; OBSTACLE],
 ) -> u8
-    ensures { λ r. ⌜ (r, now (group .exit)) ≡ added (now (bench .entry)) (now (group .entry)) (now (obstacle .entry)) ⌝ }
+    ensures { λ r. ⌜ AddedAny (now (bench .entry)) (now (group .entry)) (now (obstacle .entry)) r (now (group .exit)) ⌝ }
 {
-    link_group_calls::add(bench, group, obstacle)
+    group_lent_any::add(bench, group, obstacle)
 }
 
 #[no_mangle]
@@ -96,7 +96,7 @@ pub extern "C" fn dual_ledger_group_extend(
     group: &mut [u64; GROUP],
     other: &[u64; GROUP],
 ) -> u8
-    ensures { λ r. ⌜ (r, now (group .exit)) ≡ extended (now (bench .entry)) (now (group .entry)) (now (other .entry)) ⌝ }
+    ensures { λ r. ⌜ ExtendedAny (now (bench .entry)) (now (group .entry)) (now (other .entry)) r (now (group .exit)) ⌝ }
 {
-    link_group_calls::extend(bench, group, other)
+    group_lent_any::extend(bench, group, other)
 }

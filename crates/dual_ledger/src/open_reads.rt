@@ -5,7 +5,7 @@ use kinds::NodeIndex;
 ghost use mathlib.Core.Path.{_≡_};
 ghost use Rattle.deed_circles.specs.Given.{handGiven};
 ghost use Rattle.bench_views.specs.View.{view};
-ghost use Rattle.link_answers.specs.Forms.{nodeWord, maybeWord, flagWord, signedWord, outerWords, worded};
+ghost use Rattle.link_answers.specs.Forms.{nodeWord, indexed, flagWord, signedWord, outerWords, worded};
 ghost use Rattle.sound_lent.specs.Verdict.{readWords};
 ghost use Rattle.ledger_spec.specs.Answers.{sumRead, speedRead, countRead, indexRead, belongsRead, valueRead, outerRead, belowRead, firstRead, verticesRead, checkRead, strictRead};
 
@@ -47,11 +47,11 @@ pub extern "C" fn dual_ledger_get_node(
     index: u32,
     node: &mut u64,
 ) -> u8
-    ensures { λ r. ⌜ (r, now (node .exit)) ≡ worded maybeWord (readWords (now (bench .entry)) (indexRead (view (now (bench .entry))) unit index)) ⌝ }
+    ensures { λ r. ⌜ (r, now (node .exit)) ≡ indexed (readWords (now (bench .entry)) (indexRead (view (now (bench .entry))) unit index)) ⌝ }
 {
     let a = read_any::get_node(bench, unit, NodeIndex(index));
     let found = a.node;
-    *node = link_answers::maybe_word(found);
+    *node = link_answers::indexed_word(a.number, found);
     a.number
 }
 

@@ -9,7 +9,7 @@ ghost use Rattle.ledger_spec.specs.Check.{checkOf, strictOf};
 ghost use Rattle.deed_circles.specs.Given.{handGiven};
 ghost use Rattle.bench_views.specs.Fit.{SoundWords};
 ghost use Rattle.bench_views.specs.View.{view};
-ghost use Rattle.link_answers.specs.Forms.{nodeWord, maybeWord, flagWord, signedWord, outerWords, worded};
+ghost use Rattle.link_answers.specs.Forms.{nodeWord, indexed, flagWord, signedWord, outerWords, worded};
 
 #[no_mangle]
 pub extern "C" fn dual_ledger_trusted_sum_dual_variables(
@@ -61,11 +61,11 @@ pub extern "C" fn dual_ledger_trusted_get_node(
     node: &mut u64,
 ) -> u8
     requires { ⌜ SoundWords (now bench) ⌝ }
-    ensures { λ r. ⌜ (r, now (node .exit)) ≡ worded maybeWord (handleAtIndex (view (now (bench .entry))) unit index) ⌝ }
+    ensures { λ r. ⌜ (r, now (node .exit)) ≡ indexed (handleAtIndex (view (now (bench .entry))) unit index) ⌝ }
 {
     let a = read_sound::get_node(bench, unit, NodeIndex(index));
     let found = a.node;
-    *node = link_answers::maybe_word(found);
+    *node = link_answers::indexed_word(a.number, found);
     a.number
 }
 

@@ -18,6 +18,14 @@ abbrev pub maybeWord : Option Handle → ℕ
 maybeWord none = pastHandles
 maybeWord (some h) = nodeWord h
 
+-- a read that may find no node: refused, its field is the zero handle
+abbrev pub indexedWord : ℕ → Option Handle → ℕ
+indexedWord zero m = maybeWord m
+indexedWord (suc k) m = 0
+
+abbrev pub indexed : ℕ × Option Handle → ℕ × ℕ
+indexed r = (r .0, indexedWord (r .0) (r .1))
+
 abbrev pub flagWord : Bool → ℕ
 flagWord true = 1
 flagWord false = 0

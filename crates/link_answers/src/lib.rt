@@ -19,7 +19,7 @@ ghost use Rattle.read_sound.specs.Shown.{maybe};
 ghost use Rattle.groups.specs.Shown.{maybeLength};
 ghost use Rattle.bench_words.specs.Codec.{handleWord};
 ghost use Rattle.outcome_notices.specs.Laid.{pad};
-ghost use Rattle.link_answers.specs.Forms.{nodeWord, maybeWord, flagWord, signedWord, lengthWords, stateGiven};
+ghost use Rattle.link_answers.specs.Forms.{nodeWord, maybeWord, indexedWord, flagWord, signedWord, lengthWords, stateGiven};
 ghost use Rattle.link_answers.specs.Answers.{kindWord, stateKind, whatWord, toldWords, Least, Filled, answerWords, oneTold};
 ghost use Rattle.call_told.specs.Shown.{refusedBy};
 
@@ -53,6 +53,16 @@ pub fn maybe_word(m: MaybeNode) -> u64
         MaybeNode::NoNode => 2199023255552,
         MaybeNode::Node(h) => node_word(h),
     }
+}
+
+// Refused, it is the zero handle.
+pub fn indexed_word(number: u8, m: MaybeNode) -> u64
+    ensures { λ r. ⌜ r ≡ indexedWord number (maybe m) ⌝ }
+{
+    if number == 0 {
+        return maybe_word(m);
+    }
+    0
 }
 
 pub fn flag_word(yes: bool) -> u64
