@@ -1,8 +1,8 @@
 // What Rust and C link: every public call, read and check under its C name, over words, numbers and slices (include/dual_ledger.h). Each is one call of
 // the crate that does it, its answer written out as words. Assumes nothing.
-mod obstacles; // groups of obstacles
-mod open_calls; // the calls on any words
-mod open_reads; // the reads and checks on any words
+pub mod obstacles; // groups of obstacles
+pub mod open_calls; // the calls on any words
+pub mod open_reads; // the reads and checks on any words
 mod text; // the text program's lines and chunks
 mod told_calls; // the calls on sound words, with notices
 mod trusted_calls; // the calls on sound words, without notices

@@ -10,7 +10,7 @@ use lib.ListN.{length, getD, set, length-set, drop-of-length-le}
 use lib.Seq.{sets, sets-eq, getD-set-same, getD-set-other}
 use Rattle.kinds.specs.declared.Entry.{Entry}
 use Rattle.kinds.specs.declared.Stop.{Stop}
-use Rattle.ledger_spec.specs.Groups.{topOf, front}
+use Rattle.ledger_spec.specs.Groups.{lastOf, allButLast}
 use Rattle.group_lent.specs.Place.{run}
 
 pub and-left : (a b : Bool) → (a && b) ≡ true → a ≡ true
@@ -76,12 +76,12 @@ module _ {A : Type 0} where
   run-more f a zero k e = let s : k ≡ a = omega arith in rw s
   run-more f a (suc n) k e = ap (λ (r : List A). f a ∷ r) (run-more f (suc a) n k (omega arith))
 
-  pub run-front : (f : ℕ → A) (a n : ℕ) → front (run f a (suc n)) ≡ run f a n
-  unfolding run front
+  pub run-front : (f : ℕ → A) (a n : ℕ) → allButLast (run f a (suc n)) ≡ run f a n
+  unfolding run allButLast
   run-front f a zero = refl
   run-front f a (suc n) = ap (λ (r : List A). f a ∷ r) (run-front f (suc a) n)
 
-pub run-top : (f : ℕ → Entry) (s : List Stop) (a n k : ℕ) → k ≡ a + n → topOf (run f a (suc n)) s ≡ some (f k .obstacle)
-unfolding run topOf
+pub run-top : (f : ℕ → Entry) (s : List Stop) (a n k : ℕ) → k ≡ a + n → lastOf (run f a (suc n)) s ≡ some (f k .obstacle)
+unfolding run lastOf
 run-top f s a zero k e = let z : k ≡ a = omega arith in rw z
 run-top f s a (suc n) k e = run-top f s (suc a) n k (omega arith)

@@ -6,7 +6,7 @@ use mathlib.Core.List.{List, [], _∷_}
 use lib.Dec.{eqb, leb, ltb}
 use lib.IntN.{ℤ, pos, negsuc}
 use lib.ListN.{getD}
-use Rattle.kinds.specs.Names.{nobody}
+use Rattle.kinds.specs.Names.{noCode}
 use Rattle.kinds.specs.declared.Handle.{Handle}
 use Rattle.kinds.specs.declared.Pair.{Pair}
 use Rattle.kinds.specs.declared.MaybePair.the-variants.{NoPair, WithPair}
@@ -77,7 +77,7 @@ obstacleOf f =
     (BlossomNeedExpand (handOf (f .a)))
     (VertexShrinkStop (handOf (f .a)) NoPair)
     (VertexShrinkStop (handOf (f .a)) (WithPair (pairOf (f .b) (f .c))))
-    (BlossomNeedExpand nobody)
+    (BlossomNeedExpand noCode)
 
 -- the five words from place m on
 unfoldable pub fiveAt : List ℕ → ℕ → Five

@@ -5,11 +5,11 @@ use mathlib.Core.Bool.{Bool, true, false, not, _&&_}
 use mathlib.Core.Option.{Option, none, some}
 use mathlib.Core.List.{List, [], _∷_}
 use Rattle.bench_words.specs.Codec.{pick}
-use Rattle.ledger_spec.specs.Tests.{first, any, given}
+use Rattle.ledger_spec.specs.Tests.{first, any, isSome}
 use Rattle.ledger_spec.specs.Reads.{said}
 use Rattle.ledger_spec.specs.Sound.{sound}
 use Rattle.ledger_spec.specs.Groups.{Group, soundGroup, added, extended}
-use Rattle.ledger_spec.specs.GroupCalls.{handlesOf, groupHandles, gone, vertexOf, orElse, add, extend}
+use Rattle.ledger_spec.specs.GroupCalls.{handlesOf, groupHandles, staleCode, vertexOf, orElse, add, extend}
 use Rattle.bench_views.specs.View.{view}
 use Rattle.bench_views.specs.Fit.{SoundWords}
 use Rattle.group_lent.specs.Forms.{fiveWords, obstacleOf}
@@ -26,18 +26,18 @@ use Rattle.group_lent_calls.specs.Calls.{Popped, addedBy, Added, extende
 
 -- by the three tests: x of BROKEN, y of STALE, and whether there is a group a
 abbrev saidBy : Bool → Bool → Option Group → Group → ℕ × Group
-saidBy x y a z = said (first ((x, 2) ∷ (y, 8) ∷ (not (given a), 20) ∷ [])) (orElse a z) z
+saidBy x y a z = said (first ((x, 2) ∷ (y, 8) ∷ (not (isSome a), 20) ∷ [])) (orElse a z) z
 
 module _ (x y : Bool) (a : Option Group) (z : Group) where
   stale-said : x ≡ false → y ≡ true → saidBy x y a z ≡ (8, z)
   unfolding said first
   stale-said e f = ap₂ (λ (t u : Bool). saidBy t u a z) e f
 
-  goes-said : x ≡ false → y ≡ false → saidBy x y a z ≡ (pick (given a) 0 20, orElse a z)
+  goes-said : x ≡ false → y ≡ false → saidBy x y a z ≡ (pick (isSome a) 0 20, orElse a z)
   unfolding said first
   goes-said e f = ap₂ (λ (t u : Bool). saidBy t u a z) e f ∙ by a
     where
-      by : (o : Option Group) → saidBy false false o z ≡ (pick (given o) 0 20, orElse o z)
+      by : (o : Option Group) → saidBy false false o z ≡ (pick (isSome o) 0 20, orElse o z)
       by none = refl
       by (some q) = refl
 
@@ -54,7 +54,7 @@ module _ (b ws : List ℕ) (S : SoundWords b) (G : SoundGroup ws) where
   -- ---- add
   module _ (f : Five) where
     abbrev missing : Bool
-    missing = any (gone (view b)) (handlesOf (obstacleOf f))
+    missing = any (staleCode (view b)) (handlesOf (obstacleOf f))
 
     abbrev answer : Option Group
     answer = added (groupIn ws) (obstacleOf f) (vertexOf (view b) (obstacleOf f))
@@ -79,7 +79,7 @@ module _ (b ws : List ℕ) (S : SoundWords b) (G : SoundGroup ws) where
         let q = goes-said (not (sound (view b) && soundGroup (groupIn ws))) missing answer (groupIn ws) fine (sym e ∙ d) in
         let same : added (groupIn ws) (obstacleOf f) v ≡ answer = ap (added (groupIn ws) (obstacleOf f)) w in
         record {
-          number = A .number ∙ ap (λ (o : Option Group). pick (given o) 0 20) same ∙ sym (ap (λ (r : ℕ × Group). r .0) q);
+          number = A .number ∙ ap (λ (o : Option Group). pick (isSome o) 0 20) same ∙ sym (ap (λ (r : ℕ × Group). r .0) q);
           seen = A .seen ∙ ap (λ (o : Option Group). orElse o (groupIn ws)) same ∙ sym (ap (λ (r : ℕ × Group). r .1) q);
           words = A .words ∙ ap (addedWords ws f) w ∙ rw (sym e ∙ d);
           sound = A .sound;
@@ -88,7 +88,7 @@ module _ (b ws : List ℕ) (S : SoundWords b) (G : SoundGroup ws) where
   -- ---- extend
   module _ (vs : List ℕ) (H : SoundGroup vs) where
     abbrev absent : Bool
-    absent = any (gone (view b)) (groupHandles (groupIn vs))
+    absent = any (staleCode (view b)) (groupHandles (groupIn vs))
 
     abbrev reply : Option Group
     reply = extended (groupIn ws) (groupIn vs)

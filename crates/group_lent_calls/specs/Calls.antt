@@ -5,7 +5,7 @@ use mathlib.Core.Path.{_≡_}
 use mathlib.Core.List.{List}
 use Rattle.bench_words.specs.Codec.{pick}
 use Rattle.ledger_spec.specs.Tests.{any}
-use Rattle.ledger_spec.specs.GroupCalls.{gone, handlesOf, groupHandles, vertexOf, peek, pop, add, extend}
+use Rattle.ledger_spec.specs.GroupCalls.{staleCode, handlesOf, groupHandles, vertexOf, peek, pop, add, extend}
 use Rattle.bench_views.specs.View.{view}
 use Rattle.group_lent.specs.Forms.{fiveWords, obstacleOf}
 use Rattle.group_lent.specs.Place.{groupIn, SoundGroup}
@@ -30,7 +30,7 @@ pub record Popped (ws : List ℕ) (r : ℕ) (os after : List ℕ) : Type 0 where
 -- ---- over a bench b: an obstacle with words f is added, a group with words vs extends. STALE (8) and ROOM (20) leave every word
 
 unfoldable pub addedBy : List ℕ → List ℕ → Five → List ℕ
-addedBy b ws f = pick (any (gone (view b)) (handlesOf (obstacleOf f))) ws (addedWords ws f (vertexOf (view b) (obstacleOf f)))
+addedBy b ws f = pick (any (staleCode (view b)) (handlesOf (obstacleOf f))) ws (addedWords ws f (vertexOf (view b) (obstacleOf f)))
 
 pub record Added (b ws : List ℕ) (f : Five) (r : ℕ) (after : List ℕ) : Type 0 where
   pub number : r ≡ add (view b) (groupIn ws) (obstacleOf f) .0
@@ -39,7 +39,7 @@ pub record Added (b ws : List ℕ) (f : Five) (r : ℕ) (after : List ℕ) : Typ
   pub sound : SoundGroup after
 
 unfoldable pub extendedBy : List ℕ → List ℕ → List ℕ → List ℕ
-extendedBy b ws vs = pick (any (gone (view b)) (groupHandles (groupIn vs))) ws (extendedWords ws vs)
+extendedBy b ws vs = pick (any (staleCode (view b)) (groupHandles (groupIn vs))) ws (extendedWords ws vs)
 
 pub record Extended (b ws vs : List ℕ) (r : ℕ) (after : List ℕ) : Type 0 where
   pub number : r ≡ extend (view b) (groupIn ws) (groupIn vs) .0

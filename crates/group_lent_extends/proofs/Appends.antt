@@ -10,7 +10,7 @@ use native.Mathlib.Omega.{arith}
 use lib.ListN.{length, getD, set}
 use lib.Seq.{length-sets}
 use Rattle.kinds.specs.declared.Entry.{Entry}
-use Rattle.ledger_spec.specs.Groups.{Group, conflicts, Lists, rising, soundGroup, grouped, andThen, addStops, extended}
+use Rattle.ledger_spec.specs.Groups.{Group, conflicts, Lists, risingFrom, soundGroup, grouped, andThen, addStops, extended}
 use Rattle.ledger_laws.proofs.GroupSound.{fine-of, of-fine, extended-sound}
 use Rattle.group_lent.specs.Groups.{entryForm, entryAt, stopAt}
 use Rattle.group_lent.specs.Place.{run, kindIn, listed, stopped, listIn, stopsIn, Listing, SoundGroup}
@@ -95,7 +95,7 @@ module _ (ws vs : List ℕ) (long : length ws ≡ 1413) (other : length vs ≡ 1
 
   -- the other's list alone is a sound group's
   other-list : soundGroup (conflicts (listIn vs) []) ≡ true
-  unfolding rising
+  unfolding risingFrom
   other-list =
       let f = fine-of (listIn vs) (stopsIn vs) (b .sound) in
       of-fine (listIn vs) [] (record { listed = f .listed; stopped = omega arith; listables = f .listables; rises = refl })

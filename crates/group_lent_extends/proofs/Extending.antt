@@ -10,7 +10,7 @@ use native.Mathlib.Omega.{arith}
 use borrow.Author.Tests.{eq-eqb, ne-eqb}
 use lib.Dec.{eqb}
 use Rattle.bench_words.specs.Codec.{pick}
-use Rattle.ledger_spec.specs.Tests.{given}
+use Rattle.ledger_spec.specs.Tests.{isSome}
 use Rattle.ledger_spec.specs.Groups.{Group, growth, conflicts, Lists, largest, eqZ, smallerPair, roomFor, grouped, andThen, addStops, extended}
 use Rattle.ledger_spec.specs.GroupCalls.{orElse}
 use Rattle.group_lent.specs.Forms.{lengthOf}
@@ -26,11 +26,11 @@ use Rattle.group_lent_extends.proofs.Takes.{taken-seen, taken-sound}
 use Rattle.group_lent_extends.proofs.Appends.{appended-kind, appended-list, appended-stops, appended-sound}
 
 -- the promise, by the ledger's answer q
-made : (ws vs : List ℕ) (r : ℕ) (after : List ℕ) (q : Option Group) → extended (groupIn ws) (groupIn vs) ≡ q → r ≡ pick (given q) 0 20 → after ≡ extendedWords ws vs
+made : (ws vs : List ℕ) (r : ℕ) (after : List ℕ) (q : Option Group) → extended (groupIn ws) (groupIn vs) ≡ q → r ≡ pick (isSome q) 0 20 → after ≡ extendedWords ws vs
     → groupIn after ≡ orElse q (groupIn ws) → SoundGroup after → Extended ws vs r after
 made ws vs r after q e n w s d =
     record {
-      number = n ∙ sym (ap (λ (o : Option Group). pick (given o) 0 20) e);
+      number = n ∙ sym (ap (λ (o : Option Group). pick (isSome o) 0 20) e);
       words = w;
       seen = s ∙ sym (ap (λ (o : Option Group). orElse o (groupIn ws)) e);
       sound = d;
@@ -81,20 +81,20 @@ module _ (ws vs : List ℕ) (s : SoundGroup ws) (t : SoundGroup vs) where
       abbrev whole : Option Group
       whole = extended (groupIn ws) (groupIn vs)
 
-      words-are : (r : Bool) → given whole ≡ r → extendedWords ws vs ≡ pick r (stopsAdded (appendedWords ws vs) vs 0 (stopped vs)) ws
+      words-are : (r : Bool) → isSome whole ≡ r → extendedWords ws vs ≡ pick r (stopsAdded (appendedWords ws vs) vs 0 (stopped vs)) ws
       unfolding extendedWords
       words-are r g = rw (ne-eqb (kindIn vs) 1 m, ne-eqb (kindIn ws) 1 n) (ap (λ (q : Bool). pick q (stopsAdded (appendedWords ws vs) vs 0 (stopped vs)) ws) g)
 
       -- no room
-      pub by-room : (r : Bool) → r ≡ given whole → r ≡ false → Extended ws vs 20 ws
+      pub by-room : (r : Bool) → r ≡ isSome whole → r ≡ false → Extended ws vs 20 ws
       by-room r e f = go whole refl (sym e ∙ f)
         where
-          go : (o : Option Group) → whole ≡ o → given whole ≡ false → Extended ws vs 20 ws
+          go : (o : Option Group) → whole ≡ o → isSome whole ≡ false → Extended ws vs 20 ws
           go none p g = made ws vs 20 ws none p refl (sym (words-are false g)) refl s
-          go (some q) p g = absurd (false≢true (sym g ∙ ap given p))
+          go (some q) p g = absurd (false≢true (sym g ∙ ap isSome p))
 
-      module _ (r : Bool) (e : r ≡ given whole) (f : r ≡ true) where
-        yes : given whole ≡ true
+      module _ (r : Bool) (e : r ≡ isSome whole) (f : r ≡ true) where
+        yes : isSome whole ≡ true
         yes = sym e ∙ f
 
         pub fits : listed ws + listed vs ≤ 128
@@ -124,7 +124,7 @@ module _ (ws vs : List ℕ) (s : SoundGroup ws) (t : SoundGroup vs) where
             (record {
               sound = appended-sound ws vs (s .long) (t .long) a b fits;
               kind = appended-kind ws vs (s .long) (t .long) a b fits;
-              room = sym (given-grouped (addStops (stopsIn vs) (listIn more) (stopsIn more))) ∙ ap given adds ∙ yes;
+              room = sym (given-grouped (addStops (stopsIn vs) (listIn more) (stopsIn more))) ∙ ap isSome adds ∙ yes;
             })
 
         pub by-adding : (w after : List ℕ) → w ≡ more → Ended w vs after → Extended ws vs 0 after

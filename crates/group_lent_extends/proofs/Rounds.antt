@@ -12,7 +12,7 @@ use lib.ListN.{getD}
 use Rattle.kinds.specs.Obstacles.{isStop}
 use Rattle.kinds.specs.declared.Entry.{Entry}
 use Rattle.kinds.specs.declared.Stop.{Stop}
-use Rattle.ledger_spec.specs.Tests.{given}
+use Rattle.ledger_spec.specs.Tests.{isSome}
 use Rattle.ledger_spec.specs.Groups.{Group, growth, conflicts, Lists, addStop, grouped, andThen, addStops, added}
 use Rattle.ledger_spec.specs.GroupCalls.{orElse}
 use Rattle.group_lent.specs.Forms.{lengthOf, isForm, fiveAt, obstacleOf}
@@ -83,7 +83,7 @@ module _ (ws vs : List ℕ) (b : Listing vs) where
           sound = C .sound;
         }
 
-    module _ (room : given (addStops (stopsIn vs) (listIn ws) (stopsIn ws)) ≡ true) (h : j < stopped vs) where
+    module _ (room : isSome (addStops (stopsIn vs) (listIn ws) (stopsIn ws)) ≡ true) (h : j < stopped vs) where
       abbrev f : Five
       f = stopFive vs j
 
@@ -120,7 +120,7 @@ module _ (ws vs : List ℕ) (b : Listing vs) where
 
       module _ (r : ℕ) (after : List ℕ) (A : Added f v w (stopOut w f v .1) r after) where
         came-by : (o : Option Lists) → addStop x (listIn w) (stopsIn w) ≡ o → Coming ws vs after (j + 1)
-        came-by none e = absurd (false≢true (sym (ap given (goes ∙ ap (λ (p : Option Lists). andThen p (addStops xs)) e)) ∙ room))
+        came-by none e = absurd (false≢true (sym (ap isSome (goes ∙ ap (λ (p : Option Lists). andThen p (addStops xs)) e)) ∙ room))
         came-by (some ls) e =
             let g : groupIn after ≡ conflicts (ls .0) (ls .1) = A .seen ∙ ap (λ (p : Option Group). orElse p (groupIn w)) (says ∙ ap grouped e) in
             let both = same-lists after (ls .0) (ls .1) (A .sound) g in

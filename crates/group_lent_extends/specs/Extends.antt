@@ -8,7 +8,7 @@ use lib.ListN.{take, drop, getD, set}
 use lib.Seq.{sets}
 use lib.Signed.{ltZ}
 use Rattle.bench_words.specs.Codec.{pick}
-use Rattle.ledger_spec.specs.Tests.{given}
+use Rattle.ledger_spec.specs.Tests.{isSome}
 use Rattle.ledger_spec.specs.Groups.{extended}
 use Rattle.ledger_spec.specs.GroupCalls.{orElse}
 use Rattle.group_lent.specs.Forms.{lengthOf}
@@ -55,10 +55,10 @@ extendedWords ws vs =
     pick (eqb (kindIn vs) 1)
     (pick (eqb (kindIn ws) 1) (pairedWords ws vs) ws)
     (pick (eqb (kindIn ws) 1) (takenWords ws vs)
-    (pick (given (extended (groupIn ws) (groupIn vs))) (stopsAdded (appendedWords ws vs) vs 0 (stopped vs)) ws))
+    (pick (isSome (extended (groupIn ws) (groupIn vs))) (stopsAdded (appendedWords ws vs) vs 0 (stopped vs)) ws))
 
 pub record Extended (ws vs : List ℕ) (r : ℕ) (after : List ℕ) : Type 0 where
-  pub number : r ≡ pick (given (extended (groupIn ws) (groupIn vs))) 0 20
+  pub number : r ≡ pick (isSome (extended (groupIn ws) (groupIn vs))) 0 20
   pub words : after ≡ extendedWords ws vs
   pub seen : groupIn after ≡ orElse (extended (groupIn ws) (groupIn vs)) (groupIn ws)
   pub sound : SoundGroup after

@@ -4,7 +4,7 @@ use mathlib.Core.Path.{_≡_}
 use mathlib.Core.Bool.{true}
 use mathlib.Core.Option.{some}
 use mathlib.Core.List.{List}
-use Rattle.ledger_spec.specs.Tests.{given}
+use Rattle.ledger_spec.specs.Tests.{isSome}
 use Rattle.ledger_spec.specs.Groups.{grouped, addStops}
 use Rattle.group_lent.specs.Place.{kindIn, stopped, listIn, stopsIn, groupIn, SoundGroup}
 use Rattle.group_lent_extends.specs.Extends.{stopsAdded}
@@ -13,7 +13,7 @@ use Rattle.group_lent_extends.specs.Extends.{stopsAdded}
 pub record Roomy (ws vs : List ℕ) : Type 0 where
   pub sound : SoundGroup ws
   pub kind : kindIn ws ≡ 2
-  pub room : given (addStops (stopsIn vs) (listIn ws) (stopsIn ws)) ≡ true
+  pub room : isSome (addStops (stopsIn vs) (listIn ws) (stopsIn ws)) ≡ true
 
 pub record Ended (ws vs after : List ℕ) : Type 0 where
   pub words : after ≡ stopsAdded ws vs 0 (stopped vs)

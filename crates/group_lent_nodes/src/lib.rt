@@ -11,7 +11,7 @@ ghost use mathlib.Core.Bool.{true};
 ghost use mathlib.Core.List.{[], _∷_};
 ghost use Prim.Native.Nat.{_≤_, _<_};
 ghost use Rattle.ledger_spec.specs.Tests.{any};
-ghost use Rattle.ledger_spec.specs.GroupCalls.{gone, handlesOf, listHandles, stopHandles, groupHandles, vertexOf};
+ghost use Rattle.ledger_spec.specs.GroupCalls.{staleCode, handlesOf, listHandles, stopHandles, groupHandles, vertexOf};
 ghost use Rattle.bench_views.specs.Canon.{Canon};
 ghost use Rattle.bench_views.specs.Fit.{Fit};
 ghost use Rattle.bench_views.specs.View.{view};
@@ -20,7 +20,7 @@ ghost use Rattle.group_lent.specs.Place.{listIn, stopsIn, groupIn, Listing, Sou
 
 fn is_gone(b: &[u64; WORDS], w: u64) -> bool
     requires { ⌜ Canon (now b) ⌝ }
-    ensures { λ r. ⌜ r ≡ gone (view (now (b .entry))) (handOf w) ⌝ }
+    ensures { λ r. ⌜ r ≡ staleCode (view (now (b .entry))) (handOf w) ⌝ }
 {
     let found = bench_links::find_word(b, w);
     match found {
@@ -31,7 +31,7 @@ fn is_gone(b: &[u64; WORDS], w: u64) -> bool
 
 fn two_gone(b: &[u64; WORDS], x: u64, y: u64) -> bool
     requires { ⌜ Canon (now b) ⌝ }
-    ensures { λ r. ⌜ r ≡ any (gone (view (now (b .entry)))) (handOf x ∷ handOf y ∷ []) ⌝ }
+    ensures { λ r. ⌜ r ≡ any (staleCode (view (now (b .entry)))) (handOf x ∷ handOf y ∷ []) ⌝ }
 {
     if is_gone(b, x) {
         return true;
@@ -42,7 +42,7 @@ fn two_gone(b: &[u64; WORDS], x: u64, y: u64) -> bool
 pub fn names_gone(b: &[u64; WORDS], f: Five) -> bool
     requires { ⌜ Canon (now b) ⌝ }
     requires { ⌜ isForm f ≡ true ⌝ }
-    ensures { λ r. ⌜ r ≡ any (gone (view (now (b .entry)))) (handlesOf (obstacleOf f)) ⌝ }
+    ensures { λ r. ⌜ r ≡ any (staleCode (view (now (b .entry)))) (handlesOf (obstacleOf f)) ⌝ }
 {
     if f.kind == 1 {
         return false;
@@ -68,7 +68,7 @@ pub fn names_gone(b: &[u64; WORDS], f: Five) -> bool
 fn list_gone(b: &[u64; WORDS], w: &[u64; GROUP]) -> bool
     requires { ⌜ Canon (now b) ⌝ }
     requires { ⌜ Listing (now w) ⌝ }
-    ensures { λ r. ⌜ r ≡ any (gone (view (now (b .entry)))) (listHandles (listIn (now (w .entry)))) ⌝ }
+    ensures { λ r. ⌜ r ≡ any (staleCode (view (now (b .entry)))) (listHandles (listIn (now (w .entry)))) ⌝ }
 {
     let n = w[3] as usize;
     let mut i: usize = 0;
@@ -85,7 +85,7 @@ fn list_gone(b: &[u64; WORDS], w: &[u64; GROUP]) -> bool
 fn stops_gone(b: &[u64; WORDS], w: &[u64; GROUP]) -> bool
     requires { ⌜ Canon (now b) ⌝ }
     requires { ⌜ Listing (now w) ⌝ }
-    ensures { λ r. ⌜ r ≡ any (gone (view (now (b .entry)))) (stopHandles (stopsIn (now (w .entry)))) ⌝ }
+    ensures { λ r. ⌜ r ≡ any (staleCode (view (now (b .entry)))) (stopHandles (stopsIn (now (w .entry)))) ⌝ }
 {
     let n = w[4] as usize;
     let mut i: usize = 0;
@@ -102,7 +102,7 @@ fn stops_gone(b: &[u64; WORDS], w: &[u64; GROUP]) -> bool
 pub fn group_gone(b: &[u64; WORDS], w: &[u64; GROUP]) -> bool
     requires { ⌜ Canon (now b) ⌝ }
     requires { ⌜ SoundGroup (now w) ⌝ }
-    ensures { λ r. ⌜ r ≡ any (gone (view (now (b .entry)))) (groupHandles (groupIn (now (w .entry)))) ⌝ }
+    ensures { λ r. ⌜ r ≡ any (staleCode (view (now (b .entry)))) (groupHandles (groupIn (now (w .entry)))) ⌝ }
 {
     if w[0] == 1 {
         return false;

@@ -8,7 +8,7 @@ use native.Mathlib.Omega.{arith}
 use borrow.Author.Tests.{eqb-true, eq-eqb, ltb-true, lt-ltb}
 use lib.Dec.{eqb, ltb}
 use lib.ListN.{length, length-append}
-use Rattle.kinds.specs.Names.{sameHandle}
+use Rattle.kinds.specs.Names.{sameCode}
 use Rattle.kinds.specs.Obstacles.{pairOf}
 use Rattle.kinds.specs.declared.Entry.{Entry}
 use Rattle.kinds.specs.declared.Stop.{Stop}
@@ -110,9 +110,9 @@ module _ (x : Stop) (l : List Entry) (s : List Stop) where
     unfolding meets meet
     met NoPair n p q = stays y same (here NoPair n p q)
     met (WithPair a) NoPair p q = stays x refl (here (WithPair a) NoPair p q)
-    met (WithPair a) (WithPair c) p q = go (sameHandle (a .node) (c .node)) refl
+    met (WithPair a) (WithPair c) p q = go (sameCode (a .node) (c .node)) refl
       where
-        go : (t : Bool) → sameHandle (a .node) (c .node) ≡ t → Came x l s (cond t 0 2)
+        go : (t : Bool) → sameCode (a .node) (c .node) ≡ t → Came x l s (cond t 0 2)
         go true r = stays y same (here (WithPair a) (WithPair c) p q ∙ rw r)
         go false r = joins (record { obstacle = Conflicting a c }) (here (WithPair a) (WithPair c) p q ∙ rw r)
 

@@ -13,8 +13,8 @@ use lib.ListN.{length, getD, length-append}
 use Rattle.kinds.specs.Obstacles.{isStop}
 use Rattle.kinds.specs.declared.Entry.{Entry}
 use Rattle.kinds.specs.declared.Stop.{Stop}
-use Rattle.ledger_spec.specs.Tests.{given}
-use Rattle.ledger_spec.specs.Groups.{Group, conflicts, Lists, rising, roomFor, backOf, addStop, grouped, andThen, addStops, extended}
+use Rattle.ledger_spec.specs.Tests.{isSome}
+use Rattle.ledger_spec.specs.Groups.{Group, conflicts, Lists, risingFrom, roomFor, backOf, addStop, grouped, andThen, addStops, extended}
 use Rattle.ledger_laws.proofs.GroupSound.{fine-of}
 use Rattle.group_lent.specs.Groups.{entryAt, stopAt}
 use Rattle.group_lent.specs.Place.{run, kindIn, listed, stopped, listIn, stopsIn, groupIn, Listing}
@@ -44,31 +44,31 @@ room-short l s h = go (leb (length l) 128)
     go true = rw (lt-leb (length s) 128 h)
     go false = refl
 
-pub given-grouped : (o : Option Lists) → given (grouped o) ≡ given o
+pub given-grouped : (o : Option Lists) → isSome (grouped o) ≡ isSome o
 given-grouped none = refl
 given-grouped (some ls) = refl
 
 -- ---- rising stops
 
 module _ (S : ℕ → Stop) where
-  rising-least : (b a n : ℕ) → rising b (run S a n) ≡ true → (i : ℕ) → a ≤ i → i < a + n → b ≤ S i .vertex .0
-  unfolding rising run
+  rising-least : (b a n : ℕ) → risingFrom b (run S a n) ≡ true → (i : ℕ) → a ≤ i → i < a + n → b ≤ S i .vertex .0
+  unfolding risingFrom run
   rising-least b a zero e i h k = absurd (omega arith)
   rising-least b a (suc n) e i h k =
-      let rest = leb b (S a .vertex .0) && rising (suc (S a .vertex .0)) (run S (suc a) n) in
+      let rest = leb b (S a .vertex .0) && risingFrom (suc (S a .vertex .0)) (run S (suc a) n) in
       let t = and-right (isStop (S a .obstacle)) rest e in
-      let u = leb-true b (S a .vertex .0) (and-left (leb b (S a .vertex .0)) (rising (suc (S a .vertex .0)) (run S (suc a) n)) t) in
-      let r = and-right (leb b (S a .vertex .0)) (rising (suc (S a .vertex .0)) (run S (suc a) n)) t in
+      let u = leb-true b (S a .vertex .0) (and-left (leb b (S a .vertex .0)) (risingFrom (suc (S a .vertex .0)) (run S (suc a) n)) t) in
+      let r = and-right (leb b (S a .vertex .0)) (risingFrom (suc (S a .vertex .0)) (run S (suc a) n)) t in
       by-cases (ℕ-discrete i a)
       (λ (z : i ≡ a). rw z u)
       (λ (d : i ≡ a → ⊥). let m : suc (S a .vertex .0) ≤ S i .vertex .0 = rising-least (suc (S a .vertex .0)) (suc a) n r i (omega (arith, d)) (omega arith) in omega arith)
 
-  rising-next : (b a n : ℕ) → rising b (run S a n) ≡ true → (i j : ℕ) → a ≤ i → i < j → j < a + n → S i .vertex .0 < S j .vertex .0
-  unfolding rising run
+  rising-next : (b a n : ℕ) → risingFrom b (run S a n) ≡ true → (i j : ℕ) → a ≤ i → i < j → j < a + n → S i .vertex .0 < S j .vertex .0
+  unfolding risingFrom run
   rising-next b a zero e i j h k m = absurd (omega arith)
   rising-next b a (suc n) e i j h k m =
-      let rest = leb b (S a .vertex .0) && rising (suc (S a .vertex .0)) (run S (suc a) n) in
-      let r = and-right (leb b (S a .vertex .0)) (rising (suc (S a .vertex .0)) (run S (suc a) n)) (and-right (isStop (S a .obstacle)) rest e) in
+      let rest = leb b (S a .vertex .0) && risingFrom (suc (S a .vertex .0)) (run S (suc a) n) in
+      let r = and-right (leb b (S a .vertex .0)) (risingFrom (suc (S a .vertex .0)) (run S (suc a) n)) (and-right (isStop (S a .obstacle)) rest e) in
       by-cases (ℕ-discrete i a)
       (λ (z : i ≡ a). rw z (rising-least (suc (S a .vertex .0)) (suc a) n r j (omega arith) (omega arith)))
       (λ (d : i ≡ a → ⊥). rising-next (suc (S a .vertex .0)) (suc a) n r i j (omega (arith, d)) k (omega arith))
@@ -80,12 +80,12 @@ pub record Counting (ws vs : List ℕ) (whole : Bool) (l s j : ℕ) : Type 0 whe
   pub stops : List Stop
   pub few : length list ≡ l
   pub fewer : length stops ≡ s
-  pub rest : whole ≡ given (addStops (run (stopAt vs) j (stopped vs - j)) list stops)
+  pub rest : whole ≡ isSome (addStops (run (stopAt vs) j (stopped vs - j)) list stops)
   pub later : (i : ℕ) → j ≤ i → i < stopped vs → backOf (stopAt vs i .vertex .0) stops ≡ backOf (stopAt vs i .vertex .0) (stopsIn ws)
 
 module _ (ws vs : List ℕ) (a : Listing ws) (b : Listing vs) where
   abbrev whole : Bool
-  whole = given (extended (groupIn ws) (groupIn vs))
+  whole = isSome (extended (groupIn ws) (groupIn vs))
 
   abbrev both : List Entry
   both = listIn ws ++ listIn vs
@@ -93,12 +93,12 @@ module _ (ws vs : List ℕ) (a : Listing ws) (b : Listing vs) where
   pub both-long : length both ≡ listed ws + listed vs
   both-long = length-append (listIn ws) (listIn vs) ∙ ap₂ (λ (i j : ℕ). i + j) (run-long (entryAt ws) 0 (listed ws)) (run-long (entryAt vs) 0 (listed vs))
 
-  pub whole-is : (o : Option Lists) → roomFor both (stopsIn ws) ≡ o → whole ≡ given (andThen o (addStops (stopsIn vs)))
+  pub whole-is : (o : Option Lists) → roomFor both (stopsIn ws) ≡ o → whole ≡ isSome (andThen o (addStops (stopsIn vs)))
   unfolding extended
   whole-is o e =
-      ap₂ (λ (g h : Group). given (extended g h)) (seen-conflicts ws (a .kind)) (seen-conflicts vs (b .kind))
+      ap₂ (λ (g h : Group). isSome (extended g h)) (seen-conflicts ws (a .kind)) (seen-conflicts vs (b .kind))
       ∙ given-grouped (andThen (roomFor both (stopsIn ws)) (addStops (stopsIn vs)))
-      ∙ ap (λ (p : Option Lists). given (andThen p (addStops (stopsIn vs)))) e
+      ∙ ap (λ (p : Option Lists). isSome (andThen p (addStops (stopsIn vs)))) e
 
   pub count-full : 128 < listed ws + listed vs → false ≡ whole
   count-full h = sym (whole-is none (room-no both (stopsIn ws) (omega (arith, both-long))))
@@ -113,14 +113,14 @@ module _ (ws vs : List ℕ) (a : Listing ws) (b : Listing vs) where
         few = both-long;
         fewer = s;
         rest = whole-is (some (both, stopsIn ws)) (room-yes both (stopsIn ws) (omega (arith, both-long)) (omega (arith, s, a .fewer)))
-            ∙ ap (λ (n : ℕ). given (addStops (run (stopAt vs) 0 n) both (stopsIn ws))) z;
+            ∙ ap (λ (n : ℕ). isSome (addStops (run (stopAt vs) 0 n) both (stopsIn ws))) z;
         later = λ i p q. refl;
       }
 
   module _ (t : Bool) (l s j : ℕ) (C : Counting ws vs t l s j) where
     pub count-end : stopped vs ≤ j → true ≡ t
     unfolding run addStops
-    count-end h = let z : stopped vs - j ≡ 0 = omega arith in sym (C .rest ∙ ap (λ (n : ℕ). given (addStops (run (stopAt vs) j n) (C .list) (C .stops))) z)
+    count-end h = let z : stopped vs - j ≡ 0 = omega arith in sym (C .rest ∙ ap (λ (n : ℕ). isSome (addStops (run (stopAt vs) j n) (C .list) (C .stops))) z)
 
     module _ (h : j < stopped vs) (d : ℕ) (e : d ≡ comingIn ws (stopFive vs j) (getD vs (spot j) 0)) where
       abbrev x : Stop
@@ -143,12 +143,12 @@ module _ (ws vs : List ℕ) (a : Listing ws) (b : Listing vs) where
       gone : Came x (C .list) (C .stops) d
       gone = rw kind-is at (came x (C .list) (C .stops))
 
-      on : (o : Option Lists) → roomFor (gone .list) (gone .stops) ≡ o → t ≡ given (andThen o (addStops xs))
+      on : (o : Option Lists) → roomFor (gone .list) (gone .stops) ≡ o → t ≡ isSome (andThen o (addStops xs))
       unfolding addStops
       on o r =
           C .rest
-          ∙ ap (λ (q : List Stop). given (addStops q (C .list) (C .stops))) next
-          ∙ ap (λ (p : Option Lists). given (andThen p (addStops xs))) (gone .is ∙ r)
+          ∙ ap (λ (q : List Stop). isSome (addStops q (C .list) (C .stops))) next
+          ∙ ap (λ (p : Option Lists). isSome (andThen p (addStops xs))) (gone .is ∙ r)
 
       long : length (gone .list) ≡ listedBy d l
       long = gone .listed ∙ ap (listedBy d) (C .few)

@@ -5,7 +5,7 @@ use mathlib.Core.Bool.{cond, _&&_}
 use mathlib.Core.List.{List, [], _∷_}
 use lib.Dec.{eqb, ltb}
 use lib.ListN.{getD}
-use Rattle.kinds.specs.Names.{sameHandle}
+use Rattle.kinds.specs.Names.{sameCode}
 use Rattle.kinds.specs.Obstacles.{pairOf}
 use Rattle.kinds.specs.declared.Stop.{Stop}
 use Rattle.kinds.specs.declared.MaybePair.{MaybePair}
@@ -20,7 +20,7 @@ use Rattle.group_lent_stops.specs.Stops.{spot, stopFive, placeIn}
 unfoldable pub meets : MaybePair → MaybePair → ℕ
 meets NoPair q = 0
 meets (WithPair p) NoPair = 0
-meets (WithPair p) (WithPair q) = cond (sameHandle (p .node) (q .node)) 0 2
+meets (WithPair p) (WithPair q) = cond (sameCode (p .node) (q .node)) 0 2
 
 -- by the stops that are not below its vertex
 unfoldable pub comes : Stop → List Stop → ℕ

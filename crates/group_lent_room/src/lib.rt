@@ -3,7 +3,7 @@ use group_lent::Five;
 use group_lent::GROUP;
 ghost use mathlib.Core.Path.{_≡_};
 ghost use Prim.Native.Nat.{_≤_};
-ghost use Rattle.ledger_spec.specs.Tests.{given};
+ghost use Rattle.ledger_spec.specs.Tests.{isSome};
 ghost use Rattle.ledger_spec.specs.Groups.{extended};
 ghost use Rattle.group_lent.specs.Place.{Listing, groupIn};
 ghost use Rattle.group_lent_room.specs.Coming.{listedBy, stoppedBy, comingIn};
@@ -60,7 +60,7 @@ fn stopped_by(d: u8, n: u64) -> u64
 pub fn has_room(w: &[u64; GROUP], other: &[u64; GROUP]) -> bool
     requires { ⌜ Listing (now w) ⌝ }
     requires { ⌜ Listing (now other) ⌝ }
-    ensures { λ r. ⌜ r ≡ given (extended (groupIn (now (w .entry))) (groupIn (now (other .entry)))) ⌝ }
+    ensures { λ r. ⌜ r ≡ isSome (extended (groupIn (now (w .entry))) (groupIn (now (other .entry)))) ⌝ }
 {
     let m = other[4] as usize;
     let mut l = w[3] + other[3];

@@ -11,7 +11,7 @@ use lib.Dec.{eqb, leb}
 use lib.ListN.{length}
 use Rattle.kinds.specs.Obstacles.{listable, isStop}
 use Rattle.bench_words.specs.Codec.{pick}
-use Rattle.ledger_spec.specs.Groups.{allListable, rising}
+use Rattle.ledger_spec.specs.Groups.{allListable, risingFrom}
 use Rattle.ledger_laws.proofs.GroupSound.{fine-of, of-fine}
 use Rattle.group_lent.specs.Groups.{entryForm, entryAt, stopForm, stopAt}
 use Rattle.group_lent.proofs.Stores.{and-left, and-right}
@@ -52,10 +52,10 @@ module _ (ws : List ℕ) where
 
   pub record Stops (b i k : ℕ) : Type 0 where
     pub forms : (j : ℕ) → i ≤ j → j < i + k → stopForm ws j ≡ true
-    pub rises : rising b (run (stopAt ws) i k) ≡ true
+    pub rises : risingFrom b (run (stopAt ws) i k) ≡ true
 
   stops-of : (b i k : ℕ) → stopsFit ws b i k ≡ true → Stops b i k
-  unfolding stopsFit run rising
+  unfolding stopsFit run risingFrom
   stops-of b i zero e = record { forms = λ j a c. absurd (omega arith); rises = refl }
   stops-of b i (suc k) e =
       let v = stopAt ws i .vertex .0 in
@@ -68,18 +68,18 @@ module _ (ws : List ℕ) where
         rises = rw (and-left (isStop (stopAt ws i .obstacle)) (leb b v) g, and-right (isStop (stopAt ws i .obstacle)) (leb b v) g, r .rises);
       }
 
-  of-stops : (b i k : ℕ) → ((j : ℕ) → i ≤ j → j < i + k → stopForm ws j ≡ true) → rising b (run (stopAt ws) i k) ≡ true → stopsFit ws b i k ≡ true
-  unfolding stopsFit run rising
+  of-stops : (b i k : ℕ) → ((j : ℕ) → i ≤ j → j < i + k → stopForm ws j ≡ true) → risingFrom b (run (stopAt ws) i k) ≡ true → stopsFit ws b i k ≡ true
+  unfolding stopsFit run risingFrom
   of-stops b i zero f l = refl
   of-stops b i (suc k) f l =
       let v = stopAt ws i .vertex .0 in
-      let rest = leb b v && rising (suc v) (run (stopAt ws) (suc i) k) in
+      let rest = leb b v && risingFrom (suc v) (run (stopAt ws) (suc i) k) in
       let r = and-right (isStop (stopAt ws i .obstacle)) rest l in
       rw (
         f i (omega arith) (omega arith),
         and-left (isStop (stopAt ws i .obstacle)) rest l,
-        and-left (leb b v) (rising (suc v) (run (stopAt ws) (suc i) k)) r,
-        of-stops (suc v) (suc i) k (λ j a c. f j (omega arith) (omega arith)) (and-right (leb b v) (rising (suc v) (run (stopAt ws) (suc i) k)) r),
+        and-left (leb b v) (risingFrom (suc v) (run (stopAt ws) (suc i) k)) r,
+        of-stops (suc v) (suc i) k (λ j a c. f j (omega arith) (omega arith)) (and-right (leb b v) (risingFrom (suc v) (run (stopAt ws) (suc i) k)) r),
       )
 
   -- ---- the group

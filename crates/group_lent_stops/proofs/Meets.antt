@@ -7,7 +7,7 @@ use native.Mathlib.Decide.{ℕ-discrete}
 use native.Mathlib.Omega.{arith}
 use borrow.Author.Tests.{eqb-true, eqb-false, eq-eqb, ne-eqb, ltb-true, ltb-false, lt-leb, le-leb}
 use lib.Dec.{eqb, ltb}
-use Rattle.kinds.specs.Names.{sameHandle, nobody}
+use Rattle.kinds.specs.Names.{sameCode, noCode}
 use Rattle.kinds.specs.Obstacles as kinds
 use Rattle.kinds.specs.Obstacles.{listable, isStop}
 use Rattle.kinds.specs.declared.Handle.{Handle}
@@ -31,7 +31,7 @@ module _ (f : Five) where
           (pick r (TouchingVirtual (pairOf (f .a) (f .b)) (record { 0 = f .c % 4294967296 }) (eqb (f .d) 1))
           (pick s (BlossomNeedExpand (handOf (f .a)))
           (pick t (VertexShrinkStop (handOf (f .a)) NoPair)
-          (pick u (VertexShrinkStop (handOf (f .a)) (WithPair (pairOf (f .b) (f .c)))) (BlossomNeedExpand nobody))))))
+          (pick u (VertexShrinkStop (handOf (f .a)) (WithPair (pairOf (f .b) (f .c)))) (BlossomNeedExpand noCode))))))
           ) ≡ true → (f .kind ≡ 5) ⊎ (f .kind ≡ 6)
       go true q r s t x u y e = absurd (false≢true e)
       go false true r s t x u y e = absurd (false≢true e)
@@ -68,10 +68,10 @@ pair-says f y = refl
 
 -- ---- handles
 
-same-refl : (h : Handle) → sameHandle h h ≡ true
+same-refl : (h : Handle) → sameCode h h ≡ true
 same-refl h = rw (eq-eqb (h .unit) (h .unit) refl, eq-eqb (h .slot) (h .slot) refl, eq-eqb (h .serial .0) (h .serial .0) refl)
 
-same-is : (g h : Handle) → sameHandle g h ≡ true → g ≡ h
+same-is : (g h : Handle) → sameCode g h ≡ true → g ≡ h
 same-is g h e =
     let r = and-right (eqb (g .unit) (h .unit)) (eqb (g .slot) (h .slot) && eqb (g .serial .0) (h .serial .0)) e in
     let u = eqb-true (g .unit) (h .unit) (and-left (eqb (g .unit) (h .unit)) (eqb (g .slot) (h .slot) && eqb (g .serial .0) (h .serial .0)) e) in
@@ -87,19 +87,19 @@ or-false true = refl
 or-false false = refl
 
 -- handles of two words that may name a node
-low-words : (a b : ℕ) → a < 2199023255552 → b < 2199023255552 → sameHandle (handleOf a) (handleOf b) ≡ eqb a b
+low-words : (a b : ℕ) → a < 2199023255552 → b < 2199023255552 → sameCode (handleOf a) (handleOf b) ≡ eqb a b
 low-words a b h k = go (eqb a b) refl
   where
-    differ : (eqb a b ≡ false) → (t : Bool) → sameHandle (handleOf a) (handleOf b) ≡ t → t ≡ false
+    differ : (eqb a b ≡ false) → (t : Bool) → sameCode (handleOf a) (handleOf b) ≡ t → t ≡ false
     differ n true e = absurd (eqb-false a b n (sym (handle-same a h) ∙ ap handleWord (same-is (handleOf a) (handleOf b) e) ∙ handle-same b k))
     differ n false e = refl
 
-    go : (t : Bool) → eqb a b ≡ t → sameHandle (handleOf a) (handleOf b) ≡ eqb a b
+    go : (t : Bool) → eqb a b ≡ t → sameCode (handleOf a) (handleOf b) ≡ eqb a b
     go true e = let z = eqb-true a b e in rw (z, eq-eqb b b refl) (same-refl (handleOf b))
-    go false e = rw e (differ e (sameHandle (handleOf a) (handleOf b)) refl)
+    go false e = rw e (differ e (sameCode (handleOf a) (handleOf b)) refl)
 
 -- two words are one handle just where the code says so
-pub same-words : (a b : ℕ) → sameHandle (handOf a) (handOf b) ≡ sameHand a b
+pub same-words : (a b : ℕ) → sameCode (handOf a) (handOf b) ≡ sameHand a b
 unfolding handOf
 same-words a b = go (ltb a 2199023255552) refl (ltb b 2199023255552) refl
   where
@@ -107,7 +107,7 @@ same-words a b = go (ltb a 2199023255552) refl (ltb b 2199023255552) refl
     either true = refl
     either false = refl
 
-    go : (p : Bool) → ltb a 2199023255552 ≡ p → (q : Bool) → ltb b 2199023255552 ≡ q → sameHandle (pick p (handleOf a) nowhere) (pick q (handleOf b) nowhere) ≡ sameHand a b
+    go : (p : Bool) → ltb a 2199023255552 ≡ p → (q : Bool) → ltb b 2199023255552 ≡ q → sameCode (pick p (handleOf a) nowhere) (pick q (handleOf b) nowhere) ≡ sameHand a b
     go true e true d =
         let h = ltb-true a 2199023255552 e in
         low-words a b h (ltb-true b 2199023255552 d) ∙ rw (lt-leb 2199023255552 a h) (sym (or-false (eqb a b)))

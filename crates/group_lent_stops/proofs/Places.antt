@@ -12,7 +12,7 @@ use lib.Dec.{leb, ltb}
 use lib.ListN.{length, getD}
 use Rattle.kinds.specs.Obstacles.{isStop}
 use Rattle.kinds.specs.declared.Stop.{Stop}
-use Rattle.ledger_spec.specs.Groups.{frontOf, backOf, rising}
+use Rattle.ledger_spec.specs.Groups.{frontOf, backOf, risingFrom}
 use Rattle.group_lent.specs.Forms.{isForm, fiveAt}
 use Rattle.group_lent.specs.Groups.{stopRead, stopForm, stopAt}
 use Rattle.group_lent.proofs.Stores.{and-left, and-right}
@@ -34,12 +34,12 @@ vertex-is ws i e =
 
 module _ (S : ℕ → Stop) where
   -- rising stops are stops
-  pub rising-stop : (b a n : ℕ) → rising b (run S a n) ≡ true → (i : ℕ) → a ≤ i → i < a + n → isStop (S i .obstacle) ≡ true
-  unfolding rising run
+  pub rising-stop : (b a n : ℕ) → risingFrom b (run S a n) ≡ true → (i : ℕ) → a ≤ i → i < a + n → isStop (S i .obstacle) ≡ true
+  unfolding risingFrom run
   rising-stop b a zero e i h k = absurd (omega arith)
   rising-stop b a (suc n) e i h k =
-      let rest = leb b (S a .vertex .0) && rising (suc (S a .vertex .0)) (run S (suc a) n) in
-      let r = and-right (leb b (S a .vertex .0)) (rising (suc (S a .vertex .0)) (run S (suc a) n)) (and-right (isStop (S a .obstacle)) rest e) in
+      let rest = leb b (S a .vertex .0) && risingFrom (suc (S a .vertex .0)) (run S (suc a) n) in
+      let r = and-right (leb b (S a .vertex .0)) (risingFrom (suc (S a .vertex .0)) (run S (suc a) n)) (and-right (isStop (S a .obstacle)) rest e) in
       let x = and-left (isStop (S a .obstacle)) rest e in
       by-cases (ℕ-discrete i a)
       (λ (z : i ≡ a). rw z x)

@@ -20,7 +20,7 @@ use Rattle.kinds.specs.declared.Stop.{Stop}
 use Rattle.kinds.specs.declared.Obstacle.{Obstacle}
 use Rattle.kinds.specs.declared.Obstacle.the-variants.{NonZeroGrow, Conflicting, TouchingVirtual, BlossomNeedExpand, VertexShrinkStop}
 use Rattle.bench_words.specs.Codec.{pick}
-use Rattle.ledger_spec.specs.Tests.{given}
+use Rattle.ledger_spec.specs.Tests.{isSome}
 use Rattle.ledger_spec.specs.Groups.{Group, growth, conflicts, smaller, roomFor, grouped, addToGrowth, addToConflicts, added}
 use Rattle.ledger_spec.specs.GroupCalls.{orElse}
 use Rattle.ledger_laws.proofs.GroupSound.{added-sound}
@@ -34,11 +34,11 @@ use Rattle.group_lent.proofs.Stores.{sets-out, sets-in, run-long, run-same, run
 use Rattle.group_lent.proofs.Seen.{Reads, out-reads, then-reads, five-reads, five-put, entry-same, entry-form, stop-same, stop-form, seen-growth, seen-conflicts, sound-in, is-growing, is-listing, to-listing}
 
 -- the promise, by the ledger's answer q
-pub made : (f : Five) (v : ℕ) (ws next : List ℕ) (r : ℕ) (after : List ℕ) (q : Option Group) → added (groupIn ws) (obstacleOf f) v ≡ q → r ≡ pick (given q) 0 20 → after ≡ next
+pub made : (f : Five) (v : ℕ) (ws next : List ℕ) (r : ℕ) (after : List ℕ) (q : Option Group) → added (groupIn ws) (obstacleOf f) v ≡ q → r ≡ pick (isSome q) 0 20 → after ≡ next
     → groupIn after ≡ orElse q (groupIn ws) → SoundGroup after → Added f v ws next r after
 made f v ws next r after q e n w s d =
     record {
-      number = n ∙ sym (ap (λ (o : Option Group). pick (given o) 0 20) e);
+      number = n ∙ sym (ap (λ (o : Option Group). pick (isSome o) 0 20) e);
       words = w;
       seen = s ∙ sym (ap (λ (o : Option Group). orElse o (groupIn ws)) e);
       sound = d;

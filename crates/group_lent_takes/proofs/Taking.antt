@@ -15,7 +15,7 @@ use Rattle.kinds.specs.declared.Stop.{Stop}
 use Rattle.kinds.specs.declared.Obstacle.{Obstacle}
 use Rattle.ledger_spec.specs.Tests.{first}
 use Rattle.ledger_spec.specs.Reads.{said}
-use Rattle.ledger_spec.specs.Groups.{Group, growth, conflicts, soundGroup, topOf, front, popped}
+use Rattle.ledger_spec.specs.Groups.{Group, growth, conflicts, soundGroup, lastOf, allButLast, popped}
 use Rattle.ledger_spec.specs.GroupCalls.{takeTests, peek, pop}
 use Rattle.ledger_laws.proofs.GroupSound.{popped-sound}
 use Rattle.group_lent.specs.Forms.{lengthOf, five, fiveAt, isForm, obstacleOf}
@@ -42,13 +42,13 @@ module _ (q : Group) (a : ℤ) (f : Bool) (k : q ≡ growth a f) where
   pop-growth = rw k
 
 module _ (q : Group) (l : List Entry) (s : List Stop) (k : q ≡ conflicts l s) (sound : soundGroup (conflicts l s) ≡ true) where
-  pub peek-conflicts : (0, topOf l s) ≡ peek q
+  pub peek-conflicts : (0, lastOf l s) ≡ peek q
   unfolding peek takeTests first said
-  peek-conflicts = sym (ap peek k ∙ ap (λ (b : Bool). said (first ((not b, 2) ∷ (false, 10) ∷ [])) (topOf l s) none) sound)
+  peek-conflicts = sym (ap peek k ∙ ap (λ (b : Bool). said (first ((not b, 2) ∷ (false, 10) ∷ [])) (lastOf l s) none) sound)
 
-  pub pop-conflicts : (0, (topOf l s, popped l s)) ≡ pop q
+  pub pop-conflicts : (0, (lastOf l s, popped l s)) ≡ pop q
   unfolding pop takeTests first said
-  pop-conflicts = sym (ap pop k ∙ ap (λ (b : Bool). said (first ((not b, 2) ∷ (false, 10) ∷ [])) (topOf l s, popped l s) (none, conflicts l s)) sound)
+  pop-conflicts = sym (ap pop k ∙ ap (λ (b : Bool). said (first ((not b, 2) ∷ (false, 10) ∷ [])) (lastOf l s, popped l s) (none, conflicts l s)) sound)
 
 -- ---- on top
 
@@ -61,15 +61,15 @@ some-seen : (f : Five) → isForm f ≡ true → maybeSeen f ≡ some (obstacleO
 some-seen f e = rw (form-kind f e)
 
 module _ (ws : List ℕ) (l : Listing ws) where
-  top-seen : (n m : ℕ) → listed ws ≡ n → stopped ws ≡ m → maybeSeen (topBy n m ws) ≡ topOf (run (entryAt ws) 0 n) (run (stopAt ws) 0 m)
-  unfolding topBy topOf run entryForm entryAt stopForm stopAt stopRead
+  top-seen : (n m : ℕ) → listed ws ≡ n → stopped ws ≡ m → maybeSeen (topBy n m ws) ≡ lastOf (run (entryAt ws) 0 n) (run (stopAt ws) 0 m)
+  unfolding topBy lastOf run entryForm entryAt stopForm stopAt stopRead
   top-seen (suc n) m e d =
       some-seen (fiveAt ws (5 + n * 5)) (l .list n (omega (arith, e)))
       ∙ sym (run-top (entryAt ws) (run (stopAt ws) 0 m) 0 n n (omega arith))
   top-seen zero (suc m) e d = some-seen (fiveAt ws 646) (and-right (ltb (getD ws 645 0) 4294967296) (isForm (fiveAt ws 646)) (l .stops 0 (omega (arith, d))))
   top-seen zero zero e d = refl
 
-  pub top-is : maybeSeen (topBy (listed ws) (stopped ws) ws) ≡ topOf (listIn ws) (stopsIn ws)
+  pub top-is : maybeSeen (topBy (listed ws) (stopped ws) ws) ≡ lastOf (listIn ws) (stopsIn ws)
   top-is = top-seen (listed ws) (stopped ws) refl refl
 
 module _ (ws : List ℕ) (s : SoundGroup ws) where
@@ -116,7 +116,7 @@ module _ (ws : List ℕ) (s : SoundGroup ws) where
         ap (λ (g : Five). (10, maybeSeen g)) (t ∙ sym (top-growth e))
         ∙ peek-growth (groupIn ws) (lengthOf (lengthIn ws)) (eqb (flagIn ws) 1) (seen-growth ws e)
 
-    seen-top : (n : kindIn ws ≡ 1 → ⊥) → maybeSeen f ≡ topOf (listIn ws) (stopsIn ws)
+    seen-top : (n : kindIn ws ≡ 1 → ⊥) → maybeSeen f ≡ lastOf (listIn ws) (stopsIn ws)
     seen-top n = ap maybeSeen (t ∙ top-conflicts n) ∙ top-is ws (is-listing ws s n)
 
     pub peek-made : (kindIn ws ≡ 1 → ⊥) → (0, maybeSeen f) ≡ peek (groupIn ws)
@@ -173,14 +173,14 @@ module _ (ws : List ℕ) (s : SoundGroup ws) where
           (rw z at (slid-reads ws 645 k room (645 + i * 6) 6 (omega arith) (omega arith)))
           (out-reads down 3 counts (645 + i * 6) 6 (λ g. omega arith))
 
-      list-left : listIn left ≡ front (listIn ws)
-      unfolding run front
+      list-left : listIn left ≡ allButLast (listIn ws)
+      unfolding run allButLast
       list-left =
           ap (run (entryAt left) 0) (counted 0 3 refl (omega arith))
           ∙ run-same (entryAt left) (entryAt ws) 0 (listed ws - 1) (λ i a b. entry-same ws left i (old i (omega arith)))
           ∙ go (listed ws)
         where
-          go : (i : ℕ) → run (entryAt ws) 0 (i - 1) ≡ front (run (entryAt ws) 0 i)
+          go : (i : ℕ) → run (entryAt ws) 0 (i - 1) ≡ allButLast (run (entryAt ws) 0 i)
           go zero = refl
           go (suc i) = let z : suc i - 1 ≡ i = omega arith in ap (run (entryAt ws) 0) z ∙ sym (run-front (entryAt ws) 0 i)
 

@@ -6,7 +6,7 @@ use mathlib.Core.List.{List}
 use lib.Dec.{eqb}
 use Rattle.kinds.specs.declared.Obstacle.{Obstacle}
 use Rattle.bench_words.specs.Codec.{pick}
-use Rattle.ledger_spec.specs.Tests.{given}
+use Rattle.ledger_spec.specs.Tests.{isSome}
 use Rattle.ledger_spec.specs.Groups.{emptyGroup, added}
 use Rattle.ledger_spec.specs.GroupCalls.{orElse, pop}
 use Rattle.group_lent.specs.Forms.{obstacleOf}
@@ -22,7 +22,7 @@ pub record Emptied (ws after : List ℕ) : Type 0 where
 
 -- an obstacle with words f is added, v being the first vertex of a stop's node: ROOM (20) changes nothing
 pub record Added (f : Five) (v : ℕ) (ws : List ℕ) (next : List ℕ) (r : ℕ) (after : List ℕ) : Type 0 where
-  pub number : r ≡ pick (given (added (groupIn ws) (obstacleOf f) v)) 0 20
+  pub number : r ≡ pick (isSome (added (groupIn ws) (obstacleOf f) v)) 0 20
   pub words : after ≡ next
   pub seen : groupIn after ≡ orElse (added (groupIn ws) (obstacleOf f) v) (groupIn ws)
   pub sound : SoundGroup after

@@ -4,6 +4,7 @@ use crate::nodes;
 use crate::tapes;
 use crate::tapes::ROOM;
 use bench_words::WORDS;
+use link_answers::ANSWER;
 ghost use Prim.Native.Nat.{_≤_};
 
 // Members and touching handles of one line, at most: more than any circle holds.
@@ -17,8 +18,7 @@ fn keep(list: &mut [u64], n: usize, w: u64) {
 
 // The serial at a place of a row, as a packed handle.
 fn packed(b: &[u64; WORDS], row: &[i64; ROOM], n: usize, i: usize) -> u64 {
-    let h = nodes::named(b, tapes::number(row, n, i));
-    bench_words::handle_word(h)
+    nodes::named(b, tapes::number(row, n, i))
 }
 
 // The serials of a row from one place up to another, as packed handles; how many there are.
@@ -72,8 +72,15 @@ fn made(
 ) -> usize {
     let i = tapes::within(m, members);
     let j = tapes::within(t, touching);
-    let r = call_any::create_blossom(b, unit, &members[..i], &touching[..j]);
-    acts::answer(b, out, r, unit)
+    let mut words = [0u64; ANSWER];
+    let r = dual_ledger::open_calls::dual_ledger_create_blossom(
+        b,
+        unit,
+        &members[..i],
+        &touching[..j],
+        &mut words,
+    );
+    acts::answer(b, out, r, &words, unit)
 }
 
 fn plain_in(

@@ -1,88 +1,89 @@
 // The lines that read: of an interface, of a node.
 use crate::nodes;
-use crate::says;
 use crate::tapes;
 use crate::tapes::ROOM;
+use crate::told;
 use bench_words::WORDS;
-use kinds::Handle;
-use kinds::MaybeNode;
-use kinds::NodeIndex;
 
 const VERTICES: usize = 1024;
 
+// A number, and what was read.
+fn two(out: &mut [i64; ROOM], number: u8, what: i64) -> usize {
+    let n = tapes::say(out, 0, number as i64);
+    tapes::say(out, n, what)
+}
+
 pub fn strict(b: &[u64; WORDS], out: &mut [i64; ROOM], unit: u8) -> usize {
-    let r = check_any::strict_check(b, unit);
-    let n = tapes::say(out, 0, r.number as i64);
-    let m = tapes::say(out, n, r.verdict as i64);
-    tapes::say(out, m, r.index.0 as i64)
+    let mut verdict: u64 = 0;
+    let mut index: u64 = 0;
+    let r = dual_ledger::open_reads::dual_ledger_strict_check(b, unit, &mut verdict, &mut index);
+    let m = two(out, r, told::small(verdict));
+    tapes::say(out, m, told::small(index))
 }
 
 pub fn sum(b: &[u64; WORDS], out: &mut [i64; ROOM], unit: u8) -> usize {
-    let r = read_any::sum_dual_variables(b, unit);
-    let n = tapes::say(out, 0, r.number as i64);
-    tapes::say(out, n, r.weight)
+    let mut w: u64 = 0;
+    let r = dual_ledger::open_reads::dual_ledger_sum_dual_variables(b, unit, &mut w);
+    two(out, r, told::signed(w))
 }
 
 pub fn speed(b: &[u64; WORDS], out: &mut [i64; ROOM], unit: u8) -> usize {
-    let r = read_any::sum_grow_speed(b, unit);
-    let n = tapes::say(out, 0, r.number as i64);
-    tapes::say(out, n, r.weight)
+    let mut w: u64 = 0;
+    let r = dual_ledger::open_reads::dual_ledger_sum_grow_speed(b, unit, &mut w);
+    two(out, r, told::signed(w))
 }
 
 pub fn count(b: &[u64; WORDS], out: &mut [i64; ROOM], unit: u8) -> usize {
-    let r = read_any::nodes_count(b, unit);
-    let n = tapes::say(out, 0, r.number as i64);
-    tapes::say(out, n, nodes::small(r.count))
+    let mut w: u64 = 0;
+    let r = dual_ledger::open_reads::dual_ledger_nodes_count(b, unit, &mut w);
+    two(out, r, told::small(w))
 }
 
-fn found(out: &mut [i64; ROOM], n: usize, h: Handle) -> usize {
-    let a = says::handle(out, n, h);
-    let c = tapes::say(out, a, h.unit as i64);
-    tapes::say(out, c, h.slot as i64)
+// Serial, interface and slot of a handle; zeros of none.
+fn found(out: &mut [i64; ROOM], n: usize, h: u64) -> usize {
+    let w = if h < nodes::NO_NODE { h } else { 0 };
+    let a = tapes::say(out, n, told::serial(w));
+    let c = tapes::say(out, a, told::small(w % 8));
+    tapes::say(out, c, told::small((w / 8) % 64))
 }
 
 pub fn index(b: &[u64; WORDS], out: &mut [i64; ROOM], unit: u8, i: u32) -> usize {
-    let r = read_any::get_node(b, unit, NodeIndex(i));
-    let n = tapes::say(out, 0, r.number as i64);
-    let node = r.node;
-    match node {
-        MaybeNode::NoNode => found(out, n, Handle::nobody()),
-        MaybeNode::Node(h) => found(out, n, h),
-    }
+    let mut h: u64 = 0;
+    let r = dual_ledger::open_reads::dual_ledger_get_node(b, unit, i, &mut h);
+    let n = tapes::say(out, 0, r as i64);
+    found(out, n, h)
 }
 
-pub fn belonging(b: &[u64; WORDS], out: &mut [i64; ROOM], unit: u8, h: Handle) -> usize {
-    let r = read_any::check_ptr_belonging(b, unit, h);
-    let n = tapes::say(out, 0, r.number as i64);
-    tapes::say(out, n, says::bit(r.inside))
+pub fn belonging(b: &[u64; WORDS], out: &mut [i64; ROOM], unit: u8, h: u64) -> usize {
+    let mut w: u64 = 0;
+    let r = dual_ledger::open_reads::dual_ledger_check_ptr_belonging(b, unit, h, &mut w);
+    two(out, r, told::small(w))
 }
 
-pub fn value(b: &[u64; WORDS], out: &mut [i64; ROOM], h: Handle) -> usize {
-    let r = read_any::get_dual_variable(b, h);
-    let n = tapes::say(out, 0, r.number as i64);
-    tapes::say(out, n, r.weight)
+pub fn value(b: &[u64; WORDS], out: &mut [i64; ROOM], h: u64) -> usize {
+    let mut w: u64 = 0;
+    let r = dual_ledger::open_reads::dual_ledger_get_dual_variable(b, h, &mut w);
+    two(out, r, told::signed(w))
 }
 
-pub fn outermost(b: &[u64; WORDS], out: &mut [i64; ROOM], h: Handle) -> usize {
-    let r = read_any::get_ancestor_blossom(b, h);
-    let node = r.node;
-    let n = tapes::say(out, 0, r.number as i64);
-    let m = says::handle(out, n, node);
-    tapes::say(out, m, nodes::small(r.links))
+pub fn outermost(b: &[u64; WORDS], out: &mut [i64; ROOM], h: u64) -> usize {
+    let mut top: u64 = 0;
+    let mut links: u64 = 0;
+    let r = dual_ledger::open_reads::dual_ledger_get_ancestor_blossom(b, h, &mut top, &mut links);
+    let n = two(out, r, told::serial(top));
+    tapes::say(out, n, told::small(links))
 }
 
-pub fn below(b: &[u64; WORDS], out: &mut [i64; ROOM], h: Handle) -> usize {
-    let r = read_any::get_secondary_ancestor_blossom(b, h);
-    let node = r.node;
-    let n = tapes::say(out, 0, r.number as i64);
-    says::handle(out, n, node)
+pub fn below(b: &[u64; WORDS], out: &mut [i64; ROOM], h: u64) -> usize {
+    let mut w: u64 = 0;
+    let r = dual_ledger::open_reads::dual_ledger_get_secondary_ancestor_blossom(b, h, &mut w);
+    two(out, r, told::serial(w))
 }
 
-pub fn first(b: &[u64; WORDS], out: &mut [i64; ROOM], h: Handle) -> usize {
-    let r = read_any::get_representative_vertex(b, h);
-    let v = r.vertex;
-    let n = tapes::say(out, 0, r.number as i64);
-    tapes::say(out, n, v.0 as i64)
+pub fn first(b: &[u64; WORDS], out: &mut [i64; ROOM], h: u64) -> usize {
+    let mut v: u32 = 0;
+    let r = dual_ledger::open_reads::dual_ledger_get_representative_vertex(b, h, &mut v);
+    two(out, r, wide(v))
 }
 
 fn wide(v: u32) -> i64 {
@@ -100,14 +101,19 @@ fn vertex(vs: &[u32], i: usize) -> i64 {
 fn vertices_in(
     b: &[u64; WORDS],
     out: &mut [i64; ROOM],
-    h: Handle,
+    h: u64,
     room: usize,
     vs: &mut [u32],
 ) -> usize {
     let most = tapes::vertices_within(room, vs);
-    let r = read_any::get_all_vertices(b, h, &mut vs[..most]);
-    let m = tapes::say(out, 0, r.number as i64);
-    let mut n = tapes::say(out, m, nodes::small(r.count));
+    let mut count: u64 = 0;
+    let r = dual_ledger::open_reads::dual_ledger_get_all_vertices(
+        b,
+        h,
+        &mut vs[..most],
+        &mut count,
+    );
+    let mut n = two(out, r, told::small(count));
     let mut i: usize = 0;
     while i < most {
         n = tapes::say(out, n, vertex(vs, i));
@@ -117,7 +123,7 @@ fn vertices_in(
 }
 
 // All vertices into a slice of so many entries, which are 77 before.
-pub fn vertices(b: &[u64; WORDS], out: &mut [i64; ROOM], h: Handle, z: i64) -> usize {
+pub fn vertices(b: &[u64; WORDS], out: &mut [i64; ROOM], h: u64, z: i64) -> usize {
     let mut vs = [77u32; VERTICES];
     vertices_in(b, out, h, tapes::natural(z) as usize, &mut vs)
 }

@@ -2,17 +2,18 @@
 // with the recorded answer. Writes the lines that differ, by their number, and at the end how many answers were compared and how many differ.
 mod acts;
 mod circles;
+mod damage;
 mod looks;
 mod nodes;
 mod packs;
-mod says;
 mod tapes;
+mod told;
 mod tries;
 mod turns;
 
-use crate::packs::Four;
 use crate::tapes::ROOM;
 use bench_words::WORDS;
+use group_lent::GROUP;
 
 const LINE: usize = 4096;
 
@@ -24,11 +25,6 @@ struct Count {
     answers: u64,
     wrong: u64,
     said: usize,
-}
-
-struct After {
-    count: Count,
-    four: Four,
 }
 
 // One more, and never more than fits.
@@ -65,42 +61,41 @@ fn compared(c: Count, out: &[i64; ROOM], row: &[i64; ROOM], n: usize) -> Count {
     }
 }
 
+// One line more, after which so many numbers are said.
+fn passed(c: Count, said: usize) -> Count {
+    Count {
+        lines: more(c.lines),
+        answers: c.answers,
+        wrong: c.wrong,
+        said,
+    }
+}
+
 // A whole line: a comment, a recorded answer, or a call.
 fn line_done(
     b: &mut [u64; WORDS],
-    four: Four,
+    p: &mut [u64; GROUP],
+    q: &mut [u64; GROUP],
+    r: &mut [u64; GROUP],
+    s: &mut [u64; GROUP],
     c: Count,
     line: &[u8],
     held: usize,
     row: &mut [i64; ROOM],
     out: &mut [i64; ROOM],
-) -> After {
+) -> Count {
     let most = tapes::bytes_within(held, line);
     let text = &line[..most];
     let letter = first(text);
     if letter == b'#' {
-        let count = Count {
-            lines: more(c.lines),
-            answers: c.answers,
-            wrong: c.wrong,
-            said: c.said,
-        };
-        return After { count, four };
+        return passed(c, c.said);
     }
     let n = tapes::numbers(text, row);
     if letter == b'=' {
-        let count = compared(c, out, row, n);
-        return After { count, four };
+        return compared(c, out, row, n);
     }
-    let t = turns::turn(b, four, letter, row, n, out);
-    let after = t.four;
-    let count = Count {
-        lines: more(c.lines),
-        answers: c.answers,
-        wrong: c.wrong,
-        said: t.said,
-    };
-    After { count, four: after }
+    let said = turns::turn(b, p, q, r, s, letter, row, n, out);
+    passed(c, said)
 }
 
 fn first(s: &[u8]) -> u8 {
@@ -141,12 +136,15 @@ fn fill(chunk: &mut [u8]) -> usize {
 // Reads standard input to its end.
 fn run(
     b: &mut [u64; WORDS],
+    p: &mut [u64; GROUP],
+    q: &mut [u64; GROUP],
+    r: &mut [u64; GROUP],
+    s: &mut [u64; GROUP],
     line: &mut [u8; LINE],
     row: &mut [i64; ROOM],
     out: &mut [i64; ROOM],
     chunk: &mut [u8; CHUNK],
 ) {
-    let mut four = packs::empty();
     let mut count = Count {
         lines: 0,
         answers: 0,
@@ -164,9 +162,7 @@ fn run(
         while i < n {
             let c = byte(chunk, i);
             if c == b'\n' {
-                let a = line_done(b, four, count, line, held, row, out);
-                four = a.four;
-                count = a.count;
+                count = line_done(b, p, q, r, s, count, line, held, row, out);
                 held = 0;
             } else {
                 held = keep(line, held, c);
@@ -180,10 +176,25 @@ fn run(
 
 fn main() {
     let mut b = [0u64; WORDS];
+    let mut p = [0u64; GROUP];
+    let mut q = [0u64; GROUP];
+    let mut r = [0u64; GROUP];
+    let mut s = [0u64; GROUP];
     let mut row = [0i64; ROOM];
     let mut out = [0i64; ROOM];
     let mut line = [0u8; LINE];
     let mut chunk = [0u8; CHUNK];
-    call_set_up::set_up(&mut b, 1);
-    run(&mut b, &mut line, &mut row, &mut out, &mut chunk);
+    dual_ledger::dual_ledger_set_up(&mut b, 1);
+    turns::empties(&mut p, &mut q, &mut r, &mut s);
+    run(
+        &mut b,
+        &mut p,
+        &mut q,
+        &mut r,
+        &mut s,
+        &mut line,
+        &mut row,
+        &mut out,
+        &mut chunk,
+    );
 }

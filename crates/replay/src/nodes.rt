@@ -1,14 +1,15 @@
 // Nodes by their serials, which is how a recording names them, and the dump of a tree, slot by slot.
-use crate::says;
 use crate::tapes;
 use crate::tapes::ROOM;
+use crate::told;
 use bench_words::Node;
 use bench_words::WORDS;
 use kinds::Class;
-use kinds::Handle;
-use kinds::MaybeNode;
-use kinds::NodeIndex;
+use kinds::GrowState;
 use kinds::Parent;
+
+// The word that names no node.
+pub const NO_NODE: u64 = 2199023255552;
 
 // Whether slot k holds a node of this serial.
 fn holds(b: &[u64; WORDS], k: usize, serial: i64) -> bool {
@@ -25,21 +26,16 @@ fn holds(b: &[u64; WORDS], k: usize, serial: i64) -> bool {
 }
 
 // The handle of what slot k holds.
-fn handle_at(b: &[u64; WORDS], k: usize) -> Handle {
+fn handle_at(b: &[u64; WORDS], k: usize) -> u64 {
     if k < 512 {
         let n = bench_words::load_node(b, k);
-        let serial = n.serial;
-        return Handle {
-            unit: (k / 64) as u8,
-            slot: (k % 64) as u8,
-            serial,
-        };
+        return ((n.serial.0 as u64) * 64 + ((k % 64) as u64)) * 8 + ((k / 64) as u64);
     }
-    Handle::nobody()
+    NO_NODE
 }
 
-// The present node with a serial, or a handle that names none.
-pub fn named(b: &[u64; WORDS], serial: i64) -> Handle {
+// The present node with a serial, or the word that names none.
+pub fn named(b: &[u64; WORDS], serial: i64) -> u64 {
     let mut k: usize = 0;
     while k < 512 {
         if holds(b, k, serial) {
@@ -47,22 +43,22 @@ pub fn named(b: &[u64; WORDS], serial: i64) -> Handle {
         }
         k += 1;
     }
-    Handle::nobody()
+    NO_NODE
+}
+
+fn rate(s: GrowState) -> i64 {
+    match s {
+        GrowState::Grow => 1,
+        GrowState::Stay => 0,
+        GrowState::Shrink => -1,
+    }
 }
 
 fn parent(out: &mut [i64; ROOM], n: usize, p: Parent) -> usize {
     match p {
         Parent::Outermost => tapes::say(out, n, 0),
-        Parent::Inside(h) => says::handle(out, n, h),
+        Parent::Inside(h) => tapes::say(out, n, h.serial.0 as i64),
     }
-}
-
-// A count or a size of a sound bench, as a number.
-pub fn small(n: u64) -> i64 {
-    if n <= 4096 {
-        return n as i64;
-    }
-    -1
 }
 
 // A member of a circle with its touching handles, and where the next one stands.
@@ -77,8 +73,8 @@ fn member(b: &[u64; WORDS], out: &mut [i64; ROOM], n: usize, at: u64) -> Step {
         let left = m.left;
         let right = m.right;
         let x = tapes::say(out, n, m.serial.0 as i64);
-        let y = says::handle(out, x, left);
-        let z = says::handle(out, y, right);
+        let y = tapes::say(out, x, left.serial.0 as i64);
+        let z = tapes::say(out, y, right.serial.0 as i64);
         return Step {
             said: z,
             next: m.next,
@@ -88,7 +84,7 @@ fn member(b: &[u64; WORDS], out: &mut [i64; ROOM], n: usize, at: u64) -> Step {
 }
 
 fn circle(b: &[u64; WORDS], out: &mut [i64; ROOM], n: usize, count: u64, first: u64) -> usize {
-    let mut said = tapes::say(out, n, small(count));
+    let mut said = tapes::say(out, n, told::small(count));
     let mut at = first;
     let mut i: u64 = 0;
     while i < count {
@@ -100,21 +96,26 @@ fn circle(b: &[u64; WORDS], out: &mut [i64; ROOM], n: usize, count: u64, first: 
     said
 }
 
+fn value(b: &[u64; WORDS], h: u64) -> i64 {
+    let mut w: u64 = 0;
+    dual_ledger::open_reads::dual_ledger_get_dual_variable(b, h, &mut w);
+    told::signed(w)
+}
+
 // What is shown of a node beside its class: serial, state, parent, size, value.
-fn body(b: &[u64; WORDS], out: &mut [i64; ROOM], n: usize, m: Node, h: Handle) -> usize {
+fn body(b: &[u64; WORDS], out: &mut [i64; ROOM], n: usize, m: Node, h: u64) -> usize {
     let state = m.state;
     let up = m.parent;
     let s = tapes::say(out, n, m.serial.0 as i64);
-    let t = tapes::say(out, s, says::rate(state));
+    let t = tapes::say(out, s, rate(state));
     let p = parent(out, t, up);
-    let z = tapes::say(out, p, small(m.size));
-    let v = read_any::get_dual_variable(b, h);
-    tapes::say(out, z, v.weight)
+    let z = tapes::say(out, p, told::small(m.size));
+    tapes::say(out, z, value(b, h))
 }
 
 // A present node, whole.
-fn node(b: &[u64; WORDS], out: &mut [i64; ROOM], n: usize, h: Handle) -> usize {
-    let k = (h.unit as usize) * 64 + (h.slot as usize);
+fn node(b: &[u64; WORDS], out: &mut [i64; ROOM], n: usize, h: u64) -> usize {
+    let k = ((h % 8) as usize) * 64 + (((h / 8) % 64) as usize);
     if k < 512 {
         let m = bench_words::load_node(b, k);
         let class = m.class;
@@ -136,22 +137,23 @@ fn node(b: &[u64; WORDS], out: &mut [i64; ROOM], n: usize, h: Handle) -> usize {
 }
 
 fn slot(b: &[u64; WORDS], out: &mut [i64; ROOM], n: usize, unit: u8, i: u32) -> usize {
-    let r = read_any::get_node(b, unit, NodeIndex(i));
-    let found = r.node;
-    match found {
-        MaybeNode::NoNode => tapes::say(out, n, 0),
-        MaybeNode::Node(h) => node(b, out, n, h),
+    let mut h: u64 = 0;
+    dual_ledger::open_reads::dual_ledger_get_node(b, unit, i, &mut h);
+    if NO_NODE <= h {
+        return tapes::say(out, n, 0);
     }
+    node(b, out, n, h)
 }
 
 // Every slot of a tree by index, used or emptied.
 pub fn dump(b: &[u64; WORDS], out: &mut [i64; ROOM], unit: u8) -> usize {
-    let c = read_any::nodes_count(b, unit);
-    let a = tapes::say(out, 0, c.number as i64);
-    let mut n = tapes::say(out, a, small(c.count));
+    let mut count: u64 = 0;
+    let number = dual_ledger::open_reads::dual_ledger_nodes_count(b, unit, &mut count);
+    let a = tapes::say(out, 0, number as i64);
+    let mut n = tapes::say(out, a, told::small(count));
     let mut i: u32 = 0;
     while i < 512 {
-        if c.count <= (i as u64) {
+        if count <= (i as u64) {
             return n;
         }
         n = slot(b, out, n, unit, i);

@@ -1,172 +1,221 @@
-// The lines about obstacle groups: four of them, by number.
+// The lines about obstacle groups, each on a group's lent words.
 use crate::acts;
 use crate::nodes;
-use crate::says;
 use crate::tapes;
 use crate::tapes::ROOM;
+use crate::told;
 use bench_words::WORDS;
-use group_takes::MaybeObstacle;
-use groups::Group;
-use kinds::MaybeLength;
-use kinds::MaybePair;
-use kinds::Obstacle;
-use kinds::Pair;
-use kinds::Vertex;
+use group_lent::GROUP;
+use group_lent::OBSTACLE;
 
-pub struct Four {
-    pub a: Group,
-    pub b: Group,
-    pub c: Group,
-    pub d: Group,
-}
-
-// How many numbers were said, and the groups after it.
-pub struct Packed {
-    pub said: usize,
-    pub four: Four,
-}
-
-pub fn empty() -> Four {
-    let g = groups::empty_group();
-    Four {
-        a: g,
-        b: g,
-        c: g,
-        d: g,
+fn flag_of(z: i64) -> u64 {
+    if z == 1 {
+        return 1;
     }
+    0
 }
 
-fn nth(f: Four, i: i64) -> Group {
-    match i {
-        0 => f.a,
-        1 => f.b,
-        2 => f.c,
-        _ => f.d,
-    }
+fn named(b: &[u64; WORDS], row: &[i64; ROOM], n: usize, i: usize) -> u64 {
+    nodes::named(b, tapes::number(row, n, i))
 }
 
-fn with(f: Four, i: i64, g: Group) -> Four {
-    let a = f.a;
-    let b = f.b;
-    let c = f.c;
-    let d = f.d;
-    match i {
-        0 => Four { a: g, b, c, d },
-        1 => Four { a, b: g, c, d },
-        2 => Four { a, b, c: g, d },
-        _ => Four { a, b, c, d: g },
-    }
+fn put(o: &mut [u64; OBSTACLE], kind: u64, x: u64, y: u64) {
+    o[0] = kind;
+    o[1] = x;
+    o[2] = y;
 }
 
-fn pair(b: &[u64; WORDS], row: &[i64; ROOM], n: usize, i: usize, j: usize) -> Pair {
-    let node = nodes::named(b, tapes::number(row, n, i));
-    let touching = nodes::named(b, tapes::number(row, n, j));
-    Pair { node, touching }
+fn put_more(o: &mut [u64; OBSTACLE], x: u64, y: u64) {
+    o[3] = x;
+    o[4] = y;
 }
 
 // The obstacle that a line adds, by its letter.
-fn obstacle(b: &[u64; WORDS], letter: u8, row: &[i64; ROOM], n: usize) -> Obstacle {
-    let node = nodes::named(b, tapes::number(row, n, 1));
+fn obstacle(b: &[u64; WORDS], o: &mut [u64; OBSTACLE], letter: u8, row: &[i64; ROOM], n: usize) {
+    let z = tapes::number(row, n, 1);
+    let v = acts::word_of(tapes::number(row, n, 3)) as u64;
     match letter {
-        b'g' => Obstacle::NonZeroGrow(tapes::number(row, n, 1), tapes::number(row, n, 2) == 1),
-        b'c' => Obstacle::Conflicting(pair(b, row, n, 1, 2), pair(b, row, n, 3, 4)),
-        b'w' => Obstacle::TouchingVirtual(
-            pair(b, row, n, 1, 2),
-            Vertex(acts::word_of(tapes::number(row, n, 3))),
-            tapes::number(row, n, 4) == 1,
+        b'g' => put(
+            o,
+            1,
+            link_answers::signed_word(z),
+            flag_of(tapes::number(row, n, 2)),
         ),
-        b'x' => Obstacle::BlossomNeedExpand(node),
-        b'q' => Obstacle::VertexShrinkStop(node, MaybePair::NoPair),
-        _ => Obstacle::VertexShrinkStop(node, MaybePair::WithPair(pair(b, row, n, 2, 3))),
+        b'c' => {
+            put(o, 2, named(b, row, n, 1), named(b, row, n, 2));
+            put_more(o, named(b, row, n, 3), named(b, row, n, 4));
+        }
+        b'w' => {
+            put(o, 3, named(b, row, n, 1), named(b, row, n, 2));
+            put_more(o, v, flag_of(tapes::number(row, n, 4)));
+        }
+        b'x' => put(o, 4, named(b, row, n, 1), 0),
+        b'q' => put(o, 5, named(b, row, n, 1), 0),
+        _ => {
+            put(o, 6, named(b, row, n, 1), named(b, row, n, 2));
+            put_more(o, named(b, row, n, 3), 0);
+        }
     }
 }
 
 pub fn add(
     b: &[u64; WORDS],
-    f: Four,
+    g: &mut [u64; GROUP],
     out: &mut [i64; ROOM],
     letter: u8,
     row: &[i64; ROOM],
     n: usize,
-) -> Packed {
-    let i = tapes::number(row, n, 0);
-    let o = obstacle(b, letter, row, n);
-    let g = nth(f, i);
-    let r = group_calls::add(b, g, o);
-    let after = r.group;
-    let said = tapes::say(out, 0, r.number as i64);
-    let four = with(f, i, after);
-    Packed { said, four }
+) -> usize {
+    let mut o = [0u64; OBSTACLE];
+    obstacle(b, &mut o, letter, row, n);
+    let number = dual_ledger::obstacles::dual_ledger_group_add(b, g, &o);
+    tapes::say(out, 0, number as i64)
 }
 
-pub fn extend(b: &[u64; WORDS], f: Four, out: &mut [i64; ROOM], i: i64, j: i64) -> Packed {
-    let g = nth(f, i);
-    let h = nth(f, j);
-    let r = group_calls::extend(b, g, h);
-    let after = r.group;
-    let said = tapes::say(out, 0, r.number as i64);
-    let four = with(f, i, after);
-    Packed { said, four }
+pub fn extend(
+    b: &[u64; WORDS],
+    g: &mut [u64; GROUP],
+    other: &[u64; GROUP],
+    out: &mut [i64; ROOM],
+) -> usize {
+    let number = dual_ledger::obstacles::dual_ledger_group_extend(b, g, other);
+    tapes::say(out, 0, number as i64)
 }
 
-fn taken(out: &mut [i64; ROOM], n: usize, o: MaybeObstacle) -> usize {
-    match o {
-        MaybeObstacle::NoObstacle => tapes::say(out, n, 0),
-        MaybeObstacle::WithObstacle(x) => says::obstacle(out, n, x),
+// The four words after an obstacle's kind: how many are said, and whether as serials.
+fn nodes_said(out: &mut [i64; ROOM], n: usize, x: u64, y: u64) -> usize {
+    let a = tapes::say(out, n, told::serial(x));
+    tapes::say(out, a, told::serial(y))
+}
+
+fn said(out: &mut [i64; ROOM], n: usize, x: u64, y: u64, z: u64, w: u64, kind: u64) -> usize {
+    match kind {
+        1 => {
+            let a = tapes::say(out, n, told::signed(x));
+            tapes::say(out, a, told::small(y))
+        }
+        2 => {
+            let a = nodes_said(out, n, x, y);
+            nodes_said(out, a, z, w)
+        }
+        3 => {
+            let a = nodes_said(out, n, x, y);
+            let c = tapes::say(out, a, (z % 4294967296) as i64);
+            tapes::say(out, c, told::small(w))
+        }
+        6 => {
+            let a = nodes_said(out, n, x, y);
+            tapes::say(out, a, told::serial(z))
+        }
+        _ => tapes::say(out, n, told::serial(x)),
     }
 }
 
-pub fn pop(f: Four, out: &mut [i64; ROOM], i: i64) -> Packed {
-    let g = nth(f, i);
-    let r = group_takes::pop(g);
-    let after = r.group;
-    let o = r.obstacle;
-    let n = tapes::say(out, 0, r.number as i64);
-    let said = taken(out, n, o);
-    let four = with(f, i, after);
-    Packed { said, four }
+fn shown(out: &mut [i64; ROOM], n: usize, o: &[u64; OBSTACLE]) -> usize {
+    let a = tapes::say(out, n, told::small(o[0]));
+    if o[0] == 0 {
+        return a;
+    }
+    said(out, a, o[1], o[2], o[3], o[4], o[0])
 }
 
-pub fn peek(f: Four, out: &mut [i64; ROOM], i: i64) -> usize {
-    let g = nth(f, i);
-    let r = group_takes::peek(g);
-    let o = r.obstacle;
-    let n = tapes::say(out, 0, r.number as i64);
-    taken(out, n, o)
+pub fn pop(g: &mut [u64; GROUP], out: &mut [i64; ROOM]) -> usize {
+    let mut o = [0u64; OBSTACLE];
+    let number = dual_ledger::obstacles::dual_ledger_group_pop(g, &mut o);
+    let n = tapes::say(out, 0, number as i64);
+    shown(out, n, &o)
+}
+
+pub fn peek(g: &[u64; GROUP], out: &mut [i64; ROOM]) -> usize {
+    let mut o = [0u64; OBSTACLE];
+    let number = dual_ledger::obstacles::dual_ledger_group_peek(g, &mut o);
+    let n = tapes::say(out, 0, number as i64);
+    shown(out, n, &o)
 }
 
 // Empty, active, and the growth asked.
-pub fn asked(f: Four, out: &mut [i64; ROOM], i: i64) -> usize {
-    let g = nth(f, i);
-    let e = groups::is_empty(g);
-    let a = groups::is_active(g);
-    let r = groups::get_none_zero_growth(g);
+pub fn asked(g: &[u64; GROUP], out: &mut [i64; ROOM]) -> usize {
+    let mut empty: u64 = 0;
+    let mut active: u64 = 0;
+    dual_ledger::obstacles::dual_ledger_group_is_empty(g, &mut empty);
+    dual_ledger::obstacles::dual_ledger_group_is_active(g, &mut active);
     let n = tapes::say(out, 0, 0);
-    let m = tapes::say(out, n, says::bit(e.yes));
-    let k = tapes::say(out, m, says::bit(a.yes));
-    let j = tapes::say(out, k, r.number as i64);
-    let length = r.length;
-    match length {
-        MaybeLength::NoLength => {
-            let t = tapes::say(out, j, 0);
-            tapes::say(out, t, 0)
-        }
-        MaybeLength::Length(l) => {
-            let t = tapes::say(out, j, 1);
-            tapes::say(out, t, l)
-        }
+    let m = tapes::say(out, n, told::small(empty));
+    let k = tapes::say(out, m, told::small(active));
+    grown(g, out, k)
+}
+
+fn grown(g: &[u64; GROUP], out: &mut [i64; ROOM], n: usize) -> usize {
+    let mut known: u64 = 0;
+    let mut length: u64 = 0;
+    let number = dual_ledger::obstacles::dual_ledger_group_get_none_zero_growth(
+        g,
+        &mut known,
+        &mut length,
+    );
+    let a = tapes::say(out, n, number as i64);
+    let c = tapes::say(out, a, told::small(known));
+    tapes::say(out, c, told::signed(length))
+}
+
+pub fn fresh(g: &mut [u64; GROUP], out: &mut [i64; ROOM]) -> usize {
+    dual_ledger::obstacles::dual_ledger_empty_group(g);
+    tapes::say(out, 0, 0)
+}
+
+// The obstacle whose five words stand at a place of a group.
+fn entry(out: &mut [i64; ROOM], n: usize, g: &[u64; GROUP], at: usize) -> usize {
+    if 1409 <= at {
+        return n;
     }
+    let mut o = [0u64; OBSTACLE];
+    put(&mut o, g[at], g[at + 1], g[at + 2]);
+    put_more(&mut o, g[at + 3], g[at + 4]);
+    shown(out, n, &o)
 }
 
-pub fn fresh(f: Four, out: &mut [i64; ROOM], i: i64) -> Packed {
-    let g = groups::empty_group();
-    let said = tapes::say(out, 0, 0);
-    let four = with(f, i, g);
-    Packed { said, four }
+fn stop(out: &mut [i64; ROOM], n: usize, g: &[u64; GROUP], at: usize) -> usize {
+    if 1408 <= at {
+        return n;
+    }
+    let a = tapes::say(out, n, (g[at] % 4294967296) as i64);
+    entry(out, a, g, at + 1)
 }
 
-pub fn whole(f: Four, out: &mut [i64; ROOM], i: i64) -> usize {
-    let g = nth(f, i);
+fn list(out: &mut [i64; ROOM], n: usize, g: &[u64; GROUP]) -> usize {
+    let mut at = tapes::say(out, n, told::small(g[3]));
+    let mut i: usize = 0;
+    while i < 128 {
+        if g[3] <= (i as u64) {
+            return at;
+        }
+        at = entry(out, at, g, 5 + 5 * i);
+        i += 1;
+    }
+    at
+}
+
+fn stops(out: &mut [i64; ROOM], n: usize, g: &[u64; GROUP]) -> usize {
+    let mut at = tapes::say(out, n, told::small(g[4]));
+    let mut i: usize = 0;
+    while i < 128 {
+        if g[4] <= (i as u64) {
+            return at;
+        }
+        at = stop(out, at, g, 645 + 6 * i);
+        i += 1;
+    }
+    at
+}
+
+// A group, whole.
+pub fn whole(g: &[u64; GROUP], out: &mut [i64; ROOM]) -> usize {
     let n = tapes::say(out, 0, 0);
-    says::group(out, n, g)
+    let a = tapes::say(out, n, told::small(g[0]));
+    if g[0] == 1 {
+        let c = tapes::say(out, a, told::signed(g[1]));
+        return tapes::say(out, c, told::small(g[2]));
+    }
+    let c = list(out, a, g);
+    stops(out, c, g)
 }

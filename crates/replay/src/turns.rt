@@ -1,15 +1,15 @@
 // One line of a recording: its letter says what is done, and the answer's numbers are said.
 use crate::acts;
 use crate::circles;
+use crate::damage;
 use crate::looks;
 use crate::nodes;
 use crate::packs;
-use crate::packs::Four;
-use crate::packs::Packed;
 use crate::tapes;
 use crate::tapes::ROOM;
 use crate::tries;
 use bench_words::WORDS;
+use group_lent::GROUP;
 
 // The lines that change the bench.
 fn changes(
@@ -112,69 +112,131 @@ fn looked(
     tries::held(out, said, tapes::number(&spare, t, 0) == 2)
 }
 
-// The lines about groups.
-fn sorts(
-    b: &[u64; WORDS],
-    four: Four,
-    letter: u8,
-    row: &[i64; ROOM],
-    n: usize,
-    out: &mut [i64; ROOM],
-) -> Packed {
-    let i = tapes::number(row, n, 0);
-    match letter {
-        b'e' => packs::fresh(four, out, i),
-        b'j' => packs::extend(b, four, out, i, tapes::number(row, n, 1)),
-        b'z' => packs::pop(four, out, i),
-        b'y' => {
-            let said = packs::asked(four, out, i);
-            Packed { said, four }
-        }
-        b'l' => {
-            let said = packs::peek(four, out, i);
-            Packed { said, four }
-        }
-        b'm' => {
-            let said = packs::whole(four, out, i);
-            Packed { said, four }
-        }
-        _ => packs::add(b, four, out, letter, row, n),
+// A copy of the group of a number, which another is extended by.
+fn copied(
+    p: &[u64; GROUP],
+    q: &[u64; GROUP],
+    r: &[u64; GROUP],
+    s: &[u64; GROUP],
+    i: i64,
+) -> [u64; GROUP] {
+    match i {
+        0 => *p,
+        1 => *q,
+        2 => *r,
+        _ => *s,
     }
 }
 
-// A new bench and four empty groups.
-fn begins(b: &mut [u64; WORDS], first: i64, out: &mut [i64; ROOM]) -> Packed {
-    let number = call_set_up::set_up(b, acts::word_of(first));
-    let said = tapes::say(out, 0, number as i64);
-    let four = packs::empty();
-    Packed { said, four }
-}
-
-pub fn turn(
-    b: &mut [u64; WORDS],
-    four: Four,
+// The lines about one group, with the other of `j`.
+fn sorts(
+    b: &[u64; WORDS],
+    g: &mut [u64; GROUP],
+    other: &[u64; GROUP],
     letter: u8,
     row: &[i64; ROOM],
     n: usize,
     out: &mut [i64; ROOM],
-) -> Packed {
+) -> usize {
     match letter {
-        b'N' => begins(b, tapes::number(row, n, 0), out),
-        b'D' | b'B' | b'b' | b't' | b'E' | b'S' | b'G' | b'F' | b'C' => {
-            let said = tried(b, letter, row, n, out);
-            Packed { said, four }
-        }
-        b'e' | b'g' | b'c' | b'w' | b'x' | b'q' | b'r' | b'j' | b'y' | b'z' | b'l' | b'm' => sorts(
+        b'e' => packs::fresh(g, out),
+        b'j' => packs::extend(b, g, other, out),
+        b'z' => packs::pop(g, out),
+        b'y' => packs::asked(g, out),
+        b'l' => packs::peek(g, out),
+        b'm' => packs::whole(g, out),
+        _ => packs::add(b, g, out, letter, row, n),
+    }
+}
+
+// The lines about groups, by the number of the group.
+fn sorted(
+    b: &[u64; WORDS],
+    p: &mut [u64; GROUP],
+    q: &mut [u64; GROUP],
+    r: &mut [u64; GROUP],
+    s: &mut [u64; GROUP],
+    letter: u8,
+    row: &[i64; ROOM],
+    n: usize,
+    out: &mut [i64; ROOM],
+) -> usize {
+    let other = copied(p, q, r, s, tapes::number(row, n, 1));
+    match tapes::number(row, n, 0) {
+        0 => sorts(b, p, &other, letter, row, n, out),
+        1 => sorts(b, q, &other, letter, row, n, out),
+        2 => sorts(b, r, &other, letter, row, n, out),
+        _ => sorts(b, s, &other, letter, row, n, out),
+    }
+}
+
+// Four empty groups.
+pub fn empties(
+    p: &mut [u64; GROUP],
+    q: &mut [u64; GROUP],
+    r: &mut [u64; GROUP],
+    s: &mut [u64; GROUP],
+) {
+    dual_ledger::obstacles::dual_ledger_empty_group(p);
+    dual_ledger::obstacles::dual_ledger_empty_group(q);
+    dual_ledger::obstacles::dual_ledger_empty_group(r);
+    dual_ledger::obstacles::dual_ledger_empty_group(s);
+}
+
+// A new bench.
+fn begins(b: &mut [u64; WORDS], first: i64, out: &mut [i64; ROOM]) -> usize {
+    let number = dual_ledger::dual_ledger_set_up(b, acts::word_of(first));
+    tapes::say(out, 0, number as i64)
+}
+
+// A line of the bench.
+fn benched(
+    b: &mut [u64; WORDS],
+    letter: u8,
+    row: &[i64; ROOM],
+    n: usize,
+    out: &mut [i64; ROOM],
+) -> usize {
+    match letter {
+        b'D' | b'B' | b'b' | b't' | b'E' | b'S' | b'G' | b'F' | b'C' => tried(
             b,
-            four,
             letter,
             row,
             n,
             out,
         ),
-        _ => {
-            let said = looked(b, letter, row, n, out);
-            Packed { said, four }
+        _ => looked(b, letter, row, n, out),
+    }
+}
+
+pub fn turn(
+    b: &mut [u64; WORDS],
+    p: &mut [u64; GROUP],
+    q: &mut [u64; GROUP],
+    r: &mut [u64; GROUP],
+    s: &mut [u64; GROUP],
+    letter: u8,
+    row: &[i64; ROOM],
+    n: usize,
+    out: &mut [i64; ROOM],
+) -> usize {
+    match letter {
+        b'N' => {
+            empties(p, q, r, s);
+            begins(b, tapes::number(row, n, 0), out)
         }
+        b'e' | b'g' | b'c' | b'w' | b'x' | b'q' | b'r' | b'j' | b'y' | b'z' | b'l' | b'm' => sorted(
+            b,
+            p,
+            q,
+            r,
+            s,
+            letter,
+            row,
+            n,
+            out,
+        ),
+        b'W' | b'X' | b'Y' => damage::turn(b, letter, row, n, out),
+        _ => benched(b, letter, row, n, out),
     }
 }

@@ -2,7 +2,7 @@
 use Prim.Native.Nat.{_≤_, _-_}
 use native.Mathlib.Omega.{arith}
 use borrow.Author.Needs.{needs}
-use Rattle.ledger_spec.specs.Tests.{given}
+use Rattle.ledger_spec.specs.Tests.{isSome}
 use Rattle.ledger_spec.specs.Groups.{extended}
 use Rattle.group_lent.specs.Place.{groupIn}
 use Rattle.group_lent_room.proofs.Counting.{Counting, count-full, count-begin, count-end, list-full, stops-full, count-turn}
@@ -10,7 +10,7 @@ use Rattle.group_lent_room.proofs.has_room.Statement.{statement}
 use Rattle.group_lent_room.proofs.has_room.Tie as tie
 
 abbrev Inv-loop : tie.InvT-loop
-Inv-loop w other m l₀ s₀ j₀ l s j = (j ≤ m) × ((l ≤ 128) × ((s ≤ 128) × Counting w other (given (extended (groupIn w) (groupIn other))) l s j))
+Inv-loop w other m l₀ s₀ j₀ l s j = (j ≤ m) × ((l ≤ 128) × ((s ≤ 128) × Counting w other (isSome (extended (groupIn w) (groupIn other))) l s j))
 
 abbrev μ-loop : tie.MeasureT-loop
 μ-loop w other m l₀ s₀ j₀ l s j = m - j

@@ -4,80 +4,75 @@ use Rattle.replay.proofs.looks.vertices_in.Statement.{statement}
 use Rattle.replay.proofs.looks.vertices_in.Tie as tie
 use Rattle.replay.proofs.looks.vertices_in.Reads as reads
 use Rattle.replay.proofs.looks.vertices_in.Lts as lts
-use Rattle.read_any.proofs.get_all_vertices.Reads as get-all-vertices-reads
+use Rattle.dual_ledger.proofs.open_reads.dual_ledger_get_all_vertices.Reads as dual-ledger-get-all-vertices-reads
+use Rattle.replay.proofs.looks.two.Reads as two-reads
 use Rattle.replay.proofs.looks.vertex.Reads as vertex-reads
-use Rattle.replay.proofs.nodes.small.Reads as small-reads
 use Rattle.replay.proofs.tapes.say.Reads as say-reads
 use Rattle.replay.proofs.tapes.vertices_within.Reads as vertices-within-reads
+use Rattle.replay.proofs.told.small.Reads as small-reads
 
 abbrev Inv-loop : tie.InvT-loop
-Inv-loop b out₀ room vs most m n₀ i₀ out n i = i ≤ most
+Inv-loop b out₀ h room vs most count r n₀ i₀ out n i = i ≤ most
 
 abbrev μ-loop : tie.MeasureT-loop
-μ-loop b out₀ room vs most m n₀ i₀ out n i = most - i
+μ-loop b out₀ h room vs most count r n₀ i₀ out n i = most - i
 
--- src/looks.rt:100:9
+-- src/looks.rt:108:9
 vertices-within-requires : tie.Need-vertices-within-requires Inv-loop μ-loop
 vertices-within-requires c κs = search needs
 
--- src/looks.rt:101:42
-slice-relend-prefix-get-all-vertices :
-    tie.Need-slice-relend-prefix-get-all-vertices Inv-loop μ-loop
-slice-relend-prefix-get-all-vertices c = search needs
+-- src/looks.rt:113:9
+slice-relend-prefix-dual-ledger-get-all-vertices :
+    tie.Need-slice-relend-prefix-dual-ledger-get-all-vertices Inv-loop μ-loop
+slice-relend-prefix-dual-ledger-get-all-vertices c = search needs
 
--- src/looks.rt:101:42
-slice-aggregate-get-all-vertices : tie.Need-slice-aggregate-get-all-vertices Inv-loop μ-loop
-slice-aggregate-get-all-vertices c = search needs
+-- src/looks.rt:113:9
+slice-aggregate-dual-ledger-get-all-vertices :
+    tie.Need-slice-aggregate-dual-ledger-get-all-vertices Inv-loop μ-loop
+slice-aggregate-dual-ledger-get-all-vertices c = search needs
 
--- src/looks.rt:101:9
-get-all-vertices-requires : tie.Need-get-all-vertices-requires Inv-loop μ-loop
-get-all-vertices-requires c κs = search needs
+-- src/looks.rt:110:9
+dual-ledger-get-all-vertices-requires :
+    tie.Need-dual-ledger-get-all-vertices-requires Inv-loop μ-loop
+dual-ledger-get-all-vertices-requires c κs = search needs
 
--- src/looks.rt:102:32
-cast-say : tie.Need-cast-say Inv-loop μ-loop
-cast-say c = search needs
-
--- src/looks.rt:102:9
-say-requires : tie.Need-say-requires Inv-loop μ-loop
-say-requires c κs = search needs
-
--- src/looks.rt:103:36
+-- src/looks.rt:116:29
 small-requires : tie.Need-small-requires Inv-loop μ-loop
 small-requires c κs = search needs
 
--- src/looks.rt:103:9
-say-requires-2 : tie.Need-say-requires-2 Inv-loop μ-loop
-say-requires-2 c κs = search needs
+-- src/looks.rt:116:9
+two-requires : tie.Need-two-requires Inv-loop μ-loop
+two-requires c κs = search needs
 
--- src/looks.rt:105:5
+-- src/looks.rt:118:5
 loop-holds : tie.Need-loop-holds Inv-loop μ-loop
 loop-holds c = search needs
 
--- src/looks.rt:106:32
+-- src/looks.rt:119:32
 vertex-requires : tie.Need-vertex-requires Inv-loop μ-loop
 vertex-requires c κs = search needs
 
--- src/looks.rt:106:9
-say-requires-3 : tie.Need-say-requires-3 Inv-loop μ-loop
-say-requires-3 c κs = search needs
+-- src/looks.rt:119:9
+say-requires : tie.Need-say-requires Inv-loop μ-loop
+say-requires c κs = search needs
 
--- src/looks.rt:107:9
+-- src/looks.rt:120:9
 add-i : tie.Need-add-i Inv-loop μ-loop
 add-i c = search needs
 
--- src/looks.rt:105:5
+-- src/looks.rt:118:5
 loop-less : tie.Need-loop-less Inv-loop μ-loop
 loop-less c = search needs
 
--- src/looks.rt:105:5
+-- src/looks.rt:118:5
 loop-again : tie.Need-loop-again Inv-loop μ-loop
 loop-again c = search needs
 
--- src/looks.rt:99:1
+-- src/looks.rt:101:1
 same-length : tie.Need-same-length Inv-loop μ-loop
 same-length c = search needs
 
--- src/looks.rt:99:1
+-- src/looks.rt:101:1
 returns : tie.Need-returns Inv-loop μ-loop
 returns c = search needs
 
@@ -88,16 +83,14 @@ vertices-in-spec =
     Inv-loop
     μ-loop
     vertices-within-requires
-    slice-relend-prefix-get-all-vertices
-    slice-aggregate-get-all-vertices
-    get-all-vertices-requires
-    cast-say
-    say-requires
+    slice-relend-prefix-dual-ledger-get-all-vertices
+    slice-aggregate-dual-ledger-get-all-vertices
+    dual-ledger-get-all-vertices-requires
     small-requires
-    say-requires-2
+    two-requires
     loop-holds
     vertex-requires
-    say-requires-3
+    say-requires
     add-i
     loop-less
     loop-again

@@ -5,8 +5,8 @@ use Rattle.replay.proofs.nodes.circle.Tie as tie
 use Rattle.replay.proofs.nodes.circle.Reads as reads
 use Rattle.replay.proofs.nodes.circle.Lts as lts
 use Rattle.replay.proofs.nodes.member.Reads as member-reads
-use Rattle.replay.proofs.nodes.small.Reads as small-reads
 use Rattle.replay.proofs.tapes.say.Reads as say-reads
+use Rattle.replay.proofs.told.small.Reads as small-reads
 
 abbrev Inv-loop : tie.InvT-loop
 Inv-loop b out₀ n count first said₀ at₀ i₀ out said at i = i ≤ count
@@ -14,35 +14,35 @@ Inv-loop b out₀ n count first said₀ at₀ i₀ out said at i = i ≤ count
 abbrev μ-loop : tie.MeasureT-loop
 μ-loop b out₀ n count first said₀ at₀ i₀ out said at i = count - i
 
--- src/nodes.rt:91:39
+-- src/nodes.rt:87:39
 small-requires : tie.Need-small-requires Inv-loop μ-loop
 small-requires c κs = search needs
 
--- src/nodes.rt:91:9
+-- src/nodes.rt:87:9
 say-requires : tie.Need-say-requires Inv-loop μ-loop
 say-requires c κs = search needs
 
--- src/nodes.rt:94:5
+-- src/nodes.rt:90:5
 loop-holds : tie.Need-loop-holds Inv-loop μ-loop
 loop-holds c = search needs
 
--- src/nodes.rt:95:13
+-- src/nodes.rt:91:13
 member-requires : tie.Need-member-requires Inv-loop μ-loop
 member-requires c κs = search needs
 
--- src/nodes.rt:98:9
+-- src/nodes.rt:94:9
 add-i : tie.Need-add-i Inv-loop μ-loop
 add-i c = search needs
 
--- src/nodes.rt:94:5
+-- src/nodes.rt:90:5
 loop-less : tie.Need-loop-less Inv-loop μ-loop
 loop-less c = search needs
 
--- src/nodes.rt:94:5
+-- src/nodes.rt:90:5
 loop-again : tie.Need-loop-again Inv-loop μ-loop
 loop-again c = search needs
 
--- src/nodes.rt:90:1
+-- src/nodes.rt:86:1
 returns : tie.Need-returns Inv-loop μ-loop
 returns c = search needs
 

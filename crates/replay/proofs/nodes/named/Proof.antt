@@ -4,7 +4,6 @@ use Rattle.replay.proofs.nodes.named.Statement.{statement}
 use Rattle.replay.proofs.nodes.named.Tie as tie
 use Rattle.replay.proofs.nodes.named.Reads as reads
 use Rattle.replay.proofs.nodes.named.Lts as lts
-use Rattle.kinds.proofs.Handle.nobody.Reads as nobody-reads
 use Rattle.replay.proofs.nodes.handle_at.Reads as handle-at-reads
 use Rattle.replay.proofs.nodes.holds.Reads as holds-reads
 
@@ -14,39 +13,35 @@ Inv-loop b serial k₀ k = k ≤ 512
 abbrev μ-loop : tie.MeasureT-loop
 μ-loop b serial k₀ k = 512 - k
 
--- src/nodes.rt:45:5
+-- src/nodes.rt:40:5
 loop-holds : tie.Need-loop-holds Inv-loop μ-loop
 loop-holds c = search needs
 
--- src/nodes.rt:46:12
+-- src/nodes.rt:41:12
 holds-requires : tie.Need-holds-requires Inv-loop μ-loop
 holds-requires c κs = search needs
 
--- src/nodes.rt:47:13
+-- src/nodes.rt:42:13
 handle-at-requires : tie.Need-handle-at-requires Inv-loop μ-loop
 handle-at-requires c κs = search needs
 
--- src/nodes.rt:47:13
+-- src/nodes.rt:42:13
 returns : tie.Need-returns Inv-loop μ-loop
 returns c = search needs
 
--- src/nodes.rt:49:9
+-- src/nodes.rt:44:9
 add-k : tie.Need-add-k Inv-loop μ-loop
 add-k c = search needs
 
--- src/nodes.rt:45:5
+-- src/nodes.rt:40:5
 loop-less : tie.Need-loop-less Inv-loop μ-loop
 loop-less c = search needs
 
--- src/nodes.rt:45:5
+-- src/nodes.rt:40:5
 loop-again : tie.Need-loop-again Inv-loop μ-loop
 loop-again c = search needs
 
--- src/nodes.rt:51:5
-nobody-requires : tie.Need-nobody-requires Inv-loop μ-loop
-nobody-requires c κs = search needs
-
--- src/nodes.rt:43:1
+-- src/nodes.rt:38:1
 returns-2 : tie.Need-returns-2 Inv-loop μ-loop
 returns-2 c = search needs
 
@@ -63,5 +58,4 @@ named-spec =
     add-k
     loop-less
     loop-again
-    nobody-requires
     returns-2)
