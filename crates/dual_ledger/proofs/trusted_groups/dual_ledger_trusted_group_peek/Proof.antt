@@ -3,7 +3,7 @@ use Rattle.dual_ledger.proofs.trusted_groups.dual_ledger_trusted_group_
 use Rattle.dual_ledger.proofs.trusted_groups.dual_ledger_trusted_group_peek.Tie as tie
 
 peek-requires : tie.Need-peek-requires
-peek-requires c κs = c .pre
+peek-requires c κs = c .before .pre
 
 returns : tie.Need-returns
 returns c = c .peek .ensures

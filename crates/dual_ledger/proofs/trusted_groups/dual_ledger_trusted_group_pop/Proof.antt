@@ -3,7 +3,7 @@ use Rattle.dual_ledger.proofs.trusted_groups.dual_ledger_trusted_group_
 use Rattle.dual_ledger.proofs.trusted_groups.dual_ledger_trusted_group_pop.Tie as tie
 
 pop-requires : tie.Need-pop-requires
-pop-requires c κs = c .before .pre
+pop-requires c κs = c .before .before .pre
 
 returns : tie.Need-returns
 returns c = c .pop .ensures
