@@ -1,5 +1,6 @@
 //! The benchmark: the original's bare calls and the linked ledger's in one run, over the fixed list and call by call. Best of several passes, each side in turn, by
 //! processor time. Prints a table, and writes the same numbers as lines of tabs for the picture.
+use crate::bench_groups;
 use crate::ledger::state;
 use crate::nests::{self, BY_CALLS, BY_HAND};
 use crate::words::encode;
@@ -13,9 +14,9 @@ use std::hint::black_box;
 const PASSES: usize = 7;
 
 /// The linked ledger and the handles that a caller would hold; with `tells`, notices go to a module that counts, as the original's do.
-struct Linked {
-    bench: Bench,
-    nodes: Vec<Handle>,
+pub struct Linked {
+    pub bench: Bench,
+    pub nodes: Vec<Handle>,
     module: Counting,
     tells: bool,
 }
@@ -45,7 +46,7 @@ impl DualModule for Counting {
 }
 
 impl Linked {
-    fn new(serials: usize, tells: bool) -> Self {
+    pub fn new(serials: usize, tells: bool) -> Self {
         let mut nodes = Vec::with_capacity(serials + 1);
         nodes.push(Handle::from_word(u64::MAX));
         Linked { bench: Bench::default(), nodes, module: Counting::default(), tells }
@@ -101,13 +102,13 @@ impl Timed for Linked {
 }
 
 /// What is measured: what it is, how many nodes, and the nanoseconds of each side; none where a side has no such form.
-struct Row {
-    what: String,
-    nodes: usize,
-    original: Option<f64>,
-    trusted: f64,
-    told: Option<f64>,
-    public: Option<f64>,
+pub struct Row {
+    pub what: String,
+    pub nodes: usize,
+    pub original: Option<f64>,
+    pub trusted: f64,
+    pub told: Option<f64>,
+    pub public: Option<f64>,
 }
 
 /// The list as a whole and by kind.
@@ -132,7 +133,7 @@ fn list(lines: &[Line]) -> Vec<Row> {
 }
 
 /// Benches of so many nodes: defects in threes, each three in a blossom; 448 in seven interfaces of one tree. The top's number last.
-fn full(nodes: usize) -> (Vec<Line>, u8) {
+pub fn full(nodes: usize) -> (Vec<Line>, u8) {
     let mut lines: Vec<String> = vec![];
     let mut next = 1;
     let mut fill = |lines: &mut Vec<String>, unit: usize, nodes: usize| {
@@ -157,7 +158,7 @@ fn full(nodes: usize) -> (Vec<Line>, u8) {
 }
 
 /// Nanoseconds of one call, best of several batches.
-fn once(mut call: impl FnMut(u64)) -> f64 {
+pub fn once(mut call: impl FnMut(u64)) -> f64 {
     let batch = |call: &mut dyn FnMut(u64), count: u64| {
         let begin = processor();
         (0..count).for_each(call);
@@ -256,7 +257,7 @@ fn slope(walks: &[Row]) -> f64 {
 }
 
 fn shown(time: Option<f64>) -> String {
-    time.map_or("-".to_string(), |time| format!("{time:.0}"))
+    time.map_or("-".to_string(), |time| format!("{time:.1}"))
 }
 
 fn table(rows: &[Row]) -> String {
@@ -265,7 +266,7 @@ fn table(rows: &[Row]) -> String {
         let ratio = row.original.map_or("-".to_string(), |original| format!("{:.1}", original / row.trusted));
         let (what, nodes, trusted) = (&row.what, row.nodes, row.trusted);
         let (original, told, public) = (shown(row.original), shown(row.told), shown(row.public));
-        writeln!(out, "{what:20} {nodes:>9} {original:>9} {trusted:>9.0} {told:>9} {public:>9} {ratio:>7}").expect("a string takes all");
+        writeln!(out, "{what:20} {nodes:>9} {original:>9} {trusted:>9.1} {told:>9} {public:>9} {ratio:>7}").expect("a string takes all");
     }
     out
 }
@@ -278,6 +279,7 @@ pub fn run(list_file: &str, numbers: &str) -> Result<(), String> {
     let walks: Vec<Row> = [1, 16, 64, BY_CALLS, BY_HAND].into_iter().map(walk).collect();
     let link = slope(&walks);
     rows.extend(walks);
+    rows.extend(bench_groups::rows());
     let tabs: String = rows
         .iter()
         .map(|r| format!("{}\t{}\t{}\t{:.1}\t{}\t{}\n", r.what, r.nodes, shown(r.original), r.trusted, shown(r.told), shown(r.public)))

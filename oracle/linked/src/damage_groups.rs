@@ -12,16 +12,30 @@ use oracle::model::groups::{Group as Plain, Told};
 
 type Damage = fn(&mut Rng, &mut GroupWords);
 
-const KINDS: [(&str, Damage); 6] = [
+const KINDS: [(&str, Damage); 8] = [
     ("none", |_, _| {}),
     ("a bit", |rng, words| words[place(rng)] ^= 1 << rng.below(64)),
     ("a low bit", |rng, words| words[place(rng)] ^= 1 << rng.below(3)),
     ("a count", |rng, words| words[3 + rng.below(2)] = rng.pick(&[0, 1, 2, 3, 127, 128, 129, 1 << 32]).expect("there are some")),
     ("an entry of another kind or place", |rng, words| exchange(rng, words)),
+    ("anything past the counts", |rng, words| spoil(rng, words)),
+    ("anything past the counts, and a bit", |rng, words| {
+        spoil(rng, words);
+        words[place(rng)] ^= 1 << rng.below(64)
+    }),
     ("a field set to a limit", |rng, words| {
         words[place(rng)] = rng.pick(&[0, 1, 2, 7, 1 << 32, (1 << 41) - 1, 1 << 41, (1 << 41) + 1, u64::MAX]).expect("there are some")
     }),
 ];
+
+/// What says nothing is overwritten: of a growth all but its first three words, of conflicts what stands past the counts.
+fn spoil(rng: &mut Rng, words: &mut GroupWords) {
+    let (listed, stopped) = if words[0] == 1 { (0, 0) } else { (words[3] as usize, words[4] as usize) };
+    let head = if words[0] == 1 { 3..5 } else { 5..5 };
+    for at in head.chain(5 + 5 * listed..645).chain(645 + 6 * stopped..dual_ledger::GROUP_WORDS) {
+        words[at] = (0..8).fold(0, |word, _| word << 8 | rng.below(256) as u64);
+    }
+}
 
 /// Mostly a word of the head or of the first few entries and stops.
 fn place(rng: &mut Rng) -> usize {
@@ -82,7 +96,7 @@ fn call(rng: &mut Rng, player: &Player, ledger: &Ledger, mut group: Group, mut p
         return Err(format!("peek: linked {:?}, model {plain:?}", group.peek()));
     }
     let (before, number) = (group.clone(), change(rng, player, ledger, &mut group, &mut plain)?);
-    if number != 0 && group != before {
+    if number != 0 && group.words() != before.words() {
         return Err(format!("refused by {number}, but the group has changed"));
     }
     match decode(group.words()) == Some(plain) {

@@ -9,8 +9,9 @@ pub type GroupWords = [u64; dual_ledger::GROUP_WORDS];
 
 const NO_NODE: u64 = 1 << 41;
 
+/// Every word of 2^41 and more is one and the same: it names no node.
 fn hand(word: u64) -> Option<Handle> {
-    handle_of(word).or_else(|| (word == NO_NODE).then_some(NOBODY))
+    handle_of(word).or_else(|| (word >= NO_NODE).then_some(NOBODY))
 }
 
 /// The crate's name of the model's handle.
@@ -49,18 +50,17 @@ fn obstacle(words: &[u64]) -> Option<Told> {
     rest_is_zero(said).then_some(found)
 }
 
-/// The group that the words hold, if it is sound. Entries past the counts say nothing, but are written as obstacles too.
+/// The group that the words hold, if it is sound. Words past the counts, and all but three words of a growth, say nothing.
 pub fn decode(words: &GroupWords) -> Option<Group> {
-    let entries = words[5..645].chunks(5).map(obstacle).collect::<Option<Vec<Told>>>()?;
     let stop = |stop: &[u64]| Some((u32::try_from(stop[0]).ok()?, obstacle(&stop[1..])?));
-    let pending = words[645..].chunks(6).map(stop).collect::<Option<Vec<(u32, Told)>>>()?;
     let (listed, stopped) = (words[3], words[4]);
     match words[0] {
         1 => Some(Group::Growth(words[1] as i64, flag(words[2])?)),
         2 if words[1] == 0 && words[2] == 0 && listed <= MOST as u64 && stopped <= MOST as u64 => {
-            let pending = &pending[..stopped as usize];
+            let list = words[5..].chunks(5).take(listed as usize).map(obstacle).collect::<Option<Vec<Told>>>()?;
+            let pending = words[645..].chunks(6).take(stopped as usize).map(stop).collect::<Option<Vec<(u32, Told)>>>()?;
             let rises = pending.windows(2).all(|two| two[0].0 < two[1].0);
-            let group = Group::Conflicts { list: entries[..listed as usize].to_vec(), stops: pending.iter().cloned().collect() };
+            let group = Group::Conflicts { list, stops: pending.into_iter().collect() };
             Some(group).filter(|group| rises && group.is_sound())
         }
         _ => None,

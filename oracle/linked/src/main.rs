@@ -1,5 +1,6 @@
 //! The linked ledger beside the original and the plain model: comparison at scale, and the benchmark.
 mod bench;
+mod bench_groups;
 mod bend;
 mod damage;
 mod damage_groups;
