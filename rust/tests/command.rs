@@ -73,7 +73,7 @@ fn every_refusal_in_words() {
         ("F 6 5 0", ""),
         ("B 6 1 2", ""),
         ("S 6 1 0", "11 INSIDE: serial 1 lies in a blossom, outermost 65"),
-        ("D 5 1", "4 CHILD: interface 5 is a half of interface 6"),
+        ("D 5 1", "4 CHILD: interface 5 is fused into interface 6"),
         ("", "1 LINE: it is empty"),
         ("X 0", "1 LINE: no line begins with 'X'"),
         ("D 0", "1 LINE: after D there are to be two numbers"),

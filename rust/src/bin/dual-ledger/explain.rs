@@ -19,8 +19,8 @@ fn named(bench: &Bench, serial: i128) -> Option<(Handle, u8)> {
     nodes(bench).find(|(node, _)| i128::from(node.serial()) == serial)
 }
 
-/// The interface whose half this one is, found by what its tree holds; none for a tree without nodes.
-fn parent_of(bench: &Bench, interface: i128) -> Option<u8> {
+/// The interface without a parent that this one is fused into, found by what its tree holds; none where this one has no nodes.
+fn top_of(bench: &Bench, interface: i128) -> Option<u8> {
     nodes(bench).find(|(node, _)| i128::from(node.interface()) == interface).map(|(_, top)| top)
 }
 
@@ -97,9 +97,9 @@ pub fn explain(bench: &Bench, refusal: Refusal, line: &[u8]) -> String {
     let found = match refusal {
         Refusal::Line => Some(line_words(line)),
         Refusal::Unit => interfaces.iter().find(|unit| **unit > 7).map(|unit| format!("there is no interface {unit}, only 0 to 7")),
-        Refusal::Child => interfaces.iter().find(|unit| is_child(bench, **unit)).map(|unit| match parent_of(bench, *unit) {
-            Some(top) => format!("interface {unit} is a half of interface {top}"),
-            None => format!("interface {unit} is a half of another"),
+        Refusal::Child => interfaces.iter().find(|unit| is_child(bench, **unit)).map(|unit| match top_of(bench, *unit) {
+            Some(top) => format!("interface {unit} is fused into interface {top}"),
+            None => format!("interface {unit} is fused into another"),
         }),
         Refusal::Length => Some(match fields.get(1) {
             Some(length) if *length < 0 => format!("a growth of {length} is negative"),
