@@ -129,3 +129,14 @@ fn every_refusal_has_its_number_and_name() {
     }
     assert_eq!((Refusal::from_number(0), Refusal::from_number(22)), (None, None));
 }
+
+#[test]
+fn states_that_cannot_both_go_on() {
+    use GrowState::{Grow, Shrink, Stay};
+    let against = [(Grow, Grow), (Grow, Stay), (Stay, Grow)];
+    for a in [Grow, Stay, Shrink] {
+        for b in [Grow, Stay, Shrink] {
+            assert_eq!(a.is_against(b), against.contains(&(a, b)), "{a:?} {b:?}");
+        }
+    }
+}
