@@ -9,7 +9,6 @@
 
 use crate::Handle;
 use alloc::boxed::Box;
-use core::cell::RefCell;
 
 /// How many words a bench has.
 pub const WORDS: usize = 6273;
@@ -69,19 +68,50 @@ impl Sound {
 #[repr(transparent)]
 pub struct SoundGroup(GroupWords);
 
-thread_local! {
-    /// Words of groups that were dropped, for the next ones: a new group writes three words and asks for no memory.
-    static SPARE: RefCell<Vec<Box<SoundGroup>>> = const { RefCell::new(Vec::new()) };
+/// Words of groups that were dropped, for the next ones of the thread: a new group then writes three words and asks for no memory.
+#[cfg(feature = "std")]
+mod spare {
+    use super::SoundGroup;
+    use core::cell::RefCell;
+
+    /// How many a thread keeps.
+    const MOST: usize = 16;
+
+    std::thread_local! {
+        static SPARE: RefCell<Vec<Box<SoundGroup>>> = const { RefCell::new(Vec::new()) };
+    }
+
+    pub fn take() -> Option<Box<SoundGroup>> {
+        SPARE.try_with(|spare| spare.borrow_mut().pop()).ok().flatten()
+    }
+
+    pub fn keep(words: Box<SoundGroup>) {
+        let _ = SPARE.try_with(|spare| {
+            let mut spare = spare.borrow_mut();
+            if spare.len() < MOST {
+                spare.push(words);
+            }
+        });
+    }
+}
+
+/// Without threads to ask for, nothing is kept.
+#[cfg(not(feature = "std"))]
+mod spare {
+    use super::SoundGroup;
+    use alloc::boxed::Box;
+
+    pub fn take() -> Option<Box<SoundGroup>> {
+        None
+    }
+
+    pub fn keep(_: Box<SoundGroup>) {}
 }
 
 impl SoundGroup {
-    /// How many a thread keeps.
-    const SPARES: usize = 16;
-
     /// The empty group.
     pub fn empty() -> Box<Self> {
-        let spare = SPARE.try_with(|spare| spare.borrow_mut().pop()).ok().flatten();
-        let mut words = spare.unwrap_or_else(|| Box::new(SoundGroup([0; GROUP_WORDS])));
+        let mut words = spare::take().unwrap_or_else(|| Box::new(SoundGroup([0; GROUP_WORDS])));
         any_group::empty_group(&mut words.0);
         words
     }
@@ -97,12 +127,7 @@ impl SoundGroup {
 
     /// Keeps the words for a group to come.
     pub fn keep(words: Box<Self>) {
-        let _ = SPARE.try_with(|spare| {
-            let mut spare = spare.borrow_mut();
-            if spare.len() < Self::SPARES {
-                spare.push(words);
-            }
-        });
+        spare::keep(words);
     }
 }
 

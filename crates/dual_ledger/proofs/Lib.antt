@@ -4,3 +4,4 @@ pub mod Telling
 pub mod Once
 pub mod Agree
 pub mod Texting
+pub mod Writing
