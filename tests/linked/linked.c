@@ -265,7 +265,7 @@ static void reads(void) {
     read_weight("sum", dual_ledger_sum_dual_variables, dual_ledger_trusted_sum_dual_variables, 8, DUAL_LEDGER_UNIT, 0);
     same("count", dual_ledger_nodes_count(bench, 0, &count), 0), same("count", (int64_t)count, 3), count = 77;
     same("count", dual_ledger_trusted_nodes_count(bench, 0, &count), 0), same("count", (int64_t)count, 3);
-    read_node(0, 2, 0, node[3]), read_node(0, 3, DUAL_LEDGER_RANGE, DUAL_LEDGER_NO_NODE);
+    read_node(0, 2, 0, node[3]), read_node(0, 3, DUAL_LEDGER_RANGE, 0);
     read_tree(node[0], 0, node[3], 1, 0, node[0]), read_tree(node[3], 0, node[3], 0, DUAL_LEDGER_TOP, 0);
     read_tree(DUAL_LEDGER_NO_NODE, DUAL_LEDGER_STALE, 0, 0, DUAL_LEDGER_STALE, 0);
     read_inside(0, node[1], 0, 1), read_inside(0, node[2], 0, 0), read_inside(9, node[1], DUAL_LEDGER_UNIT, 0);
@@ -412,7 +412,7 @@ static void broken(void) {
     memset(answer, 0, sizeof answer), refused("broken: clear", dual_ledger_clear(bench, 0), DUAL_LEDGER_BROKEN);
     same("broken: sum", dual_ledger_sum_dual_variables(bench, 0, &z), DUAL_LEDGER_BROKEN), same("broken: sum", z, 0);
     same("broken: value", dual_ledger_get_dual_variable(bench, node, &z), DUAL_LEDGER_BROKEN), same("broken: value", z, 0);
-    same("broken: node", dual_ledger_get_node(bench, 0, 0, &v), DUAL_LEDGER_BROKEN), same("broken: node", v == DUAL_LEDGER_NO_NODE, 1);
+    same("broken: node", dual_ledger_get_node(bench, 0, 0, &v), DUAL_LEDGER_BROKEN), same("broken: node", (int64_t)v, 0);
     same("broken: outermost", dual_ledger_get_ancestor_blossom(bench, node, &v, &w), DUAL_LEDGER_BROKEN), same("broken: outermost", (int64_t)(v + w), 0);
     same("broken: vertex", dual_ledger_get_representative_vertex(bench, node, &vertex), DUAL_LEDGER_BROKEN), same("broken: vertex", vertex, 0);
     same("broken: check", dual_ledger_strict_check(bench, 0, &v, &w), DUAL_LEDGER_BROKEN), same("broken: check", (int64_t)(v + w), 0);
@@ -497,12 +497,37 @@ static void refused_groups(uint64_t n) {
     unchanged("the 129th", add(group, DUAL_LEDGER_BLOSSOM_NEED_EXPAND, n, 0, 0, 0), DUAL_LEDGER_ROOM);
 }
 
+/* The forms that test nothing, beside the others, from words that held anything: the same numbers, obstacles and words. */
+static void trusted_groups(uint64_t n, uint64_t m) {
+    uint64_t obstacles[6][DUAL_LEDGER_OBSTACLE_WORDS] = {{1, 5, 1, 0, 0}, {2, n, n, m, m}, {3, m, n, 7, 0}, {4, n, 0, 0, 0}, {5, n, 0, 0, 0}, {6, m, n, n, 0}};
+    static uint64_t third[DUAL_LEDGER_GROUP_WORDS];
+    uint64_t one[DUAL_LEDGER_OBSTACLE_WORDS], two[DUAL_LEDGER_OBSTACLE_WORDS], yes = 77, asked = 77, and = 77;
+    int64_t length = 77, as_long = 77;
+    memset(group, 0xa5, sizeof group), memset(third, 0x5a, sizeof third), dual_ledger_empty_group(group), dual_ledger_empty_group(third);
+    memcpy(other, group, sizeof group), same("anything past the counts", dual_ledger_group_is_sound(group), 1);
+    for (int i = 0; i < 6; i++) {
+        same("add, both forms", dual_ledger_group_add(bench, group, obstacles[i]), dual_ledger_trusted_group_add(bench, other, obstacles[i]));
+        same("is empty", dual_ledger_group_is_empty(group, &yes), dual_ledger_trusted_group_is_empty(other, &and)), same("is empty", (int64_t)yes, (int64_t)and);
+        same("is active", dual_ledger_group_is_active(group, &yes), dual_ledger_trusted_group_is_active(other, &and)), same("is active", (int64_t)yes, (int64_t)and);
+        same("growth", dual_ledger_group_get_none_zero_growth(group, &asked, &length), dual_ledger_trusted_group_get_none_zero_growth(other, &and, &as_long));
+        same("growth", (int64_t)asked, (int64_t)and), same("growth", length, as_long);
+        same("extend, both forms", dual_ledger_group_extend(bench, third, group), 0);
+        same("extend, both forms", dual_ledger_group_extend(bench, group, third), dual_ledger_trusted_group_extend(bench, other, third));
+        same_words("a group in both forms", group, other, DUAL_LEDGER_GROUP_WORDS);
+    }
+    for (int i = 0; i < 130; i++) {
+        same("peek, both forms", dual_ledger_group_peek(group, one), dual_ledger_trusted_group_peek(other, two)), same_words("peek", one, two, DUAL_LEDGER_OBSTACLE_WORDS);
+        same("pop, both forms", dual_ledger_group_pop(group, one), dual_ledger_trusted_group_pop(other, two)), same_words("pop", one, two, DUAL_LEDGER_OBSTACLE_WORDS);
+        same_words("a group in both forms", group, other, DUAL_LEDGER_GROUP_WORDS);
+    }
+}
+
 static void groups(void) {
     uint64_t n = 0, m = 0;
     same("set-up", dual_ledger_set_up(bench, 1), 0);
     dual_ledger_trusted_create_defect_node(bench, 0, 9, &n), dual_ledger_trusted_create_defect_node(bench, 0, 4, &m);
     memcpy(kept, bench, sizeof bench);
-    growths(), conflicts(n, m), refused_groups(n);
+    growths(), conflicts(n, m), trusted_groups(n, m), refused_groups(n);
     same_words("the bench that groups are of", bench, kept, DUAL_LEDGER_WORDS);
     bench[3]++, memcpy(before, group, sizeof group);
     unchanged("a group of a broken bench", dual_ledger_group_extend(bench, group, before), DUAL_LEDGER_BROKEN);
