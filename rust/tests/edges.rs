@@ -109,6 +109,35 @@ fn groups() {
     assert_eq!(Group::from_words(&[9; dual_ledger::GROUP_WORDS]), Err(Refusal::Broken));
 }
 
+/// What stands past the counts says nothing: not in `==`, and not where words come from elsewhere.
+#[test]
+fn leftovers_of_groups_say_nothing() {
+    let mut bench = Bench::default();
+    let nodes = [bench.create_defect_node(0, 1).unwrap(), bench.create_defect_node(0, 2).unwrap()];
+    let [mut one, mut two] = nodes.map(|node| {
+        let mut group = Group::new();
+        group.add(&bench, Obstacle::BlossomNeedExpand(node)).unwrap();
+        group
+    });
+    assert_ne!(one, two);
+    assert!(one.pop().is_ok() && two.pop().is_ok());
+    assert_eq!(one, two);
+    assert_ne!(one, Group::new());
+
+    let mut words = [u64::MAX; dual_ledger::GROUP_WORDS];
+    words[..3].copy_from_slice(&[1, 5, 0]);
+    let growth = Group::from_words(&words).unwrap();
+    assert_eq!(growth.growth(), Some((5, false)));
+    words[..5].copy_from_slice(&[2, 0, 0, 1, 0]);
+    words[5..10].copy_from_slice(&[4, u64::MAX, 0, 0, 0]);
+    let mut far = Group::from_words(&words).unwrap();
+    words[6] = 1 << 41;
+    assert_eq!(Group::from_words(&words).unwrap(), far, "words that name no node are one");
+    assert_eq!(one.extend(&bench, &far), Err(Refusal::Stale));
+    far.extend(&bench, &growth).unwrap();
+    assert_eq!(far.list().count(), 1);
+}
+
 #[test]
 fn benches_and_groups_go_between_threads() {
     fn goes<T: Send + Sync>() {}
