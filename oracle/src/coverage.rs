@@ -119,7 +119,7 @@ impl Bench {
 
 impl std::fmt::Display for Coverage {
     fn fmt(&self, f: &mut std::fmt::Formatter) -> std::fmt::Result {
-        writeln!(f, "{} lines, {} by document 01 against the original", self.lines, self.marked)?;
+        writeln!(f, "{} lines, {} by the manual against the original", self.lines, self.marked)?;
         writeln!(f, "calls by number (0: accepted):")?;
         for (letter, numbers) in &self.calls {
             let each: Vec<String> = numbers.iter().map(|(number, count)| format!("{number}: {count}")).collect();

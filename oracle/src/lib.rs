@@ -1,4 +1,4 @@
-//! The original dual module as oracle: driven line by line, beside a plain model of document 01. oracle/README.md says how it is used.
+//! The original dual module as oracle: driven line by line, beside a plain model of the manual. oracle/README.md says how it is used.
 
 pub mod ages;
 pub mod bare;

@@ -65,7 +65,7 @@ fn compare(path: &str, all: bool) {
         }
     });
     result.unwrap_or_else(|wrong| fail(format!("{path}: {wrong}")));
-    println!("{calls} calls, {refused} refused, {marked} by document 01 against the original, {differ} differ");
+    println!("{calls} calls, {refused} refused, {marked} by the manual against the original, {differ} differ");
     exit((differ > 0) as i32)
 }
 

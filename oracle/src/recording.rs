@@ -31,7 +31,7 @@ pub fn replay(text: &str, mut seen: impl FnMut(usize, &str, &Turn, Option<&str>)
     Ok(())
 }
 
-/// The recording of calls: comments stay, each call gets its answer, and a mark where that is document 01's alone.
+/// The recording of calls: comments stay, each call gets its answer, and a mark where that is the manual's alone.
 pub fn record(calls: &str) -> Result<String, Wrong> {
     let mut both = Replay::default();
     let mut out = String::new();

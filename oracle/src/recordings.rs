@@ -43,7 +43,7 @@ fn head(name: &str, about: &str) -> String {
 
 /// Each recording's name and its calls with comments.
 pub fn all(edges: &str) -> Vec<(&'static str, String)> {
-    let mut found = vec![("edges", head("edges", "the whole case of document 01, P1 to P9, and corners") + edges)];
+    let mut found = vec![("edges", head("edges", "the whole case of the manual, P1 to P9, and corners") + edges)];
     for (at, plan) in ALL.iter().enumerate() {
         let (_, answers, longest) = SIZES.iter().find(|(name, ..)| *name == plan.name).expect("each plan has a size");
         found.push((plan.name, head(plan.name, plan.about) + &calls(*plan, *answers, *longest, 1_000 * (at as u64 + 1))));

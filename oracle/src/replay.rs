@@ -1,10 +1,10 @@
 //! The original and the model side by side: the model says what is accepted, the original answers it, and both must agree but for the
-//! differences that document 01 names. Refused lines are the model's alone: the original cannot say their numbers.
+//! differences that the manual names. Refused lines are the model's alone: the original cannot say their numbers.
 use crate::driver::{Answer, Driver};
 use crate::line::{Line, GROUPS};
 use crate::model::Model;
 
-/// Why an answer is document 01's and not the original's.
+/// Why an answer is the manual's and not the original's.
 #[derive(Clone, Copy, Debug, PartialEq, Eq)]
 pub enum Mark {
     /// a group holds a node of before a clear: the original uses its object for the next node
@@ -16,15 +16,15 @@ pub enum Mark {
 impl std::fmt::Display for Mark {
     fn fmt(&self, f: &mut std::fmt::Formatter) -> std::fmt::Result {
         f.write_str(match self {
-            Mark::ClearedInGroup => "document 01's answer: cleared node in a group",
-            Mark::GoneInGroup => "document 01's answer: a group holds the gone node",
+            Mark::ClearedInGroup => "the manual's answer: cleared node in a group",
+            Mark::GoneInGroup => "the manual's answer: a group holds the gone node",
         })
     }
 }
 
 /// One line answered.
 pub struct Turn {
-    /// document 01's answer
+    /// the manual's answer
     pub answer: Vec<i64>,
     /// the original's, where the line is accepted
     pub original: Option<Answer>,
@@ -36,7 +36,7 @@ impl Turn {
         self.answer[0] == 0
     }
 
-    /// Both agree, or differ in a way that document 01 names.
+    /// Both agree, or differ in a way that the manual names.
     pub fn agrees(&self) -> bool {
         self.mark.is_some() || self.original.as_ref().map_or(true, |original| original.as_ref() == Ok(&self.answer))
     }
@@ -102,7 +102,7 @@ impl Replay {
         }
     }
 
-    /// 4 by document 01 and 3 by the original, same index, and a group that can hold a gone node.
+    /// 4 by the manual and 3 by the original, same index, and a group that can hold a gone node.
     fn held(&self, answer: &[i64], original: &Answer, verdict: usize, index: usize) -> Option<Mark> {
         let original = original.as_ref().ok()?;
         let holds = |group: &crate::model::groups::Group| group.handles().iter().any(|h| self.model.bench.node(*h).is_none());

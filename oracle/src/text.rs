@@ -1,4 +1,4 @@
-//! The text program of document 01: its grammar, its lines out of bytes, and its four numbers.
+//! The text program (docs/MANUAL.md, Lines and Answers): its grammar, its lines out of bytes, and its four numbers.
 use crate::bare::watched;
 use crate::driver::Driver;
 use crate::line::Line;
@@ -54,7 +54,7 @@ fn four(answer: &[i64]) -> String {
     crate::line::numbers(&answer[..4])
 }
 
-/// What `ledger` is to print: the original's numbers where a line is accepted, document 01's where it is refused.
+/// What `ledger` is to print: the original's numbers where a line is accepted, the manual's where it is refused.
 /// An error names the first line on which the two differ.
 pub fn run(input: &[u8]) -> Result<String, String> {
     let mut replay = Replay::default();

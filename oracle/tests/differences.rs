@@ -1,5 +1,5 @@
-//! Each row of docs/DIFFERENCES.md, run again: the last answer by document 01 (the model) and by the original alone.
-//! A row is `| no | calls | document 01's last answer | the original's | words |`, the first three in code. `64* D 0 #` says a call 64 times, `#`
+//! Each row of docs/DIFFERENCES.md, run again: the last answer by the manual (the model) and by the original alone.
+//! A row is `| no | calls | the manual's last answer | the original's | words |`, the first three in code. `64* D 0 #` says a call 64 times, `#`
 //! counting from 1; `1..65` stands for the numbers between; an answer that ends in ` ..` goes on; a panic has the
 //! words given, and the notices after `noted`, none without it.
 use oracle::bare;

@@ -1,4 +1,4 @@
-//! Wrong lines are named by their number, and the text program's grammar is document 01's.
+//! Wrong lines are named by their number, and the text program's grammar is the manual's.
 use oracle::line::read;
 use oracle::recording::record;
 use oracle::text;

@@ -1,4 +1,4 @@
-//! The whole case of document 01 and P1 to P9: the original's answers where a line is accepted, document 01's number where it is refused.
+//! The whole case of the manual and P1 to P9: the original's answers where a line is accepted, the manual's number where it is refused.
 use oracle::line::{numbers, read};
 use oracle::replay::Replay;
 use oracle::text;

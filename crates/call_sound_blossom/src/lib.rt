@@ -1,4 +1,4 @@
-// The trusted add blossom, on words that hold a sound bench: the first refusal of document 01's table that applies, or the work. Members and touching
+// The trusted add blossom, on words that hold a sound bench: the first refusal of the manual's table (docs/MANUAL.md, Refusals) that applies, or the work. Members and touching
 // handles are lists of any length, of words of any kind. Assumes nothing.
 use bench_words::WORDS;
 use kinds::numbers;

@@ -1,4 +1,4 @@
-// The check and the strict check of document 01 for anyone, on any words: BROKEN (2) where they hold no sound bench, then UNIT (3) and CHILD (4), else a
+// The check and the strict check (docs/MANUAL.md, The check) for anyone, on any words: BROKEN (2) where they hold no sound bench, then UNIT (3) and CHILD (4), else a
 // verdict and an index. Neither changes the bench. Assumes nothing.
 use bench_words::WORDS;
 use check_sound::Checked;

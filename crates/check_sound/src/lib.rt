@@ -1,4 +1,4 @@
-// The check and the strict check of document 01 on words that hold a sound bench: a refusal number, and where that is 0 a verdict and an index.
+// The check and the strict check (docs/MANUAL.md, The check) on words that hold a sound bench: a refusal number, and where that is 0 a verdict and an index.
 // Neither changes the bench; UNIT (3) and CHILD (4) refuse. Assumes nothing.
 use bench_words::WORDS;
 use check_walks::Judged;

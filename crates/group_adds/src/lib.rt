@@ -1,4 +1,4 @@
-// An obstacle is added to a sound group, as document 01 has it, once its handles are known to name nodes and a stop's first vertex is found: the
+// An obstacle is added to a sound group, as docs/MANUAL.md, Obstacle groups, has it, once its handles are known to name nodes and a stop's first vertex is found: the
 // trusted part of the public add. ROOM (20) hands back the very group. Assumes nothing.
 use group_stops::Meeting;
 use group_stops::Spot;

@@ -1,4 +1,4 @@
-// One sound group extended by another, as document 01 has it, once the other's handles are known to name nodes: the trusted part of the public extend.
+// One sound group extended by another, as docs/MANUAL.md, Obstacle groups, has it, once the other's handles are known to name nodes: the trusted part of the public extend.
 // ROOM (20) hands back the very group. Assumes nothing.
 use group_adds::Changed;
 use groups::Group;

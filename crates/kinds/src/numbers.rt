@@ -1,4 +1,4 @@
-// The numbers a call can answer, by document 01's names; 0 is accepted. Where several apply, the lowest is given. Assumes nothing.
+// The numbers a call can answer, by the manual's names; 0 is accepted. Where several apply, the lowest is given. Assumes nothing.
 
 // Text program: a line not of the grammar.
 pub const LINE: u8 = 1;

@@ -220,7 +220,7 @@ module _ (b : Bench) (S : Sound b) where
   chain-present (end e) n f = (n, f, refl)
   chain-present (link {h} p e c) n f = let O : Outer b h p = outer b S h p n f (ap parentIn (sym f) ∙ e) in let r = chain-present c (O .node) (O .is) in (r .0, r .1, O .near ∙ r .2)
 
-  -- ---- the walk of document 01: from a present node, within 512 links, to a node without a parent
+  -- ---- the walk of the manual: from a present node, within 512 links, to a node without a parent
   module _ (h : Handle) (n : Node) (e : nodeNamed b h ≡ some n) where
     i<8 : top b (h .unit) < 8
     i<8 = below b (S .frame) 8 (h .unit) (held-unit b (S .frame) (h .unit) (h .slot) n (node-has b h n e .stands))

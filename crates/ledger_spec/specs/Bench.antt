@@ -1,4 +1,4 @@
--- The bench of document 01, held plainly: what a node, an interface and a bench are, and the bench that set-up makes.
+-- The bench of docs/MANUAL.md, Words, held plainly: what a node, an interface and a bench are, and the bench that set-up makes.
 -- A weight is the ℤ that a contract has for an `i64`; serials, slots and vertices are ℕ. Assumes nothing.
 use Prim.Native.Nat.{ℕ}
 use mathlib.Core.Option.{Option, none}

@@ -1,5 +1,5 @@
--- Document 01's edges P1 to P10 as one table about the definitions, and after them some rows that tempting and wrong definitions break. Each row has
--- what is computed and what document 01 says. Assumes nothing.
+-- The edges P1 to P10 as one table about the definitions, and after them some rows that tempting and wrong definitions break. Each row has
+-- what is computed and what is to come out. Assumes nothing.
 use Prim.Native.Nat.{ℕ, zero, suc}
 use Prim.Native.String.{String, _++_}
 use mathlib.Core.Path.{_≡_, refl}

@@ -1,4 +1,4 @@
--- Document 01, "The text program": what a line says. A line is its bytes without the newline. Assumes nothing.
+-- docs/MANUAL.md, Lines: what a line says. A line is its bytes without the newline. Assumes nothing.
 use Prim.Native.Nat.{ℕ, zero, suc}
 use mathlib.Core.Bool.{Bool, true, false}
 use mathlib.Core.Option.{Option, none, some}

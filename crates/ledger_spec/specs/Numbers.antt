@@ -1,4 +1,4 @@
--- Document 01's limits and the numbers of its table, by name. Assumes nothing.
+-- The manual's limits and the numbers of its table, by name. Assumes nothing.
 use Prim.Native.Nat.{ℕ, _^_}
 
 -- ---- limits: a progress, the serials (all are below this), a circle and an interface's slots, a group's list and its stops

@@ -1,4 +1,4 @@
--- The numbers of document 01's table, for each call: its tests in rising order of their numbers, of which the first that holds gives
+-- The numbers of the manual's table (docs/MANUAL.md, Refusals), for each call: its tests in rising order of their numbers, of which the first that holds gives
 -- the number (`first`). 0 is accepted. BROKEN (2) comes before all of these and is put there by Answers.antt (`answer`, `ask`). Assumes nothing.
 use Prim.Native.Nat.{ℕ}
 use mathlib.Core.Bool.{Bool, _&&_, _||_, not}

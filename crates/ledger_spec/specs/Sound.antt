@@ -1,4 +1,4 @@
--- A sound bench, as a test that computes: the rules of document 01's section, of the plain bench. Slots past the used ones are empty by form,
+-- A sound bench, as a test that computes: the rules of docs/MANUAL.md, A sound bench, of the plain bench. Slots past the used ones are empty by form,
 -- and there is no cached progress to go wrong. Assumes nothing.
 use Prim.Native.Nat.{ℕ, _*_}
 use mathlib.Core.Bool.{Bool, true, false, _&&_}

@@ -1,4 +1,4 @@
--- The tests behind the refusal numbers of document 01's table, each of one thing: an interface's number, a handle, a list. Assumes nothing.
+-- The tests behind the numbers of the manual's table (docs/MANUAL.md, Refusals), each of one thing: an interface's number, a handle, a list. Assumes nothing.
 use Prim.Native.Nat.{ℕ}
 use mathlib.Core.Bool.{Bool, true, false, _||_, not}
 use mathlib.Core.Option.{Option, none, some}

@@ -1,4 +1,4 @@
--- Runs replayed by the plain ledger's definitions: document 01's whole case, then a file for each recording. Assumes nothing.
+-- Runs replayed by the plain ledger's definitions: the manual's whole case, then a file for each recording. Assumes nothing.
 pub mod First
 pub mod Edges
 pub mod Calls

@@ -1,4 +1,4 @@
--- The sound bench, rule by rule: a bench made by calls, one thing in it changed, and whether it is still sound. Each rule of document 01's section is
+-- The sound bench, rule by rule: a bench made by calls, one thing in it changed, and whether it is still sound. Each rule of docs/MANUAL.md, A sound bench, is
 -- broken and, where it has a limit, kept just at it; BROKEN is what every call then answers. Assumes nothing.
 use Prim.Native.Nat.{ℕ, suc}
 use mathlib.Core.Path.{_≡_, refl}

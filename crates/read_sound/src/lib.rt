@@ -1,4 +1,4 @@
-// The reads of document 01 on words that hold a sound bench: each answers its refusal number, and a value where that is 0. None changes the bench.
+// The reads of docs/MANUAL.md, Reads, on words that hold a sound bench: each answers its refusal number, and a value where that is 0. None changes the bench.
 // A read of an interface is refused by UNIT (3) or CHILD (4), a read of a node by STALE (8). Assumes nothing.
 use bench_links::Found;
 use bench_orders::Spot;

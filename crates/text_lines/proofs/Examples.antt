@@ -1,4 +1,4 @@
--- Lines of document 01 and of how it is read, with what they say, by computing. Assumes nothing.
+-- Lines of the manual and of how it is read, with what they say, by computing. Assumes nothing.
 use mathlib.Core.Path.{_≡_, refl}
 use mathlib.Core.List.{List, [], _∷_, map}
 use lib.IntN.{pos, negsuc}

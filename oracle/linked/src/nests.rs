@@ -77,7 +77,7 @@ pub fn compare() -> Result<usize, String> {
     for line in runs::reads(&model, 0) {
         let (answer, expected) = (ledger.answer(&line)?, model.answer(&line));
         if answer != expected {
-            return Err(format!("{line:?}: linked {}, document 01 {}", numbers(&answer), numbers(&expected)));
+            return Err(format!("{line:?}: linked {}, the manual {}", numbers(&answer), numbers(&expected)));
         }
         asked += 1;
     }

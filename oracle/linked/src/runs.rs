@@ -36,7 +36,7 @@ impl Sides {
         }
         let answer = self.ledger.answer(line)?;
         if answer != turn.answer {
-            return Err(format!("linked {}, document 01 {}", numbers(&answer), numbers(&turn.answer)));
+            return Err(format!("linked {}, the manual {}", numbers(&answer), numbers(&turn.answer)));
         }
         if changes(line) && encode(&self.replay.model.bench) != self.ledger.lent {
             return Err("the words are not those of the plain ledger's bench".to_string());

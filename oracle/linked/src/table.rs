@@ -59,7 +59,7 @@ impl fmt::Display for Table {
         let [ends, each] = self.runs;
         writeln!(f, "{} accepted calls, {} refused, in {} runs", self.accepted(), self.refused(), ends + each)?;
         writeln!(f, "everything read after every call in {each} runs, at the end in {ends}: {} reads more", self.reads)?;
-        writeln!(f, "{} answers by document 01 against the original", self.marked)?;
+        writeln!(f, "{} answers by the manual against the original", self.marked)?;
         writeln!(f, "calls by number (0: accepted):")?;
         for (letter, numbers) in &self.calls {
             let counts: Vec<String> = numbers.iter().map(|(number, count)| format!("{number}: {count}")).collect();

@@ -23,7 +23,7 @@ pub enum Trouble {
     Gone(u32),
     /// the original has no such interface
     NoFace(u32),
-    /// what the original's check says outside document 01's verdicts
+    /// what the original's check says outside the manual's verdicts
     Says(String),
 }
 

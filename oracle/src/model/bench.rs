@@ -1,4 +1,4 @@
-//! The bench of document 01 as plain data, and how one finds one's way in it: trees, handles, indices, blossoms around a node.
+//! The bench of docs/MANUAL.md, Words as plain data, and how one finds one's way in it: trees, handles, indices, blossoms around a node.
 
 pub const FACES: usize = 8;
 pub const SLOTS: usize = 64;

@@ -1,4 +1,4 @@
-//! Obstacle groups of document 01: a growth, or a list and pending stops by vertex, at most 128 of each.
+//! Obstacle groups (docs/MANUAL.md): a growth, or a list and pending stops by vertex, at most 128 of each.
 use super::bench::{Bench, Handle};
 use super::refusals::{given, KIND, NOTHING, ROOM, STALE};
 use crate::line::Obstacle;
@@ -145,7 +145,7 @@ impl Group {
     }
 }
 
-/// A stop that comes to a vertex: the four cases of document 01, or the first there.
+/// A stop that comes to a vertex: the four cases of the manual, or the first there.
 fn meet(list: &mut Vec<Told>, stops: &mut BTreeMap<u32, Told>, vertex: u32, new: &Told) {
     let pair = |o: &Told| if let Obstacle::Stop(_, pair) = o { *pair } else { None };
     match (stops.get(&vertex).map(|old| pair(old)), pair(new)) {

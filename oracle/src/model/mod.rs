@@ -1,4 +1,4 @@
-//! The plain model, written from document 01 alone: a bench and four groups, each line answered with its number, refused ones too.
+//! The plain model, written from the manual alone: a bench and four groups, each line answered with its number, refused ones too.
 pub mod bench;
 mod calls;
 mod check;

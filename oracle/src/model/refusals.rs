@@ -1,4 +1,4 @@
-//! Document 01's table: the tests of each call in rising order; the first that holds is the number given, 0 if none does.
+//! The manual's table of refusals: the tests of each call in rising order; the first that holds is the number given, 0 if none does.
 use super::bench::{Bench, Handle, FACES, MEMBERS, PROGRESS, SLOTS, WORN};
 
 pub const LINE: i64 = 1;

@@ -1,4 +1,4 @@
--- Document 01's whole case, and the one way in which lines meet BROKEN. Assumes nothing.
+-- The manual's whole case, and the one way in which lines meet BROKEN. Assumes nothing.
 use mathlib.Core.Path.{_≡_, refl}
 use Rattle.ledger_table.specs.Replay.{replayed}
 use Rattle.ledger_table.specs.Quick.{quickly}
