@@ -19,18 +19,19 @@ use Rattle.ledger_spec.specs.Calls.{Call, Defect, Blossom, Expand, Grow,
 use Rattle.ledger_spec.specs.Reads.{handleAtIndex, valueOf}
 use Rattle.ledger_spec.specs.Answers.{answer}
 use Rattle.ledger_spec.specs.Book.{turns, newBook}
-use Rattle.ledger_spec.specs.Groups.{Group, growth, conflicts, largest, extended}
+use Rattle.ledger_spec.specs.Groups.{Group, growth, conflicts, largest}
+use Rattle.ledger_spec.specs.GroupCalls.{extend}
 use Rattle.ledger_spec.specs.Bytes.{bytes}
 use Rattle.ledger_spec.specs.Opened.{run, ran, pops}
 
--- what a row shows: a text, a node's value, the handle of an index, what went from an interface, a number, a group, what pops took
+-- what a row shows: a text, a node's value, the handle of an index, what went from an interface, a number, what extending a group answers and leaves, what pops took
 pub data Cell : Type 0 where
   text : List ℕ → Cell
   aValue : ℕ × ℤ → Cell
   handle : ℕ × Option Handle → Cell
   went : List ℤ → Cell
   aNumber : ℕ → Cell
-  group : Option Group → Cell
+  group : ℕ × Group → Cell
   taken : List (ℕ × Option Obstacle) → Cell
 
 -- what lines answer after others
@@ -60,7 +61,7 @@ refused b c = aNumber (answer b c .number)
 
 pub joined : Group → Group → Cell
 unfolding run
-joined g h = group (extended g h)
+joined g h = group (extend (setUp 1) g h)
 
 abbrev pub many : ℕ → String → String
 many zero s = ""
@@ -111,9 +112,9 @@ table =
     -- P6
     ∷ (after "D 0 3\nC 0\n" "S 0 1 0\n", wants "8 0 0 0\n")
     -- P7
-    ∷ (joined (growth (pos 5) true) (growth (pos 5) false), group (some (growth (pos 5) false)))
+    ∷ (joined (growth (pos 5) true) (growth (pos 5) false), group (0, growth (pos 5) false))
     -- P8
-    ∷ (joined (growth (pos 5) false) (growth largest true), group (some (growth (pos 5) false)))
+    ∷ (joined (growth (pos 5) false) (growth largest true), group (0, growth (pos 5) false))
     -- P9
     ∷ (taken (pops 3 pending), taken ((0, some c2) ∷ (0, some c1) ∷ (0, none) ∷ []))
     -- P10, the whole case
