@@ -275,7 +275,7 @@ static inline const char *dual_ledger_refusal_name(uint8_t number) {
  *   dual_ledger_clear                                   920
  *   dual_ledger_create_blossom                         7880
  *   dual_ledger_create_defect_node                     3816
- *   dual_ledger_empty_group                           34056
+ *   dual_ledger_empty_group                               8
  *   dual_ledger_expand_blossom                         7256
  *   dual_ledger_fuse                                    888
  *   dual_ledger_get_all_vertices                      35912   80 a level, of 448
@@ -284,14 +284,14 @@ static inline const char *dual_ledger_refusal_name(uint8_t number) {
  *   dual_ledger_get_node                               1544
  *   dual_ledger_get_representative_vertex               872
  *   dual_ledger_get_secondary_ancestor_blossom          888
- *   dual_ledger_group_add                            102232
- *   dual_ledger_group_extend                         110488
- *   dual_ledger_group_get_none_zero_growth            35416
- *   dual_ledger_group_is_active                       35416
- *   dual_ledger_group_is_empty                        35432
- *   dual_ledger_group_is_sound                        35400
- *   dual_ledger_group_peek                            46760
- *   dual_ledger_group_pop                             57016
+ *   dual_ledger_group_add                               872
+ *   dual_ledger_group_extend                            872
+ *   dual_ledger_group_get_none_zero_growth               40
+ *   dual_ledger_group_is_active                          40
+ *   dual_ledger_group_is_empty                           40
+ *   dual_ledger_group_is_sound                           24
+ *   dual_ledger_group_peek                               40
+ *   dual_ledger_group_pop                                88
  *   dual_ledger_grow                                   3800
  *   dual_ledger_is_sound                                856
  *   dual_ledger_nodes_count                            1544
@@ -301,6 +301,9 @@ static inline const char *dual_ledger_refusal_name(uint8_t number) {
  *   dual_ledger_strict_check                          14248
  *   dual_ledger_sum_dual_variables                      872
  *   dual_ledger_sum_grow_speed                          872
+ *   dual_ledger_text_chunk                            15208
+ *   dual_ledger_text_end                                  8
+ *   dual_ledger_text_line                             15064
  *   dual_ledger_told_create_blossom                    6248
  *   dual_ledger_told_create_defect_node                 200
  *   dual_ledger_told_expand_blossom                    5624
@@ -315,9 +318,16 @@ static inline const char *dual_ledger_refusal_name(uint8_t number) {
  *   dual_ledger_trusted_get_all_vertices              35880   80 a level, of 448
  *   dual_ledger_trusted_get_ancestor_blossom             24
  *   dual_ledger_trusted_get_dual_variable                72
- *   dual_ledger_trusted_get_node                       1544
+ *   dual_ledger_trusted_get_node                       1528
  *   dual_ledger_trusted_get_representative_vertex         8
  *   dual_ledger_trusted_get_secondary_ancestor_blossom     40
+ *   dual_ledger_trusted_group_add                       144
+ *   dual_ledger_trusted_group_extend                    192
+ *   dual_ledger_trusted_group_get_none_zero_growth        8
+ *   dual_ledger_trusted_group_is_active                   8
+ *   dual_ledger_trusted_group_is_empty                    8
+ *   dual_ledger_trusted_group_peek                        8
+ *   dual_ledger_trusted_group_pop                        88
  *   dual_ledger_trusted_grow                              8
  *   dual_ledger_trusted_nodes_count                    1528
  *   dual_ledger_trusted_sanity_check                  14232
@@ -325,6 +335,8 @@ static inline const char *dual_ledger_refusal_name(uint8_t number) {
  *   dual_ledger_trusted_strict_check                  14232
  *   dual_ledger_trusted_sum_dual_variables                8
  *   dual_ledger_trusted_sum_grow_speed                    8
+ *   dual_ledger_trusted_text_chunk                    15176
+ *   dual_ledger_trusted_text_line                     15064
  * ---- end of the stack's table */
 
 #ifdef __cplusplus

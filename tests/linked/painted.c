@@ -20,16 +20,16 @@
 #define RETURN_ADDRESS 0
 #endif
 
-typedef uint64_t (*any)(uint64_t, uint64_t, uint64_t, uint64_t, uint64_t, uint64_t, uint64_t);
+typedef uint64_t (*any)(uint64_t, uint64_t, uint64_t, uint64_t, uint64_t, uint64_t, uint64_t, uint64_t, uint64_t);
 
 static unsigned char stack[STACK] __attribute__((aligned(4096)));
 static ucontext_t here, there;
 static any function;
-static uint64_t arguments[7];
+static uint64_t arguments[9];
 
 static void call(void) {
     const uint64_t *a = arguments;
-    function(a[0], a[1], a[2], a[3], a[4], a[5], a[6]);
+    function(a[0], a[1], a[2], a[3], a[4], a[5], a[6], a[7], a[8]);
 }
 
 /* Bytes gone from the far end of the painted stack. */
@@ -48,8 +48,8 @@ static size_t gone(any f, const uint64_t *a) {
     return STACK - left;
 }
 
-static uint64_t nothing(uint64_t a, uint64_t b, uint64_t c, uint64_t d, uint64_t e, uint64_t f, uint64_t g) {
-    return a + b + c + d + e + f + g;
+static uint64_t nothing(uint64_t a, uint64_t b, uint64_t c, uint64_t d, uint64_t e, uint64_t f, uint64_t g, uint64_t h, uint64_t i) {
+    return a + b + c + d + e + f + g + h + i;
 }
 
 /* ---- what was found: of each function and number of levels the deepest */
@@ -58,11 +58,11 @@ static struct row {
     const char *name;
     int levels;
     size_t bytes;
-} rows[400];
+} rows[500];
 static int count;
 
 static size_t note(const char *name, int levels, any f, const uint64_t *a) {
-    static const uint64_t none[7];
+    static const uint64_t none[9];
     size_t bytes = gone(f, a) - gone(nothing, none) + RETURN_ADDRESS;
     int i = 0;
     while (i < count && (strcmp(rows[i].name, name) != 0 || rows[i].levels != levels)) i++;
@@ -135,7 +135,7 @@ static void small(uint64_t *words) {
 
 #define W(x) (uint64_t)(uintptr_t)(x)
 /* Each call starts from the same bench and group. */
-#define P(name, ...) (memcpy(bench, start, sizeof bench), memcpy(group, first_group, sizeof group), note(#name, levels, (any)(void (*)(void))name, (uint64_t[7]){__VA_ARGS__}))
+#define P(name, ...) (memcpy(bench, start, sizeof bench), memcpy(group, first_group, sizeof group), note(#name, levels, (any)(void (*)(void))name, (uint64_t[9]){__VA_ARGS__}))
 
 /* The three forms of a call. */
 #define CALL(name, ...) (P(dual_ledger_##name, __VA_ARGS__), P(dual_ledger_told_##name, __VA_ARGS__), P(dual_ledger_trusted_##name, __VA_ARGS__))
@@ -174,13 +174,29 @@ static void groups(const uint64_t *obstacle) {
     int levels = 1;
     P(dual_ledger_empty_group, g);
     P(dual_ledger_group_is_sound, g);
-    P(dual_ledger_group_is_empty, g, W(out));
-    P(dual_ledger_group_is_active, g, W(out));
-    P(dual_ledger_group_get_none_zero_growth, g, W(out), W(out + 1));
-    P(dual_ledger_group_peek, g, W(out));
-    P(dual_ledger_group_pop, g, W(out));
-    P(dual_ledger_group_add, W(bench), g, o);
-    P(dual_ledger_group_extend, W(bench), g, W(other));
+    BOTH(group_is_empty, g, W(out));
+    BOTH(group_is_active, g, W(out));
+    BOTH(group_get_none_zero_growth, g, W(out), W(out + 1));
+    BOTH(group_peek, g, W(out));
+    BOTH(group_pop, g, W(out));
+    BOTH(group_add, W(bench), g, o);
+    BOTH(group_extend, W(bench), g, W(other));
+}
+
+/* The text engine's functions, on the bench `start`. */
+static void lines(const char *text) {
+    static uint8_t held_line[DUAL_LEDGER_HELD], written[64 * DUAL_LEDGER_ANSWER_BYTES];
+    static uint16_t hints[DUAL_LEDGER_HINTS];
+    static size_t held, wrote;
+    uint64_t b = W(bench), t = W(text), n = strlen(text);
+    int levels = 1;
+    held = 0;
+    BOTH(text_line, b, t, n - 1, W(hints), W(out), W(out + 1), W(out + 2));
+    held = 0;
+    P(dual_ledger_text_chunk, b, t, n, W(held_line), W(&held), W(hints), W(written), sizeof written, W(&wrote));
+    held = 0;
+    P(dual_ledger_trusted_text_chunk, b, t, n, W(held_line), W(&held), W(hints), W(written), sizeof written, W(&wrote));
+    P(dual_ledger_text_end, 3, W(written), sizeof written, W(&wrote));
 }
 
 /* A bench of a few nodes: accepted calls of each kind. */
@@ -190,6 +206,8 @@ static void few(void) {
     members[0] = handle(7, 6, 0), members[1] = handle(8, 7, 0);
     touching[0] = touching[1] = members[0], touching[2] = touching[3] = members[1];
     calls(2, outer, 3);
+    static const char *const each[8] = {"D 2 9\n", "B 2 7 8\n", "E 2 6\n", "S 2 6 0\n", "G 2 2\n", "F 7 2 3\n", "C 2\n", "K 2\n"};
+    for (int i = 0; i < 8; i++) lines(each[i]);
     uint64_t conflict[5] = {2, outer, handle(1, 0, 0), handle(7, 6, 0), handle(7, 6, 0)}, stop[5] = {5, handle(7, 6, 0)};
     uint64_t pair[5] = {6, outer, handle(7, 6, 0), handle(8, 7, 0)}, growth[5] = {1, 5, 0};
     const uint64_t *obstacles[4] = {conflict, stop, pair, growth};
@@ -204,12 +222,22 @@ static void few(void) {
     }
 }
 
+/* A sum of as many digits as one growth allows, which is one less than any sound bench has. */
+static void long_sum(void) {
+    dual_ledger_set_up(start, 1);
+    must("a long growth", dual_ledger_trusted_grow(start, 0, (int64_t)1 << 40) == 0);
+    start[3] = ((uint64_t)1 << 62) - ((uint64_t)512 << 40);
+    must("a long sum is not sound", dual_ledger_is_sound(start) == 1);
+    lines("K 0\n");
+}
+
 /* The deepest nest with a touching handle that names no node: the check finds it, and looks for its index. */
 static void spoiled(void) {
     nest(start, DEEPEST);
     start[129 + 12 * 64 * 3 + 6] = handle(1, 5, 7);
     must("a spoiled nest is not sound", dual_ledger_is_sound(start) == 1);
     calls(6, nested(DEEPEST - 1), DEEPEST);
+    lines("K 6\n");
     must("a spoiled nest passes the check", dual_ledger_sanity_check(start, 6, out, out + 1) == 0 && out[0] == 4);
 }
 
@@ -249,6 +277,7 @@ int main(int words, char **word) {
     FILE *file;
     if (words != 2) return 2;
     few();
+    long_sum();
     spoiled();
     for (size_t i = 0; i < sizeof depths / sizeof *depths; i++) {
         int levels = depths[i];
