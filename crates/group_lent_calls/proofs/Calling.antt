@@ -19,7 +19,11 @@ use Rattle.group_lent.proofs.Seen.{sound-in}
 use Rattle.group_lent_takes.specs.Made as made
 use Rattle.group_lent_takes.specs.Made.{maybeSeen}
 use Rattle.group_lent_takes.specs.declared.Top.{Top}
+use Rattle.group_lent_takes.specs.After.{grownWords}
 use Rattle.group_lent_stops.specs.Stops.{addedWords}
+use Rattle.group_lent_stops.proofs.Branches.{add-growth}
+use Rattle.group_lent_nodes.proofs.Named.{names-none}
+use Rattle.group_lent_nodes.proofs.Turns.{none-has}
 use Rattle.group_lent_extends.specs.Extends as extends
 use Rattle.group_lent_extends.specs.Extends.{extendedWords}
 use Rattle.group_lent_calls.specs.Calls.{Popped, addedBy, Added, extendedBy, Extended}
@@ -84,6 +88,12 @@ module _ (b ws : List ℕ) (S : SoundWords b) (G : SoundGroup ws) where
           words = A .words ∙ ap (addedWords ws f) w ∙ rw (sym e ∙ d);
           sound = A .sound;
         }
+
+    -- a growth names no node
+    pub add-grows : f .kind ≡ 1 → (r : ℕ) (after : List ℕ) → ((v : ℕ) → made.Added f v ws (grownWords ws f) r after) → Added b ws f r after
+    add-grows e r after A =
+        let v = vertexOf (view b) (obstacleOf f) in
+        add-goes false (none-has (gone (view b)) (handlesOf (obstacleOf f)) (names-none f e)) refl v refl r after (add-growth ws f v r after e (A v))
 
   -- ---- extend
   module _ (vs : List ℕ) (H : SoundGroup vs) where

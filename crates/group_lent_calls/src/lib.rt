@@ -31,12 +31,16 @@ pub fn pop(w: &mut [u64; GROUP], o: &mut [u64; OBSTACLE]) -> u8
     top.number
 }
 
-// STALE (8) where a node that the obstacle names is not present.
+// A growth names no node. STALE (8) where a node that the obstacle names is not present.
 pub fn add(b: &[u64; WORDS], w: &mut [u64; GROUP], o: &[u64; OBSTACLE]) -> u8
     requires { ⌜ SoundWords (now b) × SoundGroup (now w) ⌝ }
     requires { ⌜ isForm (fiveAt (now o) 0) ≡ true ⌝ }
     ensures { λ r. ⌜ Added (now (b .entry)) (now (w .entry)) (fiveAt (now (o .entry)) 0) r (now (w .exit)) ⌝ }
 {
+    if o[0] == 1 {
+        let g = group_lent::five_in(o);
+        return group_lent_takes::add_growth(w, g);
+    }
     let f = group_lent::five_in(o);
     if group_lent_nodes::names_gone(b, f) {
         return 8;
