@@ -93,7 +93,7 @@ module _ (b ws : List ℕ) (S : SoundWords b) (G : SoundGroup ws) where
     pub add-grows : f .kind ≡ 1 → (r : ℕ) (after : List ℕ) → ((v : ℕ) → made.Added f v ws (grownWords ws f) r after) → Added b ws f r after
     add-grows e r after A =
         let v = vertexOf (view b) (obstacleOf f) in
-        add-goes false (none-has (gone (view b)) (handlesOf (obstacleOf f)) (names-none f e)) refl v refl r after (add-growth ws f v r after e (A v))
+        add-goes false (none-has (staleCode (view b)) (handlesOf (obstacleOf f)) (names-none f e)) refl v refl r after (add-growth ws f v r after e (A v))
 
   -- ---- extend
   module _ (vs : List ℕ) (H : SoundGroup vs) where
