@@ -22,6 +22,7 @@ pub enum Obstacle {
 
 impl Obstacle {
     /// Words that are no handle are all one, and written as the first of them.
+    #[inline]
     fn words(self) -> ObstacleWords {
         let flag = u64::from;
         let hand = |node: Handle| node.min(Handle::NONE).word();
@@ -36,6 +37,7 @@ impl Obstacle {
     }
 
     /// None for the words of no obstacle.
+    #[inline]
     fn from_words(words: &[u64]) -> Option<Obstacle> {
         let at = |place: usize| Handle::from_word(words[place]).min(Handle::NONE);
         match words[0] {
@@ -75,6 +77,7 @@ pub struct Group(Option<Box<SoundGroup>>);
 
 impl Default for Group {
     /// The empty group: a growth of the largest weight.
+    #[inline]
     fn default() -> Self {
         Group(Some(SoundGroup::empty()))
     }
@@ -87,6 +90,7 @@ impl Clone for Group {
 }
 
 impl Drop for Group {
+    #[inline]
     fn drop(&mut self) {
         if let Some(words) = self.0.take() {
             SoundGroup::keep(words);
@@ -105,6 +109,7 @@ impl Eq for Group {}
 
 impl Group {
     /// The empty group.
+    #[inline]
     pub fn new() -> Group {
         Group::default()
     }
@@ -113,25 +118,30 @@ impl Group {
     ///
     /// # Errors
     /// [`Refusal::Broken`] where the words hold no sound group.
+    #[inline]
     pub fn from_words(words: &[u64; GROUP_WORDS]) -> Result<Group, Refusal> {
         SoundGroup::tested(words).map(|words| Group(Some(words))).ok_or(Refusal::Broken)
     }
 
     /// The words, to be kept or sent.
+    #[inline]
     pub fn words(&self) -> &[u64; GROUP_WORDS] {
         self.held().words()
     }
 
     /// They are taken out only when the group is dropped.
+    #[inline]
     fn held(&self) -> &SoundGroup {
         self.0.as_ref().expect("a group has words until it is dropped")
     }
 
+    #[inline]
     fn held_mut(&mut self) -> &mut SoundGroup {
         self.0.as_mut().expect("a group has words until it is dropped")
     }
 
     /// Whether no obstacle stands in the way: a growth of the largest weight.
+    #[inline]
     pub fn is_empty(&self) -> bool {
         let mut yes = 0;
         group::group_is_empty(self.held(), &mut yes);
@@ -139,6 +149,7 @@ impl Group {
     }
 
     /// Whether it is anything but the empty group.
+    #[inline]
     pub fn is_active(&self) -> bool {
         let mut yes = 0;
         group::group_is_active(self.held(), &mut yes);
@@ -149,6 +160,7 @@ impl Group {
     ///
     /// # Errors
     /// [`Refusal::Nothing`] for a growth of the largest weight.
+    #[inline]
     pub fn get_none_zero_growth(&self) -> Result<Option<i64>, Refusal> {
         let (mut asked, mut length) = (0, 0);
         let number = group::group_get_none_zero_growth(self.held(), &mut asked, &mut length);
@@ -159,6 +171,7 @@ impl Group {
     ///
     /// # Errors
     /// [`Refusal::Kind`] for a growth.
+    #[inline]
     pub fn peek(&self) -> Result<Option<Obstacle>, Refusal> {
         let mut words = [0; 5];
         settled(group::group_peek(self.held(), &mut words), Obstacle::from_words(&words))
@@ -168,6 +181,7 @@ impl Group {
     ///
     /// # Errors
     /// [`Refusal::Kind`] for a growth.
+    #[inline]
     pub fn pop(&mut self) -> Result<Option<Obstacle>, Refusal> {
         let mut words = [0; 5];
         settled(group::group_pop(self.held_mut(), &mut words), Obstacle::from_words(&words))
@@ -175,17 +189,20 @@ impl Group {
 
     /// Adds an obstacle; every node that it names must be present in the bench.
     #[doc = errors!(add)]
+    #[inline]
     pub fn add(&mut self, bench: &Bench, obstacle: Obstacle) -> Result<(), Refusal> {
         settled(group::group_add(&bench.0, self.held_mut(), &obstacle.words()), ())
     }
 
     /// Adds what another group holds; every node that it names must be present in the bench.
     #[doc = errors!(extend)]
+    #[inline]
     pub fn extend(&mut self, bench: &Bench, other: &Group) -> Result<(), Refusal> {
         settled(group::group_extend(&bench.0, self.held_mut(), other.held()), ())
     }
 
     /// Length and flag of a growth, of the largest weight too; none of conflicts.
+    #[inline]
     pub fn growth(&self) -> Option<(i64, bool)> {
         (self.words()[0] == 1).then_some((self.words()[1] as i64, self.words()[2] == 1))
     }
@@ -201,6 +218,7 @@ impl Group {
     }
 
     /// A growth says nothing by its counts.
+    #[inline]
     fn count(&self, word: usize) -> usize {
         if self.words()[0] == 2 {
             self.words()[word] as usize

@@ -121,6 +121,7 @@ impl SoundGroup {
         (any_group::group_is_sound(words) == 1).then(|| Box::new(SoundGroup(*words)))
     }
 
+    #[inline]
     pub fn words(&self) -> &GroupWords {
         &self.0
     }
@@ -134,6 +135,7 @@ impl SoundGroup {
 /// Each function by its name in the archive less `dual_ledger_` and the form.
 macro_rules! link {
     ($form:literal $($name:ident($($arg:ident: $type:ty),*) $(-> $number:ty)?;)*) => { $(
+        #[inline]
         pub fn $name($($arg: $type),*) $(-> $number)? {
             extern "C" {
                 #[link_name = concat!("dual_ledger_", $form, stringify!($name))]

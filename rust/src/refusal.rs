@@ -77,6 +77,7 @@ impl fmt::Display for Refusal {
 impl std::error::Error for Refusal {}
 
 /// What a number means for the value beside it.
+#[inline]
 pub(crate) fn settled<T>(number: u8, value: T) -> Result<T, Refusal> {
     match number {
         0 => Ok(value),

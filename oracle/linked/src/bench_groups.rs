@@ -4,6 +4,7 @@ use crate::bench::{full, once, Linked, Row};
 use dual_ledger::{Group, Obstacle};
 use oracle::timing::{keep, Original, Timed};
 use original::dual_module::{DualNodePtr, GroupMaxUpdateLength, MaxUpdateLength};
+use std::hint::black_box;
 
 const NODES: usize = 60;
 
@@ -64,12 +65,12 @@ fn growths(sides: &Sides) -> Row {
     let bench = &sides.ours.bench;
     let original = once(|_| {
         let mut group = GroupMaxUpdateLength::new();
-        (0..20).for_each(|at| group.add(MaxUpdateLength::NonZeroGrow((100 - at, false))));
+        (0..20).for_each(|at| group.add(MaxUpdateLength::NonZeroGrow((black_box(100 - at), false))));
         keep(group.get_none_zero_growth());
     });
     let trusted = once(|_| {
         let mut group = Group::new();
-        (0..20).for_each(|at| keep(group.add(bench, Obstacle::NonZeroGrow(100 - at, false)).is_ok()));
+        (0..20).for_each(|at| keep(group.add(bench, Obstacle::NonZeroGrow(black_box(100 - at), false)).is_ok()));
         keep(group.get_none_zero_growth());
     });
     row("group: growths", 21, original, trusted)
