@@ -70,6 +70,18 @@ fn the_worked_case() {
 }
 
 #[test]
+fn under_means_under() {
+    let mut bench = Bench::default();
+    let [a, b] = [1, 2].map(|vertex| bench.create_defect_node(0, vertex).unwrap());
+    let [over_a, over_b] = [a, b].map(|node| bench.create_blossom(0, &[node], &[]).unwrap());
+    let both = bench.create_blossom(0, &[over_a, over_b], &[[a, over_a], [a, over_b]]).unwrap();
+    assert_eq!((bench.sanity_check(0), bench.strict_check(0)), (Ok(Verdict::Sound), Ok(Verdict::NotUnder(3))));
+    bench.expand_blossom(0, both).unwrap();
+    bench.create_blossom(0, &[over_a, over_b], &[[a, over_a], [b, over_b]]).unwrap();
+    assert_eq!(bench.strict_check(0), Ok(Verdict::Sound));
+}
+
+#[test]
 fn words_there_and_back() {
     let mut bench = Bench::new(7).unwrap();
     bench.create_defect_node(3, 1).unwrap();

@@ -1,3 +1,4 @@
 pub mod Touching
+pub mod Arriving
 pub mod Standing
 pub mod Circling

@@ -3,7 +3,6 @@ use Prim.Native.Nat.{ℕ, _<_, _≤_}
 use mathlib.Core.Path.{_≡_, refl, ap, sym, _∙_}
 use mathlib.Core.Bool.{Bool, true, false, not, _&&_, _||_, true≢false}
 use mathlib.Core.Option.{Option, none, some}
-use native.Mathlib.Omega.{arith}
 use borrow.Author.Tests.{le-ltb, lt-ltb}
 use lib.Dec.{eqb}
 use Rattle.kinds.specs.declared.Handle.{Handle as Code}
@@ -12,10 +11,8 @@ use Rattle.ledger_spec.specs.Bench.{Handle, Member, Node, Bench}
 use Rattle.ledger_spec.specs.Look.{nodeNamed, sameHandle}
 use Rattle.ledger_spec.specs.Named.{handleNamed}
 use Rattle.ledger_spec.specs.Tests.{stale, isSome, isDefect}
-use Rattle.ledger_spec.specs.Walk.{parentIn, outermost}
+use Rattle.ledger_spec.specs.Walk.{outermost}
 use Rattle.ledger_spec.specs.Check.{memberVerdict, isUnder}
-use Rattle.ledger_spec.proofs.Knit.{none-some, same-handle}
-use Rattle.ledger_spec.proofs.Chains.{outer-none}
 use Rattle.ledger_laws.proofs.Steps.{member-defect, member-two, strict-defect, strict-blossom}
 use Rattle.check_circles.specs.Found.{larger, ownBy, touchVerdict, underVerdict, touchBy, memberBy}
 
@@ -63,56 +60,9 @@ module _ (b : Bench) (o t : Handle) where
     unfolding touchVerdict
     touch-far f = rw (ap (λ (x : Option Node). not (isSome x)) e, f, touchVerdict)
 
--- ---- strictly
-abbrev six : Bool → ℕ
-six c = elim c [ true ↦ 0 | false ↦ 6 ]
-
-and-no : (c : Bool) → 6 ≡ six (c && false)
-and-no true = refl
-and-no false = refl
-
-and-yes : (c : Bool) → six (c && true) ≡ six c
-and-yes true = refl
-and-yes false = refl
-
-module _ (b : Bench) (m o t : Handle) where
-  pub under-self : sameHandle t m ≡ true → 0 ≡ underVerdict b m o t
-  unfolding underVerdict
-  under-self e = rw (e, underVerdict)
-
-  module _ (e : sameHandle t m ≡ false) where
-    pub under-newer : m .serial ≤ t .serial → 6 ≡ underVerdict b m o t
-    unfolding underVerdict
-    under-newer l = rw (e, le-ltb (t .serial) (m .serial) l, underVerdict) (and-no (sameHandle (outermost b t) o))
-
-    module _ (l : t .serial < m .serial) where
-      by-outer : underVerdict b m o t ≡ six (sameHandle (outermost b t) o)
-      unfolding underVerdict
-      by-outer = rw (e, lt-ltb (t .serial) (m .serial) l, underVerdict) (and-yes (sameHandle (outermost b t) o))
-
-      module _ (n : Node) (p : nodeNamed b o ≡ some n) where
-        -- what is gone is its own outermost blossom, which o is not
-        apart : nodeNamed b t ≡ none → sameHandle (outermost b t) o ≡ false
-        apart z = go (sameHandle (outermost b t) o) refl
-          where
-            go : (c : Bool) → sameHandle (outermost b t) o ≡ c → sameHandle (outermost b t) o ≡ false
-            go true f = absurd (none-some (ap (nodeNamed b) (sym (same-handle (outermost b t) o f) ∙ outer-none b 512 t (ap parentIn z)) ∙ z) p)
-            go false f = f
-
-        pub under-by : (k : ℕ) → k ≡ touchVerdict b o t → (k ≡ 0 → 0 ≡ underVerdict b m o t) × ((k ≡ 0 → ⊥) → 6 ≡ underVerdict b m o t)
-        under-by k q = go (nodeNamed b t) refl
-          where
-            go : (x : Option Node) → nodeNamed b t ≡ x → (k ≡ 0 → 0 ≡ underVerdict b m o t) × ((k ≡ 0 → ⊥) → 6 ≡ underVerdict b m o t)
-            go none z = (λ r. absurd (omega (arith, r, q, touch-gone b o t z)), λ r. sym (by-outer ∙ rw (apart z)))
-            go (some n′) z = near (sameHandle (outermost b t) o) refl
-              where
-                near : (c : Bool) → sameHandle (outermost b t) o ≡ c → (k ≡ 0 → 0 ≡ underVerdict b m o t) × ((k ≡ 0 → ⊥) → 6 ≡ underVerdict b m o t)
-                near true f = (λ r. sym (by-outer ∙ rw f), λ r. absurd (r (q ∙ sym (touch-near b o t n′ z f))))
-                near false f = (λ r. absurd (omega (arith, r, q, touch-far b o t n′ z f)), λ r. sym (by-outer ∙ rw f))
-
 -- ---- either
 module _ (b : Bench) (m o t : Handle) where
-  pub by-strict : (s : Bool) → s ≡ true → touchBy s b m o t ≡ underVerdict b m o t
+  pub by-strict : (s : Bool) → s ≡ true → touchBy s b m o t ≡ underVerdict b m t
   unfolding touchBy
   by-strict s e = rw (e, touchBy)
 
@@ -126,6 +76,9 @@ larger-second x y l = rw (lt-ltb x y l, larger)
 
 pub larger-first : (x y : ℕ) → y ≤ x → x ≡ larger x y
 larger-first x y l = rw (le-ltb x y l, larger)
+
+abbrev six : Bool → ℕ
+six c = elim c [ true ↦ 0 | false ↦ 6 ]
 
 sixes : (x y : Bool) → larger (six x) (six y) ≡ six (x && y)
 sixes true true = refl
@@ -163,9 +116,8 @@ module _ (b : Bench) (m : Member) where
 
   pub member-larger : isDefect (nodeNamed b (m .node)) ≡ false → (s : Bool) (o : Handle) → o ≡ outermost b (m .node)
       → larger (touchBy s b (m .node) o (m .touch .0)) (touchBy s b (m .node) o (m .touch .1)) ≡ memberBy s b m
-  unfolding touchBy memberBy underVerdict isUnder touchVerdict memberVerdict
-  member-larger d true o e = ap (λ (x : Handle). larger (underVerdict b (m .node) x (m .touch .0)) (underVerdict b (m .node) x (m .touch .1))) e
-      ∙ sixes (isUnder b (m .touch .0) (m .node)) (isUnder b (m .touch .1) (m .node)) ∙ sym (ap six (strict-blossom b m d))
+  unfolding touchBy memberBy underVerdict touchVerdict memberVerdict
+  member-larger d true o e = sixes (isUnder b (m .touch .0) (m .node)) (isUnder b (m .touch .1) (m .node)) ∙ sym (ap six (strict-blossom b m d))
   member-larger d false o e = ap (λ (x : Handle). larger (touchVerdict b x (m .touch .0)) (touchVerdict b x (m .touch .1))) e
       ∙ fours (stale b (m .touch .0)) (stale b (m .touch .1)) (sameHandle (outermost b (m .touch .0)) (outermost b (m .node))) (sameHandle (outermost b (m .touch .1)) (outermost b (m .node)))
       ∙ rw (d, memberVerdict)

@@ -1,7 +1,7 @@
 -- What the check finds in a circle, plainly or strictly. Assumes nothing.
 use Prim.Native.Nat.{ℕ, zero, suc}
 use mathlib.Core.Path.{_≡_}
-use mathlib.Core.Bool.{Bool, true, false, _&&_, _||_}
+use mathlib.Core.Bool.{Bool, true, false, _&&_}
 use mathlib.Core.List.{List, [], _∷_}
 use lib.Dec.{ltb}
 use Rattle.bench_words.specs.Store.{nodeAt}
@@ -10,7 +10,7 @@ use Rattle.ledger_spec.specs.Look.{sameHandle}
 use Rattle.ledger_spec.specs.Named.{handleNamed}
 use Rattle.ledger_spec.specs.Tests.{stale}
 use Rattle.ledger_spec.specs.Walk.{outermost}
-use Rattle.ledger_spec.specs.Check.{memberVerdict, strictMember}
+use Rattle.ledger_spec.specs.Check.{memberVerdict, isUnder, strictMember}
 use Rattle.bench_views.specs.View.{view, circleOf}
 use Rattle.bench_links.specs.Find.{Stands}
 use Rattle.check_circles.specs.declared.Finding.{Finding}
@@ -28,11 +28,11 @@ unfoldable pub touchVerdict : Bench → Handle → Handle → ℕ
 touchVerdict b o t = elim (stale b t) [ true ↦ 4 | false ↦ elim (sameHandle (outermost b t) o) [ true ↦ 0 | false ↦ 3 ] ]
 
 -- strictly, of a blossom m: 6 if it is not under m
-unfoldable pub underVerdict : Bench → Handle → Handle → Handle → ℕ
-underVerdict b m o t = elim (sameHandle t m || (sameHandle (outermost b t) o && ltb (t .serial) (m .serial))) [ true ↦ 0 | false ↦ 6 ]
+unfoldable pub underVerdict : Bench → Handle → Handle → ℕ
+underVerdict b m t = elim (isUnder b t m) [ true ↦ 0 | false ↦ 6 ]
 
 unfoldable pub touchBy : Bool → Bench → Handle → Handle → Handle → ℕ
-touchBy true b m o t = underVerdict b m o t
+touchBy true b m o t = underVerdict b m t
 touchBy false b m o t = touchVerdict b o t
 
 -- of a member, and the first of a circle

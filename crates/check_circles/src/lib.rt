@@ -1,9 +1,10 @@
 // The members of one circle, checked in circle order: a defect touches by itself (else 2), a blossom by present nodes (else 4) of its outermost blossom
-// (else 3), and strictly by nodes under it (else 6). Everything here only reads. Assumes nothing.
+// (else 3), and strictly by nodes under it, from which parents lead to it (else 6). Everything here only reads. Assumes nothing.
 use bench_links::Found;
 use bench_words::WORDS;
 use kinds::Class;
 use kinds::Handle;
+use kinds::Parent;
 ghost use mathlib.Core.Path.{_≡_};
 ghost use Prim.Native.Nat.{_<_};
 ghost use Rattle.bench_words.specs.Store.{nodeAt};
@@ -67,22 +68,50 @@ fn touch_verdict(b: &[u64; WORDS], outer: Handle, h: Handle) -> u8
     }
 }
 
-// The same, strictly.
-fn under_verdict(b: &[u64; WORDS], own: Handle, outer: Handle, h: Handle) -> u8
+// Strictly: from a present node up by its parents, until the member is met or there is no parent. The loop's own count is the fuel of the definition.
+fn rise(b: &[u64; WORDS], own: Handle, h: Handle) -> u8
     requires { ⌜ Fit (now b) ⌝ }
-    requires { ⌜ Stands (now b) (handleNamed outer) ⌝ }
-    ensures { λ r. ⌜ r ≡ underVerdict (view (now (b .entry))) (handleNamed own) (handleNamed outer) (handleNamed h) ⌝ }
+    requires { ⌜ Stands (now b) (handleNamed h) ⌝ }
+    ensures { λ r. ⌜ r ≡ underVerdict (view (now (b .entry))) (handleNamed own) (handleNamed h) ⌝ }
+{
+    let mut at = h;
+    let mut links: u64 = 0;
+    while links < 512 {
+        if at.same(own) {
+            return 0;
+        }
+        let k = (at.unit as usize) * 64 + (at.slot as usize);
+        let n = bench_words::load_node(b, k);
+        let parent = n.parent;
+        match parent {
+            Parent::Outermost => {
+                return 6;
+            }
+            Parent::Inside(q) => {
+                at = q;
+                links = links + 1;
+            }
+        }
+    }
+    if at.same(own) {
+        return 0;
+    }
+    6
+}
+
+// One touching handle of a blossom, strictly.
+fn under_verdict(b: &[u64; WORDS], own: Handle, h: Handle) -> u8
+    requires { ⌜ Fit (now b) ⌝ }
+    ensures { λ r. ⌜ r ≡ underVerdict (view (now (b .entry))) (handleNamed own) (handleNamed h) ⌝ }
 {
     if h.same(own) {
         return 0;
     }
-    if own.serial.0 <= h.serial.0 {
-        return 6;
+    let found = bench_links::find(b, h);
+    match found {
+        Found::Stale => 6,
+        Found::At(_) => rise(b, own, h),
     }
-    if touch_verdict(b, outer, h) != 0 {
-        return 6;
-    }
-    0
 }
 
 fn touch(b: &[u64; WORDS], own: Handle, outer: Handle, h: Handle, strict: bool) -> u8
@@ -91,7 +120,7 @@ fn touch(b: &[u64; WORDS], own: Handle, outer: Handle, h: Handle, strict: bool) 
     ensures { λ r. ⌜ r ≡ touchBy strict (view (now (b .entry))) (handleNamed own) (handleNamed outer) (handleNamed h) ⌝ }
 {
     if strict {
-        return under_verdict(b, own, outer, h);
+        return under_verdict(b, own, h);
     }
     touch_verdict(b, outer, h)
 }

@@ -29,3 +29,4 @@ pub mod Clean
 pub mod Made
 pub mod Never
 pub mod Stale
+pub mod Strict

@@ -1,4 +1,5 @@
--- What it is for a tree to pass the check: the sum is right, every vertex single, every touching handle passes the Rust's weak test. Assumes nothing.
+-- What it is for a tree to pass the check: the sum is right, every vertex single, every touching handle passes the Rust's weak test; and the strict
+-- check: each touching node of a blossom is under it. Assumes nothing.
 use Prim.Native.Nat.{ℕ}
 use mathlib.Core.Path.{_≡_}
 use mathlib.Core.Bool.{true, false}
@@ -8,7 +9,7 @@ use lib.ListN.{getD}
 use Rattle.ledger_spec.specs.Bench.{Handle, Member, defect, blossom, Node, Bench}
 use Rattle.ledger_spec.specs.Look.{interface, nodeNamed}
 use Rattle.ledger_spec.specs.Tests.{isDefect}
-use Rattle.ledger_spec.specs.Walk.{outermost}
+use Rattle.ledger_spec.specs.Walk.{parentIn, outermost}
 use Rattle.ledger_spec.specs.Reads.{slotsOf}
 use Rattle.ledger_spec.specs.Check.{totalOf}
 use Rattle.ledger_spec.specs.Knit.{In}
@@ -44,3 +45,13 @@ pub record Ordered (b : Bench) (u : ℕ) : Type 0 where
 pub record Clean (b : Bench) (u : ℕ) : Type 0 where
   pub sum : interface b u .sum ≡ totalOf (slotsOf b u)
   pub ordered : Ordered b u
+
+-- t is under m: it is m, or its parent is under m
+pub data Descends (b : Bench) (m : Handle) : Handle → Type 0 where
+  itself : Descends b m m
+  inside : {t : Handle} (p : Handle) → parentIn (nodeNamed b t) ≡ some p → Descends b m p → Descends b m t
+
+pub record Strict (b : Bench) (u : ℕ) : Type 0 where
+  pub clean : Clean b u
+  pub under : (t : Entry) (n : Node) (ms : List Member) (m : Member) → In t (slotsOf b u) → t .2 ≡ some n → n .class ≡ blossom ms → In m ms
+      → isDefect (nodeNamed b (m .node)) ≡ false → Descends b (m .node) (m .touch .0) × Descends b (m .node) (m .touch .1)

@@ -3,7 +3,7 @@ use Prim.Native.Nat.{ℕ, zero, suc}
 use mathlib.Core.Bool.{Bool, true, false, _||_, _&&_}
 use mathlib.Core.Option.{Option, none, some}
 use mathlib.Core.List.{List, [], _∷_}
-use lib.Dec.{eqb, ltb}
+use lib.Dec.{eqb}
 use lib.IntN.{ℤ, pos, _+ℤ_, _-ℤ_, natAbs}
 use Rattle.ledger_spec.specs.Bench.{Handle, Member, defect, blossom, Node, Bench}
 use Rattle.ledger_spec.specs.Look.{interface, nodeNamed, sameHandle}
@@ -11,7 +11,7 @@ use Rattle.ledger_spec.specs.Change.{worth}
 use Rattle.ledger_spec.specs.Tests.{first, any, stale, isDefect}
 use Rattle.ledger_spec.specs.Refuse.{unitTests}
 use Rattle.ledger_spec.specs.Reads.{said, slotsOf}
-use Rattle.ledger_spec.specs.Walk.{outermost}
+use Rattle.ledger_spec.specs.Walk.{parentIn, outermost}
 
 -- the index of a place in a list of slots
 unfoldable pub indexIn : List (ℕ × ℕ × Option Node) → ℕ → Handle → ℕ
@@ -54,8 +54,15 @@ verdict b u = let w : ℕ × ℕ = finding b (slotsOf b u) (slotsOf b u) [] 0 in
     elim (w .0) [ suc k ↦ w | zero ↦ elim (eqb (natAbs (interface b u .sum -ℤ totalOf (slotsOf b u))) 0) [ true ↦ (0, 0) | false ↦ (5, 0) ] ]
 
 -- ---- the strict check: as above if not 0; else 6, if a blossom member touches by a node that is not under it
+
+-- whether t is m, or following its parents arrives at m, within so many links
+unfoldable pub arrives : ℕ → Bench → Handle → Handle → Bool
+arrives zero b t m = sameHandle t m
+arrives (suc k) b t m = sameHandle t m || elim (parentIn (nodeNamed b t)) [ none ↦ false | some p ↦ arrives k b p m ]
+
+-- a bench has 512 slots
 unfoldable pub isUnder : Bench → Handle → Handle → Bool
-isUnder b t m = sameHandle t m || (sameHandle (outermost b t) (outermost b m) && ltb (t .serial) (m .serial))
+isUnder b t m = arrives 512 b t m
 
 unfoldable pub strictMember : Bench → Member → Bool
 strictMember b m = elim (isDefect (nodeNamed b (m .node))) [ true ↦ true | false ↦ isUnder b (m .touch .0) (m .node) && isUnder b (m .touch .1) (m .node) ]

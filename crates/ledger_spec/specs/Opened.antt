@@ -14,7 +14,7 @@ use Rattle.ledger_spec.specs.Calls.{settle, setUpCall, defectCall, bloss
 use Rattle.ledger_spec.specs.Notices.{tells}
 use Rattle.ledger_spec.specs.Reads.{said, slotsFrom, gather, sumOf, speedOf, countOf, indexTests, handleAtIndex, nodeTests, valueOf, belongs}
 use Rattle.ledger_spec.specs.Walk.{outerFrom, linksFrom, belowFrom, each, verticesFrom, outerOf, belowTests, belowOf, firstVertex, sizeTests, verticesInto}
-use Rattle.ledger_spec.specs.Check.{indexIn, memberVerdict, circleVerdict, finding, totalOf, verdict, isUnder, strictMember, strictCircle, strictFinding, strictVerdict, checkOf, strictOf}
+use Rattle.ledger_spec.specs.Check.{indexIn, memberVerdict, circleVerdict, finding, totalOf, verdict, arrives, isUnder, strictMember, strictCircle, strictFinding, strictVerdict, checkOf, strictOf}
 use Rattle.ledger_spec.specs.SoundTree.{all, tally, linksUp, linksDown, soundInterface, reach}
 use Rattle.ledger_spec.specs.Sound.{sound, soundClass, soundParent, soundSlot, rates, soundTop, serials, different}
 use Rattle.ledger_spec.specs.Answers.{told, whole, broken, answer, ask}
@@ -30,7 +30,7 @@ use Rattle.ledger_spec.specs.Bytes.{bytes}
 
 -- the bytes that lines answer, from a bench
 unfoldable pub run : Bench → String → List ℕ
-unfolding nodeNamed ifSerial climb tree push place mark markAll faster first any twice both unitTests defectTests blossomTests expandTests stateTests growTests fuseTests addDefect addBlossom removeBlossom growBy join wipe circle sizes growSlot across settle setUpCall defectCall blossomCall expandCall stateCall growCall fuseCall clearCall perform tells said slotsFrom gather sumOf speedOf countOf indexTests handleAtIndex nodeTests valueOf belongs outerFrom linksFrom belowFrom each verticesFrom outerOf belowTests belowOf firstVertex sizeTests verticesInto indexIn memberVerdict circleVerdict finding totalOf verdict isUnder strictMember strictCircle strictFinding strictVerdict checkOf strictOf all tally linksUp linksDown soundInterface reach sound soundClass soundParent soundSlot rates soundTop serials different told whole broken answer ask allListable risingFrom soundGroup roomFor frontOf backOf meet placed addStop addToGrowth addToConflicts added smallerPair addStops extended lastOf allButLast groupTests takeTests isEmpty isActive growthOf peek pop handlesOf listHandles stopHandles add extend digits decimal signed afterDigits natural between integer upto partsAfter step allSerials rest lineOf seek named shown calls checks says ended linesOf answers afterLines textOf texts program wrote writes turn turns bytes
+unfolding nodeNamed ifSerial climb tree push place mark markAll faster first any twice both unitTests defectTests blossomTests expandTests stateTests growTests fuseTests addDefect addBlossom removeBlossom growBy join wipe circle sizes growSlot across settle setUpCall defectCall blossomCall expandCall stateCall growCall fuseCall clearCall perform tells said slotsFrom gather sumOf speedOf countOf indexTests handleAtIndex nodeTests valueOf belongs outerFrom linksFrom belowFrom each verticesFrom outerOf belowTests belowOf firstVertex sizeTests verticesInto indexIn memberVerdict circleVerdict finding totalOf verdict arrives isUnder strictMember strictCircle strictFinding strictVerdict checkOf strictOf all tally linksUp linksDown soundInterface reach sound soundClass soundParent soundSlot rates soundTop serials different told whole broken answer ask allListable risingFrom soundGroup roomFor frontOf backOf meet placed addStop addToGrowth addToConflicts added smallerPair addStops extended lastOf allButLast groupTests takeTests isEmpty isActive growthOf peek pop handlesOf listHandles stopHandles add extend digits decimal signed afterDigits natural between integer upto partsAfter step allSerials rest lineOf seek named shown calls checks says ended linesOf answers afterLines textOf texts program wrote writes turn turns bytes
 run b s = texts (answers b (linesOf (bytes s)))
 
 -- the bench after lines

@@ -37,6 +37,19 @@ elders = Defect 0 1 ∷ ring (at 0 1) ∷ Defect 0 2 ∷ ring (at 2 3) ∷ Defec
 abbrev pub left : List Call
 left = Defect 0 1 ∷ ring (at 0 1) ∷ Grow 0 (pos 3) ∷ Expand 0 (at 1 2) ∷ []
 
+-- a nephew: a node in the member next to the right one
+abbrev pub nephew : List Call
+nephew = Defect 0 1 ∷ Defect 0 2 ∷ ring (at 0 1) ∷ ring (at 1 2) ∷ Blossom 0 (at 2 3 ∷ at 3 4 ∷ []) ((at 0 1, at 2 3) ∷ (at 0 1, at 3 4) ∷ []) ∷ []
+
+-- a node two levels down, and the member itself
+abbrev pub below : List Call
+below = Defect 0 1 ∷ ring (at 0 1) ∷ ring (at 1 2) ∷ Defect 0 2 ∷ ring (at 3 4) ∷ Blossom 0 (at 2 3 ∷ at 4 5 ∷ []) ((at 0 1, at 1 2) ∷ (at 4 5, at 3 4) ∷ []) ∷ []
+
+-- a newer cousin, and before it a nephew
+abbrev pub both : List Call
+both = Defect 0 1 ∷ Defect 0 2 ∷ Defect 0 3 ∷ ring (at 0 1) ∷ ring (at 1 2) ∷ ring (at 2 3)
+    ∷ Blossom 0 (at 3 4 ∷ at 4 5 ∷ at 5 6 ∷ []) ((at 1 2, at 1 2) ∷ (at 5 6, at 5 6) ∷ (at 5 6, at 5 6) ∷ []) ∷ []
+
 -- calls, the interface checked, number, verdict and index
 abbrev pub table : List (List Call × ℕ × (ℕ × (ℕ × ℕ)))
 table =
@@ -70,7 +83,10 @@ abbrev pub strictTable : List (List Call × ℕ × (ℕ × (ℕ × ℕ)))
 strictTable =
     (cousins, 0, (0, (6, 2)))
     ∷ (nested, 0, (0, (3, 2)))
-    ∷ (nested ++ (Blossom 0 (at 3 4 ∷ at 1 2 ∷ []) [] ∷ []), 0, (0, (0, 0)))
+    ∷ (nested ++ (Blossom 0 (at 3 4 ∷ at 1 2 ∷ []) [] ∷ []), 0, (0, (6, 2)))
+    ∷ (nephew, 0, (0, (6, 3)))
+    ∷ (below, 0, (0, (0, 0)))
+    ∷ (both, 0, (0, (6, 3)))
     ∷ (left, 0, (0, (5, 0)))
     ∷ ([], 8, (3, (0, 0)))
     ∷ []

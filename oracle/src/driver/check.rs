@@ -85,10 +85,16 @@ impl Driver {
         }
         for (member, first, second) in self.places(unit)? {
             let member = member.upgrade_force();
-            let serial = self.nodes.serial_of(&member);
             let is_under = |touch: DualNodeWeak| {
-                let touch = touch.upgrade_force();
-                touch == member || (touch.get_ancestor_blossom() == member.get_ancestor_blossom() && self.nodes.serial_of(&touch) < serial)
+                let mut at = touch.upgrade_force();
+                while at != member {
+                    let parent = at.read_recursive().parent_blossom.clone();
+                    match parent {
+                        Some(parent) => at = parent.upgrade_force(),
+                        None => return false,
+                    }
+                }
+                true
             };
             let is_blossom = member.read_recursive().class.is_blossom();
             if is_blossom && !(is_under(first) && is_under(second)) {

@@ -57,8 +57,8 @@ impl Bench {
         (0, 0)
     }
 
-    /// The member itself, or with the same outermost blossom and a smaller serial.
+    /// The member itself, or a node whose parents lead to it.
     fn is_under(&self, h: Handle, member: Handle) -> bool {
-        h == member || (self.outermost(h) == self.outermost(member) && h.serial < member.serial)
+        self.chain(h).contains(&member)
     }
 }
