@@ -5,3 +5,4 @@ pub mod Once
 pub mod Agree
 pub mod Texting
 pub mod Writing
+pub mod Only
