@@ -6,6 +6,8 @@
 //   words 16 u + 8 .. + 16    zero: room for later fields of interface u
 //   words 128 + 12 k + 1 ..   node k = 64 * interface + slot: serial, class, state, parent, place, next, two touching handles,
 //                    .. + 12  bias + 2^60, size, first member, members
+pub mod coding; // whether words are the code of what is loaded from them
+
 use kinds::Class;
 use kinds::GrowState;
 use kinds::Handle;
@@ -16,7 +18,6 @@ ghost use mathlib.Core.Path.{_≡_};
 ghost use lib.ListN.{length, getD, set};
 ghost use Prim.Native.Nat.{_+_, _*_, _<_};
 ghost use Rattle.bench_words.specs.Codec.{stateOf, stateWord, handleOf, handleWord, classOf, classWord, parentOf, parentWord, upOf, upWord};
-ghost use Rattle.bench_words.specs.Coding.{blankAt, codedAt, spareAt, linkAt};
 ghost use Rattle.bench_words.specs.Store.{nodeAt, storeNode, interfaceAt, storeInterface};
 
 pub const WORDS: usize = 6273;
@@ -249,62 +250,4 @@ pub fn store_node(b: &mut [u64; WORDS], k: usize, n: Node)
     b[at + 10] = n.size;
     b[at + 11] = n.first;
     b[at + 12] = n.count;
-}
-
-// Whether words are the code of what is loaded from them: the sound test's only view of single words.
-
-// The slot holds nothing at all.
-pub fn is_blank(b: &[u64; WORDS], k: usize) -> bool
-    requires { ⌜ k < 512 ⌝ }
-    ensures { λ r. ⌜ r ≡ blankAt (now (b .entry)) k ⌝ }
-{
-    let at = 128 + k * 12;
-    (b[at + 1] == 0)
-        & ((b[at + 2] == 0)
-            & ((b[at + 3] == 0)
-                & ((b[at + 4] == 0)
-                    & ((b[at + 5] == 0)
-                        & ((b[at + 6] == 0)
-                            & ((b[at + 7] == 0)
-                                & ((b[at + 8] == 0)
-                                    & ((b[at + 9] == 0)
-                                        & ((b[at + 10] == 0)
-                                            & ((b[at + 11] == 0) & (b[at + 12] == 0)))))))))))
-}
-
-// Serial, class, state, parent and touching handles of a node have no stray bits. Its other words are numbers as they stand.
-pub fn is_coded(b: &[u64; WORDS], k: usize) -> bool
-    requires { ⌜ k < 512 ⌝ }
-    ensures { λ r. ⌜ r ≡ codedAt (now (b .entry)) k ⌝ }
-{
-    let at = 128 + k * 12;
-    (b[at + 1] < 4294967296)
-        & ((b[at + 2] < 4294967298)
-            & ((b[at + 3] <= 2)
-                & ((b[at + 4] <= 2199023255552)
-                    & ((b[at + 7] < 2199023255552) & (b[at + 8] < 2199023255552)))))
-}
-
-// The words that no interface has yet are zero.
-pub fn is_spare(b: &[u64; WORDS], u: usize) -> bool
-    requires { ⌜ u < 8 ⌝ }
-    ensures { λ r. ⌜ r ≡ spareAt (now (b .entry)) u ⌝ }
-{
-    let at = u * 16;
-    (b[at + 8] == 0)
-        & ((b[at + 9] == 0)
-            & ((b[at + 10] == 0)
-                & ((b[at + 11] == 0)
-                    & ((b[at + 12] == 0)
-                        & ((b[at + 13] == 0)
-                            & ((b[at + 14] == 0) & ((b[at + 15] == 0) & (b[at + 16] == 0))))))))
-}
-
-// The word of an interface's parent names one of eight.
-pub fn is_link(b: &[u64; WORDS], u: usize) -> bool
-    requires { ⌜ u < 8 ⌝ }
-    ensures { λ r. ⌜ r ≡ linkAt (now (b .entry)) u ⌝ }
-{
-    let at = u * 16;
-    b[at + 5] <= 8
 }

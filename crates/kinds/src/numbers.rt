@@ -62,3 +62,26 @@ pub const ROOM: u8 = 20;
 
 // Growth asked of the largest weight.
 pub const NOTHING: u8 = 21;
+
+// Numbers of later requests, each given from when its request has landed. Their order among the others is that of the tests, not of the numbers.
+
+// Moving a record back: a touching pair that is not the member.
+pub const SELF: u8 = 22;
+
+// A file of records, or a text to be moved, that does not fit its form.
+pub const FILE: u8 = 23;
+
+// Picture: the check does not say 0.
+pub const UNSOUND: u8 = 24;
+
+// Growth of a floored tree: a shrinking node would fall below 0.
+pub const BELOW: u8 = 25;
+
+// A mark given late; fuse: one half floored and the other not.
+pub const MARK: u8 = 26;
+
+// Recorded growth: conflicts, or a growth of 0 or less.
+pub const STUCK: u8 = 27;
+
+// Recorded growth: no group left.
+pub const SHORT: u8 = 28;

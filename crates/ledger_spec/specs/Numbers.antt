@@ -82,3 +82,26 @@ ROOM = 20
 
 abbrev pub NOTHING : ℕ
 NOTHING = 21
+
+-- ---- of later requests, each given from when its request has landed; a call's list of tests says where they come among the others
+
+abbrev pub SELF : ℕ
+SELF = 22
+
+abbrev pub FILE : ℕ
+FILE = 23
+
+abbrev pub UNSOUND : ℕ
+UNSOUND = 24
+
+abbrev pub BELOW : ℕ
+BELOW = 25
+
+abbrev pub MARK : ℕ
+MARK = 26
+
+abbrev pub STUCK : ℕ
+STUCK = 27
+
+abbrev pub SHORT : ℕ
+SHORT = 28

@@ -55,7 +55,7 @@ fn is_node(b: &[u64; WORDS], u: usize, s: usize, g: Ground) -> bool
     ensures { λ r. ⌜ r ≡ nodeTest (now (b .entry)) u s ⌝ }
 {
     let k = u * 64 + s;
-    if !bench_words::is_coded(b, k) {
+    if !bench_words::coding::is_coded(b, k) {
         return false;
     }
     let next = bench_words::load_next(b);
@@ -81,7 +81,7 @@ fn is_slot(b: &[u64; WORDS], u: usize, s: usize, used: u64, g: Ground) -> bool
     requires { ⌜ Grounds (now b) u g ⌝ }
     ensures { λ r. ⌜ r ≡ slotTest (now (b .entry)) used u s ⌝ }
 {
-    if bench_words::is_blank(b, u * 64 + s) {
+    if bench_words::coding::is_blank(b, u * 64 + s) {
         return true;
     }
     if used <= (s as u64) {

@@ -67,7 +67,7 @@ fn is_interface(b: &[u64; WORDS], u: usize) -> bool
 {
     let f = bench_words::load_interface(b, u);
     let p = f.parent;
-    let coded = bench_words::is_spare(b, u) & bench_words::is_link(b, u);
+    let coded = bench_words::coding::is_spare(b, u) & bench_words::coding::is_link(b, u);
     let ranged = (f.used <= 64) & (f.progress <= 1099511627776);
     coded & (ranged & (is_half(b, p, u) & are_halves(b, f.left, f.right, u)))
 }
