@@ -6,3 +6,4 @@ pub mod Agree
 pub mod Texting
 pub mod Writing
 pub mod Only
+pub mod OnlyText

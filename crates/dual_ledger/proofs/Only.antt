@@ -1,6 +1,6 @@
 -- No second answer, by name, for each exported function (include/dual_ledger.h): two results that meet its contract are one, with every word that it wrote.
--- Where the contract is an equation with a definition, by its form; else by the theorem of its form: Once, here, of group_lent_any and of link_text, which says
--- of chunks and lines what is left open; the exported text lines and `dual_ledger_text_end` have no theorem of their own. Assumes nothing.
+-- Where the contract is an equation with a definition, by its form; else by the theorem of its form: Once, here, of group_lent_any, and of link_text for
+-- chunks and the input's end; the exported text lines stand in OnlyText. Assumes nothing.
 use Prim.Native.Nat.{ℕ}
 use mathlib.Core.Path.{_≡_, sym, _∙_}
 use mathlib.Core.Bool.{Bool, false}

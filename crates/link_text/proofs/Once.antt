@@ -7,7 +7,7 @@ use mathlib.Core.Bool.{Bool, true, false}
 use mathlib.Core.List.{List}
 use native.Mathlib.Decide.{ℕ-discrete}
 use native.Mathlib.Omega.{arith}
-use lib.ListN.{length, take}
+use lib.ListN.{length, take, replicate, length-replicate}
 use lib.Seq.{length-take-le}
 use Rattle.bench_views.specs.View.{view}
 use Rattle.bench_views.specs.Fit.{SoundWords}
@@ -17,10 +17,11 @@ use Rattle.text_chunks.specs.Chunks.{left}
 use Rattle.text_numbers.specs.declared.Reply.{Reply}
 use Rattle.text_numbers.specs.Numbers.{numbersOf}
 use Rattle.text_calls.specs.Turned.{Turned}
+use Rattle.ledger_spec.specs.Bench.{setUp}
 use Rattle.ledger_spec.specs.Grammar.{Line, lineOf}
-use Rattle.text_sessions.specs.Session.{ChunkDone}
+use Rattle.text_sessions.specs.Session.{ChunkDone, Finished}
 use Rattle.sound_bench.specs.Sound.{soundWords}
-use Rattle.link_text.specs.Text.{ChunkBy, ChunkOn, LineOn}
+use Rattle.link_text.specs.Text.{ChunkBy, ChunkOn, LineOn, EndBy}
 
 same-bench : {b′ b″ : List ℕ} → SoundWords b′ → SoundWords b″ → view b′ ≡ view b″ → b′ ≡ b″
 same-bench {b′} {b″} x y e = words-same b′ b″ (x .canon) (y .canon) (fit-of b′ x .within) e
@@ -108,3 +109,23 @@ line-once b line r s b′ b″ x y = go (soundWords b) refl
     go : (t : Bool) → soundWords b ≡ t → (r ≡ s) × (b′ ≡ b″)
     go true e = turned-once b (lineOf line) r s b′ b″ (x .sound e) (y .sound e)
     go false e = let p = x .broken e in let q = y .broken e in (one-reply r s (p .0 ∙ sym (q .0)), p .1 ∙ sym (q .1))
+
+-- ---- the input's end
+
+-- any bench, and any bytes of that length, say what is written
+finished-once : {held : ℕ} {out : List ℕ} {at : ℕ} {out′ out″ : List ℕ} {r s : ℕ} → Finished held out at out′ r → Finished held out at out″ s → (out′ ≡ out″) × (r ≡ s)
+finished-once {held} x y =
+    let p = x .text (setUp 1) (replicate held 0) (length-replicate held 0) in
+    let q = y .text (setUp 1) (replicate held 0) (length-replicate held 0) in
+    (p .stands ∙ sym (q .stands), p .next ∙ sym (q .next))
+
+pub end-once : {held : ℕ} {out out′ out″ : List ℕ} {n m wrote wrote₂ : ℕ} → EndBy held out out′ n wrote → EndBy held out out″ m wrote₂
+    → (n ≡ m) × ((out′ ≡ out″) × (wrote ≡ wrote₂))
+end-once {n = n} {m = m} x y =
+    let one : n ≡ m = x .number ∙ sym (y .number) in
+    by-cases (ℕ-discrete n 0)
+    (λ (z : n ≡ 0). (one, finished-once (x .done z) (y .done (sym one ∙ z))))
+    (λ (z : n ≡ 0 → ⊥).
+    let r = x .refused z in
+    let s = y .refused (λ e. z (one ∙ e)) in
+    (one, (r .0 ∙ sym (s .0), r .1 ∙ sym (s .1))))

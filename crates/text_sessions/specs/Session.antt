@@ -6,7 +6,7 @@ use lib.ListN.{length}
 use Rattle.text_decimals.specs.Wrote.{Wrote}
 use Rattle.ledger_spec.specs.Bench.{Bench, setUp}
 use Rattle.ledger_spec.specs.Grammar.{lineOf}
-use Rattle.ledger_spec.specs.Program.{answers, texts}
+use Rattle.ledger_spec.specs.Program.{linesOf, answers, afterLines, texts, program}
 use Rattle.text_chunks.specs.Chunks.{last}
 use Rattle.text_chunks.specs.Answering.{LineAnswered, ChunkAnswered}
 use Rattle.bench_views.specs.View.{view}
@@ -30,3 +30,9 @@ pub record ChunkDone (b chunk p out b′ buf′ out′ : List ℕ) (held wrote :
 pub record Finished (held : ℕ) (out : List ℕ) (at : ℕ) (out′ : List ℕ) (r : ℕ) : Type 0 where
   pub text : (b : Bench) (p : List ℕ) → length p ≡ held → Wrote out at (texts (answers b (last p))) out′ r
   pub few : r ≤ at + 57
+
+-- a whole input: its answers, and the bench after it
+pub record AllDone (input out b′ out′ : List ℕ) (r : ℕ) : Type 0 where
+  pub text : Wrote out 0 (program input) out′ r
+  pub words : SoundWords b′
+  pub seen : view b′ ≡ afterLines (setUp 1) (linesOf input)

@@ -5,10 +5,8 @@ use bench_words::WORDS;
 ghost use mathlib.Core.Path.{_≡_};
 ghost use Prim.Native.Nat.{_+_, _*_, _≤_};
 ghost use lib.ListN.{length, take};
-ghost use Rattle.text_decimals.specs.Wrote.{Wrote};
-ghost use Rattle.ledger_spec.specs.Program.{program};
 ghost use Rattle.bench_views.specs.Fit.{SoundWords};
-ghost use Rattle.text_sessions.specs.Session.{Started, LineDone, ChunkDone, Finished};
+ghost use Rattle.text_sessions.specs.Session.{Started, LineDone, ChunkDone, Finished, AllDone};
 
 // How many bytes of the line that is not ended yet are held, and how many bytes were written.
 pub struct Taken {
@@ -83,7 +81,7 @@ pub fn finish(held: usize, out: &mut [u8], at: usize) -> usize
     text_answers::write_answer(out, at, 1, 0, 0, 0)
 }
 
-// A whole input at once, from any words: its answers, byte for byte.
+// A whole input at once, from any words: its answers, byte for byte, and the bench after it.
 pub fn answer_all(
     b: &mut [u64; WORDS],
     input: &[u8],
@@ -93,7 +91,7 @@ pub fn answer_all(
     out: &mut [u8],
 ) -> usize
     requires { ⌜ (65 ≤ length (now serials)) × (length (now buf) ≡ 1024) × (57 * length (now input) + 57 ≤ length (now out)) ⌝ }
-    ensures { λ r. ⌜ Wrote (now (out .entry)) 0 (program (now (input .entry))) (now (out .exit)) r ⌝ }
+    ensures { λ r. ⌜ AllDone (now (input .entry)) (now (out .entry)) (now (b .exit)) (now (out .exit)) r ⌝ }
 {
     start(b);
     let t = answer_chunk(b, input, buf, 0, serials, hints, out);
