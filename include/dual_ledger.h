@@ -195,10 +195,13 @@ uint8_t dual_ledger_group_is_empty(const uint64_t *group, uint64_t *yes);
 uint8_t dual_ledger_group_is_active(const uint64_t *group, uint64_t *yes);
 /* asked: 1 and the length where the group is a growth, else 0 and 0. */
 uint8_t dual_ledger_group_get_none_zero_growth(const uint64_t *group, uint64_t *asked, int64_t *length);
-/* The obstacle that pop would answer, left where it is; NO_OBSTACLE where there is none, and where refused. */
+/* The obstacle that either pop would answer, left where it is; NO_OBSTACLE where there is none, and where refused. */
 uint8_t dual_ledger_group_peek(const uint64_t *group, uint64_t *obstacle);
 /* Takes out the last of the list, and the stop of smallest vertex with it, which is answered where the list was empty. */
 uint8_t dual_ledger_group_pop(uint64_t *group, uint64_t *obstacle);
+/* Takes out the same obstacle and nothing else: a stop only where the list is empty. Called until it answers NO_OBSTACLE, it gives every entry of conflicts
+ * once, the list from its end, then the stops by rising vertex. */
+uint8_t dual_ledger_group_pop_sparing_stops(uint64_t *group, uint64_t *obstacle);
 /* Adds an obstacle; every node that it names must be present in the bench. */
 uint8_t dual_ledger_group_add(const uint64_t *bench, uint64_t *group, const uint64_t *obstacle);
 /* Adds what another group holds. */
@@ -212,6 +215,7 @@ uint8_t dual_ledger_trusted_group_is_active(const uint64_t *group, uint64_t *yes
 uint8_t dual_ledger_trusted_group_get_none_zero_growth(const uint64_t *group, uint64_t *asked, int64_t *length);
 uint8_t dual_ledger_trusted_group_peek(const uint64_t *group, uint64_t *obstacle);
 uint8_t dual_ledger_trusted_group_pop(uint64_t *group, uint64_t *obstacle);
+uint8_t dual_ledger_trusted_group_pop_sparing_stops(uint64_t *group, uint64_t *obstacle);
 uint8_t dual_ledger_trusted_group_add(const uint64_t *bench, uint64_t *group, const uint64_t *obstacle);
 uint8_t dual_ledger_trusted_group_extend(const uint64_t *bench, uint64_t *group, const uint64_t *other);
 
@@ -246,7 +250,7 @@ uint8_t dual_ledger_text_end(size_t held, uint8_t *out, size_t out_len, size_t *
 #define DUAL_LEDGER_TOUCH 7 /* touching list neither empty nor as long as the circle */
 #define DUAL_LEDGER_STALE 8 /* a handle names no present node of that serial; for extend, any handle of the other group */
 #define DUAL_LEDGER_FOREIGN 9 /* a node, touching ones too, of another tree than the call's interface */
-#define DUAL_LEDGER_KIND 10 /* expanding a defect; pop or peek of a growth */
+#define DUAL_LEDGER_KIND 10 /* expanding a defect; a pop or peek of a growth */
 #define DUAL_LEDGER_INSIDE 11 /* set state, expand, or circle member with a parent */
 #define DUAL_LEDGER_TOP 12 /* node below the outermost asked of a node without parent */
 #define DUAL_LEDGER_TWICE 13 /* a member twice */
@@ -292,6 +296,7 @@ static inline const char *dual_ledger_refusal_name(uint8_t number) {
  *   dual_ledger_group_is_sound                           24
  *   dual_ledger_group_peek                               40
  *   dual_ledger_group_pop                                88
+ *   dual_ledger_group_pop_sparing_stops                  88
  *   dual_ledger_grow                                   3800
  *   dual_ledger_is_sound                                856
  *   dual_ledger_nodes_count                            1544
@@ -328,6 +333,7 @@ static inline const char *dual_ledger_refusal_name(uint8_t number) {
  *   dual_ledger_trusted_group_is_empty                    8
  *   dual_ledger_trusted_group_peek                        8
  *   dual_ledger_trusted_group_pop                        88
+ *   dual_ledger_trusted_group_pop_sparing_stops          88
  *   dual_ledger_trusted_grow                              8
  *   dual_ledger_trusted_nodes_count                    1528
  *   dual_ledger_trusted_sanity_check                  14232

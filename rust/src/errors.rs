@@ -47,5 +47,6 @@ table! {
     extend: Stale Room;
     get_none_zero_growth: Nothing;
     pop: Kind;
+    pop_sparing_stops: Kind;
     peek: Kind;
 }

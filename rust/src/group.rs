@@ -167,7 +167,7 @@ impl Group {
         settled(number, (asked == 1).then_some(length))
     }
 
-    /// The obstacle that [`pop`](Group::pop) would take, left where it is.
+    /// The obstacle that [`pop`](Group::pop) and [`pop_sparing_stops`](Group::pop_sparing_stops) would take, left where it is.
     ///
     /// # Errors
     /// [`Refusal::Kind`] for a growth.
@@ -177,7 +177,8 @@ impl Group {
         settled(group::group_peek(self.held(), &mut words), Obstacle::from_words(&words))
     }
 
-    /// Takes the last of the list, else the stop of the smallest vertex. That stop goes in either case.
+    /// Takes the last of the list, else the stop of the smallest vertex. That stop goes in either case, as in the original: to lose none, call
+    /// [`pop_sparing_stops`](Group::pop_sparing_stops).
     ///
     /// # Errors
     /// [`Refusal::Kind`] for a growth.
@@ -185,6 +186,56 @@ impl Group {
     pub fn pop(&mut self) -> Result<Option<Obstacle>, Refusal> {
         let mut words = [0; 5];
         settled(group::group_pop(self.held_mut(), &mut words), Obstacle::from_words(&words))
+    }
+
+    /// Takes the last of the list, else the stop of the smallest vertex: a stop only where the list is empty, so that none is lost. The original has no such
+    /// call.
+    ///
+    /// ```
+    /// use dual_ledger::{Bench, Group, Obstacle, Refusal};
+    ///
+    /// # fn main() -> Result<(), Refusal> {
+    /// let mut bench = Bench::default();
+    /// let node = bench.create_defect_node(0, 3)?;
+    /// let (listed, stop) = (Obstacle::BlossomNeedExpand(node), Obstacle::VertexShrinkStop(node, None));
+    /// let mut group = Group::new();
+    /// group.add(&bench, stop)?;
+    /// group.add(&bench, listed)?;
+    /// assert_eq!(group.pop_sparing_stops()?, Some(listed));
+    /// assert_eq!(group.pop_sparing_stops()?, Some(stop)); // `pop` would have thrown it away
+    /// assert_eq!(group.pop_sparing_stops()?, None);
+    /// # Ok(())
+    /// # }
+    /// ```
+    ///
+    /// # Errors
+    /// [`Refusal::Kind`] for a growth.
+    #[inline]
+    pub fn pop_sparing_stops(&mut self) -> Result<Option<Obstacle>, Refusal> {
+        let mut words = [0; 5];
+        settled(group::group_pop_sparing_stops(self.held_mut(), &mut words), Obstacle::from_words(&words))
+    }
+
+    /// Every entry, taken one after another by [`pop_sparing_stops`](Group::pop_sparing_stops): the list from its end, then the stops by rising vertex, each
+    /// once. What is not asked for stays in the group. Nothing comes of a growth.
+    ///
+    /// ```
+    /// # use dual_ledger::{Bench, Group, Obstacle, Refusal};
+    /// # fn main() -> Result<(), Refusal> {
+    /// # let mut bench = Bench::default();
+    /// # let node = bench.create_defect_node(0, 3)?;
+    /// # let mut group = Group::new();
+    /// # group.add(&bench, Obstacle::VertexShrinkStop(node, None))?;
+    /// # group.add(&bench, Obstacle::BlossomNeedExpand(node))?;
+    /// for obstacle in group.drain_sparing_stops() {
+    ///     println!("{obstacle:?}");
+    /// }
+    /// assert_eq!(group.list().count() + group.stops().count(), 0);
+    /// # Ok(())
+    /// # }
+    /// ```
+    pub fn drain_sparing_stops(&mut self) -> impl Iterator<Item = Obstacle> + '_ {
+        core::iter::from_fn(move || self.pop_sparing_stops().ok().flatten())
     }
 
     /// Adds an obstacle; every node that it names must be present in the bench.

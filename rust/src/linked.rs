@@ -257,6 +257,7 @@ pub mod group {
         group_get_none_zero_growth(group: &SoundGroup, asked: &mut u64, length: &mut i64) -> u8;
         group_peek(group: &SoundGroup, obstacle: &mut ObstacleWords) -> u8;
         group_pop(group: &mut SoundGroup, obstacle: &mut ObstacleWords) -> u8;
+        group_pop_sparing_stops(group: &mut SoundGroup, obstacle: &mut ObstacleWords) -> u8;
         group_add(bench: &Sound, group: &mut SoundGroup, obstacle: &ObstacleWords) -> u8;
         group_extend(bench: &Sound, group: &mut SoundGroup, other: &SoundGroup) -> u8;
     }

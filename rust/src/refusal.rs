@@ -41,7 +41,7 @@ refusals! {
     Touch = 7, "TOUCH", "the touching list is neither empty nor as long as the circle";
     Stale = 8, "STALE", "a handle names no present node";
     Foreign = 9, "FOREIGN", "a node of another tree than the interface's";
-    Kind = 10, "KIND", "expansion of a defect, or pop or peek of a growth";
+    Kind = 10, "KIND", "expansion of a defect, or a pop or peek of a growth";
     Inside = 11, "INSIDE", "the node has a parent";
     Top = 12, "TOP", "the node has no parent";
     Twice = 13, "TWICE", "a member twice";

@@ -121,6 +121,34 @@ fn groups() {
     assert_eq!(Group::from_words(&[9; dual_ledger::GROUP_WORDS]), Err(Refusal::Broken));
 }
 
+/// The pop that spares the stops: list from the end, then stops by rising vertex, each once; beside it the other pop, which loses stops.
+#[test]
+fn stops_are_spared() {
+    let mut bench = Bench::default();
+    let nodes: Vec<_> = (0..6).map(|vertex| bench.create_defect_node(0, 9 - vertex).unwrap()).collect();
+    let listed = [0, 3, 5].map(|at| Obstacle::BlossomNeedExpand(nodes[at]));
+    let stops = [5, 2, 1, 0].map(|at| Obstacle::VertexShrinkStop(nodes[at], None)); // by rising vertex
+    let mut group = Group::new();
+    assert_eq!(group.pop_sparing_stops(), Err(Refusal::Kind));
+    assert_eq!((group.drain_sparing_stops().count(), group.is_empty()), (0, true));
+    for obstacle in [stops[2], listed[0], stops[0], listed[1], stops[3], listed[2], stops[1]] {
+        group.add(&bench, obstacle).unwrap();
+    }
+    let all: Vec<_> = listed.iter().rev().chain(&stops).copied().collect();
+    let (mut drained, mut other) = (group.clone(), group.clone());
+    assert_eq!(drained.drain_sparing_stops().collect::<Vec<_>>(), all);
+    assert_eq!((drained.pop_sparing_stops(), drained.peek(), drained.is_active()), (Ok(None), Ok(None), true));
+    assert_eq!(std::iter::from_fn(|| other.pop().unwrap()).collect::<Vec<_>>(), [&all[..3], &all[6..]].concat(), "three stops are lost");
+
+    // a drain that is not finished leaves the rest; where the list is empty both pops agree
+    assert_eq!(group.drain_sparing_stops().take(2).collect::<Vec<_>>(), all[..2]);
+    assert_eq!((group.list().count(), group.stops().count()), (1, 4));
+    assert_eq!((group.peek(), group.pop_sparing_stops()), (Ok(Some(all[2])), Ok(Some(all[2]))));
+    other = group.clone();
+    assert_eq!((group.pop_sparing_stops(), other.pop()), (Ok(Some(all[3])), Ok(Some(all[3]))));
+    assert_eq!(group.words(), other.words());
+}
+
 /// What stands past the counts says nothing: not in `==`, and not where words come from elsewhere.
 #[test]
 fn leftovers_of_groups_say_nothing() {

@@ -497,6 +497,38 @@ static void refused_groups(uint64_t n) {
     unchanged("the 129th", add(group, DUAL_LEDGER_BLOSSOM_NEED_EXPAND, n, 0, 0, 0), DUAL_LEDGER_ROOM);
 }
 
+/* Both pops side by side on the conflicts of P9, over words that held anything: the same obstacle each time; the sparing one takes a stop only when the list
+ * is empty, and changes nothing but the list's count until then. */
+static void sparing(uint64_t n, uint64_t m) {
+    uint64_t said[4][DUAL_LEDGER_OBSTACLE_WORDS] = {{3, n, n, 4000000000u, 1}, {2, n, n, m, m}, {5, m, 0, 0, 0}, {6, n, m, m, 0}};
+    uint64_t obstacle[DUAL_LEDGER_OBSTACLE_WORDS], none[DUAL_LEDGER_OBSTACLE_WORDS] = {0, 0, 0, 0, 0};
+    memset(group, 0xa5, sizeof group), dual_ledger_empty_group(group);
+    for (int i = 0; i < 4; i++) {
+        const uint64_t *o = said[i < 2 ? 1 - i : i];
+        same("an entry", add(group, o[0], o[1], o[2], o[3], o[4]), 0);
+    }
+    memcpy(other, group, sizeof group);
+    for (int i = 0; i < 6; i++) {
+        memcpy(before, group, sizeof group), memset(obstacle, 0xa5, sizeof obstacle);
+        same("the sparing pop", dual_ledger_group_pop_sparing_stops(group, obstacle), 0);
+        same_words("what it takes", obstacle, i < 4 ? said[i] : none, DUAL_LEDGER_OBSTACLE_WORDS);
+        same("listed", (int64_t)group[3], i < 2 ? 1 - i : 0), same("pending", (int64_t)group[4], i < 2 ? 2 : i < 4 ? 3 - i : 0);
+        same("its vertex", (int64_t)group[645], i < 2 ? 4 : 9);
+        before[3] = group[3], before[4] = group[4];
+        if (i == 2) memmove(before + 645, before + 651, 6 * sizeof *before);
+        same_words("every other word", group, before, DUAL_LEDGER_GROUP_WORDS), same("a sound group", dual_ledger_group_is_sound(group), 1);
+        same("the other pop", dual_ledger_group_pop(other, obstacle), 0);
+        same_words("what it takes", obstacle, i < 2 ? said[i] : none, DUAL_LEDGER_OBSTACLE_WORDS);
+        same("pending by the other", (int64_t)other[4], i < 2 ? 1 - i : 0);
+    }
+    dual_ledger_empty_group(group), memcpy(before, group, sizeof group), memset(obstacle, 0xa5, sizeof obstacle);
+    same("the sparing pop of a growth", dual_ledger_group_pop_sparing_stops(group, obstacle), DUAL_LEDGER_KIND);
+    same_words("of a growth", obstacle, none, DUAL_LEDGER_OBSTACLE_WORDS), same_words("a growth", group, before, DUAL_LEDGER_GROUP_WORDS);
+    group[0] = before[0] = 3, memset(obstacle, 0xa5, sizeof obstacle);
+    same("the sparing pop of no group", dual_ledger_group_pop_sparing_stops(group, obstacle), DUAL_LEDGER_BROKEN);
+    same_words("of no group", obstacle, none, DUAL_LEDGER_OBSTACLE_WORDS), same_words("no group", group, before, DUAL_LEDGER_GROUP_WORDS);
+}
+
 /* The forms that test nothing, beside the others, from words that held anything: the same numbers, obstacles and words. */
 static void trusted_groups(uint64_t n, uint64_t m) {
     uint64_t obstacles[6][DUAL_LEDGER_OBSTACLE_WORDS] = {{1, 5, 1, 0, 0}, {2, n, n, m, m}, {3, m, n, 7, 0}, {4, n, 0, 0, 0}, {5, n, 0, 0, 0}, {6, m, n, n, 0}};
@@ -515,6 +547,11 @@ static void trusted_groups(uint64_t n, uint64_t m) {
         same("extend, both forms", dual_ledger_group_extend(bench, group, third), dual_ledger_trusted_group_extend(bench, other, third));
         same_words("a group in both forms", group, other, DUAL_LEDGER_GROUP_WORDS);
     }
+    memcpy(third, group, sizeof group), memcpy(before, group, sizeof group);
+    for (int i = 0; i < 260; i++) {
+        same("sparing, both forms", dual_ledger_group_pop_sparing_stops(third, one), dual_ledger_trusted_group_pop_sparing_stops(before, two));
+        same_words("sparing", one, two, DUAL_LEDGER_OBSTACLE_WORDS), same_words("a group in both forms", third, before, DUAL_LEDGER_GROUP_WORDS);
+    }
     for (int i = 0; i < 130; i++) {
         same("peek, both forms", dual_ledger_group_peek(group, one), dual_ledger_trusted_group_peek(other, two)), same_words("peek", one, two, DUAL_LEDGER_OBSTACLE_WORDS);
         same("pop, both forms", dual_ledger_group_pop(group, one), dual_ledger_trusted_group_pop(other, two)), same_words("pop", one, two, DUAL_LEDGER_OBSTACLE_WORDS);
@@ -527,7 +564,7 @@ static void groups(void) {
     same("set-up", dual_ledger_set_up(bench, 1), 0);
     dual_ledger_trusted_create_defect_node(bench, 0, 9, &n), dual_ledger_trusted_create_defect_node(bench, 0, 4, &m);
     memcpy(kept, bench, sizeof bench);
-    growths(), conflicts(n, m), trusted_groups(n, m), refused_groups(n);
+    growths(), conflicts(n, m), sparing(n, m), trusted_groups(n, m), refused_groups(n);
     same_words("the bench that groups are of", bench, kept, DUAL_LEDGER_WORDS);
     bench[3]++, memcpy(before, group, sizeof group);
     unchanged("a group of a broken bench", dual_ledger_group_extend(bench, group, before), DUAL_LEDGER_BROKEN);

@@ -179,6 +179,7 @@ static void groups(const uint64_t *obstacle) {
     BOTH(group_get_none_zero_growth, g, W(out), W(out + 1));
     BOTH(group_peek, g, W(out));
     BOTH(group_pop, g, W(out));
+    BOTH(group_pop_sparing_stops, g, W(out));
     BOTH(group_add, W(bench), g, o);
     BOTH(group_extend, W(bench), g, W(other));
 }

@@ -9,7 +9,7 @@ ghost use mathlib.Core.Option.{none};
 ghost use Rattle.ledger_spec.specs.GroupCalls.{isEmpty, isActive, growthOf};
 ghost use Rattle.group_lent_takes.specs.Made.{Emptied};
 ghost use Rattle.group_lent_sound.specs.Test.{soundIn};
-ghost use Rattle.group_lent_any.specs.Any.{askedOf, PeekedAny, PoppedAny, AddedAny, ExtendedAny};
+ghost use Rattle.group_lent_any.specs.Any.{askedOf, PeekedAny, PoppedAny, SparedAny, AddedAny, ExtendedAny};
 ghost use Rattle.link_answers.specs.Forms.{flagWord, lengthWords, worded};
 
 #[no_mangle]
@@ -77,6 +77,16 @@ pub extern "C" fn dual_ledger_group_pop(
     ensures { λ r. ⌜ PoppedAny (now (group .entry)) r (now (obstacle .exit)) (now (group .exit)) ⌝ }
 {
     group_lent_any::pop(group, obstacle)
+}
+
+#[no_mangle]
+pub extern "C" fn dual_ledger_group_pop_sparing_stops(
+    group: &mut [u64; GROUP],
+    obstacle: &mut [u64; OBSTACLE],
+) -> u8
+    ensures { λ r. ⌜ SparedAny (now (group .entry)) r (now (obstacle .exit)) (now (group .exit)) ⌝ }
+{
+    group_lent_any::pop_sparing_stops(group, obstacle)
 }
 
 #[no_mangle]

@@ -8,7 +8,7 @@ ghost use Rattle.ledger_spec.specs.GroupCalls.{isEmpty, isActive, growthOf};
 ghost use Rattle.bench_views.specs.Fit.{SoundWords};
 ghost use Rattle.group_lent.specs.Forms.{isForm, fiveAt};
 ghost use Rattle.group_lent.specs.Place.{groupIn, SoundGroup};
-ghost use Rattle.group_lent_calls.specs.Calls.{Peeked, Popped, Added, Extended};
+ghost use Rattle.group_lent_calls.specs.Calls.{Peeked, Popped, Spared, Added, Extended};
 ghost use Rattle.link_answers.specs.Forms.{flagWord, lengthWords, worded};
 
 #[no_mangle]
@@ -67,6 +67,17 @@ pub extern "C" fn dual_ledger_trusted_group_pop(
     ensures { λ r. ⌜ Popped (now (group .entry)) r (now (obstacle .exit)) (now (group .exit)) ⌝ }
 {
     group_lent_calls::pop(group, obstacle)
+}
+
+#[no_mangle]
+pub extern "C" fn dual_ledger_trusted_group_pop_sparing_stops(
+    group: &mut [u64; GROUP],
+    obstacle: &mut [u64; OBSTACLE],
+) -> u8
+    requires { ⌜ SoundGroup (now group) ⌝ }
+    ensures { λ r. ⌜ Spared (now (group .entry)) r (now (obstacle .exit)) (now (group .exit)) ⌝ }
+{
+    group_lent_calls::pop_sparing_stops(group, obstacle)
 }
 
 #[no_mangle]

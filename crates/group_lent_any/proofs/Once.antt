@@ -12,8 +12,8 @@ use Rattle.sound_bench.specs.Sound.{soundWords}
 use Rattle.group_lent.specs.Forms.{isForm, fiveAt}
 use Rattle.group_lent.specs.declared.Five.{Five}
 use Rattle.group_lent_sound.specs.Test.{soundIn}
-use Rattle.group_lent_calls.specs.Calls.{Peeked, Popped, Added, Extended}
-use Rattle.group_lent_any.specs.Any.{PeekedAny, PoppedAny, AddedAny, ExtendedAny}
+use Rattle.group_lent_calls.specs.Calls.{Peeked, Popped, Spared, Added, Extended}
+use Rattle.group_lent_any.specs.Any.{PeekedAny, PoppedAny, SparedAny, AddedAny, ExtendedAny}
 
 by-verdict : (t : Bool) (X Y X' Y' Z : Type 0) → (X → X' → Z) → (Y → Y' → Z) → pick t X Y → pick t X' Y' → Z
 by-verdict true X Y X' Y' Z f g = f
@@ -27,6 +27,9 @@ module _ {ws : List ℕ} {n m : ℕ} {os ps : List ℕ} where
   module _ {after later : List ℕ} where
     pub popped-once : Popped ws n os after → Popped ws m ps later → (n ≡ m) × ((os ≡ ps) × (after ≡ later))
     popped-once x y = (ap (λ (r : ℕ × (Option Obstacle × Group)). r .0) (x .seen ∙ sym (y .seen)), (x .obstacle ∙ sym (y .obstacle), x .words ∙ sym (y .words)))
+
+    pub spared-once : Spared ws n os after → Spared ws m ps later → (n ≡ m) × ((os ≡ ps) × (after ≡ later))
+    spared-once x y = (ap (λ (r : ℕ × (Option Obstacle × Group)). r .0) (x .seen ∙ sym (y .seen)), (x .obstacle ∙ sym (y .obstacle), x .words ∙ sym (y .words)))
 
 module _ {b ws : List ℕ} {n m : ℕ} {after later : List ℕ} where
   pub added-once : {f : Five} → Added b ws f n after → Added b ws f m later → (n ≡ m) × (after ≡ later)
@@ -42,6 +45,9 @@ module _ (ws : List ℕ) (n m : ℕ) (os ps : List ℕ) where
 
   pub popped-any-once : (after later : List ℕ) → PoppedAny ws n os after → PoppedAny ws m ps later → (n ≡ m) × ((os ≡ ps) × (after ≡ later))
   popped-any-once after later = by-verdict (soundIn ws) _ _ _ _ _ (λ x y. popped-once x y) (λ x y. (x .0 ∙ sym (y .0), (x .1 .0 ∙ sym (y .1 .0), x .1 .1 ∙ sym (y .1 .1))))
+
+  pub spared-any-once : (after later : List ℕ) → SparedAny ws n os after → SparedAny ws m ps later → (n ≡ m) × ((os ≡ ps) × (after ≡ later))
+  spared-any-once after later = by-verdict (soundIn ws) _ _ _ _ _ (λ x y. spared-once x y) (λ x y. (x .0 ∙ sym (y .0), (x .1 .0 ∙ sym (y .1 .0), x .1 .1 ∙ sym (y .1 .1))))
 
 module _ (b ws : List ℕ) (n m : ℕ) (after later : List ℕ) where
   pub added-any-once : (os : List ℕ) → AddedAny b ws os n after → AddedAny b ws os m later → (n ≡ m) × (after ≡ later)

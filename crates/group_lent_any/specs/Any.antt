@@ -9,7 +9,7 @@ use Rattle.sound_bench.specs.Sound.{soundWords}
 use Rattle.group_lent.specs.Forms.{isForm, fiveAt}
 use Rattle.group_lent.specs.Place.{groupIn, SoundGroup}
 use Rattle.group_lent_sound.specs.Test.{soundIn}
-use Rattle.group_lent_calls.specs.Calls.{Peeked, Popped, Added, Extended}
+use Rattle.group_lent_calls.specs.Calls.{Peeked, Popped, Spared, Added, Extended}
 
 -- the test's verdict, and what it says of the words
 pub record Judged (ws : List ℕ) (s : Bool) : Type 0 where
@@ -28,6 +28,9 @@ PeekedAny ws r os = pick (soundIn ws) (Peeked ws r os) ((r ≡ 2) × (os ≡ noO
 
 abbrev pub PoppedAny : List ℕ → ℕ → List ℕ → List ℕ → Type 0
 PoppedAny ws r os after = pick (soundIn ws) (Popped ws r os after) ((r ≡ 2) × ((os ≡ noObstacle) × (after ≡ ws)))
+
+abbrev pub SparedAny : List ℕ → ℕ → List ℕ → List ℕ → Type 0
+SparedAny ws r os after = pick (soundIn ws) (Spared ws r os after) ((r ≡ 2) × ((os ≡ noObstacle) × (after ≡ ws)))
 
 -- os are the obstacle's words: they must be an obstacle's
 abbrev pub AddedAny : List ℕ → List ℕ → List ℕ → ℕ → List ℕ → Type 0

@@ -12,7 +12,7 @@ ghost use mathlib.Core.Bool.{false};
 ghost use mathlib.Core.Option.{none};
 ghost use Rattle.ledger_spec.specs.GroupCalls.{isEmpty, isActive, growthOf};
 ghost use Rattle.groups.specs.Shown.{shownTold, shownAsked};
-ghost use Rattle.group_lent_any.specs.Any.{Judged, askedOf, PeekedAny, PoppedAny, AddedAny, ExtendedAny};
+ghost use Rattle.group_lent_any.specs.Any.{Judged, askedOf, noObstacle, PeekedAny, PoppedAny, SparedAny, AddedAny, ExtendedAny};
 
 const BROKEN: u8 = 2;
 
@@ -62,19 +62,26 @@ pub fn get_none_zero_growth(w: &[u64; GROUP]) -> Asked
     group_lent_takes::get_none_zero_growth(w)
 }
 
+// No group to take from: BROKEN, and no obstacle.
+fn broken(o: &mut [u64; OBSTACLE]) -> u8
+    ensures { λ r. ⌜ (r ≡ 2) × (now (o .exit) ≡ noObstacle) ⌝ }
+{
+    let none = Five {
+        kind: 0,
+        a: 0,
+        b: 0,
+        c: 0,
+        d: 0,
+    };
+    group_lent::put_in(o, none);
+    BROKEN
+}
+
 pub fn peek(w: &[u64; GROUP], o: &mut [u64; OBSTACLE]) -> u8
     ensures { λ r. ⌜ PeekedAny (now (w .entry)) r (now (o .exit)) ⌝ }
 {
     if !is_group(w) {
-        let none = Five {
-            kind: 0,
-            a: 0,
-            b: 0,
-            c: 0,
-            d: 0,
-        };
-        group_lent::put_in(o, none);
-        return BROKEN;
+        return broken(o);
     }
     group_lent_calls::peek(w, o)
 }
@@ -83,17 +90,19 @@ pub fn pop(w: &mut [u64; GROUP], o: &mut [u64; OBSTACLE]) -> u8
     ensures { λ r. ⌜ PoppedAny (now (w .entry)) r (now (o .exit)) (now (w .exit)) ⌝ }
 {
     if !is_group(w) {
-        let none = Five {
-            kind: 0,
-            a: 0,
-            b: 0,
-            c: 0,
-            d: 0,
-        };
-        group_lent::put_in(o, none);
-        return BROKEN;
+        return broken(o);
     }
     group_lent_calls::pop(w, o)
+}
+
+// A stop goes only where the list is empty.
+pub fn pop_sparing_stops(w: &mut [u64; GROUP], o: &mut [u64; OBSTACLE]) -> u8
+    ensures { λ r. ⌜ SparedAny (now (w .entry)) r (now (o .exit)) (now (w .exit)) ⌝ }
+{
+    if !is_group(w) {
+        return broken(o);
+    }
+    group_lent_calls::pop_sparing_stops(w, o)
 }
 
 // BROKEN too where the obstacle's words are no obstacle's.

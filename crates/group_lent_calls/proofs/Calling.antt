@@ -1,4 +1,4 @@
--- What add and extend leave, by the tests that led there. Assumes nothing.
+-- What the calls hand out and leave, by the tests that led there. Assumes nothing.
 use Prim.Native.Nat.{ℕ}
 use mathlib.Core.Path.{_≡_, refl, sym, ap, ap₂, _∙_}
 use mathlib.Core.Bool.{Bool, true, false, not, _&&_}
@@ -20,13 +20,14 @@ use Rattle.group_lent_takes.specs.Made as made
 use Rattle.group_lent_takes.specs.Made.{maybeSeen}
 use Rattle.group_lent_takes.specs.declared.Top.{Top}
 use Rattle.group_lent_takes.specs.After.{grownWords}
+use Rattle.group_lent_spares.specs.Spares as spares
 use Rattle.group_lent_stops.specs.Stops.{addedWords}
 use Rattle.group_lent_stops.proofs.Branches.{add-growth}
 use Rattle.group_lent_nodes.proofs.Named.{names-none}
 use Rattle.group_lent_nodes.proofs.Turns.{none-has}
 use Rattle.group_lent_extends.specs.Extends as extends
 use Rattle.group_lent_extends.specs.Extends.{extendedWords}
-use Rattle.group_lent_calls.specs.Calls.{Popped, addedBy, Added, extendedBy, Extended}
+use Rattle.group_lent_calls.specs.Calls.{Popped, Spared, addedBy, Added, extendedBy, Extended}
 
 -- by the three tests: x of BROKEN, y of STALE, and whether there is a group a
 abbrev saidBy : Bool → Bool → Option Group → Group → ℕ × Group
@@ -48,6 +49,14 @@ module _ (x y : Bool) (a : Option Group) (z : Group) where
 -- ---- the obstacle's words are handed out
 pub pop-given : (ws : List ℕ) (t : Top) (os after : List ℕ) → made.Popped ws t after → os ≡ fiveWords (t .obstacle) → Popped ws (t .number) os after
 pop-given ws t os after P e = record {
+  seen = ap (λ (f : Five). (t .number, (maybeSeen f, groupIn after))) (sym (P .top)) ∙ P .seen;
+  obstacle = e ∙ ap fiveWords (P .top);
+  words = P .words;
+  sound = P .sound;
+}
+
+pub spared-given : (ws : List ℕ) (t : Top) (os after : List ℕ) → spares.Spared ws t after → os ≡ fiveWords (t .obstacle) → Spared ws (t .number) os after
+spared-given ws t os after P e = record {
   seen = ap (λ (f : Five). (t .number, (maybeSeen f, groupIn after))) (sym (P .top)) ∙ P .seen;
   obstacle = e ∙ ap fiveWords (P .top);
   words = P .words;

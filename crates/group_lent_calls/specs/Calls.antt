@@ -6,12 +6,14 @@ use mathlib.Core.List.{List}
 use Rattle.bench_words.specs.Codec.{pick}
 use Rattle.ledger_spec.specs.Tests.{any}
 use Rattle.ledger_spec.specs.GroupCalls.{staleCode, handlesOf, groupHandles, vertexOf, peek, pop, add, extend}
+use Rattle.ledger_sparing.specs.Sparing.{popSparing}
 use Rattle.bench_views.specs.View.{view}
 use Rattle.group_lent.specs.Forms.{fiveWords, obstacleOf}
 use Rattle.group_lent.specs.Place.{groupIn, SoundGroup}
 use Rattle.group_lent.specs.declared.Five.{Five}
 use Rattle.group_lent_takes.specs.After.{topFive, poppedWords}
 use Rattle.group_lent_takes.specs.Made.{maybeSeen}
+use Rattle.group_lent_spares.specs.Spares.{sparedWords}
 use Rattle.group_lent_stops.specs.Stops.{addedWords}
 use Rattle.group_lent_extends.specs.Extends.{extendedWords}
 
@@ -25,6 +27,12 @@ pub record Popped (ws : List ℕ) (r : ℕ) (os after : List ℕ) : Type 0 where
   pub seen : (r, (maybeSeen (topFive ws), groupIn after)) ≡ pop (groupIn ws)
   pub obstacle : os ≡ fiveWords (topFive ws)
   pub words : after ≡ poppedWords ws
+  pub sound : SoundGroup after
+
+pub record Spared (ws : List ℕ) (r : ℕ) (os after : List ℕ) : Type 0 where
+  pub seen : (r, (maybeSeen (topFive ws), groupIn after)) ≡ popSparing (groupIn ws)
+  pub obstacle : os ≡ fiveWords (topFive ws)
+  pub words : after ≡ sparedWords ws
   pub sound : SoundGroup after
 
 -- ---- over a bench b: an obstacle with words f is added, a group with words vs extends. STALE (8) and ROOM (20) leave every word

@@ -8,7 +8,7 @@ ghost use mathlib.Core.Bool.{true};
 ghost use Rattle.bench_views.specs.Fit.{SoundWords};
 ghost use Rattle.group_lent.specs.Forms.{isForm, fiveAt};
 ghost use Rattle.group_lent.specs.Place.{SoundGroup};
-ghost use Rattle.group_lent_calls.specs.Calls.{Peeked, Popped, Added, Extended};
+ghost use Rattle.group_lent_calls.specs.Calls.{Peeked, Popped, Spared, Added, Extended};
 
 // The obstacle goes into o, as five zeros where there is none.
 pub fn peek(w: &[u64; GROUP], o: &mut [u64; OBSTACLE]) -> u8
@@ -26,6 +26,17 @@ pub fn pop(w: &mut [u64; GROUP], o: &mut [u64; OBSTACLE]) -> u8
     ensures { λ r. ⌜ Popped (now (w .entry)) r (now (o .exit)) (now (w .exit)) ⌝ }
 {
     let top = group_lent_takes::pop(w);
+    let f = top.obstacle;
+    group_lent::put_in(o, f);
+    top.number
+}
+
+// A stop goes only where the list is empty.
+pub fn pop_sparing_stops(w: &mut [u64; GROUP], o: &mut [u64; OBSTACLE]) -> u8
+    requires { ⌜ SoundGroup (now w) ⌝ }
+    ensures { λ r. ⌜ Spared (now (w .entry)) r (now (o .exit)) (now (w .exit)) ⌝ }
+{
+    let top = group_lent_spares::pop_sparing_stops(w);
     let f = top.obstacle;
     group_lent::put_in(o, f);
     top.number

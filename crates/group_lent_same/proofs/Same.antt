@@ -9,6 +9,7 @@ use lib.IntN.{ℤ}
 use Rattle.kinds.specs.declared.Obstacle.{Obstacle}
 use Rattle.ledger_spec.specs.Groups.{Group}
 use Rattle.ledger_spec.specs.GroupCalls.{isEmpty, isActive, growthOf, peek, pop, add, extend}
+use Rattle.ledger_sparing.specs.Sparing.{popSparing}
 use Rattle.bench_views.specs.View.{view}
 use Rattle.sound_bench.specs.Sound.{soundWords}
 use Rattle.sound_lent.specs.Verdict.{asked}
@@ -52,6 +53,9 @@ module _ (g : Code) (ws : List ℕ) (same : groupOf g ≡ groupIn ws) where
   -- ---- changes: the same number, obstacle and group
   pub pop-same : (q : Popped) (r : ℕ) (os after : List ℕ) → shownPopped q ≡ pop (groupOf g) → calls.Popped ws r os after → shownPopped q ≡ (r, (maybeSeen (topFive ws), groupIn after))
   pop-same q r os after e P = e ∙ ap pop same ∙ sym (P .seen)
+
+  pub sparing-same : (q : Popped) (r : ℕ) (os after : List ℕ) → shownPopped q ≡ popSparing (groupOf g) → calls.Spared ws r os after → shownPopped q ≡ (r, (maybeSeen (topFive ws), groupIn after))
+  sparing-same q r os after e P = e ∙ ap popSparing same ∙ sym (P .seen)
 
   module _ (b : List ℕ) (sound : soundWords b ≡ true) (q : Changed) (r : ℕ) (after : List ℕ) where
     pub add-same : (f : Five) → q ≡ whole (asked b (groupOf g) (add (view b) (groupOf g) (obstacleOf f))) g g → calls.Added b ws f r after → (q .number ≡ r) × (groupOf (q .group) ≡ groupIn after)

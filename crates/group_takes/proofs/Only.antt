@@ -22,7 +22,7 @@ back-maybe : (m : MaybeObstacle) → back (maybe m) ≡ m
 back-maybe NoObstacle = refl
 back-maybe (WithObstacle o) = refl
 
-maybe-same : (m n : MaybeObstacle) → maybe m ≡ maybe n → m ≡ n
+pub maybe-same : (m n : MaybeObstacle) → maybe m ≡ maybe n → m ≡ n
 maybe-same m n e = sym (back-maybe m) ∙ ap back e ∙ back-maybe n
 
 module _ (g : Code) where

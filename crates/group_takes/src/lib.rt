@@ -124,14 +124,13 @@ pub fn pop(g: Group) -> Popped
             let e = list[n];
             let s = stops[0];
             let obstacle = top_of(g.listed, e, g.stopped, s);
-            let rest = moved_down(stops, m);
             Popped {
                 number: 0,
                 obstacle,
                 group: Group {
                     kind: Kind::Conflicts,
                     list,
-                    stops: rest,
+                    stops: moved_down(stops, m),
                     listed: n,
                     stopped: m,
                 },

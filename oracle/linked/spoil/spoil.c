@@ -111,7 +111,7 @@ uint8_t dual_ledger_is_sound(const uint64_t *bench) {
     return real_dual_ledger_is_sound(mended);
 }
 
-/* 20: a pop spares the stops while the list has entries, trusted form */
+/* 20: a pop spares the stops while the list has entries */
 uint8_t dual_ledger_trusted_group_pop(uint64_t *group, uint64_t *obstacle) {
     if (!spoiled(20) || group[0] != 2 || group[3] == 0) return real_dual_ledger_trusted_group_pop(group, obstacle);
     uint64_t stops = group[4];
@@ -121,7 +121,7 @@ uint8_t dual_ledger_trusted_group_pop(uint64_t *group, uint64_t *obstacle) {
     return number;
 }
 
-/* 21: flags joined by or where a growth is extended by one of the same length, trusted form */
+/* 21: flags joined by or where a growth is extended by one of the same length */
 uint8_t dual_ledger_trusted_group_extend(const uint64_t *bench, uint64_t *group, const uint64_t *other) {
     int joins = spoiled(21) && group[0] == 1 && other[0] == 1 && group[1] == other[1] && group[1] != INT64_MAX;
     uint64_t flag = group[2] | other[2];
@@ -130,10 +130,25 @@ uint8_t dual_ledger_trusted_group_extend(const uint64_t *bench, uint64_t *group,
     return number;
 }
 
-/* 22: an obstacle's second handle is not looked up, trusted form */
+/* 22: an obstacle's second handle is not looked up */
 uint8_t dual_ledger_trusted_group_add(const uint64_t *bench, uint64_t *group, const uint64_t *obstacle) {
     uint64_t seen[DUAL_LEDGER_OBSTACLE_WORDS];
     memcpy(seen, obstacle, sizeof seen);
     if (spoiled(22) && obstacle[0] == DUAL_LEDGER_TOUCHING_VIRTUAL) seen[2] = obstacle[1];
     return real_dual_ledger_trusted_group_add(bench, group, seen);
+}
+
+/* 23: a pop that is to spare the stops takes one along while the list has entries; 24: what it takes of the list stays there */
+uint8_t dual_ledger_trusted_group_pop_sparing_stops(uint64_t *group, uint64_t *obstacle) {
+    if (spoiled(23)) return real_dual_ledger_trusted_group_pop(group, obstacle);
+    if (spoiled(24) && group[0] == 2 && group[3] > 0) return dual_ledger_trusted_group_peek(group, obstacle);
+    return real_dual_ledger_trusted_group_pop_sparing_stops(group, obstacle);
+}
+
+/* 25: the same on any words; 26: words of no group are changed */
+uint8_t dual_ledger_group_pop_sparing_stops(uint64_t *group, uint64_t *obstacle) {
+    if (spoiled(25)) return dual_ledger_group_pop(group, obstacle);
+    uint8_t number = real_dual_ledger_group_pop_sparing_stops(group, obstacle);
+    if (spoiled(26) && number == DUAL_LEDGER_BROKEN) group[3] ^= 1;
+    return number;
 }

@@ -1,6 +1,7 @@
 //! Damaged groups: words that no call makes. The linked ledger must take them for a group exactly where the model does, and then answer as the model.
 use crate::group_words::{decode, told, GroupWords};
 use crate::ledger::{number, Ledger};
+use crate::sparing;
 use crate::table::Table;
 use dual_ledger::Group;
 use oracle::generator::plans::GROUPS;
@@ -76,11 +77,17 @@ pub fn run(seed: u64, count: usize, table: &mut Table) -> Result<(), String> {
     Ok(())
 }
 
-/// One group: the verdict on it, and where it is sound one call.
+/// One group: the verdict on it, and where it is sound one call. Where it is not, the pop that spares the stops leaves every word of it.
 fn check(rng: &mut Rng, player: &Player, ledger: &Ledger, words: &GroupWords) -> Result<bool, String> {
     let (group, plain) = (Group::from_words(words), decode(words));
     match (group, plain) {
-        (Err(_), None) => Ok(false),
+        (Err(_), None) => {
+            let mut lent = *words;
+            match sparing::on_any_words(&mut lent) {
+                (2, [0, 0, 0, 0, 0]) if lent == *words => Ok(false),
+                answer => Err(format!("sparing pop of no group: {answer:?}")),
+            }
+        }
         (Ok(group), Some(plain)) => call(rng, player, ledger, group, plain).map(|_| true),
         (group, plain) => Err(format!("linked {group:?}, model {plain:?}")),
     }
@@ -105,9 +112,10 @@ fn call(rng: &mut Rng, player: &Player, ledger: &Ledger, mut group: Group, mut p
     }
 }
 
-/// A pop, an add or an extension by a group of the plan; the number that both give.
+/// A pop of either kind, an add or an extension by a group of the plan; the number that both give.
 fn change(rng: &mut Rng, player: &Player, ledger: &Ledger, group: &mut Group, plain: &mut Plain) -> Result<i64, String> {
-    let (ours, theirs) = match rng.below(3) {
+    let (ours, theirs) = match rng.below(4) {
+        3 => return sparing::pop(group, plain).map(|(number, _)| number),
         0 => {
             let (ours, theirs) = (group.pop(), plain.pop());
             if ours.as_ref().ok().copied().flatten() != theirs.1.as_ref().map(told) {

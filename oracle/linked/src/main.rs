@@ -11,6 +11,7 @@ mod nests;
 mod openings;
 mod reads;
 mod runs;
+mod sparing;
 mod table;
 mod words;
 
@@ -76,6 +77,10 @@ fn scale(accepted: usize, refused: usize, damaged: usize, seed: u64) {
     }
     while table.groups.values().sum::<usize>() < damaged / 4 {
         damage_groups::run(seed + at, 400, &mut table).unwrap_or_else(|why| fail(why));
+        at += 1;
+    }
+    while table.drained.iter().sum::<usize>() < damaged / 4 {
+        sparing::run(seed + at, 400, &mut table).unwrap_or_else(|why| fail(why));
         at += 1;
     }
     print!("{table}no difference; {} s\n", began.elapsed().as_secs());

@@ -22,6 +22,9 @@ pub struct Table {
     pub damaged: BTreeMap<(&'static str, Option<&'static str>), usize>,
     /// damaged groups by kind of damage, and whether they are sound still
     pub groups: BTreeMap<(&'static str, bool), usize>,
+    /// conflicts and growths that the pop that spares the stops was called on until there was nothing, and how many calls
+    pub drained: [usize; 2],
+    pub spared: usize,
 }
 
 impl Table {
@@ -73,7 +76,9 @@ impl fmt::Display for Table {
         self.damages_by(f, "BROKEN by", |(_, rule)| rule.unwrap_or("nothing: sound still"))?;
         let shown = |((kind, sound), count): (&(&str, bool), &usize)| format!("{kind}, {}: {count}", if *sound { "sound" } else { "BROKEN" });
         let groups: Vec<String> = self.groups.iter().map(shown).collect();
-        writeln!(f, "{} damaged groups: {}", self.groups.values().sum::<usize>(), groups.join(", "))
+        writeln!(f, "{} damaged groups: {}", self.groups.values().sum::<usize>(), groups.join(", "))?;
+        let [conflicts, growths] = self.drained;
+        writeln!(f, "{conflicts} conflicts and {growths} growths drained with the stops spared: {} calls, each in two forms", self.spared)
     }
 }
 

@@ -49,6 +49,14 @@ impl Group {
         }
     }
 
+    /// A stop goes only where the list is empty; the original has no such call.
+    pub fn pop_sparing_stops(&mut self) -> (i64, Option<Told>) {
+        match self {
+            Group::Growth(..) => (KIND, None),
+            Group::Conflicts { list, stops } => (0, list.pop().or_else(|| stops.pop_first().map(|(_, stop)| stop))),
+        }
+    }
+
     pub fn peek(&self) -> (i64, Option<&Told>) {
         match self {
             Group::Growth(..) => (KIND, None),

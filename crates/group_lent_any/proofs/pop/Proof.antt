@@ -8,11 +8,11 @@ use Rattle.group_lent_any.proofs.pop.Tie as tie
 is-group-requires : tie.Need-is-group-requires
 is-group-requires c κs = search needs
 
-put-in-requires : tie.Need-put-in-requires
-put-in-requires c κs = search needs
+broken-requires : tie.Need-broken-requires
+broken-requires c κs = search needs
 
 returns : tie.Need-returns
-returns c = let s = c .before .before .before .before .before in skips _ _ _ (is-not (s .args .w .now) _ (c .before .before .before .is-group .ensures) (c .before .before .if1 .taken)) (refl, (c .put-in .ensures, refl))
+returns c = let s = c .before .before .before .before .before in skips _ _ _ (is-not (s .args .w .now) _ (c .before .before .before .is-group .ensures) (c .before .before .if1 .taken)) (c .broken .ensures .0, (c .broken .ensures .1, refl))
 
 pop-requires : tie.Need-pop-requires
 pop-requires c κs = let s = c .before .before .before .before .before in says-sound (s .args .w .now) _ (c .before .before .before .is-group .ensures) (c .before .before .if1 .left)
@@ -21,4 +21,4 @@ returns-2 : tie.Need-returns-2
 returns-2 c = let s = c .before .before .before .before .before .before in picks _ _ _ (is-yes (s .args .w .now) _ (c .before .before .before .before .is-group .ensures) (c .before .before .before .if1 .left)) (c .pop .ensures)
 
 pub pop-spec : {M : Type 1} → statement M
-pop-spec = tie.close (tie.spec is-group-requires put-in-requires returns pop-requires returns-2)
+pop-spec = tie.close (tie.spec is-group-requires broken-requires returns pop-requires returns-2)

@@ -1,0 +1,3 @@
+pub mod Pops
+pub mod Drains
+pub mod Agrees
