@@ -53,6 +53,7 @@ pop-given ws t os after P e = record {
   obstacle = e ∙ ap fiveWords (P .top);
   words = P .words;
   sound = P .sound;
+  refused = P .refused;
 }
 
 pub spared-given : (ws : List ℕ) (t : Top) (os after : List ℕ) → spares.Spared ws t after → os ≡ fiveWords (t .obstacle) → Spared ws (t .number) os after
@@ -61,6 +62,7 @@ spared-given ws t os after P e = record {
   obstacle = e ∙ ap fiveWords (P .top);
   words = P .words;
   sound = P .sound;
+  refused = P .refused;
 }
 
 module _ (b ws : List ℕ) (S : SoundWords b) (G : SoundGroup ws) where
@@ -84,6 +86,7 @@ module _ (b ws : List ℕ) (S : SoundWords b) (G : SoundGroup ws) where
           seen = sym (ap (λ (r : ℕ × Group). r .1) q);
           words = rw (sym e ∙ d);
           sound = G;
+          refused = λ n. refl;
         }
 
     pub add-goes : (t : Bool) → t ≡ missing → t ≡ false → (v : ℕ) → v ≡ vertexOf (view b) (obstacleOf f) → (r : ℕ) (after : List ℕ) → made.Added f v ws (addedWords ws f v) r after → Added b ws f r after
@@ -96,6 +99,7 @@ module _ (b ws : List ℕ) (S : SoundWords b) (G : SoundGroup ws) where
           seen = A .seen ∙ ap (λ (o : Option Group). orElse o (groupIn ws)) same ∙ sym (ap (λ (r : ℕ × Group). r .1) q);
           words = A .words ∙ ap (addedWords ws f) w ∙ rw (sym e ∙ d);
           sound = A .sound;
+          refused = A .refused;
         }
 
     -- a growth names no node
@@ -124,6 +128,7 @@ module _ (b ws : List ℕ) (S : SoundWords b) (G : SoundGroup ws) where
           seen = sym (ap (λ (r : ℕ × Group). r .1) q);
           words = rw (sym e ∙ d);
           sound = G;
+          refused = λ n. refl;
         }
 
     pub extend-goes : (t : Bool) → t ≡ absent → t ≡ false → (r : ℕ) (after : List ℕ) → extends.Extended ws vs r after → Extended b ws vs r after
@@ -135,4 +140,5 @@ module _ (b ws : List ℕ) (S : SoundWords b) (G : SoundGroup ws) where
           seen = E .seen ∙ sym (ap (λ (r : ℕ × Group). r .1) q);
           words = E .words ∙ rw (sym e ∙ d);
           sound = E .sound;
+          refused = E .refused;
         }

@@ -28,14 +28,16 @@ pub record Popped (ws : List ℕ) (r : ℕ) (os after : List ℕ) : Type 0 where
   pub obstacle : os ≡ fiveWords (topFive ws)
   pub words : after ≡ poppedWords ws
   pub sound : SoundGroup after
+  pub refused : (r ≡ 0 → ⊥) → after ≡ ws
 
 pub record Spared (ws : List ℕ) (r : ℕ) (os after : List ℕ) : Type 0 where
   pub seen : (r, (maybeSeen (topFive ws), groupIn after)) ≡ popSparing (groupIn ws)
   pub obstacle : os ≡ fiveWords (topFive ws)
   pub words : after ≡ sparedWords ws
   pub sound : SoundGroup after
+  pub refused : (r ≡ 0 → ⊥) → after ≡ ws
 
--- ---- over a bench b: an obstacle with words f is added, a group with words vs extends. STALE (8) and ROOM (20) leave every word
+-- ---- over a bench b: an obstacle with words f is added, a group with words vs extends
 
 unfoldable pub addedBy : List ℕ → List ℕ → Five → List ℕ
 addedBy b ws f = pick (any (staleCode (view b)) (handlesOf (obstacleOf f))) ws (addedWords ws f (vertexOf (view b) (obstacleOf f)))
@@ -45,6 +47,7 @@ pub record Added (b ws : List ℕ) (f : Five) (r : ℕ) (after : List ℕ) : Typ
   pub seen : groupIn after ≡ add (view b) (groupIn ws) (obstacleOf f) .1
   pub words : after ≡ addedBy b ws f
   pub sound : SoundGroup after
+  pub refused : (r ≡ 0 → ⊥) → after ≡ ws
 
 unfoldable pub extendedBy : List ℕ → List ℕ → List ℕ → List ℕ
 extendedBy b ws vs = pick (any (staleCode (view b)) (groupHandles (groupIn vs))) ws (extendedWords ws vs)
@@ -54,3 +57,4 @@ pub record Extended (b ws vs : List ℕ) (r : ℕ) (after : List ℕ) : Type 0 w
   pub seen : groupIn after ≡ extend (view b) (groupIn ws) (groupIn vs) .1
   pub words : after ≡ extendedBy b ws vs
   pub sound : SoundGroup after
+  pub refused : (r ≡ 0 → ⊥) → after ≡ ws

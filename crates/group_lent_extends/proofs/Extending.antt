@@ -26,14 +26,15 @@ use Rattle.group_lent_extends.proofs.Takes.{taken-seen, taken-sound}
 use Rattle.group_lent_extends.proofs.Appends.{appended-kind, appended-list, appended-stops, appended-sound}
 
 -- the promise, by the ledger's answer q
-made : (ws vs : List ℕ) (r : ℕ) (after : List ℕ) (q : Option Group) → extended (groupIn ws) (groupIn vs) ≡ q → r ≡ pick (isSome q) 0 20 → after ≡ extendedWords ws vs
+made : (ws vs : List ℕ) (r : ℕ) (after : List ℕ) → ((r ≡ 0 → ⊥) → after ≡ ws) → (q : Option Group) → extended (groupIn ws) (groupIn vs) ≡ q → r ≡ pick (isSome q) 0 20 → after ≡ extendedWords ws vs
     → groupIn after ≡ orElse q (groupIn ws) → SoundGroup after → Extended ws vs r after
-made ws vs r after q e n w s d =
+made ws vs r after k q e n w s d =
     record {
       number = n ∙ sym (ap (λ (o : Option Group). pick (isSome o) 0 20) e);
       words = w;
       seen = s ∙ sym (ap (λ (o : Option Group). orElse o (groupIn ws)) e);
       sound = d;
+      refused = k;
     }
 
 module _ (ws vs : List ℕ) (s : SoundGroup ws) (t : SoundGroup vs) where
@@ -49,7 +50,7 @@ module _ (ws vs : List ℕ) (s : SoundGroup ws) (t : SoundGroup vs) where
     unfolding extended extendedWords
     by-pair d after w =
         let least = cond (eqZ (lengthOf (lengthIn vs)) largest) mine (smallerPair (lengthOf (lengthIn ws)) (eqb (flagIn ws) 1) (lengthOf (lengthIn vs)) (eqb (flagIn vs) 1)) in
-        made ws vs 0 after (some least) (ap₂ extended (seen-growth ws d) (seen-growth vs e)) refl
+        made ws vs 0 after (λ n. absurd (n refl)) (some least) (ap₂ extended (seen-growth ws d) (seen-growth vs e)) refl
         (w ∙ rw (eq-eqb (kindIn vs) 1 e, eq-eqb (kindIn ws) 1 d))
         (ap groupIn w ∙ paired-seen ws vs (s .long) (is-growing ws s d) (is-growing vs t e))
         (subst SoundGroup (sym w) (paired-sound ws vs (s .long) (is-growing ws s d) (is-growing vs t e)))
@@ -58,7 +59,7 @@ module _ (ws vs : List ℕ) (s : SoundGroup ws) (t : SoundGroup vs) where
     unfolding extended extendedWords
     by-none n =
         let l = is-listing ws s n in
-        made ws vs 0 ws (some (conflicts (listIn ws) (stopsIn ws))) (ap₂ extended (seen-conflicts ws (l .kind)) (seen-growth vs e)) refl
+        made ws vs 0 ws (λ n. absurd (n refl)) (some (conflicts (listIn ws) (stopsIn ws))) (ap₂ extended (seen-conflicts ws (l .kind)) (seen-growth vs e)) refl
         (rw (eq-eqb (kindIn vs) 1 e, ne-eqb (kindIn ws) 1 n)) (seen-conflicts ws (l .kind)) s
 
   -- ---- by conflicts
@@ -69,7 +70,7 @@ module _ (ws vs : List ℕ) (s : SoundGroup ws) (t : SoundGroup vs) where
     pub by-taking : kindIn ws ≡ 1 → (after : List ℕ) → after ≡ takenWords ws vs → Extended ws vs 0 after
     unfolding extended extendedWords
     by-taking d after w =
-        made ws vs 0 after (some (conflicts (listIn vs) (stopsIn vs))) (ap₂ extended (seen-growth ws d) (seen-conflicts vs (b .kind))) refl
+        made ws vs 0 after (λ n. absurd (n refl)) (some (conflicts (listIn vs) (stopsIn vs))) (ap₂ extended (seen-growth ws d) (seen-conflicts vs (b .kind))) refl
         (w ∙ rw (ne-eqb (kindIn vs) 1 m, eq-eqb (kindIn ws) 1 d))
         (ap groupIn w ∙ taken-seen ws vs (s .long) (t .long) b)
         (subst SoundGroup (sym w) (taken-sound ws vs (s .long) (t .long) b))
@@ -90,7 +91,7 @@ module _ (ws vs : List ℕ) (s : SoundGroup ws) (t : SoundGroup vs) where
       by-room r e f = go whole refl (sym e ∙ f)
         where
           go : (o : Option Group) → whole ≡ o → isSome whole ≡ false → Extended ws vs 20 ws
-          go none p g = made ws vs 20 ws none p refl (sym (words-are false g)) refl s
+          go none p g = made ws vs 20 ws (λ n. refl) none p refl (sym (words-are false g)) refl s
           go (some q) p g = absurd (false≢true (sym g ∙ ap isSome p))
 
       module _ (r : Bool) (e : r ≡ isSome whole) (f : r ≡ true) where
@@ -131,4 +132,4 @@ module _ (ws vs : List ℕ) (s : SoundGroup ws) (t : SoundGroup vs) where
         by-adding w after q E =
             let end : Ended more vs after = subst (λ (u : List ℕ). Ended u vs after) q E in
             let says : whole ≡ some (groupIn after) = sym adds ∙ end .seen in
-            made ws vs 0 after (some (groupIn after)) says refl (end .words ∙ sym (words-are true yes)) refl (end .sound)
+            made ws vs 0 after (λ n. absurd (n refl)) (some (groupIn after)) says refl (end .words ∙ sym (words-are true yes)) refl (end .sound)

@@ -62,3 +62,4 @@ pub record Extended (ws vs : List ℕ) (r : ℕ) (after : List ℕ) : Type 0 whe
   pub words : after ≡ extendedWords ws vs
   pub seen : groupIn after ≡ orElse (extended (groupIn ws) (groupIn vs)) (groupIn ws)
   pub sound : SoundGroup after
+  pub refused : (r ≡ 0 → ⊥) → after ≡ ws

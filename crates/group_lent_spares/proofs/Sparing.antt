@@ -51,6 +51,7 @@ module _ (ws : List ℕ) where
     words = P .words ∙ sym (ap (λ (b : Bool). pick b (poppedWords ws) (set ws 3 (listed ws - 1))) t);
     seen = P .seen ∙ sym (agree-where (groupIn ws) (is-empty t));
     sound = P .sound;
+    refused = P .refused;
   }
 
   -- ---- one entry fewer
@@ -130,4 +131,5 @@ module _ (ws : List ℕ) where
           words = sym (ap (λ (b : Bool). pick b (poppedWords ws) (set ws 3 (listed ws - 1))) t);
           seen = λ i. (a i .0, (a i .1, q i));
           sound = left-sound;
+          refused = λ n. absurd (n ((λ i. a i .0) ∙ ap (λ (t : ℕ × (Option Obstacle × Group)). t .0) turn));
         }

@@ -22,3 +22,4 @@ pub record Spared (ws : List ℕ) (r : Top) (after : List ℕ) : Type 0 where
   pub words : after ≡ sparedWords ws
   pub seen : (r .number, (maybeSeen (r .obstacle), groupIn after)) ≡ popSparing (groupIn ws)
   pub sound : SoundGroup after
+  pub refused : (r .number ≡ 0 → ⊥) → after ≡ ws

@@ -114,7 +114,7 @@ module _ (ws : List ℕ) (f : Five) (v : ℕ) (s : SoundGroup ws) (form : isForm
 
     one-good : Good (0, one)
     one-good =
-        made f v ws one 0 one (some (conflicts [] (stopOf f v ∷ []))) says refl refl
+        made f v ws one 0 one (λ n. absurd (n refl)) (some (conflicts [] (stopOf f v ∷ []))) says refl refl
         (seen-conflicts one (head 0 (omega arith)) ∙ ap₂ conflicts list stops) one-sound
 
   -- ---- conflicts
@@ -158,11 +158,11 @@ module _ (ws : List ℕ) (f : Five) (v : ℕ) (s : SoundGroup ws) (form : isForm
 
     -- nothing changes
     kept : (o : Option Lists) → addStop x (listIn ws) (stopsIn ws) ≡ o → grouped o ≡ some (conflicts (listIn ws) (stopsIn ws)) → Good (0, ws)
-    kept o e g = made f v ws ws 0 ws (some (conflicts (listIn ws) (stopsIn ws))) (says-add o e ∙ g) refl refl (seen-conflicts ws (l .kind)) s
+    kept o e g = made f v ws ws 0 ws (λ n. absurd (n refl)) (some (conflicts (listIn ws) (stopsIn ws))) (says-add o e ∙ g) refl refl (seen-conflicts ws (l .kind)) s
 
     -- no room
     full : (o : Option Lists) → addStop x (listIn ws) (stopsIn ws) ≡ o → grouped o ≡ none → Good (20, ws)
-    full o e g = made f v ws ws 20 ws none (says-add o e ∙ g) refl refl refl s
+    full o e g = made f v ws ws 20 ws (λ n. refl) none (says-add o e ∙ g) refl refl refl s
 
     -- ws' holds the list es and the stops ss
     module _ (ws' : List ℕ) (es : List Entry) (ss : List Stop) (k : Kept ws ws') (a : listIn ws' ≡ es) (b : stopsIn ws' ≡ ss) (few : listed ws' ≤ 128) (fewer : stopped ws' ≤ 128)
@@ -173,7 +173,7 @@ module _ (ws : List ℕ) (f : Five) (v : ℕ) (s : SoundGroup ws) (form : isForm
           let w : length ss ≤ 128 = omega (arith, ap length b, run-long (stopAt ws') 0 (stopped ws')) in
           let says = says-add (roomFor es ss) e ∙ has-room es ss u w in
           let kind = k .head 0 (omega arith) ∙ l .kind in
-          made f v ws ws' 0 ws' (some (conflicts es ss)) says refl refl
+          made f v ws ws' 0 ws' (λ n. absurd (n refl)) (some (conflicts es ss)) says refl refl
           (seen-conflicts ws' kind ∙ ap₂ conflicts a b)
           (to-listing ws' (conflicts es ss) (k .long ∙ s .long) kind (k .head 1 (omega arith) ∙ l .plain) (k .head 2 (omega arith) ∙ l .blank) few fewer fs gs (ap₂ conflicts a b)
           (added-sound (groupIn ws) (obstacleOf f) v (conflicts es ss) (sound-in ws s) says))

@@ -34,14 +34,15 @@ use Rattle.group_lent.proofs.Stores.{sets-out, sets-in, run-long, run-same, run
 use Rattle.group_lent.proofs.Seen.{Reads, out-reads, then-reads, five-reads, five-put, entry-same, entry-form, stop-same, stop-form, seen-growth, seen-conflicts, sound-in, is-growing, is-listing, to-listing}
 
 -- the promise, by the ledger's answer q
-pub made : (f : Five) (v : ℕ) (ws next : List ℕ) (r : ℕ) (after : List ℕ) (q : Option Group) → added (groupIn ws) (obstacleOf f) v ≡ q → r ≡ pick (isSome q) 0 20 → after ≡ next
+pub made : (f : Five) (v : ℕ) (ws next : List ℕ) (r : ℕ) (after : List ℕ) → ((r ≡ 0 → ⊥) → after ≡ ws) → (q : Option Group) → added (groupIn ws) (obstacleOf f) v ≡ q → r ≡ pick (isSome q) 0 20 → after ≡ next
     → groupIn after ≡ orElse q (groupIn ws) → SoundGroup after → Added f v ws next r after
-made f v ws next r after q e n w s d =
+made f v ws next r after k q e n w s d =
     record {
       number = n ∙ sym (ap (λ (o : Option Group). pick (isSome o) 0 20) e);
       words = w;
       seen = s ∙ sym (ap (λ (o : Option Group). orElse o (groupIn ws)) e);
       sound = d;
+      refused = k;
     }
 
 -- ---- a growth
@@ -85,7 +86,7 @@ module _ (ws : List ℕ) (f : Five) (s : SoundGroup ws) (k : f .kind ≡ 1) (v :
   unfolding grownWords added addToConflicts
   growth-kept n =
       let l = is-listing ws s n in
-      made f v ws (grownWords ws f) 0 ws (some (conflicts (listIn ws) (stopsIn ws)))
+      made f v ws (grownWords ws f) 0 ws (λ n. absurd (n refl)) (some (conflicts (listIn ws) (stopsIn ws)))
       (ap₂ (λ (g : Group) (o : Obstacle). added g o v) (seen-conflicts ws (l .kind)) grows)
       refl
       (rw (ne-eqb (kindIn ws) 1 n))
@@ -104,7 +105,7 @@ module _ (ws : List ℕ) (f : Five) (s : SoundGroup ws) (k : f .kind ≡ 1) (v :
       let flag : flagIn after ≡ y = sets-in ws 1 xs 1 2 refl (omega arith) room in
       let l : lengthOf (lengthIn after) ≡ smaller (lengthOf (lengthIn ws)) (lengthOf (f .a)) = ap lengthOf (long ∙ p) ∙ least-is (lengthIn ws) (f .a) in
       let h : eqb (flagIn after) 1 ≡ (eqb (flagIn ws) 1 || eqb (f .b) 1) = ap (λ (w : ℕ). eqb w 1) (flag ∙ q) ∙ either-is (flagIn ws) (f .b) in
-      made f v ws (grownWords ws f) 0 after (some (growth (smaller (lengthOf (lengthIn ws)) (lengthOf (f .a))) (eqb (flagIn ws) 1 || eqb (f .b) 1)))
+      made f v ws (grownWords ws f) 0 after (λ n. absurd (n refl)) (some (growth (smaller (lengthOf (lengthIn ws)) (lengthOf (f .a))) (eqb (flagIn ws) 1 || eqb (f .b) 1)))
       (ap₂ (λ (g : Group) (o : Obstacle). added g o v) (seen-growth ws e) grows)
       refl
       (rw (eq-eqb (kindIn ws) 1 e, p, q))
@@ -191,7 +192,7 @@ module _ (ws : List ℕ) (f : Five) (s : SoundGroup ws) (form : isForm f ≡ tru
     pub listed-one : Added f v ws (listedWords ws f) 0 one
     unfolding listedWords
     listed-one =
-        made f v ws (listedWords ws f) 0 one (some (conflicts (entry f ∷ []) [])) says refl (rw (eq-eqb (kindIn ws) 1 e))
+        made f v ws (listedWords ws f) 0 one (λ n. absurd (n refl)) (some (conflicts (entry f ∷ []) [])) says refl (rw (eq-eqb (kindIn ws) 1 e))
         (seen-conflicts one (head 0 (omega arith)) ∙ ap₂ conflicts list stops) one-sound
 
   -- conflicts
@@ -212,7 +213,7 @@ module _ (ws : List ℕ) (f : Five) (s : SoundGroup ws) (form : isForm f ≡ tru
     pub listed-full : 128 ≤ listed ws → Added f v ws (listedWords ws f) 20 ws
     unfolding listedWords
     listed-full h =
-        made f v ws (listedWords ws f) 20 ws none (says-more ∙ no-room longer (stopsIn ws) (omega (arith, longer-by))) refl
+        made f v ws (listedWords ws f) 20 ws (λ n. refl) none (says-more ∙ no-room longer (stopsIn ws) (omega (arith, longer-by))) refl
         (rw (ne-eqb (kindIn ws) 1 n, le-ltb (listed ws) 128 h)) refl s
 
     module _ (h : listed ws < 128) where
@@ -289,6 +290,6 @@ module _ (ws : List ℕ) (f : Five) (s : SoundGroup ws) (form : isForm f ≡ tru
       pub listed-more : Added f v ws (listedWords ws f) 0 more
       unfolding listedWords
       listed-more =
-          made f v ws (listedWords ws f) 0 more (some (conflicts longer (stopsIn ws))) says-it refl
+          made f v ws (listedWords ws f) 0 more (λ n. absurd (n refl)) (some (conflicts longer (stopsIn ws))) says-it refl
           (rw (ne-eqb (kindIn ws) 1 n, lt-ltb (listed ws) 128 h))
           (seen-conflicts more kind-more ∙ ap₂ conflicts list-more stops-more) more-sound

@@ -132,6 +132,7 @@ module _ (ws : List ℕ) (s : SoundGroup ws) where
       words = rw e;
       seen = ap (λ (g : Five). (10, (maybeSeen g, groupIn ws))) (t ∙ sym (top-growth e)) ∙ pop-growth (groupIn ws) (lengthOf (lengthIn ws)) (eqb (flagIn ws) 1) (seen-growth ws e);
       sound = s;
+      refused = λ n. refl;
     }
 
     -- ---- and what is left
@@ -218,6 +219,7 @@ module _ (ws : List ℕ) (s : SoundGroup ws) where
             ap₂ (λ (o : Option Obstacle) (g : Group). (0, (o, g))) (seen-top n) (seen-conflicts left (word 0 (omega arith) ∙ l .kind) ∙ ap₂ conflicts list-left stops-left)
             ∙ pop-conflicts (groupIn ws) (listIn ws) (stopsIn ws) (seen-conflicts ws (l .kind)) (l .sound);
         sound = left-sound;
+        refused = λ n. absurd (n refl);
       }
 
       -- the same, as the code leaves it

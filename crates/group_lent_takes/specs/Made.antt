@@ -26,6 +26,7 @@ pub record Added (f : Five) (v : ℕ) (ws : List ℕ) (next : List ℕ) (r : ℕ
   pub words : after ≡ next
   pub seen : groupIn after ≡ orElse (added (groupIn ws) (obstacleOf f) v) (groupIn ws)
   pub sound : SoundGroup after
+  pub refused : (r ≡ 0 → ⊥) → after ≡ ws
 
 -- five words with kind 0 say that there is none
 abbrev pub maybeSeen : Five → Option Obstacle
@@ -36,3 +37,4 @@ pub record Popped (ws : List ℕ) (r : Top) (after : List ℕ) : Type 0 where
   pub words : after ≡ poppedWords ws
   pub seen : (r .number, (maybeSeen (r .obstacle), groupIn after)) ≡ pop (groupIn ws)
   pub sound : SoundGroup after
+  pub refused : (r .number ≡ 0 → ⊥) → after ≡ ws
