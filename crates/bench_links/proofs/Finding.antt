@@ -29,7 +29,7 @@ use Rattle.bench_views.proofs.Slots.{slot-absent}
 use Rattle.bench_links.specs.declared.Found.{Found}
 use Rattle.bench_links.specs.declared.Found.the-variants.{At, Stale}
 use Rattle.bench_links.specs.Find.{absentOf, spot, Stands, Held, Finds}
-use Rattle.bench_links.specs.Given.{given}
+use Rattle.bench_views.specs.Given.{handGiven}
 
 -- ---- the ledger's node by a handle
 module _ (B : plain.Bench) (h : Handle) where
@@ -144,10 +144,12 @@ module _ (b : List ℕ) (C : Canon b) (h : Handle) (n : Node) (e : n ≡ nodeAt 
     found s k p = find-there b h C lu ls k p there (sym (ap (λ (x : Node). x .serial .0) e) ∙ s)
 
 -- ---- by a packed word
-pub no-handle : (b : List ℕ) (w : ℕ) → 2199023255552 ≤ w → nodeNamed (view b) (given w) ≡ none
+pub no-handle : (b : List ℕ) (w : ℕ) → 2199023255552 ≤ w → nodeNamed (view b) (handGiven w) ≡ none
+unfolding handGiven
 no-handle b w l = rw (le-ltb w 2199023255552 l) (out-unit b (record { unit = 8; slot = 0; serial = 0 }) (omega arith))
 
-pub is-handle : (w : ℕ) → w < 2199023255552 → handleNamed (handleOf w) ≡ given w
+pub is-handle : (w : ℕ) → w < 2199023255552 → handleNamed (handleOf w) ≡ handGiven w
+unfolding handGiven
 is-handle w l = rw (lt-ltb w 2199023255552 l)
 
 -- ---- by what was found

@@ -1,5 +1,7 @@
 // Finding nodes: a handle to its slot, up the parents to the outermost blossom, whether two nodes stand in one tree, and a node's value.
 // Everything here only reads. Positions are 64 * interface + slot. Assumes nothing.
+use bench_words::Interface;
+use bench_words::Node;
 use bench_words::WORDS;
 use kinds::Class;
 use kinds::Handle;
@@ -15,7 +17,7 @@ ghost use Rattle.bench_views.specs.Canon.{Canon};
 ghost use Rattle.bench_views.specs.Fit.{Fit};
 ghost use Rattle.bench_views.specs.Records.{Steady};
 ghost use Rattle.bench_views.specs.View.{off, view};
-ghost use Rattle.bench_links.specs.Given.{given};
+ghost use Rattle.bench_views.specs.Given.{handGiven};
 ghost use Rattle.bench_links.specs.Find.{absentOf, Stands, Finds};
 ghost use Rattle.bench_links.specs.Outer.{Outers};
 
@@ -61,9 +63,9 @@ pub fn find(b: &[u64; WORDS], h: Handle) -> Found
 // Any word at all, as a packed handle.
 pub fn find_word(b: &[u64; WORDS], w: u64) -> Found
     requires { ⌜ Canon (now b) ⌝ }
-    ensures { λ r. ⌜ Finds (now (b .entry)) (given w) r ⌝ }
+    ensures { λ r. ⌜ Finds (now (b .entry)) (handGiven w) r ⌝ }
 {
-    if 2199023255552 <= w {
+    if bench_words::PAST_HANDLES <= w {
         return Found::Stale;
     }
     find(b, bench_words::handle_of(w))
@@ -140,10 +142,7 @@ pub fn value(b: &[u64; WORDS], h: Handle) -> i64
     let c = bench_trees::climb(b, unit);
     let n = bench_words::load_node(b, unit * 64 + (h.slot as usize));
     let state = n.state;
-    lowered(
-        bench_trees::valued(state, n.bias, c.total),
-        1152921504606846976,
-    )
+    lowered(bench_trees::valued(state, n.bias, c.total), Node::OFFSET)
 }
 
 // The sum of an interface without a parent.
@@ -154,7 +153,7 @@ pub fn sum(b: &[u64; WORDS], unit: usize) -> i64
     ensures { λ r. ⌜ r ≡ interface (view (now (b .entry))) unit .sum ⌝ }
 {
     let f = bench_words::load_interface(b, unit);
-    lowered(f.sum, 4611686018427387904)
+    lowered(f.sum, Interface::OFFSET)
 }
 
 // The speed of an interface without a parent.

@@ -9,3 +9,4 @@ pub mod Codes
 pub mod Ranges
 pub mod Unique
 pub mod Fits
+pub mod Givens

@@ -3,3 +3,4 @@ pub mod Records
 pub mod View
 pub mod Canon
 pub mod Fit
+pub mod Given

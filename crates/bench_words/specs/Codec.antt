@@ -1,7 +1,7 @@
 -- How a state, a class, a handle, a parent and an interface's parent are written as words. Assumes nothing.
 use Prim.Native.Nat.{ℕ, _+_, _-_, _*_, _/_, _%_}
 use mathlib.Core.Bool.{Bool, true, false}
-use lib.Dec.{eqb}
+use lib.Dec.{eqb, ltb}
 use Rattle.kinds.specs.declared.GrowState.{GrowState}
 use Rattle.kinds.specs.declared.GrowState.the-variants.{Grow, Stay, Shrink}
 use Rattle.kinds.specs.declared.Class.{Class}
@@ -42,6 +42,14 @@ stateWord Shrink = 2
 
 abbrev pub handleOf : ℕ → Handle
 handleOf w = record { unit = w % 8; slot = w / 8 % 64; serial = record { 0 = w / 8 / 64 % 4294967296 } }
+
+-- a handle of an interface that no bench has
+abbrev pub nowhereCode : Handle
+nowhereCode = record { unit = 8; slot = 0; serial = record { 0 = 0 } }
+
+-- the handle that any word gives: serials are below 2^32, so a packed handle is below 2^41
+unfoldable pub handOf : ℕ → Handle
+handOf w = pick (ltb w pastHandles) (handleOf w) nowhereCode
 
 abbrev pub handleWord : Handle → ℕ
 handleWord h = (h .serial .0 * 64 + h .slot) * 8 + h .unit

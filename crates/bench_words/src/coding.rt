@@ -1,4 +1,5 @@
 // Whether words are the code of what is loaded from them: the sound test's only view of single words. Assumes nothing.
+use crate::PAST_HANDLES;
 use crate::WORDS;
 ghost use mathlib.Core.Path.{_≡_};
 ghost use Prim.Native.Nat.{_<_};
@@ -32,8 +33,8 @@ pub fn is_coded(b: &[u64; WORDS], k: usize) -> bool
     (b[at + 1] < 4294967296)
         & ((b[at + 2] < 4294967298)
             & ((b[at + 3] <= 2)
-                & ((b[at + 4] <= 2199023255552)
-                    & ((b[at + 7] < 2199023255552) & (b[at + 8] < 2199023255552)))))
+                & ((b[at + 4] <= PAST_HANDLES)
+                    & ((b[at + 7] < PAST_HANDLES) & (b[at + 8] < PAST_HANDLES)))))
 }
 
 // The words that no interface has yet are zero.

@@ -17,10 +17,13 @@ use kinds::Vertex;
 ghost use mathlib.Core.Path.{_≡_};
 ghost use lib.ListN.{length, getD, set};
 ghost use Prim.Native.Nat.{_+_, _*_, _<_};
-ghost use Rattle.bench_words.specs.Codec.{stateOf, stateWord, handleOf, handleWord, classOf, classWord, parentOf, parentWord, upOf, upWord};
+ghost use Rattle.bench_words.specs.Codec.{stateOf, stateWord, handleOf, handOf, handleWord, classOf, classWord, parentOf, parentWord, upOf, upWord};
 ghost use Rattle.bench_words.specs.Store.{nodeAt, storeNode, interfaceAt, storeInterface};
 
 pub const WORDS: usize = 6273;
+
+// The first word that is no packed handle.
+pub const PAST_HANDLES: u64 = 2199023255552;
 
 // A slot. An empty one is all zero. `place` and `next` are a member's in its circle, `first` and `count` a blossom's circle; positions are
 // 64 * interface + slot. Value = bias - 2^60, and T more or less as the node grows or shrinks.
@@ -39,6 +42,10 @@ pub struct Node {
     pub count: u64,
 }
 
+impl Node {
+    pub const OFFSET: u64 = 1152921504606846976; // so much higher than it is a value stands in the words
+}
+
 // The interface that an interface is a half of, if any.
 pub enum Up {
     Top,
@@ -54,6 +61,14 @@ pub struct Interface {
     pub parent: Up,
     pub left: u64,
     pub right: u64,
+}
+
+impl Interface {
+    // How much higher than it is a sum stands in the words.
+    pub const OFFSET: u64 = 4611686018427387904;
+
+    // How far an interface may grow between two clears.
+    pub const PROGRESS: u64 = 1099511627776;
 }
 
 pub fn state_of(w: u64) -> GrowState
@@ -84,6 +99,20 @@ pub fn handle_of(w: u64) -> Handle
         unit: (w % 8) as u8,
         slot: (w / 8 % 64) as u8,
         serial: Serial((w / 8 / 64 % 4294967296) as u32),
+    }
+}
+
+// The handle that any word gives: one of an interface that no bench has where the word is no packed handle.
+pub fn hand_of(w: u64) -> Handle
+    ensures { λ r. ⌜ r ≡ handOf w ⌝ }
+{
+    if w < PAST_HANDLES {
+        return handle_of(w);
+    }
+    Handle {
+        unit: Handle::UNITS,
+        slot: 0,
+        serial: Serial(0),
     }
 }
 

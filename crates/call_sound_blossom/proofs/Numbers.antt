@@ -1,24 +1,17 @@
 -- The tests of add blossom are those of its parts, one after the other: a part that refuses gives the number, and one that does not leaves it to the
 -- next. Assumes nothing.
-use Prim.Native.Nat.{ℕ, _<_, _≤_}
+use Prim.Native.Nat.{ℕ}
 use mathlib.Core.Path.{_≡_, refl, sym, _∙_, ap}
 use mathlib.Core.Logic.{_≢_}
 use mathlib.Core.Bool.{Bool, true, false}
 use mathlib.Core.List.{List, [], _∷_, _++_}
-use native.Mathlib.Omega.{arith}
-use borrow.Author.Tests.{le-leb, lt-leb}
-use lib.ListN.{length, getD}
-use Rattle.bench_words.specs.Store.{nodeAt, interfaceAt}
-use Rattle.bench_words.specs.declared.Interface.{Interface}
 use Rattle.ledger_spec.specs.Bench.{Handle, Bench}
-use Rattle.ledger_spec.specs.Look.{interface}
 use Rattle.ledger_spec.specs.Tests.{first, twice}
 use Rattle.ledger_spec.specs.Refuse.{unitTests, blossomTests}
 use Rattle.ledger_spec.proofs.Passed.{Failed, passed, Open}
 use Rattle.ledger_spec.proofs.Accepted.{clear-passed}
-use Rattle.bench_views.specs.View.{view}
-use Rattle.bench_views.proofs.Views.{view-count, view-next}
-use Rattle.refuse_circles.specs.Parts.{shapeTests, nodesTests, twiceTests, roomTests}
+use Rattle.refuse_circles.specs.Parts.{shapeTests, nodesTests, twiceTests}
+use Rattle.refuse_calls.specs.Room.{roomTests}
 
 -- ---- one list of tests after another
 stop : (xs ys : List (Bool × ℕ)) → first xs ≢ 0 → first (xs ++ ys) ≡ first xs
@@ -91,24 +84,3 @@ module _ (b : Bench) (u : ℕ) (hs : List Handle) (ts : List (Handle × Handle))
               pub by-room : (c : Bool) → c ≡ twice hs → c ≡ false → (r : ℕ) → r ≡ first (roomTests b u) → r ≡ whole
               unfolding first
               by-room c w t r d = d ∙ sym (to-late ∙ ap (λ (a : Bool). elim a [ true ↦ 13 | false ↦ first (roomTests b u) ]) (sym w ∙ t))
-
--- ---- room
-module _ (b : List ℕ) (u : ℕ) (l : u < 8) (f : Interface) (e : f ≡ interfaceAt b u) where
-  used : length (interface (view b) u .slots) ≡ f .used
-  used = view-count (getD b 0 0) (interfaceAt b) (nodeAt b) u l ∙ ap (λ (x : Interface). x .used) (sym e)
-
-  pub room-full : 64 ≤ f .used → 14 ≡ first (roomTests (view b) u)
-  unfolding first
-  room-full h = rw (le-leb 64 (length (interface (view b) u .slots)) (omega (arith, used)))
-
-  module _ (h : f .used < 64) (n : ℕ) (g : n ≡ getD b 0 0) where
-    next : view b .next ≡ n
-    next = view-next (getD b 0 0) (interfaceAt b) (nodeAt b) ∙ sym g
-
-    pub room-worn : 4294967296 ≤ n → 15 ≡ first (roomTests (view b) u)
-    unfolding first
-    room-worn k = rw (lt-leb 64 (length (interface (view b) u .slots)) (omega (arith, used)), le-leb 4294967296 (view b .next) (omega (arith, next)))
-
-    pub room-some : n < 4294967296 → 0 ≡ first (roomTests (view b) u)
-    unfolding first
-    room-some k = rw (lt-leb 64 (length (interface (view b) u .slots)) (omega (arith, used)), lt-leb 4294967296 (view b .next) (omega (arith, next)))

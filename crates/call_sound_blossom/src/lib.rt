@@ -12,24 +12,7 @@ ghost use Rattle.bench_views.specs.Canon.{Canon};
 ghost use Rattle.bench_views.specs.Fit.{SoundWords};
 ghost use Rattle.bench_views.specs.View.{view};
 ghost use Rattle.deed_circles.specs.Given.{handsGiven, pairsGiven};
-ghost use Rattle.refuse_circles.specs.Parts.{roomTests};
 ghost use Rattle.outcomes.specs.Answered.{Answered};
-
-// No room for one more node: every slot used (14), no serial left (15), or 0.
-fn room_number(b: &[u64; WORDS], unit: u8) -> u8
-    requires { ⌜ unit < 8 ⌝ }
-    ensures { λ r. ⌜ r ≡ first (roomTests (view (now (b .entry))) unit) ⌝ }
-{
-    let f = bench_words::load_interface(b, unit as usize);
-    if 64 <= f.used {
-        return numbers::FULL;
-    }
-    let next = bench_words::load_next(b);
-    if 4294967296 <= next {
-        return numbers::WORN;
-    }
-    0
-}
 
 // The number that add blossom is refused by, or 0. Only reads.
 pub fn blossom_number(b: &[u64; WORDS], unit: u8, members: &[u64], touching: &[u64]) -> u8
@@ -51,7 +34,7 @@ pub fn blossom_number(b: &[u64; WORDS], unit: u8, members: &[u64], touching: &[u
     if refuse_circles::given_twice(members) {
         return numbers::TWICE;
     }
-    room_number(b, unit)
+    refuse_calls::room_number(b, unit)
 }
 
 // Makes a blossom of the members, which stay in it, and gives its handle; or refuses, with no word changed.

@@ -22,7 +22,8 @@ use Rattle.ledger_spec.specs.Named.{handleNamed}
 use Rattle.ledger_spec.proofs.Accepted.{BlossomPassed, blossom-passed, ExpandPassed, expand-passed}
 use Rattle.ledger_laws.proofs.Answered.{testsOf, nodeOf, answer-true, zero-notices, zero-node, zero-tests}
 use Rattle.ledger_laws.proofs.Answered as laws
-use Rattle.deed_circles.specs.Given.{handGiven, handsGiven}
+use Rattle.bench_views.specs.Given.{handGiven}
+use Rattle.deed_circles.specs.Given.{handsGiven}
 use Rattle.bench_views.specs.View.{view}
 use Rattle.bench_views.specs.Fit.{SoundWords, Fit}
 use Rattle.bench_views.proofs.Fits.{fit-of}

@@ -1,4 +1,6 @@
 // The total of the values of a tree's present nodes, 2^62 higher than it is, as a stored sum stands. Everything here only reads. Assumes nothing.
+use bench_words::Interface;
+use bench_words::Node;
 use bench_words::WORDS;
 ghost use mathlib.Core.Path.{_≡_};
 ghost use Prim.Native.Nat.{_/_, _%_, _<_, _≤_};
@@ -41,7 +43,7 @@ fn add(b: &[u64; WORDS], k: usize, t: u64, sum: u64) -> u64
         return sum;
     }
     let state = n.state;
-    sum + bench_trees::valued(state, n.bias, t) - 1152921504606846976
+    sum + bench_trees::valued(state, n.bias, t) - Node::OFFSET
 }
 
 // Of the first `count` positions, which are those of a tree's slots.
@@ -54,7 +56,7 @@ pub fn total(b: &[u64; WORDS], unit: usize, places: &[usize; 512], count: usize)
     let top = bench_trees::climb(b, unit);
     let mut t = top.total;
     let mut last = unit;
-    let mut sum: u64 = 4611686018427387904;
+    let mut sum: u64 = Interface::OFFSET;
     let mut i: usize = 0;
     while i < count {
         let k = places[i];

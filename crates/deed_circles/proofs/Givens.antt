@@ -29,7 +29,8 @@ use Rattle.bench_views.specs.View.{view}
 use Rattle.bench_views.specs.Fit.{Fit}
 use Rattle.bench_views.proofs.Views.{view-out}
 use Rattle.deed_nodes.proofs.Needs.{open-room, open-next, Stands, stands, stands-free}
-use Rattle.deed_circles.specs.Given.{nowhere, handGiven, handsGiven, pairsGiven, spotAt, touchWord}
+use Rattle.bench_views.specs.Given.{nowhere, handGiven}
+use Rattle.deed_circles.specs.Given.{handsGiven, pairsGiven, spotAt, touchWord}
 
 -- ---- one word
 pub given-fine : (w : ℕ) → w < 2199023255552 → handGiven w ≡ handleNamed (handleOf w)

@@ -16,7 +16,8 @@ use Rattle.ledger_spec.specs.Deeds.{circle}
 use Rattle.ledger_spec.specs.Named.{handleNamed}
 use Rattle.bench_views.specs.View.{follow, memberAt}
 use Rattle.bench_views.specs.Canon.{walk}
-use Rattle.deed_circles.specs.Given.{handGiven, handsGiven, pairsGiven, spotOf, spotAt, nextSpot, touchWord}
+use Rattle.bench_views.specs.Given.{handGiven}
+use Rattle.deed_circles.specs.Given.{handsGiven, pairsGiven, spotOf, spotAt, nextSpot, touchWord}
 use Rattle.deed_circles.proofs.Givens.{given-fine}
 
 pub next-more : (ms : List ℕ) (i : ℕ) → suc i < length ms → nextSpot ms i ≡ spotAt ms (suc i)

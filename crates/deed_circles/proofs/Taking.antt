@@ -34,7 +34,8 @@ use Rattle.deed_nodes.specs.Steps.{remarked}
 use Rattle.deed_nodes.proofs.Puts.{value-low, rate-small}
 use Rattle.deed_nodes.proofs.Needs.{open-paced}
 use Rattle.deed_nodes.proofs.Stores.{node-next, node-steady}
-use Rattle.deed_circles.specs.Given.{handGiven, handsGiven, spotAt}
+use Rattle.bench_views.specs.Given.{handGiven}
+use Rattle.deed_circles.specs.Given.{handsGiven, spotAt}
 use Rattle.deed_circles.specs.Members.{seatOf, takenNode}
 use Rattle.deed_circles.proofs.Givens.{Ringable, given-fine}
 use Rattle.deed_circles.proofs.Rounds.{pacing, pacing-self, turned, turn-here, turn-else, turn-off, turn-head, turn-coming, turns-view}

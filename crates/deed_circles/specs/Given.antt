@@ -3,17 +3,9 @@ use Prim.Native.Nat.{ℕ, _+_, _*_, _/_, _%_}
 use mathlib.Core.List.{List, [], _∷_, map}
 use lib.Dec.{eqb, ltb}
 use lib.ListN.{length, getD}
-use Rattle.bench_words.specs.Codec.{pastHandles, pick, handleOf}
+use Rattle.bench_words.specs.Codec.{pick}
 use Rattle.ledger_spec.specs.Bench.{Handle}
-use Rattle.ledger_spec.specs.Named.{handleNamed}
-
--- a handle of an interface that no bench has
-abbrev pub nowhere : Handle
-nowhere = record { unit = 8; slot = 0; serial = 0 }
-
--- the handle that a word gives: serials are below 2^32, so a packed handle is below 2^41
-unfoldable pub handGiven : ℕ → Handle
-handGiven w = pick (ltb w pastHandles) (handleNamed (handleOf w)) nowhere
+use Rattle.bench_views.specs.Given.{nowhere, handGiven}
 
 abbrev pub handsGiven : List ℕ → List Handle
 handsGiven ws = map handGiven ws

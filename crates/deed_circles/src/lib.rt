@@ -105,7 +105,7 @@ fn new_blossom(serial: Serial, first: u64, count: u64, size: u64, t: u64) -> Nod
         next: 0,
         left: nobody,
         right: nobody,
-        bias: 1152921504606846976 - t,
+        bias: Node::OFFSET - t,
         size,
         first,
         count,

@@ -207,7 +207,7 @@ pub fn add_defect(b: &mut [u64; WORDS], unit: usize, vertex: Vertex) -> Handle
             next: 0,
             left: nobody,
             right: nobody,
-            bias: 1152921504606846976 - f.progress,
+            bias: Node::OFFSET - f.progress,
             size: 1,
             first: 0,
             count: 0,

@@ -24,7 +24,7 @@ fn no_interface() -> Interface
     Interface {
         used: 0,
         progress: 0,
-        sum: 4611686018427387904,
+        sum: Interface::OFFSET,
         speed: 1024,
         parent: Up::Top,
         left: 0,
@@ -68,7 +68,7 @@ pub fn join(b: &mut [u64; WORDS], parent: usize, left: usize, right: usize)
         Interface {
             used: 0,
             progress: 0,
-            sum: l.sum + r.sum - 4611686018427387904,
+            sum: l.sum + r.sum - Interface::OFFSET,
             speed: l.speed + r.speed - 1024,
             parent: Up::Top,
             left: (left as u64) + 1,

@@ -4,7 +4,8 @@ use bench_words::WORDS;
 use kinds::Vertex;
 use link_answers::ANSWER;
 ghost use Rattle.ledger_spec.specs.Calls.{Defect, Blossom, Expand, SetState, Grow, Fuse, Clear};
-ghost use Rattle.deed_circles.specs.Given.{handGiven, handsGiven, pairsGiven};
+ghost use Rattle.bench_views.specs.Given.{handGiven};
+ghost use Rattle.deed_circles.specs.Given.{handsGiven, pairsGiven};
 ghost use Rattle.link_answers.specs.Forms.{stateGiven};
 ghost use Rattle.dual_ledger.specs.Linked.{CalledBy, Left};
 

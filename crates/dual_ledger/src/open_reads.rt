@@ -3,7 +3,7 @@
 use bench_words::WORDS;
 use kinds::NodeIndex;
 ghost use mathlib.Core.Path.{_≡_};
-ghost use Rattle.deed_circles.specs.Given.{handGiven};
+ghost use Rattle.bench_views.specs.Given.{handGiven};
 ghost use Rattle.bench_views.specs.View.{view};
 ghost use Rattle.link_answers.specs.Forms.{nodeWord, indexed, flagWord, signedWord, outerWords, worded};
 ghost use Rattle.sound_lent.specs.Verdict.{readWords};

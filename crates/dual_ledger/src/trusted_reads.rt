@@ -6,7 +6,7 @@ ghost use mathlib.Core.Path.{_≡_};
 ghost use Rattle.ledger_spec.specs.Reads.{sumOf, speedOf, countOf, handleAtIndex, valueOf, belongs};
 ghost use Rattle.ledger_spec.specs.Walk.{outerOf, belowOf, firstVertex, verticesInto};
 ghost use Rattle.ledger_spec.specs.Check.{checkOf, strictOf};
-ghost use Rattle.deed_circles.specs.Given.{handGiven};
+ghost use Rattle.bench_views.specs.Given.{handGiven};
 ghost use Rattle.bench_views.specs.Fit.{SoundWords};
 ghost use Rattle.bench_views.specs.View.{view};
 ghost use Rattle.link_answers.specs.Forms.{nodeWord, indexed, flagWord, signedWord, outerWords, worded};

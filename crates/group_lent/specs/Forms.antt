@@ -12,7 +12,7 @@ use Rattle.kinds.specs.declared.Pair.{Pair}
 use Rattle.kinds.specs.declared.MaybePair.the-variants.{NoPair, WithPair}
 use Rattle.kinds.specs.declared.Obstacle.{Obstacle}
 use Rattle.kinds.specs.declared.Obstacle.the-variants.{NonZeroGrow, Conflicting, TouchingVirtual, BlossomNeedExpand, VertexShrinkStop}
-use Rattle.bench_words.specs.Codec.{pick, handleOf}
+use Rattle.bench_words.specs.Codec.{pastHandles, pick, handOf}
 use Rattle.group_lent.specs.declared.Five.{Five}
 
 -- ---- single words
@@ -21,16 +21,9 @@ use Rattle.group_lent.specs.declared.Five.{Five}
 abbrev pub lengthOf : ℕ → ℤ
 lengthOf w = pick (ltb w 9223372036854775808) (pos w) (negsuc (18446744073709551615 - w))
 
--- a handle of an interface that no bench has
-abbrev pub nowhere : Handle
-nowhere = record { unit = 8; slot = 0; serial = record { 0 = 0 } }
-
-unfoldable pub handOf : ℕ → Handle
-handOf w = pick (ltb w 2199023255552) (handleOf w) nowhere
-
 -- two words of the same handle
 abbrev pub sameHand : ℕ → ℕ → Bool
-sameHand a b = eqb a b || (leb 2199023255552 a && leb 2199023255552 b)
+sameHand a b = eqb a b || (leb pastHandles a && leb pastHandles b)
 
 abbrev pub pairOf : ℕ → ℕ → Pair
 pairOf a b = record { node = handOf a; touching = handOf b }

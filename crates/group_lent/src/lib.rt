@@ -1,5 +1,6 @@
 // Obstacles and groups as lent words, in the forms of include/dual_ledger.h: five words read, tested and written, and stops that move. An obstacle is its
 // five words, and nothing is decoded. Assumes nothing.
+use bench_words::PAST_HANDLES;
 ghost use mathlib.Core.Path.{_≡_};
 ghost use Prim.Native.Nat.{_+_, _≤_};
 ghost use lib.ListN.{length};
@@ -50,7 +51,7 @@ pub fn length_of(w: u64) -> i64
 pub fn same_node(a: u64, b: u64) -> bool
     ensures { λ r. ⌜ r ≡ sameHand a b ⌝ }
 {
-    (a == b) | ((2199023255552 <= a) & (2199023255552 <= b))
+    (a == b) | ((PAST_HANDLES <= a) & (PAST_HANDLES <= b))
 }
 
 pub fn is_form(f: Five) -> bool

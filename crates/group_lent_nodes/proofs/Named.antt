@@ -7,23 +7,13 @@ use mathlib.Core.List.{[], _∷_}
 use native.Mathlib.Decide.{ℕ-discrete}
 use native.Mathlib.Omega.{arith}
 use borrow.Author.Tests.{ne-eqb}
-use lib.Dec.{ltb}
-use Rattle.bench_words.specs.Codec.{pick, handleOf}
+use Rattle.bench_words.specs.Codec.{handOf}
 use Rattle.ledger_spec.specs.Bench.{Bench}
 use Rattle.ledger_spec.specs.Named.{handleNamed}
 use Rattle.ledger_spec.specs.Walk.{firstVertex}
 use Rattle.ledger_spec.specs.GroupCalls.{handlesOf, vertexOf}
-use Rattle.bench_links.specs.Given.{given}
-use Rattle.group_lent.specs.Forms.{nowhere, handOf, five, isForm, obstacleOf}
+use Rattle.group_lent.specs.Forms.{five, isForm, obstacleOf}
 use Rattle.group_lent.specs.declared.Five.{Five}
-
-pub hand-given : (w : ℕ) → handleNamed (handOf w) ≡ given w
-unfolding handOf
-hand-given w = go (ltb w 2199023255552)
-  where
-    go : (t : Bool) → handleNamed (pick t (handleOf w) nowhere) ≡ pick t (handleNamed (handleOf w)) (record { unit = 8; slot = 0; serial = 0 })
-    go true = refl
-    go false = refl
 
 module _ (f : Five) where
   pub names-none : f .kind ≡ 1 → handlesOf (obstacleOf f) ≡ []

@@ -5,7 +5,6 @@ use bench_words::WORDS;
 use group_lent::Five;
 use group_lent::GROUP;
 use kinds::Handle;
-use kinds::Serial;
 ghost use mathlib.Core.Path.{_≡_};
 ghost use mathlib.Core.Bool.{true};
 ghost use mathlib.Core.List.{[], _∷_};
@@ -15,7 +14,8 @@ ghost use Rattle.ledger_spec.specs.GroupCalls.{staleCode, handlesOf, listHandle
 ghost use Rattle.bench_views.specs.Canon.{Canon};
 ghost use Rattle.bench_views.specs.Fit.{Fit};
 ghost use Rattle.bench_views.specs.View.{view};
-ghost use Rattle.group_lent.specs.Forms.{handOf, isForm, obstacleOf};
+ghost use Rattle.bench_words.specs.Codec.{handOf};
+ghost use Rattle.group_lent.specs.Forms.{isForm, obstacleOf};
 ghost use Rattle.group_lent.specs.Place.{listIn, stopsIn, groupIn, Listing, SoundGroup};
 
 fn is_gone(b: &[u64; WORDS], w: u64) -> bool
@@ -113,20 +113,6 @@ pub fn group_gone(b: &[u64; WORDS], w: &[u64; GROUP]) -> bool
     stops_gone(b, w)
 }
 
-// A word of 2^41 and more is a handle of an interface that no bench has.
-fn hand_of(w: u64) -> Handle
-    ensures { λ r. ⌜ r ≡ handOf w ⌝ }
-{
-    if w < 2199023255552 {
-        return bench_words::handle_of(w);
-    }
-    Handle {
-        unit: 8,
-        slot: 0,
-        serial: Serial(0),
-    }
-}
-
 // Of any other obstacle than a stop it says 0.
 pub fn vertex_of(b: &[u64; WORDS], f: Five) -> u64
     requires { ⌜ Fit (now b) ⌝ }
@@ -136,7 +122,7 @@ pub fn vertex_of(b: &[u64; WORDS], f: Five) -> u64
     if f.kind < 5 {
         return 0;
     }
-    let h = hand_of(f.a);
+    let h = bench_words::hand_of(f.a);
     let r = read_sound::get_representative_vertex(b, h);
     r.vertex.0 as u64
 }

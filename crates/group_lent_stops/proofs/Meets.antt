@@ -13,8 +13,8 @@ use Rattle.kinds.specs.Obstacles.{listable, isStop}
 use Rattle.kinds.specs.declared.Handle.{Handle}
 use Rattle.kinds.specs.declared.MaybePair.the-variants.{NoPair, WithPair}
 use Rattle.kinds.specs.declared.Obstacle.the-variants.{NonZeroGrow, Conflicting, TouchingVirtual, BlossomNeedExpand, VertexShrinkStop}
-use Rattle.bench_words.specs.Codec.{pick, handleOf, handleWord}
-use Rattle.group_lent.specs.Forms.{lengthOf, nowhere, handOf, sameHand, pairOf, five, isForm, obstacleOf}
+use Rattle.bench_words.specs.Codec.{pick, handleOf, nowhereCode, handOf, handleWord}
+use Rattle.group_lent.specs.Forms.{lengthOf, sameHand, pairOf, five, isForm, obstacleOf}
 use Rattle.group_lent.specs.declared.Five.{Five}
 use Rattle.group_lent.proofs.Stores.{and-left, and-right}
 use Rattle.group_lent_stops.specs.Stops.{pairFive}
@@ -107,7 +107,7 @@ same-words a b = go (ltb a 2199023255552) refl (ltb b 2199023255552) refl
     either true = refl
     either false = refl
 
-    go : (p : Bool) → ltb a 2199023255552 ≡ p → (q : Bool) → ltb b 2199023255552 ≡ q → sameCode (pick p (handleOf a) nowhere) (pick q (handleOf b) nowhere) ≡ sameHand a b
+    go : (p : Bool) → ltb a 2199023255552 ≡ p → (q : Bool) → ltb b 2199023255552 ≡ q → sameCode (pick p (handleOf a) nowhereCode) (pick q (handleOf b) nowhereCode) ≡ sameHand a b
     go true e true d =
         let h = ltb-true a 2199023255552 e in
         low-words a b h (ltb-true b 2199023255552 d) ∙ rw (lt-leb 2199023255552 a h) (sym (or-false (eqb a b)))

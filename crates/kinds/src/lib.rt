@@ -17,6 +17,9 @@ pub struct Vertex(pub u32);
 
 impl Serial {
     pub const LAST: u32 = 4294967295;
+
+    // The next serial when the last one is given out.
+    pub const PAST: u64 = 4294967296;
 }
 
 // A node by its interface, its slot there, and its serial. It names a node only as long as that slot holds that serial.

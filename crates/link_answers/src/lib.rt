@@ -6,7 +6,6 @@ use kinds::Handle;
 use kinds::MaybeLength;
 use kinds::MaybeNode;
 use kinds::Notice;
-use kinds::Serial;
 use outcome_notices::Notices;
 use outcome_notices::Told;
 ghost use mathlib.Core.Path.{_≡_};
@@ -14,7 +13,7 @@ ghost use mathlib.Core.List.{[], _∷_, _++_, map};
 ghost use lib.ListN.{length, replicate, set, take};
 ghost use Prim.Native.Nat.{_+_, _<_, _≤_};
 ghost use Rattle.ledger_spec.specs.Named.{handleNamed, stateNamed};
-ghost use Rattle.deed_circles.specs.Given.{handGiven};
+ghost use Rattle.bench_views.specs.Given.{handGiven};
 ghost use Rattle.read_sound.specs.Shown.{maybe};
 ghost use Rattle.groups.specs.Shown.{maybeLength};
 ghost use Rattle.bench_words.specs.Codec.{handleWord};
@@ -29,14 +28,7 @@ pub const ANSWER: usize = 199;
 pub fn hand(w: u64) -> Handle
     ensures { λ r. ⌜ handleNamed r ≡ handGiven w ⌝ }
 {
-    if w < 2199023255552 {
-        return bench_words::handle_of(w);
-    }
-    Handle {
-        unit: 8,
-        slot: 0,
-        serial: Serial(0),
-    }
+    bench_words::hand_of(w)
 }
 
 pub fn node_word(h: Handle) -> u64
@@ -50,7 +42,7 @@ pub fn maybe_word(m: MaybeNode) -> u64
     ensures { λ r. ⌜ r ≡ maybeWord (maybe m) ⌝ }
 {
     match m {
-        MaybeNode::NoNode => 2199023255552,
+        MaybeNode::NoNode => bench_words::PAST_HANDLES,
         MaybeNode::Node(h) => node_word(h),
     }
 }

@@ -17,7 +17,7 @@ use Rattle.ledger_spec.specs.Notices.{Notice, stateSet, shrinkPrepared, blossom
 use Rattle.ledger_spec.specs.Knit.{nodes}
 use Rattle.bench_views.specs.View.{follow, handleAt}
 use Rattle.bench_views.specs.Canon.{walk}
-use Rattle.deed_circles.specs.Given.{handGiven}
+use Rattle.bench_views.specs.Given.{handGiven}
 use Rattle.outcome_notices.specs.Laid.{packed, entry, blank, circleIn, pad, filled, laid}
 use Rattle.outcome_notices.specs.Lists.{blossomMade}
 use Rattle.outcome_notices.specs.declared.Told.{Told}

@@ -4,14 +4,14 @@ use bench_words::WORDS;
 use kinds::GrowState;
 use kinds::Handle;
 use kinds::Notice;
-use kinds::Serial;
 ghost use mathlib.Core.Path.{_≡_};
 ghost use mathlib.Core.List.{[], _∷_};
 ghost use Prim.Native.Nat.{_≤_};
 ghost use lib.ListN.{length};
 ghost use Rattle.ledger_spec.specs.Named.{handleNamed, stateNamed};
 ghost use Rattle.ledger_spec.specs.Notices.{defectAdded, stateSet, grown};
-ghost use Rattle.deed_circles.specs.Given.{handGiven, handsGiven};
+ghost use Rattle.bench_views.specs.Given.{handGiven};
+ghost use Rattle.deed_circles.specs.Given.{handsGiven};
 ghost use Rattle.bench_views.specs.View.{view};
 ghost use Rattle.bench_views.specs.Fit.{Fit};
 ghost use Rattle.outcome_notices.specs.Laid.{packed, laid, only};
@@ -89,14 +89,7 @@ pub fn grown(l: i64) -> Notices
 fn hand(w: u64) -> Handle
     ensures { λ r. ⌜ r ≡ packed (handGiven w) ⌝ }
 {
-    if w < 2199023255552 {
-        return bench_words::handle_of(w);
-    }
-    Handle {
-        unit: 8,
-        slot: 0,
-        serial: Serial(0),
-    }
+    bench_words::hand_of(w)
 }
 
 // Each member stays, in order; then the circle is prepared to shrink, and the blossom q is added.

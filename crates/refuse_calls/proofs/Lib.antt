@@ -3,3 +3,4 @@ pub mod Lengths
 pub mod Units
 pub mod Named
 pub mod Fuses
+pub mod Rooms

@@ -1,4 +1,4 @@
--- The numbers of add defect and grow: the interface's own tests, then the room left in it. Assumes nothing.
+-- The numbers of add defect and grow: the interface's own tests, then room or the length. Assumes nothing.
 use Prim.Native.Nat.{ℕ, _+_, _<_, _≤_}
 use mathlib.Core.Path.{_≡_, ap, ap₂, sym, _∙_}
 use mathlib.Core.Logic.{_≢_}
@@ -14,13 +14,14 @@ use Rattle.bench_words.specs.Store.{nodeAt, interfaceAt}
 use Rattle.bench_words.specs.declared.Interface.{Interface}
 use Rattle.ledger_spec.specs.Bench as plain
 use Rattle.ledger_spec.specs.Look.{interface}
-use Rattle.ledger_spec.specs.Tests.{first, full, worn}
+use Rattle.ledger_spec.specs.Tests.{first}
 use Rattle.ledger_spec.specs.Refuse.{unitTests, defectTests, growTests}
 use Rattle.ledger_spec.proofs.Passed.{Failed, passed}
 use Rattle.ledger_spec.proofs.Accepted.{clear-passed}
 use Rattle.bench_views.specs.View.{view}
 use Rattle.bench_views.proofs.Views.{interface-in, view-count, view-next}
 use Rattle.read_sound.proofs.Numbers.{first-yes, first-no, first-none}
+use Rattle.refuse_calls.specs.Room.{roomTests}
 use Rattle.refuse_calls.proofs.Firsts.{refused-by, decided-by}
 
 module _ (b : List ℕ) (u n : ℕ) (e : n ≡ first (unitTests (view b) u)) where
@@ -33,36 +34,15 @@ module _ (b : List ℕ) (u n : ℕ) (e : n ≡ first (unitTests (view b) u)) whe
 
   pub defect-no : n ≢ 0 → n ≡ first (defectTests (view b) u)
   unfolding unitTests defectTests
-  defect-no q = refused-by (unitTests (view b) u) ((full (view b) u, 14) ∷ (worn (view b), 15) ∷ []) n e q
+  defect-no q = refused-by (unitTests (view b) u) (roomTests (view b) u) n e q
 
   pub grow-no : (l : ℤ) → n ≢ 0 → n ≡ first (growTests (view b) u l)
   unfolding unitTests growTests
   grow-no l q = refused-by (unitTests (view b) u) ((ltZ l (pos 0) || ltZ (pos 1099511627776) (interface (view b) u .progress +ℤ l), 5) ∷ []) n e q
 
-  -- ---- defect
-  module _ (z : n ≡ 0) (f : Interface) (i : f ≡ interfaceAt b u) where
-    slots-are : length (interface (view b) u .slots) ≡ f .used
-    slots-are = view-count (getD b 0 0) (interfaceAt b) (nodeAt b) u (unit-low z) ∙ ap (λ (x : Interface). x .used) (sym i)
-
-    defect-rest : (k : ℕ) → k ≡ first ((full (view b) u, 14) ∷ (worn (view b), 15) ∷ []) → k ≡ first (defectTests (view b) u)
-    unfolding unitTests defectTests
-    defect-rest k r = decided-by (unitTests (view b) u) ((full (view b) u, 14) ∷ (worn (view b), 15) ∷ []) (unit-failed z) k r
-
-    pub defect-full : 64 ≤ f .used → 14 ≡ first (defectTests (view b) u)
-    defect-full l = defect-rest 14 (sym (first-yes (full (view b) u) 14 ((worn (view b), 15) ∷ []) (ap (leb 64) slots-are ∙ le-leb 64 (f .used) l)))
-
-    module _ (l : f .used < 64) (m : ℕ) (j : m ≡ getD b 0 0) where
-      next-is : view b .next ≡ m
-      next-is = view-next (getD b 0 0) (interfaceAt b) (nodeAt b) ∙ sym j
-
-      room : first ((full (view b) u, 14) ∷ (worn (view b), 15) ∷ []) ≡ first ((worn (view b), 15) ∷ [])
-      room = first-no (full (view b) u) 14 ((worn (view b), 15) ∷ []) (ap (leb 64) slots-are ∙ lt-leb 64 (f .used) l)
-
-      pub defect-worn : 4294967296 ≤ m → 15 ≡ first (defectTests (view b) u)
-      defect-worn w = defect-rest 15 (sym (room ∙ first-yes (worn (view b)) 15 [] (ap (leb 4294967296) next-is ∙ le-leb 4294967296 m w)))
-
-      pub defect-fine : m < 4294967296 → 0 ≡ first (defectTests (view b) u)
-      defect-fine w = defect-rest 0 (sym (room ∙ first-no (worn (view b)) 15 [] (ap (leb 4294967296) next-is ∙ lt-leb 4294967296 m w) ∙ first-none))
+  pub defect-rest : n ≡ 0 → (k : ℕ) → k ≡ first (roomTests (view b) u) → k ≡ first (defectTests (view b) u)
+  unfolding unitTests defectTests
+  defect-rest z k r = decided-by (unitTests (view b) u) (roomTests (view b) u) (unit-failed z) k r
 
   -- ---- grow
   module _ (z : n ≡ 0) where

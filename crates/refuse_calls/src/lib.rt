@@ -1,10 +1,12 @@
 // The number that each call is refused by, 0 where it is accepted: its tests in rising order of their numbers, the first that holds. Everything here
 // only reads, and none scans the slots. (Add blossom's is where its lists are.) Assumes nothing.
 use bench_links::Found;
+use bench_words::Interface;
 use bench_words::Up;
 use bench_words::WORDS;
 use kinds::Handle;
 use kinds::Parent;
+use kinds::Serial;
 use kinds::numbers;
 ghost use mathlib.Core.Path.{_≡_};
 ghost use mathlib.Core.Bool.{_||_};
@@ -18,6 +20,23 @@ ghost use Rattle.bench_views.specs.Records.{Steady};
 ghost use Rattle.bench_views.specs.Canon.{Canon};
 ghost use Rattle.bench_views.specs.View.{view};
 ghost use Rattle.refuse_calls.specs.Named.{namedTests};
+ghost use Rattle.refuse_calls.specs.Room.{roomTests};
+
+// No room for one more node: every slot used (14), no serial left (15), or 0.
+pub fn room_number(b: &[u64; WORDS], unit: u8) -> u8
+    requires { ⌜ unit < 8 ⌝ }
+    ensures { λ r. ⌜ r ≡ first (roomTests (view (now (b .entry))) unit) ⌝ }
+{
+    let f = bench_words::load_interface(b, unit as usize);
+    if (Handle::SLOTS as u64) <= f.used {
+        return numbers::FULL;
+    }
+    let next = bench_words::load_next(b);
+    if Serial::PAST <= next {
+        return numbers::WORN;
+    }
+    0
+}
 
 // UNIT, CHILD, FULL (14), WORN (15).
 pub fn defect_number(b: &[u64; WORDS], unit: u8) -> u8
@@ -27,15 +46,7 @@ pub fn defect_number(b: &[u64; WORDS], unit: u8) -> u8
     if number != 0 {
         return number;
     }
-    let f = bench_words::load_interface(b, unit as usize);
-    if 64 <= f.used {
-        return numbers::FULL;
-    }
-    let next = bench_words::load_next(b);
-    if 4294967296 <= next {
-        return numbers::WORN;
-    }
-    0
+    room_number(b, unit)
 }
 
 // UNIT, CHILD, LENGTH (5): a length below 0, or one past the progress limit.
@@ -51,7 +62,7 @@ pub fn grow_number(b: &[u64; WORDS], unit: u8, length: i64) -> u8
         return numbers::LENGTH;
     }
     let f = bench_words::load_interface(b, unit as usize);
-    if 1099511627776 < f.progress + (length as u64) {
+    if Interface::PROGRESS < f.progress + (length as u64) {
         return numbers::LENGTH;
     }
     0

@@ -13,7 +13,8 @@ use lib.Seq.{drop-cons}
 use Rattle.bench_words.specs.Codec.{pick}
 use Rattle.ledger_spec.specs.Bench.{Bench}
 use Rattle.ledger_spec.specs.Tests.{first, any}
-use Rattle.deed_circles.specs.Given.{handGiven, handsGiven}
+use Rattle.bench_views.specs.Given.{handGiven}
+use Rattle.deed_circles.specs.Given.{handsGiven}
 use Rattle.refuse_circles.specs.Marks.{marks, nodeMark, listMark, lower}
 
 -- ---- the lower of two numbers

@@ -25,19 +25,18 @@ use Rattle.bench_links.specs.declared.Found.{Found}
 use Rattle.bench_links.specs.declared.Found.the-variants.{At, Stale}
 use Rattle.bench_links.proofs.Finding.{found-at, found-none}
 use Rattle.bench_links.specs.Find.{spot, Held, Finds}
-use Rattle.bench_links.specs.Given.{given as wordGiven}
-use Rattle.deed_circles.specs.Given.{handGiven}
+use Rattle.bench_views.specs.Given.{handGiven}
 use Rattle.refuse_circles.specs.Marks.{marks, nodeMark}
 
 -- ---- what a word was found to name
-module _ (b : List ℕ) (w : ℕ) (r : Found) (f : Finds b (wordGiven w) r) where
+module _ (b : List ℕ) (w : ℕ) (r : Found) (f : Finds b (handGiven w) r) where
   pub word-at : (k : ℕ) → r ≡ At k → Held b (handGiven w) k
   unfolding handGiven
-  word-at k e = found-at b (wordGiven w) f k e
+  word-at k e = found-at b (handGiven w) f k e
 
   pub word-none : r ≡ Stale → nodeNamed (view b) (handGiven w) ≡ none
   unfolding handGiven
-  word-none e = found-none b (wordGiven w) f e
+  word-none e = found-none b (handGiven w) f e
 
 -- ---- its number
 marks-8 : (s f p : Bool) → s ≡ true → marks s f p ≡ 8

@@ -19,7 +19,8 @@ use Rattle.bench_views.specs.Canon.{Canon}
 use Rattle.bench_views.specs.View.{view}
 use Rattle.bench_links.specs.Find.{Stands}
 use Rattle.bench_links.proofs.Finding.{no-handle, stands-by}
-use Rattle.deed_circles.specs.Given.{handGiven, handsGiven}
+use Rattle.bench_views.specs.Given.{handGiven}
+use Rattle.deed_circles.specs.Given.{handsGiven}
 use Rattle.deed_circles.proofs.Givens.{given-fine}
 use Rattle.refuse_circles.specs.Parts.{nodesTests}
 use Rattle.refuse_circles.specs.Placed.{Placed}

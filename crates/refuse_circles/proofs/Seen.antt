@@ -14,7 +14,8 @@ use lib.Seq.{drop-cons, getD-set-same, getD-set-other}
 use Rattle.ledger_spec.specs.Look.{sameHandle}
 use Rattle.ledger_spec.specs.Tests.{any, twice}
 use Rattle.ledger_spec.specs.Knit.{In, there}
-use Rattle.deed_circles.specs.Given.{handGiven, handsGiven, spotOf}
+use Rattle.bench_views.specs.Given.{handGiven}
+use Rattle.deed_circles.specs.Given.{handsGiven, spotOf}
 use Rattle.refuse_circles.specs.Placed.{Placed, Blank}
 use Rattle.refuse_circles.proofs.Any.{or-true, or-rest, or-any, or-none, or-of, any-or, any-none}
 use Rattle.refuse_circles.proofs.Twice.{same-yes, same-no, in-at, still, still-end}

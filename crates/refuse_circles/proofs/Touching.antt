@@ -12,7 +12,8 @@ use Rattle.ledger_spec.specs.Look.{nodeNamed}
 use Rattle.ledger_spec.specs.Tests.{first, any, isSome, stale, foreign, hasParent, both}
 use Rattle.bench_views.specs.View.{view}
 use Rattle.bench_links.proofs.Finding.{out-unit}
-use Rattle.deed_circles.specs.Given.{nowhere, handGiven, handsGiven, pairsGiven}
+use Rattle.bench_views.specs.Given.{nowhere, handGiven}
+use Rattle.deed_circles.specs.Given.{handsGiven, pairsGiven}
 use Rattle.refuse_circles.specs.Marks.{marks, listMark, touchMark, lower}
 use Rattle.refuse_circles.specs.Parts.{nodesTests}
 use Rattle.refuse_circles.proofs.Any.{or-any, or-none, any-append}

@@ -13,7 +13,8 @@ use Rattle.ledger_spec.specs.Look.{sameHandle}
 use Rattle.ledger_spec.specs.Tests.{any, twice}
 use Rattle.ledger_spec.specs.Knit.{In, here, there}
 use Rattle.ledger_spec.proofs.Knit.{same-handle, same-self}
-use Rattle.deed_circles.specs.Given.{handGiven, handsGiven}
+use Rattle.bench_views.specs.Given.{handGiven}
+use Rattle.deed_circles.specs.Given.{handsGiven}
 use Rattle.deed_circles.proofs.Givens.{given-fine}
 use Rattle.refuse_circles.specs.Placed.{Placed}
 use Rattle.refuse_circles.proofs.Any.{or-true, or-rest}

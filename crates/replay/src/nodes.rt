@@ -9,7 +9,7 @@ use kinds::GrowState;
 use kinds::Parent;
 
 // The word that names no node.
-pub const NO_NODE: u64 = 2199023255552;
+pub const NO_NODE: u64 = bench_words::PAST_HANDLES;
 
 // Whether slot k holds a node of this serial.
 fn holds(b: &[u64; WORDS], k: usize, serial: i64) -> bool {

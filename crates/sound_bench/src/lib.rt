@@ -1,6 +1,7 @@
 // Whether words are the encoding of a bench that keeps every rule of "A sound bench": BROKEN is exactly where they are not. Any words whatever
 // may be lent; nothing is changed. The cost goes with the slots used. Assumes nothing.
 use bench_words::WORDS;
+use kinds::Serial;
 ghost use mathlib.Core.Path.{_≡_};
 ghost use Rattle.sound_bench.specs.Sound.{soundWords};
 
@@ -12,7 +13,7 @@ pub fn is_sound(b: &[u64; WORDS]) -> bool
     if next == 0 {
         return false;
     }
-    if 4294967296 < next {
+    if Serial::PAST < next {
         return false;
     }
     if !sound_trees::are_trees(b) {

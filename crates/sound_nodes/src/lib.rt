@@ -1,5 +1,6 @@
 // The slots of a sound bench: each is blank, or is used and holds a node that keeps every rule. Everything here only reads, and any words may be
 // lent whose interfaces are in range. Assumes nothing.
+use bench_words::Node;
 use bench_words::WORDS;
 use kinds::GrowState;
 use kinds::Handle;
@@ -44,7 +45,7 @@ fn is_near(g: GrowState, bias: u64, t: u64, w: u64) -> bool
         return false;
     }
     let v = bench_trees::valued(g, bias, t);
-    (1152921504606846976 - w <= v) & (v <= 1152921504606846976 + w)
+    (Node::OFFSET - w <= v) & (v <= Node::OFFSET + w)
 }
 
 fn is_node(b: &[u64; WORDS], u: usize, s: usize, g: Ground) -> bool

@@ -1,5 +1,6 @@
 // The sum and the speed of an interface without a parent: the sum within 512 W, the speed what the nodes of its tree make it. Everything here
 // only reads, and any words may be lent whose interfaces are in range. Assumes nothing.
+use bench_words::Interface;
 use bench_words::Up;
 use bench_words::WORDS;
 ghost use mathlib.Core.Path.{_≡_};
@@ -65,7 +66,7 @@ fn is_top(b: &[u64; WORDS], u: usize) -> bool
         Up::Top => {
             let w = sound_trees::width(b, u) * 512;
             let p = pace(b, u);
-            let near = (4611686018427387904 - w <= f.sum) & (f.sum <= 4611686018427387904 + w);
+            let near = (Interface::OFFSET - w <= f.sum) & (f.sum <= Interface::OFFSET + w);
             near & (f.speed == 512 + p)
         }
     }

@@ -1,5 +1,6 @@
 // The interfaces of a sound bench: their ranges, and links both ways between a parent and its halves; and W, the progress of a whole tree.
 // Everything here only reads, and any words may be lent. Assumes nothing.
+use bench_words::Interface;
 use bench_words::Up;
 use bench_words::WORDS;
 ghost use mathlib.Core.Path.{_≡_};
@@ -68,7 +69,7 @@ fn is_interface(b: &[u64; WORDS], u: usize) -> bool
     let f = bench_words::load_interface(b, u);
     let p = f.parent;
     let coded = bench_words::coding::is_spare(b, u) & bench_words::coding::is_link(b, u);
-    let ranged = (f.used <= 64) & (f.progress <= 1099511627776);
+    let ranged = (f.used <= 64) & (f.progress <= Interface::PROGRESS);
     coded & (ranged & (is_half(b, p, u) & are_halves(b, f.left, f.right, u)))
 }
 

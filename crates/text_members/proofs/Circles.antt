@@ -17,7 +17,8 @@ use Rattle.ledger_spec.specs.Deeds.{newHandle, addBlossom}
 use Rattle.ledger_spec.specs.Refuse.{blossomTests}
 use Rattle.ledger_spec.specs.Calls.{nobody, settle, Blossom, blossomCall, perform}
 use Rattle.ledger_spec.specs.Lines.{named}
-use Rattle.deed_circles.specs.Given.{handGiven, handsGiven}
+use Rattle.bench_views.specs.Given.{handGiven}
+use Rattle.deed_circles.specs.Given.{handsGiven}
 use Rattle.text_members.specs.Names.{Names, AllNamed}
 
 -- ---- a stale member: UNIT, CHILD, CIRCLE or STALE, whatever the members are

@@ -18,7 +18,7 @@ use Rattle.bench_views.specs.Fit.{SoundWords}
 use Rattle.bench_views.proofs.Fits.{fit-of}
 use Rattle.bench_links.specs.declared.Found.the-variants.{At, Stale}
 use Rattle.bench_links.proofs.Finding.{out-unit}
-use Rattle.deed_circles.specs.Given.{nowhere, handGiven}
+use Rattle.bench_views.specs.Given.{nowhere, handGiven}
 use Rattle.deed_circles.proofs.Givens.{given-fine}
 use Rattle.bench_serials.specs.Seek.{Seeks}
 use Rattle.bench_serials.proofs.Scanning.{not-yet, seeks-none}

@@ -8,7 +8,7 @@ use lib.ListN.{length, getD}
 use Rattle.ledger_spec.specs.Bench.{Bench}
 use Rattle.ledger_spec.specs.Look.{nodeNamed}
 use Rattle.ledger_spec.specs.Lines.{named}
-use Rattle.deed_circles.specs.Given.{handGiven}
+use Rattle.bench_views.specs.Given.{handGiven}
 
 -- the word w gives the handle of the present node with serial k; where there is none, it names no node either
 abbrev pub Names : Bench → ℕ → ℕ → Type 0

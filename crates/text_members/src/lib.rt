@@ -11,7 +11,7 @@ ghost use Rattle.bench_views.specs.View.{view};
 ghost use Rattle.text_members.specs.Names.{Names, AllNamed};
 
 // A word that is no packed handle.
-pub const NOBODY: u64 = 2199023255552;
+pub const NOBODY: u64 = bench_words::PAST_HANDLES;
 
 // The packed handle of the node with a serial, or a word that names no node.
 fn member(b: &[u64; WORDS], serial: u64, hints: &mut [u16; HINTS]) -> u64

@@ -3,12 +3,12 @@ use mathlib.Core.Path.{_≡_, sym, ap, _∙_}
 use borrow.Author.Needs.{needs}
 use Rattle.ledger_spec.specs.Tests.{stale}
 use Rattle.bench_views.specs.View.{view}
-use Rattle.bench_links.specs.Given.{given}
+use Rattle.bench_views.specs.Given.{handGiven}
 use Rattle.bench_links.specs.declared.Found.the-variants.{At, Stale}
 use Rattle.bench_links.proofs.Finding.{found-at, found-none}
 use Rattle.bench_links.proofs.Rising.{seen-some}
 use Rattle.read_sound.proofs.Numbers.{stale-yes, stale-no}
-use Rattle.group_lent_nodes.proofs.Named.{hand-given}
+use Rattle.bench_views.proofs.Givens.{hand-given}
 use Rattle.group_lent_nodes.proofs.is_gone.Statement.{statement}
 use Rattle.group_lent_nodes.proofs.is_gone.Tie as tie
 
@@ -25,7 +25,7 @@ returns : tie.Need-returns
 returns c =
     let s = c .before .before .before in
     let b = s .args .b .now in
-    let h = given (s .args .w) in
+    let h = handGiven (s .args .w) in
     let k = c .enum-told .given .0 .0 in
     let q : c .before .before .find-word .result ≡ At k = cc in
     let n = seen-some b h (found-at b h (c .before .before .find-word .ensures) k q .stands) in
@@ -35,7 +35,7 @@ returns-2 : tie.Need-returns-2
 returns-2 c =
     let s = c .before .before .before in
     let b = s .args .b .now in
-    let h = given (s .args .w) in
+    let h = handGiven (s .args .w) in
     let q : c .before .before .find-word .result ≡ Stale = cc in
     sym (stale-yes (view b) h (found-none b h (c .before .before .find-word .ensures) q)) ∙ ap (stale (view b)) (sym (hand-given (s .args .w)))
 

@@ -2,7 +2,7 @@
 use mathlib.Core.Path.{sym, ap, _∙_}
 use mathlib.Core.List.{[], _∷_}
 use Rattle.ledger_spec.specs.Tests.{any}
-use Rattle.group_lent.specs.Forms.{handOf}
+use Rattle.bench_words.specs.Codec.{handOf}
 use borrow.Author.Needs.{needs}
 use Rattle.ledger_spec.specs.GroupCalls.{staleCode}
 use Rattle.bench_views.specs.View.{view}

@@ -1,22 +1,16 @@
--- `hand` goes by the test of the definition. Assumes nothing.
-use mathlib.Core.Path.{ap}
+-- The handle that a word gives, as the plain ledger has it. Assumes nothing.
+use mathlib.Core.Path.{ap, _∙_}
 use borrow.Author.Needs.{needs}
-use borrow.Author.Tests.{lt-ltb, le-ltb}
 use Rattle.ledger_spec.specs.Named.{handleNamed}
-use Rattle.deed_circles.specs.Given.{handGiven}
+use Rattle.bench_views.proofs.Givens.{hand-given}
 use Rattle.link_answers.proofs.hand.Statement.{statement}
 use Rattle.link_answers.proofs.hand.Tie as tie
 
-handle-of-requires : tie.Need-handle-of-requires
-handle-of-requires c κs = search needs
+hand-of-requires : tie.Need-hand-of-requires
+hand-of-requires c κs = search needs
 
 returns : tie.Need-returns
-unfolding handGiven
-returns c = rw (lt-ltb _ _ (c .before .if1 .taken)) (ap handleNamed (c .handle-of .ensures))
-
-returns-2 : tie.Need-returns-2
-unfolding handGiven
-returns-2 c = rw (le-ltb _ _ (c .if1 .left))
+returns c = ap handleNamed (c .hand-of .ensures) ∙ hand-given _
 
 pub hand-spec : {M : Type 1} → statement M
-hand-spec = tie.close (tie.spec handle-of-requires returns returns-2)
+hand-spec = tie.close (tie.spec hand-of-requires returns)

@@ -2,7 +2,8 @@
 use native.Mathlib.Omega.{arith}
 use borrow.Author.Needs.{needs}
 use lib.ListN.{length-map}
-use Rattle.deed_circles.specs.Given.{handGiven, handsGiven, pairsGiven}
+use Rattle.bench_views.specs.Given.{handGiven}
+use Rattle.deed_circles.specs.Given.{handsGiven, pairsGiven}
 use Rattle.refuse_circles.proofs.Shape.{pairs-length, shape-none, shape-many, shape-bare, shape-unpaired, shape-paired}
 use Rattle.refuse_circles.proofs.shape_number.Statement.{statement}
 use Rattle.refuse_circles.proofs.shape_number.Tie as tie

@@ -4,7 +4,7 @@ use native.Mathlib.Omega.{arith}
 use borrow.Author.Needs.{needs}
 use Rattle.kinds.specs.declared.Parent.the-variants.{Outermost, Inside}
 use Rattle.bench_links.specs.declared.Found.the-variants.{At, Stale}
-use Rattle.deed_circles.specs.Given.{handGiven}
+use Rattle.bench_views.specs.Given.{handGiven}
 use Rattle.refuse_circles.proofs.Marking.{word-at, word-none, mark-stale, mark-foreign, mark-inside, mark-free}
 use Rattle.refuse_circles.proofs.word_number.Statement.{statement}
 use Rattle.refuse_circles.proofs.word_number.Tie as tie

@@ -1,11 +1,14 @@
 -- Each way out is one of the laws of room. Assumes nothing.
 use borrow.Author.Needs.{needs}
-use Rattle.call_sound_blossom.proofs.Numbers.{room-full, room-worn, room-some}
-use Rattle.call_sound_blossom.proofs.room_number.Statement.{statement}
-use Rattle.call_sound_blossom.proofs.room_number.Tie as tie
+use Rattle.refuse_calls.proofs.Rooms.{room-full, room-worn, room-some}
+use Rattle.refuse_calls.proofs.room_number.Statement.{statement}
+use Rattle.refuse_calls.proofs.room_number.Tie as tie
 
 load-interface-requires : tie.Need-load-interface-requires
 load-interface-requires c κs = search needs
+
+cast-if1 : tie.Need-cast-if1
+cast-if1 c = search needs
 
 returns : tie.Need-returns
 returns c = let s = c .before .before .before in room-full (s .args .b .now) (s .args .unit) (s .pre) (c .before .before .load-interface .result) (c .before .before .load-interface .ensures) (c .if1 .taken)
@@ -23,4 +26,4 @@ returns-3 c = let s = c .before .before .before .before .before in
 
 pub room-number-spec : {M : Type 1} → statement M
 room-number-spec =
-    tie.close (tie.spec load-interface-requires returns load-next-requires returns-2 returns-3)
+    tie.close (tie.spec load-interface-requires cast-if1 returns load-next-requires returns-2 returns-3)

@@ -1,9 +1,9 @@
 -- `hand_of` goes by the test of the definition. Assumes nothing.
-use borrow.Author.Tests.{lt-ltb, le-ltb}
-use Rattle.group_lent.specs.Forms.{handOf}
 use borrow.Author.Needs.{needs}
-use Rattle.group_lent_nodes.proofs.hand_of.Statement.{statement}
-use Rattle.group_lent_nodes.proofs.hand_of.Tie as tie
+use borrow.Author.Tests.{lt-ltb, le-ltb}
+use Rattle.bench_words.specs.Codec.{handOf}
+use Rattle.bench_words.proofs.hand_of.Statement.{statement}
+use Rattle.bench_words.proofs.hand_of.Tie as tie
 
 handle-of-requires : tie.Need-handle-of-requires
 handle-of-requires c κs = search needs
