@@ -81,6 +81,20 @@ fn under_means_under() {
     assert_eq!(bench.strict_check(0), Ok(Verdict::Sound));
 }
 
+/// A member's own parent is no node that a call can name, so it is written into the words: word 128 + 12 k + 7 is the first touching node of the node at position k.
+#[test]
+fn the_parent_is_not_under() {
+    let mut bench = Bench::default();
+    let a = bench.create_defect_node(0, 1).unwrap();
+    let over = bench.create_blossom(0, &[a], &[]).unwrap();
+    let around = bench.create_blossom(0, &[over], &[]).unwrap();
+    assert_eq!(bench.strict_check(0), Ok(Verdict::Sound));
+    let mut words = *bench.words();
+    words[128 + 12 + 7] = (u64::from(around.serial()) * 64 + 2) * 8;
+    let bench = Bench::from_words(&words).unwrap();
+    assert_eq!((bench.sanity_check(0), bench.strict_check(0)), (Ok(Verdict::Sound), Ok(Verdict::NotUnder(1))));
+}
+
 #[test]
 fn words_there_and_back() {
     let mut bench = Bench::new(7).unwrap();

@@ -251,6 +251,26 @@ static void check_strictly(uint8_t unit, int number, int verdict, int index) {
     same("verdict", (int64_t)v, verdict), same("index", (int64_t)i, index);
 }
 
+/* "Under" means under: a nephew in the next member is not, a node two levels down is; and, written into the words, a member's own parent is not. */
+static void under(void) {
+    uint64_t node[7], circle[2], touching[4];
+    same("set-up", dual_ledger_set_up(bench, 1), 0);
+    dual_ledger_trusted_create_defect_node(bench, 0, 1, node), dual_ledger_trusted_create_defect_node(bench, 0, 2, node + 1);
+    dual_ledger_trusted_create_blossom(bench, 0, node, 1, NULL, 0, node + 2), dual_ledger_trusted_create_blossom(bench, 0, node + 1, 1, NULL, 0, node + 3);
+    circle[0] = node[2], circle[1] = node[3];
+    touching[0] = node[0], touching[1] = node[2], touching[2] = node[0], touching[3] = node[3];
+    same("blossom", dual_ledger_trusted_create_blossom(bench, 0, circle, 2, touching, 4, node + 4), 0);
+    check(0, 0, 0, 0), check_strictly(0, 0, 6, 3);
+    same("expand", dual_ledger_trusted_expand_blossom(bench, 0, node[4]), 0);
+    dual_ledger_trusted_create_blossom(bench, 0, node + 2, 1, NULL, 0, node + 5);
+    circle[0] = node[5], touching[1] = node[5], touching[2] = node[1];
+    same("blossom", dual_ledger_trusted_create_blossom(bench, 0, circle, 2, touching, 4, node + 6), 0);
+    check(0, 0, 0, 0), check_strictly(0, 0, 0, 0);
+    bench[128 + 12 * 5 + 7] = node[6]; /* the first touching node of the member in slot 5 */
+    same("sound", dual_ledger_is_sound(bench), 1);
+    check(0, 0, 0, 0), check_strictly(0, 0, 6, 5);
+}
+
 static void reads(void) {
     uint64_t node[4], count = 77;
     static const uint32_t two[5] = {30, 20, 1, 1, 1}, none[5] = {1, 1, 1, 1, 1};
@@ -575,6 +595,7 @@ int main(void) {
     notices();
     largest_circle();
     reads();
+    under();
     text();
     names();
     refusals();

@@ -35,6 +35,6 @@ module _ (b : List ℕ) (F : Fit b) (k : ℕ) (P : Placed b k) (n : Node) (e : n
       ∙ member-own (view b) (memberAt (nodeAt b) k) (ap isDefect (shown b F k P) ∙ defect-seen (nodeAt b k) (sumUp 8 (interfaceAt b) (k / 64)) (circleOf (nodeAt b) k) v (sym (ap (λ (x : Node). x .class) e) ∙ c)) s
 
   pub stands-ring : n .class ≡ Blossom → (o : Handle) → o ≡ outermost (view b) (handleAt (nodeAt b) k)
-      → larger (touchBy s (view b) (own n) o (handleNamed (n .left))) (touchBy s (view b) (own n) o (handleNamed (n .right))) ≡ memberBy s (view b) (memberAt (nodeAt b) k)
-  stands-ring c o q = ap (λ (x : Node). larger (touchBy s (view b) (own x) o (handleNamed (x .left))) (touchBy s (view b) (own x) o (handleNamed (x .right)))) e
+      → larger (touchBy s (view b) (handleAt (nodeAt b) k) o (handleNamed (n .left))) (touchBy s (view b) (handleAt (nodeAt b) k) o (handleNamed (n .right))) ≡ memberBy s (view b) (memberAt (nodeAt b) k)
+  stands-ring c o q = ap (λ (x : Node). larger (touchBy s (view b) (handleAt (nodeAt b) k) o (handleNamed (x .left))) (touchBy s (view b) (handleAt (nodeAt b) k) o (handleNamed (x .right)))) e
       ∙ member-larger (view b) (memberAt (nodeAt b) k) (ap isDefect (shown b F k P) ∙ ring-seen (nodeAt b k) (sumUp 8 (interfaceAt b) (k / 64)) (circleOf (nodeAt b) k) (sym (ap (λ (x : Node). x .class) e) ∙ c)) s o q

@@ -1,7 +1,9 @@
 // The members of one circle, checked in circle order: a defect touches by itself (else 2), a blossom by present nodes (else 4) of its outermost blossom
-// (else 3), and strictly by nodes under it, from which parents lead to it (else 6). Everything here only reads. Assumes nothing.
+// (else 3), and strictly by nodes under it, from which parents lead to it (else 6). A lent table says where each node lies in its nest, so that a handle
+// costs no walk up, but for one that is not under its member. Everything here only reads. Assumes nothing.
 use bench_links::Found;
 use bench_words::WORDS;
+use check_nests::SLOTS;
 use kinds::Class;
 use kinds::Handle;
 use kinds::Parent;
@@ -15,7 +17,11 @@ ghost use Rattle.bench_views.specs.Fit.{Fit};
 ghost use Rattle.bench_views.specs.View.{view, handleAt, memberAt};
 ghost use Rattle.bench_links.specs.Find.{Stands};
 ghost use Rattle.bench_vertices.specs.Under.{Placed};
+ghost use Rattle.check_nests.specs.Nest.{Nests};
 ghost use Rattle.check_circles.specs.Found.{larger, ownBy, touchVerdict, underVerdict, touchBy, memberBy, Circled};
+
+// As many as the slots of a bench, which the parents of a node are fewer than.
+const LINKS: u64 = 512;
 
 // A verdict, and the member that it is of; 0 and nobody where nothing was found.
 pub struct Finding {
@@ -50,16 +56,16 @@ fn own_verdict(own: Handle, left: Handle, right: Handle, strict: bool) -> u8
 }
 
 // One touching handle of a blossom whose outermost blossom is `outer`.
-fn touch_verdict(b: &[u64; WORDS], outer: Handle, h: Handle) -> u8
+fn touch_verdict(b: &[u64; WORDS], t: &[u64; SLOTS], outer: Handle, h: Handle) -> u8
     requires { ⌜ Fit (now b) ⌝ }
+    requires { ⌜ Nests (now b) (now t) ⌝ }
     ensures { λ r. ⌜ r ≡ touchVerdict (view (now (b .entry))) (handleNamed outer) (handleNamed h) ⌝ }
 {
     let found = bench_links::find(b, h);
     match found {
         Found::Stale => 4,
-        Found::At(_) => {
-            let o = bench_links::outermost(b, h);
-            let node = o.node;
+        Found::At(k) => {
+            let node = check_nests::outer(b, k, t);
             if node.same(outer) {
                 return 0;
             }
@@ -76,7 +82,7 @@ fn rise(b: &[u64; WORDS], own: Handle, h: Handle) -> u8
 {
     let mut at = h;
     let mut links: u64 = 0;
-    while links < 512 {
+    while links < LINKS {
         if at.same(own) {
             return 0;
         }
@@ -99,37 +105,46 @@ fn rise(b: &[u64; WORDS], own: Handle, h: Handle) -> u8
     6
 }
 
-// One touching handle of a blossom, strictly.
-fn under_verdict(b: &[u64; WORDS], own: Handle, h: Handle) -> u8
+// One touching handle of the blossom at a position, strictly.
+fn under_verdict(b: &[u64; WORDS], t: &[u64; SLOTS], k: usize, h: Handle) -> u8
     requires { ⌜ Fit (now b) ⌝ }
-    ensures { λ r. ⌜ r ≡ underVerdict (view (now (b .entry))) (handleNamed own) (handleNamed h) ⌝ }
+    requires { ⌜ Nests (now b) (now t) ⌝ }
+    requires { ⌜ Placed (now b) k ⌝ }
+    ensures { λ r. ⌜ r ≡ underVerdict (view (now (b .entry))) (handleAt (nodeAt (now (b .entry))) k) (handleNamed h) ⌝ }
 {
+    let own = check_nests::handle_at(b, k);
     if h.same(own) {
         return 0;
     }
     let found = bench_links::find(b, h);
     match found {
         Found::Stale => 6,
-        Found::At(_) => rise(b, own, h),
+        Found::At(p) => {
+            if check_nests::is_within(b, k, p, t) {
+                return 0;
+            }
+            rise(b, own, h)
+        }
     }
 }
 
-fn touch(b: &[u64; WORDS], own: Handle, outer: Handle, h: Handle, strict: bool) -> u8
+fn touch(b: &[u64; WORDS], t: &[u64; SLOTS], k: usize, outer: Handle, h: Handle, strict: bool) -> u8
     requires { ⌜ Fit (now b) ⌝ }
-    requires { ⌜ Stands (now b) (handleNamed outer) ⌝ }
-    ensures { λ r. ⌜ r ≡ touchBy strict (view (now (b .entry))) (handleNamed own) (handleNamed outer) (handleNamed h) ⌝ }
+    requires { ⌜ Nests (now b) (now t) ⌝ }
+    requires { ⌜ Placed (now b) k ⌝ }
+    ensures { λ r. ⌜ r ≡ touchBy strict (view (now (b .entry))) (handleAt (nodeAt (now (b .entry))) k) (handleNamed outer) (handleNamed h) ⌝ }
 {
     if strict {
-        return under_verdict(b, own, h);
+        return under_verdict(b, t, k, h);
     }
-    touch_verdict(b, outer, h)
+    touch_verdict(b, t, outer, h)
 }
 
 // The member at a position, whose outermost blossom is `outer`.
-fn member_verdict(b: &[u64; WORDS], k: usize, outer: Handle, strict: bool) -> u8
+fn member_verdict(b: &[u64; WORDS], t: &[u64; SLOTS], k: usize, outer: Handle, strict: bool) -> u8
     requires { ⌜ Fit (now b) ⌝ }
+    requires { ⌜ Nests (now b) (now t) ⌝ }
     requires { ⌜ Placed (now b) k ⌝ }
-    requires { ⌜ Stands (now b) (handleNamed outer) ⌝ }
     requires { ⌜ handleNamed outer ≡ outermost (view (now b)) (handleAt (nodeAt (now b)) k) ⌝ }
     ensures { λ r. ⌜ r ≡ memberBy strict (view (now (b .entry))) (memberAt (nodeAt (now (b .entry))) k) ⌝ }
 {
@@ -147,44 +162,30 @@ fn member_verdict(b: &[u64; WORDS], k: usize, outer: Handle, strict: bool) -> u8
         Class::Absent => 0,
         Class::Defect(_) => own_verdict(own, left, right, strict),
         Class::Blossom => {
-            let x = touch(b, own, outer, left, strict);
-            let y = touch(b, own, outer, right, strict);
+            let x = touch(b, t, k, outer, left, strict);
+            let y = touch(b, t, k, outer, right, strict);
             larger_of(x, y)
         }
     }
 }
 
-// The handle of the node at a position.
-fn handle_at(b: &[u64; WORDS], k: usize) -> Handle
-    requires { ⌜ k < 512 ⌝ }
-    ensures { λ r. ⌜ handleNamed r ≡ handleAt (nodeAt (now (b .entry))) k ⌝ }
-{
-    let n = bench_words::load_node(b, k);
-    let serial = n.serial;
-    Handle {
-        unit: (k / 64) as u8,
-        slot: (k % 64) as u8,
-        serial,
-    }
-}
-
 // The first finding in the circle of the blossom at a position.
-pub fn circle_verdict(b: &[u64; WORDS], k: usize, strict: bool) -> Finding
+pub fn circle_verdict(b: &[u64; WORDS], k: usize, t: &[u64; SLOTS], strict: bool) -> Finding
     requires { ⌜ Fit (now b) ⌝ }
+    requires { ⌜ Nests (now b) (now t) ⌝ }
     requires { ⌜ Placed (now b) k ⌝ }
     requires { ⌜ nodeAt (now b) k .class ≡ Blossom ⌝ }
     ensures { λ r. ⌜ Circled (now (b .entry)) k strict r ⌝ }
 {
     let n = bench_words::load_node(b, k);
-    let o = bench_links::outermost(b, handle_at(b, k));
-    let outer = o.node;
+    let outer = check_nests::outer(b, k, t);
     let mut p = n.first;
     let mut m = n.count;
     while 0 < m {
         let q = p as usize;
-        let verdict = member_verdict(b, q, outer, strict);
+        let verdict = member_verdict(b, t, q, outer, strict);
         if verdict != 0 {
-            let node = handle_at(b, q);
+            let node = check_nests::handle_at(b, q);
             return Finding { verdict, node };
         }
         let x = bench_words::load_node(b, q);

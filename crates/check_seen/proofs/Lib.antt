@@ -1,2 +1,2 @@
-pub mod Noting
 pub mod Looking
+pub mod Noting

@@ -1,29 +1,38 @@
-// The vertices met so far, in buckets, so that a vertex is looked for among few. It knows no bench. Assumes nothing.
+// The vertices met so far, in buckets, and in a bucket as a tree by the bits of the vertex, so that a vertex is looked for among few whichever they are:
+// one that has 448 others in its bucket is compared with 24 of them at most. It knows no bench. Assumes nothing.
 //
-//   words 0 .. 511      for each bucket the newest entry and one, or 0
-//   words 512 .. 1023   entry j: the vertex, and above its 32 bits the entry before it in its bucket and one, or 0
+//   words 0 .. 511             for each bucket its first entry and one, or 0
+//   words 512 + 3 j .. + 2     entry j: the vertex, and for a next bit of 0 and of 1 the entry that is looked at then and one, or 0
 ghost use Prim.Native.Nat.{_<_};
 ghost use Rattle.check_seen.specs.Met.{Keeps, Meets};
 
-pub const WORDS: usize = 1024;
+pub const WORDS: usize = 2048;
+
+// Buckets are the lowest nine bits of a vertex.
+const BUCKETS: u32 = 512;
+
+// Where the entry before the first one would stand: entries are counted from one.
+const BASE: usize = 509;
 
 // Whether a vertex was met before. If not, it is the entry after the first n.
-pub fn meet(t: &mut [u64; WORDS], n: usize, v: u32) -> bool
+pub fn meet(t: &mut [u32; WORDS], n: usize, v: u32) -> bool
     requires { ⌜ Keeps (now t) n ⌝ }
     requires { ⌜ n < 512 ⌝ }
     ensures { λ r. ⌜ Meets (now (t .entry)) n v (now (t .exit)) r ⌝ }
 {
-    let bucket = (v % 512) as usize;
-    let newest = t[bucket];
-    let mut p = newest;
+    let mut cell = (v % BUCKETS) as usize;
+    let mut rest = v / BUCKETS;
+    let mut p = t[cell];
     while 0 < p {
-        let entry = t[511 + (p as usize)];
-        if entry % 4294967296 == (v as u64) {
+        let at = BASE + 3 * (p as usize);
+        if t[at] == v {
             return true;
         }
-        p = entry / 4294967296;
+        cell = at + 1 + ((rest % 2) as usize);
+        rest = rest / 2;
+        p = t[cell];
     }
-    t[512 + n] = newest * 4294967296 + (v as u64);
-    t[bucket] = (n + 1) as u64;
+    t[cell] = (n + 1) as u32;
+    t[BASE + 3 + 3 * n] = v;
     false
 }

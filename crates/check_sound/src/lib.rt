@@ -26,9 +26,10 @@ fn judge(b: &[u64; WORDS], unit: usize, strict: bool) -> Judged
     requires { ⌜ interface (view (now b)) unit .parent ≡ none ⌝ }
     ensures { λ r. ⌜ Judges (now (b .entry)) unit strict r ⌝ }
 {
-    let mut places = [0usize; 512];
+    let mut places = [0usize; check_places::SLOTS];
+    let mut nests = [0u64; check_nests::SLOTS];
     let count = check_places::list(b, unit, &mut places);
-    let w = check_walks::walk(b, unit, &places, count, false);
+    let w = check_walks::walk(b, unit, &places, count, &mut nests, false);
     if w.verdict != 0 {
         return w;
     }
@@ -41,7 +42,7 @@ fn judge(b: &[u64; WORDS], unit: usize, strict: bool) -> Judged
         };
     }
     if strict {
-        return check_walks::walk(b, unit, &places, count, true);
+        return check_walks::walk(b, unit, &places, count, &mut nests, true);
     }
     Judged {
         verdict: 0,

@@ -47,7 +47,12 @@ fn add(b: &[u64; WORDS], k: usize, t: u64, sum: u64) -> u64
 }
 
 // Of the first `count` positions, which are those of a tree's slots.
-pub fn total(b: &[u64; WORDS], unit: usize, places: &[usize; 512], count: usize) -> u64
+pub fn total(
+    b: &[u64; WORDS],
+    unit: usize,
+    places: &[usize; check_places::SLOTS],
+    count: usize,
+) -> u64
     requires { ⌜ Fit (now b) ⌝ }
     requires { ⌜ unit < 8 ⌝ }
     requires { ⌜ Places (now b) unit (now places) count ⌝ }

@@ -1,6 +1,6 @@
 -- One slot of the walk, by what its words hold: nothing, a vertex met or new, a circle with a finding or without. Assumes nothing.
 use Prim.Native.Nat.{ℕ, zero, suc, _+_, _/_, _%_, _*_, _<_}
-use mathlib.Core.Path.{_≡_, refl, ap, sym, _∙_}
+use mathlib.Core.Path.{_≡_, refl, ap, ap₂, sym, _∙_}
 use mathlib.Core.Bool.{Bool, true, false, true≢false}
 use mathlib.Core.Option.{none, some}
 use mathlib.Core.List.{List, [], _∷_}
@@ -13,7 +13,6 @@ use Rattle.kinds.specs.declared.Class.the-variants.{Absent, Blossom, Defect}
 use Rattle.kinds.specs.declared.Vertex.{Vertex}
 use Rattle.ledger_spec.specs.Bench.{Handle, Member, defect, blossom, Bench}
 use Rattle.ledger_spec.specs.Bench as plain
-use Rattle.ledger_spec.specs.Named.{handleNamed}
 use Rattle.ledger_spec.specs.Tests.{any}
 use Rattle.ledger_spec.specs.Reads.{slotsOf}
 use Rattle.ledger_spec.specs.Check.{indexIn, memberVerdict, strictMember, circleVerdict, strictCircle, finding}
@@ -25,10 +24,10 @@ use Rattle.bench_views.proofs.Slots.{slot-absent, slot-defect, slot-ring}
 use Rattle.bench_orders.specs.Order.{AtIndex}
 use Rattle.bench_vertices.specs.Under.{Placed}
 use Rattle.check_seen.specs.Met.{known, Keeps, Meets}
-use Rattle.check_circles.specs.declared.Finding.{Finding}
-use Rattle.check_circles.specs.Found.{memberBy, circleBy, Circled}
+use Rattle.check_circles.specs.Found.{memberBy, circleBy}
 use Rattle.check_walks.specs.declared.Step.{Step}
-use Rattle.check_walks.specs.Walks.{walkBy, Steps}
+use Rattle.check_walks.specs.declared.Judged.{Judged}
+use Rattle.check_walks.specs.Walks.{walkBy, Ringed, Steps}
 
 -- ---- the circle's finding, as each of the two checks has it
 plain-circle : (b : Bench) (ms : List Member) → circleBy false b ms ≡ circleVerdict b ms
@@ -180,20 +179,13 @@ module _ (b : List ℕ) (unit k p : ℕ) (I : AtIndex b unit k p) (x : Node) (e 
       around : here .2 ≡ some (nodeSeen x (sumUp 8 (interfaceAt b) (p / 64)) (blossom (circleOf (nodeAt b) p)))
       around = seen ∙ slot-ring x (sumUp 8 (interfaceAt b) (p / 64)) (circleOf (nodeAt b) p) c
 
-      module _ (r : Finding) (C : Circled b p s r) where
-        pub look-ring : r .verdict ≡ 0 → Steps b unit s k met n met passed
-        look-ring z = record {
-          few = omega arith;
-          kept = λ q. K;
-          on = λ q ts. by-ring (view b) (slotsOf (view b) unit) here ts (known met n) k (nodeSeen x (sumUp 8 (interfaceAt b) (p / 64)) (blossom (circleOf (nodeAt b) p))) around s (circleOf (nodeAt b) p) refl (sym (ap (λ (y : ℕ × Handle). y .0) (C .found)) ∙ z);
-          found = λ q. absurd (q refl);
-        }
-
-        pub look-bad : (r .verdict ≡ 0 → ⊥) → (i : ℕ) → i ≡ indexIn (slotsOf (view b) unit) 0 (handleNamed (r .node)) → Steps b unit s k met n met (record { verdict = r .verdict; index = record { 0 = i }; count = n })
-        look-bad z i q = record {
-          few = omega arith;
-          kept = λ y. absurd (z y);
-          on = λ y. absurd (z y);
-          found = λ y ts. by-bad (view b) (slotsOf (view b) unit) here ts (known met n) k (nodeSeen x (sumUp 8 (interfaceAt b) (p / 64)) (blossom (circleOf (nodeAt b) p))) around s (circleOf (nodeAt b) p) refl (λ w. z (ap (λ (u : ℕ × Handle). u .0) (C .found) ∙ w))
-              ∙ sym (ap (λ (u : ℕ × Handle). (u .0, indexIn (slotsOf (view b) unit) 0 (u .1))) (C .found)) ∙ ap (λ (w : ℕ). (r .verdict, w)) (sym q);
-        }
+      pub look-ring : (r : Judged) → Ringed b unit p s r → Steps b unit s k met n met (record { verdict = r .verdict; index = r .index; count = n })
+      look-ring r R = record {
+        few = omega arith;
+        kept = λ q. K;
+        on = λ q ts. by-ring (view b) (slotsOf (view b) unit) here ts (known met n) k (nodeSeen x (sumUp 8 (interfaceAt b) (p / 64)) (blossom (circleOf (nodeAt b) p))) around s (circleOf (nodeAt b) p) refl
+            (sym (ap (λ (y : ℕ × Handle). y .0) (R .circled .found)) ∙ sym (R .verdict) ∙ q);
+        found = λ q ts. by-bad (view b) (slotsOf (view b) unit) here ts (known met n) k (nodeSeen x (sumUp 8 (interfaceAt b) (p / 64)) (blossom (circleOf (nodeAt b) p))) around s (circleOf (nodeAt b) p) refl
+            (λ w. q (R .verdict ∙ ap (λ (u : ℕ × Handle). u .0) (R .circled .found) ∙ w))
+            ∙ sym (ap (λ (u : ℕ × Handle). (u .0, indexIn (slotsOf (view b) unit) 0 (u .1))) (R .circled .found)) ∙ ap₂ (λ (v w : ℕ). (v, w)) (sym (R .verdict)) (sym (R .index (λ w. q (R .verdict ∙ w))));
+      }

@@ -29,7 +29,7 @@ pub record Walking (b : List ℕ) (unit : ℕ) (s : Bool) (k n : ℕ) (met : Lis
   pub few : n ≤ k
   pub whole : walkBy s (view b) (slotsOf (view b) unit) (drop k (slotsOf (view b) unit)) (known met n) k ≡ walkBy s (view b) (slotsOf (view b) unit) (slotsOf (view b) unit) [] 0
 
-pub walking-starts : (b : List ℕ) (unit : ℕ) (s : Bool) → Walking b unit s 0 0 (replicate 1024 0)
+pub walking-starts : (b : List ℕ) (unit : ℕ) (s : Bool) → Walking b unit s 0 0 (replicate 2048 0)
 unfolding known
 walking-starts b unit s = record { keeps = fresh; few = omega arith; whole = refl }
 

@@ -2,9 +2,13 @@
 -- strict check's 6. Shown by computing. Assumes nothing.
 use Prim.Native.Nat.{ℕ}
 use mathlib.Core.Path.{_≡_, refl}
+use mathlib.Core.Bool.{true}
+use mathlib.Core.Option.{none, some}
 use mathlib.Core.List.{List, [], _∷_, _++_, map}
 use lib.IntN.{pos}
-use Rattle.ledger_spec.specs.Bench.{Handle, shrinks}
+use Rattle.ledger_spec.specs.Bench.{Handle, grows, shrinks, blossom, Bench}
+use Rattle.ledger_spec.specs.Change.{place}
+use Rattle.ledger_spec.specs.Sound.{sound}
 use Rattle.ledger_spec.specs.Calls.{Call, Defect, Blossom, Expand, SetState, Grow, Fuse}
 use Rattle.ledger_spec.specs.Check.{checkOf, strictOf}
 use Rattle.ledger_spec.specs.Book.{turns, newBook}
@@ -49,6 +53,11 @@ below = Defect 0 1 ∷ ring (at 0 1) ∷ ring (at 1 2) ∷ Defect 0 2 ∷ ring (
 abbrev pub both : List Call
 both = Defect 0 1 ∷ Defect 0 2 ∷ Defect 0 3 ∷ ring (at 0 1) ∷ ring (at 1 2) ∷ ring (at 2 3)
     ∷ Blossom 0 (at 3 4 ∷ at 4 5 ∷ at 5 6 ∷ []) ((at 1 2, at 1 2) ∷ (at 5 6, at 5 6) ∷ (at 5 6, at 5 6) ∷ []) ∷ []
+
+-- by hand, since no call can do it: a member's own parent as what it touches by
+abbrev pub around : Bench
+around = place (turns (newBook 1) (Defect 0 1 ∷ ring (at 0 1) ∷ ring (at 1 2) ∷ []) .bench) 0 2
+    (some (record { serial = 3; class = blossom (record { node = at 1 2; touch = (at 2 3, at 1 2) } ∷ []); state = grows; parent = none; value = pos 0; size = 1 }))
 
 -- calls, the interface checked, number, verdict and index
 abbrev pub table : List (List Call × ℕ × (ℕ × (ℕ × ℕ)))
@@ -98,3 +107,15 @@ examples = refl
 pub strict-examples : map (λ (e : List Call × ℕ × (ℕ × (ℕ × ℕ))). strictOf (turns (newBook 1) (e .0) .bench) (e .1)) strictTable ≡ map (λ (e : List Call × ℕ × (ℕ × (ℕ × ℕ))). e .2) strictTable
 unfolding run
 strict-examples = refl
+
+pub around-sound : sound around ≡ true
+unfolding run
+around-sound = refl
+
+pub around-plain : checkOf around 0 ≡ (0, (0, 0))
+unfolding run
+around-plain = refl
+
+pub around-strict : strictOf around 0 ≡ (0, (6, 1))
+unfolding run
+around-strict = refl

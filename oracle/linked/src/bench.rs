@@ -4,7 +4,7 @@ use crate::bench_groups;
 use crate::ledger::state;
 use crate::nests::{self, BY_CALLS, BY_HAND};
 use crate::words::encode;
-use dual_ledger::{lent, Bench, DualModule, GrowState, Handle};
+use dual_ledger::{lent, Bench, DualModule, GrowState, Handle, Verdict};
 use oracle::line::{read, Line};
 use oracle::timing::{self, by_kind, keep, kind, least, processor, whole, Original, Timed, KINDS};
 use original::pointers::RwLockPtr;
@@ -250,6 +250,45 @@ fn walk(links: usize) -> Row {
     }
 }
 
+/// Both checks of a tree, the strict one as a row of its own, which the original has not.
+fn checks(what: &str, nodes: usize, bench: &Bench, top: u8, original: Option<f64>) -> [Row; 2] {
+    assert_eq!((bench.sanity_check(top), bench.strict_check(top)), (Ok(Verdict::Sound), Ok(Verdict::Sound)));
+    let row = |check: &str, original, trusted, public| Row { what: format!("{check}: {what}"), nodes, original, trusted, told: None, public: Some(public) };
+    let words = bench.words();
+    [
+        row("check", original, once(|_| keep(bench.sanity_check(top))), once(|_| keep(lent::sanity_check(words, top)))),
+        row("strict", None, once(|_| keep(bench.strict_check(top))), once(|_| keep(lent::strict_check(words, top)))),
+    ]
+}
+
+/// The checks where they have most to do: the deepest nests, by calls and by hand, each blossom touching by the defect at the bottom; and as many
+/// defects as a tree holds, whose vertices differ by multiples of 512.
+fn hardest() -> Vec<Row> {
+    let (mut theirs, mut ours) = (Original::new(1000, false, false), Linked::new(1000, false));
+    for line in nests::deep_lines(BY_CALLS) {
+        let line = read(&line).expect("a line of the language");
+        theirs.call(&line);
+        ours.call(&line);
+    }
+    let face = theirs.faces[6].clone();
+    let by_hand = Bench::from_words(&encode(&nests::by_hand_touching(BY_HAND, |_| 0))).expect("the nest made by hand is sound");
+    let original = once(|_| keep(face.sanity_check().is_ok()));
+    let mut rows = Vec::from(checks("nest", BY_CALLS + 1, &ours.bench, 6, Some(original)));
+    rows.extend(checks("nest", BY_HAND + 1, &by_hand, 6, None));
+    let (mut theirs, mut ours) = (Original::new(1000, false, false), Linked::new(1000, false));
+    let defects = |unit: u32| (0..64).map(move |at| Line::Defect(unit, (unit * 64 + at) * 512));
+    let fuses = [(4, 0, 1), (5, 2, 3), (6, 4, 5)];
+    let lines = (0..4).flat_map(defects).chain(fuses.into_iter().flat_map(|(p, l, r)| std::iter::once(Line::Fuse(p, l, r)).chain(defects(p))));
+    for line in lines {
+        theirs.call(&line);
+        ours.call(&line);
+    }
+    let face = theirs.faces[6].clone();
+    let original = once(|_| keep(face.sanity_check().is_ok()));
+    rows.extend(checks("one bucket", 448, &ours.bench, 6, Some(original)));
+    rows
+}
+
 /// What a link of the walk takes, by its shortest and its longest.
 fn slope(walks: &[Row]) -> f64 {
     let (first, last) = (&walks[0], &walks[walks.len() - 1]);
@@ -279,6 +318,7 @@ pub fn run(list_file: &str, numbers: &str) -> Result<(), String> {
     let walks: Vec<Row> = [1, 16, 64, BY_CALLS, BY_HAND].into_iter().map(walk).collect();
     let link = slope(&walks);
     rows.extend(walks);
+    rows.extend(hardest());
     rows.extend(bench_groups::rows());
     let tabs: String = rows
         .iter()
@@ -289,5 +329,6 @@ pub fn run(list_file: &str, numbers: &str) -> Result<(), String> {
     println!("original: bare calls over a dual module that counts. trusted: a Bench's calls. told: with notices to a module that counts. public: on any words, tested first.");
     println!("In rows D to C, operations of the list in place of nodes; ratio: original to trusted.");
     println!("get_ancestor_blossom: links in place of nodes, {BY_CALLS} the most by calls, {BY_HAND} the most of a sound bench; a link takes {link:.2} ns, trusted.");
+    println!("check and strict: both checks. nest: each blossom in the next, touching by the defect at the bottom; one bucket: vertices that are multiples of 512.");
     Ok(())
 }

@@ -29,12 +29,26 @@ pub fn lines(links: usize) -> Vec<String> {
     lines
 }
 
+/// The same, each blossom touching by the defect at the bottom.
+pub fn deep_lines(links: usize) -> Vec<String> {
+    let deep = |line: String| match line.strip_prefix("B ").and_then(|rest| rest.split_once(' ')) {
+        Some((unit, member)) if member != "1" => format!("b {unit} {member} 1 1"),
+        _ => line,
+    };
+    lines(links).into_iter().map(deep).collect()
+}
+
 fn place(at: usize) -> bench::Handle {
     bench::Handle { unit: (at % 7) as u32, slot: (at / 7) as u32, serial: at as u32 + 1 }
 }
 
-/// A sound bench whose nest of so many links goes through all of seven interfaces, from one to another at each link.
+/// A sound bench whose nest of so many links goes through all of seven interfaces, from one to another at each link; each member touches by itself.
 pub fn by_hand(links: usize) -> Plain {
+    by_hand_touching(links, |member| member)
+}
+
+/// The same, with each member touching by what is said.
+pub fn by_hand_touching(links: usize, touched: impl Fn(usize) -> usize) -> Plain {
     let mut bench = Plain::new(links as u32 + 2);
     for (parent, left, right) in [(4, 0, 1), (5, 2, 3), (6, 4, 5)] {
         bench.faces[parent].children = Some((left, right));
@@ -42,9 +56,9 @@ pub fn by_hand(links: usize) -> Plain {
     }
     bench.faces[6].speed = 1;
     for at in 0..=links {
-        let class = match at.checked_sub(1).map(place) {
+        let class = match at.checked_sub(1) {
             None => Class::Defect(7),
-            Some(node) => Class::Blossom(vec![Member { node, touch: [node; 2] }]),
+            Some(member) => Class::Blossom(vec![Member { node: place(member), touch: [place(touched(member)); 2] }]),
         };
         let parent = Some(place(at + 1)).filter(|_| at < links);
         let node = Node { serial: at as u32 + 1, class, state: parent.is_none() as i64, parent, value: 0, size: 1 };

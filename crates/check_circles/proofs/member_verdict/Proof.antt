@@ -12,11 +12,11 @@ use Rattle.check_circles.proofs.member_verdict.Tie as tie
 load-node-requires : tie.Need-load-node-requires
 load-node-requires c κs = search needs
 
-cast-t14 : tie.Need-cast-t14
-cast-t14 c = search needs
+cast-t15 : tie.Need-cast-t15
+cast-t15 c = search needs
 
-cast-t16 : tie.Need-cast-t16
-cast-t16 c = search needs
+cast-t17 : tie.Need-cast-t17
+cast-t17 c = search needs
 
 enum-told : tie.Need-enum-told
 enum-told c = search needs
@@ -44,7 +44,7 @@ returns c =
     let s = c .before .before .before .before .before .before in
     let n = c .before .before .before .before .before .load-node in
     let q : n .result .class ≡ Absent = cc in
-    absurd (never (s .args .b .now) (s .pre .0) (s .args .k) (s .pre .1 .0) (n .result) (n .ensures) q)
+    absurd (never (s .args .b .now) (s .pre .0) (s .args .k) (s .pre .1 .1 .0) (n .result) (n .ensures) q)
 
 returns-2 : tie.Need-returns-2
 returns-2 c =
@@ -52,7 +52,7 @@ returns-2 c =
     let n = c .before .before .before .before .before .before .load-node in
     let v = c .before .enum-told2 .given .0 .0 in
     let q : n .result .class ≡ Defect v = cc in
-    c .own-verdict .ensures ∙ stands-defect (s .args .b .now) (s .pre .0) (s .args .k) (s .pre .1 .0) (n .result) (n .ensures) (s .args .strict) v q
+    c .own-verdict .ensures ∙ stands-defect (s .args .b .now) (s .pre .0) (s .args .k) (s .pre .1 .1 .0) (n .result) (n .ensures) (s .args .strict) v q
 
 returns-3 : tie.Need-returns-3
 returns-3 c =
@@ -60,15 +60,15 @@ returns-3 c =
     let n = c .before .before .before .before .before .before .before .before .load-node in
     let q : n .result .class ≡ Blossom = cc in
     c .larger-of .ensures ∙ ap₂ larger (c .before .before .touch .ensures) (c .before .touch2 .ensures)
-    ∙ stands-ring (s .args .b .now) (s .pre .0) (s .args .k) (s .pre .1 .0) (n .result) (n .ensures) (s .args .strict) q (handleNamed (s .args .outer)) (s .pre .1 .1 .1)
+    ∙ stands-ring (s .args .b .now) (s .pre .0) (s .args .k) (s .pre .1 .1 .0) (n .result) (n .ensures) (s .args .strict) q (handleNamed (s .args .outer)) (s .pre .1 .1 .1)
 
 pub member-verdict-spec : {M : Type 1} → statement M
 member-verdict-spec =
     tie.close
     (tie.spec
     load-node-requires
-    cast-t14
-    cast-t16
+    cast-t15
+    cast-t17
     enum-told
     enum-told-2
     own-verdict-requires

@@ -2,58 +2,60 @@
 use Prim.Native.Nat.{_-_, _≤_}
 use native.Mathlib.Omega.{arith}
 use borrow.Author.Needs.{needs}
+use Rattle.check_nests.specs.Nest.{Nests}
 use Rattle.check_walks.proofs.Walking.{Walking, walking-starts, walking-ends, walking-found, walking-on}
 use Rattle.check_walks.proofs.walk.Statement.{statement}
 use Rattle.check_walks.proofs.walk.Tie as tie
 
 abbrev Inv-loop : tie.InvT-loop
-Inv-loop b unit places count strict met₀ n₀ k₀ met n k = (k ≤ count) × Walking b unit strict k n met
+Inv-loop b unit places count t₀ strict met₀ n₀ k₀ t met n k = (k ≤ count) × (Walking b unit strict k n met × Nests b t)
 
 abbrev μ-loop : tie.MeasureT-loop
-μ-loop b unit places count strict met₀ n₀ k₀ met n k = count - k
+μ-loop b unit places count t₀ strict met₀ n₀ k₀ t met n k = count - k
 
 loop-holds : tie.Need-loop-holds Inv-loop μ-loop
-loop-holds c = (omega arith, walking-starts (c .args .b .now) (c .args .unit) (c .args .strict))
+loop-holds c = (omega arith, (walking-starts (c .args .b .now) (c .args .unit) (c .args .strict), c .pre .1 .1 .1 .1))
 
 mul-p : tie.Need-mul-p Inv-loop μ-loop
 mul-p c = search needs
 
 element-copy-out-p : tie.Need-element-copy-out-p Inv-loop μ-loop
-element-copy-out-p c = omega (arith, c .loop-test .taken, c .before .before .pre .1 .1 .1 .few)
+element-copy-out-p c = omega (arith, c .loop-test .taken, c .before .before .pre .1 .1 .1 .0 .few)
 
 look-requires : tie.Need-look-requires Inv-loop μ-loop
 look-requires c κs =
-    let s = c .before .before .before .before in
-    let l = c .before .before .before .loop in
-    let t = c .before .before .loop-test .taken in
-    let P = s .pre .1 .1 .1 in
-    (s .pre .0, (s .pre .1 .0, (s .pre .1 .1 .0, (P .at (l .k) t, (omega (arith, t, P .few), (l .inv .1 .few, l .inv .1 .keeps))))))
+    let s = c .before .before .before .before .before in
+    let l = c .before .before .before .before .loop in
+    let t = c .before .before .before .loop-test .taken in
+    let P = s .pre .1 .1 .1 .0 in
+    (s .pre .0, (s .pre .1 .0, (s .pre .1 .1 .0, (P .at (l .k) t, ((omega (arith, t, P .few), l .inv .1 .0 .few), (l .inv .1 .0 .keeps, l .inv .1 .1))))))
 
 returns : tie.Need-returns Inv-loop μ-loop
 returns c =
-    let s = c .before .before .before .before .before .before .before .before in
-    let l = c .before .before .before .before .before .before .before .loop in
+    let s = c .before .before .before .before .before .before .before .before .before in
+    let l = c .before .before .before .before .before .before .before .before .loop in
     let r = c .before .before .before .look in
-    walking-found (s .args .b .now) (s .args .unit) (s .args .strict) (s .args .places .now) (s .args .count) (s .pre .1 .1 .1) (l .k) (l .n) (l .met) (l .inv .1) (c .before .before .before .before .before .before .loop-test .taken) (r .last .1 .1 .1 .1 .0) (r .result) (r .ensures) (c .before .if1 .taken)
+    (walking-found (s .args .b .now) (s .args .unit) (s .args .strict) (s .args .places .now) (s .args .count) (s .pre .1 .1 .1 .0) (l .k) (l .n) (l .met) (l .inv .1 .0) (c .before .before .before .before .before .before .before .loop-test .taken) (r .last .1 .1 .1 .1 .0) (r .result) (r .ensures .0) (c .before .if1 .taken), r .ensures .1)
 
 add-k : tie.Need-add-k Inv-loop μ-loop
-add-k c = omega (arith, c .before .before .before .before .before .loop-test .taken, c .before .before .before .before .before .before .before .pre .1 .1 .1 .few)
+add-k c = omega (arith, c .before .before .before .before .before .before .loop-test .taken, c .before .before .before .before .before .before .before .before .pre .1 .1 .1 .0 .few)
 
 loop-less : tie.Need-loop-less Inv-loop μ-loop
-loop-less c = omega (arith, c .before .before .before .before .before .loop-test .taken)
+loop-less c = omega (arith, c .before .before .before .before .before .before .loop-test .taken)
 
 loop-again : tie.Need-loop-again Inv-loop μ-loop
 loop-again c =
-    let s = c .before .before .before .before .before .before .before in
-    let l = c .before .before .before .before .before .before .loop in
+    let s = c .before .before .before .before .before .before .before .before in
+    let l = c .before .before .before .before .before .before .before .loop in
     let r = c .before .before .look in
-    (omega (arith, c .before .before .before .before .before .loop-test .taken), walking-on (s .args .b .now) (s .args .unit) (s .args .strict) (s .args .places .now) (s .args .count) (s .pre .1 .1 .1) (l .k) (l .n) (l .met) (l .inv .1) (c .before .before .before .before .before .loop-test .taken) (r .last .1 .1 .1 .1 .0) (r .result) (r .ensures) (c .if1 .left))
+    let t = c .before .before .before .before .before .before .loop-test .taken in
+    (omega (arith, t), (walking-on (s .args .b .now) (s .args .unit) (s .args .strict) (s .args .places .now) (s .args .count) (s .pre .1 .1 .1 .0) (l .k) (l .n) (l .met) (l .inv .1 .0) t (r .last .1 .1 .1 .1 .0) (r .result) (r .ensures .0) (c .if1 .left), r .ensures .1))
 
 returns-2 : tie.Need-returns-2 Inv-loop μ-loop
 returns-2 c =
     let s = c .before .before in
     let l = c .before .loop in
-    walking-ends (s .args .b .now) (s .args .unit) (s .args .strict) (s .args .places .now) (s .args .count) (s .pre .1 .1 .1) (l .k) (l .n) (l .met) (l .inv .1) (c .loop-test .left)
+    (walking-ends (s .args .b .now) (s .args .unit) (s .args .strict) (s .args .places .now) (s .args .count) (s .pre .1 .1 .1 .0) (l .k) (l .n) (l .met) (l .inv .1 .0) (c .loop-test .left), l .inv .1 .1)
 
 pub walk-spec : {M : Type 1} → statement M
 walk-spec =

@@ -4,8 +4,8 @@ use mathlib.Core.Path.{ap}
 use borrow.Author.Needs.{needs}
 use Rattle.bench_words.specs.declared.Node.{Node}
 use Rattle.ledger_spec.specs.Bench.{Handle}
-use Rattle.check_circles.proofs.handle_at.Statement.{statement}
-use Rattle.check_circles.proofs.handle_at.Tie as tie
+use Rattle.check_nests.proofs.handle_at.Statement.{statement}
+use Rattle.check_nests.proofs.handle_at.Tie as tie
 
 load-node-requires : tie.Need-load-node-requires
 load-node-requires c κs = search needs

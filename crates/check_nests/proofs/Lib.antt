@@ -1,0 +1,3 @@
+pub mod Lying
+pub mod Filling
+pub mod Reading
