@@ -87,7 +87,8 @@ extern "C" {
 /* Makes the words a bench of eight empty interfaces whose next serial is first. Answers 0, or WORN for first = 0: then it is as from serial 1. */
 uint8_t dual_ledger_set_up(uint64_t *bench, uint32_t first);
 
-/* 1 where the words are a sound bench, else 0. Any words may be lent. */
+/* 1 where the words are a sound bench, else 0. Any words may be lent. Word 16 u + 8 is the map of interface u, bit s for slot s: words stored before there was
+ * one have 0 there, and are no sound bench if they hold a node (docs/MIGRATING.md says how to take them over). */
 uint8_t dual_ledger_is_sound(const uint64_t *bench);
 
 /* ---- calls, on any words */
@@ -139,6 +140,11 @@ uint8_t dual_ledger_sum_grow_speed(const uint64_t *bench, uint8_t unit, int64_t 
 uint8_t dual_ledger_nodes_count(const uint64_t *bench, uint8_t unit, uint64_t *count);
 /* The handle at an index of its tree, left half, right half, own; DUAL_LEDGER_NO_NODE for an emptied slot, 0 where refused. */
 uint8_t dual_ledger_get_node(const uint64_t *bench, uint8_t unit, uint32_t index, uint64_t *node);
+/* How many present nodes its tree has: the ones of its interfaces' maps, added. */
+uint8_t dual_ledger_present_count(const uint64_t *bench, uint8_t unit, uint64_t *count);
+/* The next present node at or after an index of its tree, and its own index; DUAL_LEDGER_NO_NODE and 0 where every slot from there on was emptied, 0 and 0
+ * where refused. A walk goes on from *next + 1 and ends there, or with RANGE after the last slot. */
+uint8_t dual_ledger_next_present(const uint64_t *bench, uint8_t unit, uint32_t index, uint32_t *next, uint64_t *node);
 /* 1 where the node stands in the tree of interface unit, else 0. */
 uint8_t dual_ledger_check_ptr_belonging(const uint64_t *bench, uint8_t unit, uint64_t node, uint64_t *inside);
 /* The node's value now. */
@@ -159,6 +165,8 @@ uint8_t dual_ledger_trusted_sum_dual_variables(const uint64_t *bench, uint8_t un
 uint8_t dual_ledger_trusted_sum_grow_speed(const uint64_t *bench, uint8_t unit, int64_t *speed);
 uint8_t dual_ledger_trusted_nodes_count(const uint64_t *bench, uint8_t unit, uint64_t *count);
 uint8_t dual_ledger_trusted_get_node(const uint64_t *bench, uint8_t unit, uint32_t index, uint64_t *node);
+uint8_t dual_ledger_trusted_present_count(const uint64_t *bench, uint8_t unit, uint64_t *count);
+uint8_t dual_ledger_trusted_next_present(const uint64_t *bench, uint8_t unit, uint32_t index, uint32_t *next, uint64_t *node);
 uint8_t dual_ledger_trusted_check_ptr_belonging(const uint64_t *bench, uint8_t unit, uint64_t node, uint64_t *inside);
 uint8_t dual_ledger_trusted_get_dual_variable(const uint64_t *bench, uint64_t node, int64_t *value);
 uint8_t dual_ledger_trusted_get_ancestor_blossom(const uint64_t *bench, uint64_t node, uint64_t *ancestor, uint64_t *links);

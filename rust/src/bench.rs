@@ -143,6 +143,24 @@ impl Bench {
         asked::get_node(&self.0, interface, index)
     }
 
+    /// How many present nodes its tree has: emptied slots are not counted.
+    #[doc = errors!(present_count)]
+    pub fn present_count(&self, interface: u8) -> Result<u32, Refusal> {
+        asked::present_count(&self.0, interface)
+    }
+
+    /// The next present node at or after an index of its tree, with its own index. None where every slot from there on was emptied.
+    #[doc = errors!(next_present)]
+    pub fn next_present(&self, interface: u8, index: u32) -> Result<Option<(u32, Handle)>, Refusal> {
+        asked::next_present(&self.0, interface, index)
+    }
+
+    /// The present nodes of its tree with their indices, in the order of the index; emptied slots are passed over.
+    #[doc = errors!(present_count)]
+    pub fn present_nodes(&self, interface: u8) -> Result<PresentNodes<'_>, Refusal> {
+        self.present_count(interface).map(|left| PresentNodes { bench: self, interface, index: 0, left })
+    }
+
     /// Whether the node stands in the tree of an interface. A stale handle does not.
     #[doc = errors!(check_ptr_belonging)]
     pub fn check_ptr_belonging(&self, interface: u8, node: Handle) -> Result<bool, Refusal> {
@@ -209,3 +227,29 @@ impl core::fmt::Debug for Bench {
         f.debug_struct("Bench").field("next_serial", &self.words()[0]).finish_non_exhaustive()
     }
 }
+
+/// The present nodes of a tree, each with its index ([`Bench::present_nodes`]).
+#[derive(Clone, Debug)]
+pub struct PresentNodes<'a> {
+    bench: &'a Bench,
+    interface: u8,
+    index: u32,
+    left: u32,
+}
+
+impl Iterator for PresentNodes<'_> {
+    type Item = (u32, Handle);
+
+    fn next(&mut self) -> Option<(u32, Handle)> {
+        self.left = self.left.checked_sub(1)?;
+        let found = self.bench.next_present(self.interface, self.index).ok().flatten()?;
+        self.index = found.0 + 1;
+        Some(found)
+    }
+
+    fn size_hint(&self) -> (usize, Option<usize>) {
+        (self.left as usize, Some(self.left as usize))
+    }
+}
+
+impl ExactSizeIterator for PresentNodes<'_> {}

@@ -34,6 +34,8 @@ table! {
     sum_grow_speed: Unit Child;
     nodes_count: Unit Child;
     get_node: Unit Child Range;
+    present_count: Unit Child;
+    next_present: Unit Child Range;
     check_ptr_belonging: Unit Child;
     get_dual_variable: Stale;
     get_ancestor_blossom: Stale;

@@ -46,7 +46,7 @@ mod telling;
 mod text;
 mod verdict;
 
-pub use bench::Bench;
+pub use bench::{Bench, PresentNodes};
 pub use errors::REFUSALS;
 pub use group::{Group, Obstacle};
 pub use handle::{GrowState, Handle};

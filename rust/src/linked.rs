@@ -170,6 +170,8 @@ macro_rules! link_reads {
             sum_grow_speed(bench: &$bench, unit: u8, speed: &mut i64) -> u8;
             nodes_count(bench: &$bench, unit: u8, count: &mut u64) -> u8;
             get_node(bench: &$bench, unit: u8, index: u32, node: &mut Handle) -> u8;
+            present_count(bench: &$bench, unit: u8, count: &mut u64) -> u8;
+            next_present(bench: &$bench, unit: u8, index: u32, next: &mut u32, node: &mut Handle) -> u8;
             check_ptr_belonging(bench: &$bench, unit: u8, node: Handle, inside: &mut u64) -> u8;
             get_dual_variable(bench: &$bench, node: Handle, value: &mut i64) -> u8;
             get_ancestor_blossom(bench: &$bench, node: Handle, ancestor: &mut Handle, links: &mut u64) -> u8;

@@ -37,6 +37,23 @@ macro_rules! reads {
             settled($form::get_node(words, interface, index, &mut node), Some(node).filter(|node| *node != Handle::NONE))
         }
 
+        /// How many present nodes its tree has: the ones of its interfaces' maps, added.
+        #[doc = errors!(present_count)]
+        #[doc = $broken]
+        pub fn present_count(words: &$words, interface: u8) -> Result<u32, Refusal> {
+            let mut count = 0;
+            settled($form::present_count(words, interface, &mut count), count as u32)
+        }
+
+        /// The next present node at or after an index of its tree, with its own index. None where every slot from there on was emptied.
+        #[doc = errors!(next_present)]
+        #[doc = $broken]
+        pub fn next_present(words: &$words, interface: u8, index: u32) -> Result<Option<(u32, Handle)>, Refusal> {
+            let (mut next, mut node) = (0, Handle::NONE);
+            let number = $form::next_present(words, interface, index, &mut next, &mut node);
+            settled(number, Some((next, node)).filter(|(_, node)| *node != Handle::NONE))
+        }
+
         /// Whether the node stands in the tree of an interface. A stale handle does not.
         #[doc = errors!(check_ptr_belonging)]
         #[doc = $broken]

@@ -67,6 +67,40 @@ fn the_worked_case() {
     assert_eq!(bench.sanity_check(0), Ok(Verdict::SumDiffers));
     assert_eq!((bench.nodes_count(0), bench.get_node(0, 3), bench.get_node(0, 4)), (Ok(4), Ok(None), Err(Refusal::Range)));
     assert_eq!((bench.check_ptr_belonging(0, nodes[0]), bench.check_ptr_belonging(0, blossom)), (Ok(true), Ok(false)));
+    assert_eq!((bench.present_count(0), bench.next_present(0, 1), bench.next_present(0, 3)), (Ok(3), Ok(Some((1, nodes[1]))), Ok(None)));
+    assert_eq!((bench.next_present(0, 4), bench.next_present(8, 0), bench.present_count(8)), (Err(Refusal::Range), Err(Refusal::Unit), Err(Refusal::Unit)));
+}
+
+#[test]
+fn present_nodes_across_both_halves() {
+    let mut bench = Bench::default();
+    let a = bench.create_defect_node(0, 1).unwrap();
+    let gone = bench.create_blossom(0, &[a], &[]).unwrap();
+    let b = bench.create_defect_node(1, 2).unwrap();
+    bench.expand_blossom(0, gone).unwrap();
+    bench.fuse(2, 0, 1).unwrap();
+    let c = bench.create_defect_node(2, 3).unwrap();
+    assert_eq!((bench.nodes_count(2), bench.present_count(2), bench.present_count(0)), (Ok(4), Ok(3), Err(Refusal::Child)));
+    let nodes = bench.present_nodes(2).unwrap();
+    assert_eq!((nodes.len(), nodes.collect::<Vec<_>>()), (3, vec![(0, a), (2, b), (3, c)]));
+    assert_eq!((bench.next_present(2, 1), bench.present_nodes(7).unwrap().next()), (Ok(Some((2, b))), None));
+    bench.clear(2).unwrap();
+    assert_eq!((bench.present_count(2), bench.next_present(2, 0)), (Ok(0), Err(Refusal::Range)));
+}
+
+/// A bench as it was written before there was a map: nodes, and a map of 0.
+#[test]
+fn words_without_a_map_are_broken() {
+    let mut bench = Bench::default();
+    bench.create_defect_node(3, 1).unwrap();
+    let mut words = *bench.words();
+    assert_eq!((words[16 * 3 + 8], Bench::from_words(&words).is_ok()), (1, true));
+    for map in [0, 2, 3, 1 << 63 | 1] {
+        words[16 * 3 + 8] = map;
+        assert!(Bench::from_words(&words).is_err() && !dual_ledger::lent::is_sound(&words));
+        assert_eq!(dual_ledger::lent::present_count(&words, 3), Err(Refusal::Broken));
+        assert_eq!(dual_ledger::lent::next_present(&words, 3, 0), Err(Refusal::Broken));
+    }
 }
 
 #[test]

@@ -203,6 +203,23 @@ static void read_node(uint8_t unit, uint32_t index, int number, uint64_t expecte
     same("the node at an index", (int64_t)node, (int64_t)expected_node);
 }
 
+static void read_next(uint8_t unit, uint32_t index, int number, uint32_t expected_next, uint64_t expected_node) {
+    uint64_t node = 77;
+    uint32_t next = 77;
+    same("the next present node", dual_ledger_next_present(bench, unit, index, &next, &node), number);
+    same("the next present node", next, expected_next), same("the next present node", (int64_t)node, (int64_t)expected_node);
+    node = 77, next = 77;
+    same("the next present node", dual_ledger_trusted_next_present(bench, unit, index, &next, &node), number);
+    same("the next present node", next, expected_next), same("the next present node", (int64_t)node, (int64_t)expected_node);
+}
+
+static void read_present(uint8_t unit, int number, uint64_t expected_count) {
+    uint64_t count = 77;
+    same("present", dual_ledger_present_count(bench, unit, &count), number), same("present", (int64_t)count, (int64_t)expected_count);
+    count = 77;
+    same("present", dual_ledger_trusted_present_count(bench, unit, &count), number), same("present", (int64_t)count, (int64_t)expected_count);
+}
+
 static void read_tree(uint64_t node, int number, uint64_t outer, uint64_t links, int second_number, uint64_t second) {
     uint64_t got = 77, way = 77;
     same("the outermost", dual_ledger_get_ancestor_blossom(bench, node, &got, &way), number);
@@ -286,6 +303,7 @@ static void reads(void) {
     same("count", dual_ledger_nodes_count(bench, 0, &count), 0), same("count", (int64_t)count, 3), count = 77;
     same("count", dual_ledger_trusted_nodes_count(bench, 0, &count), 0), same("count", (int64_t)count, 3);
     read_node(0, 2, 0, node[3]), read_node(0, 3, DUAL_LEDGER_RANGE, 0);
+    read_present(0, 0, 3), read_present(8, DUAL_LEDGER_UNIT, 0), read_next(0, 2, 0, 2, node[3]), read_next(0, 3, DUAL_LEDGER_RANGE, 0, 0);
     read_tree(node[0], 0, node[3], 1, 0, node[0]), read_tree(node[3], 0, node[3], 0, DUAL_LEDGER_TOP, 0);
     read_tree(DUAL_LEDGER_NO_NODE, DUAL_LEDGER_STALE, 0, 0, DUAL_LEDGER_STALE, 0);
     read_inside(0, node[1], 0, 1), read_inside(0, node[2], 0, 0), read_inside(9, node[1], DUAL_LEDGER_UNIT, 0);
@@ -293,6 +311,7 @@ static void reads(void) {
     read_vertices(node[3] + 1, 5, DUAL_LEDGER_STALE, 0, none);
     check(0, 0, 0, 0), check_strictly(0, 0, 0, 0), check(7, 0, 0, 0), check(200, DUAL_LEDGER_UNIT, 0, 0);
     same("expand", dual_ledger_trusted_expand_blossom(bench, 0, node[3]), 0), read_node(0, 2, 0, DUAL_LEDGER_NO_NODE);
+    read_present(0, 0, 2), read_next(0, 0, 0, 0, node[1]), read_next(0, 1, 0, 1, node[0]), read_next(0, 2, 0, 0, DUAL_LEDGER_NO_NODE);
     check(0, 0, 5, 0), check_strictly(0, 0, 5, 0);
 }
 
@@ -433,6 +452,8 @@ static void broken(void) {
     same("broken: sum", dual_ledger_sum_dual_variables(bench, 0, &z), DUAL_LEDGER_BROKEN), same("broken: sum", z, 0);
     same("broken: value", dual_ledger_get_dual_variable(bench, node, &z), DUAL_LEDGER_BROKEN), same("broken: value", z, 0);
     same("broken: node", dual_ledger_get_node(bench, 0, 0, &v), DUAL_LEDGER_BROKEN), same("broken: node", (int64_t)v, 0);
+    same("broken: present", dual_ledger_present_count(bench, 0, &v), DUAL_LEDGER_BROKEN), same("broken: present", (int64_t)v, 0);
+    same("broken: next", dual_ledger_next_present(bench, 0, 0, &vertex, &v), DUAL_LEDGER_BROKEN), same("broken: next", (int64_t)(v + vertex), 0);
     same("broken: outermost", dual_ledger_get_ancestor_blossom(bench, node, &v, &w), DUAL_LEDGER_BROKEN), same("broken: outermost", (int64_t)(v + w), 0);
     same("broken: vertex", dual_ledger_get_representative_vertex(bench, node, &vertex), DUAL_LEDGER_BROKEN), same("broken: vertex", vertex, 0);
     same("broken: check", dual_ledger_strict_check(bench, 0, &v, &w), DUAL_LEDGER_BROKEN), same("broken: check", (int64_t)(v + w), 0);

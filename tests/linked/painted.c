@@ -102,6 +102,7 @@ static void nest(uint64_t *words, int nodes) {
         face[5] = parent[unit];
         face[6] = left[unit];
         face[7] = right[unit];
+        face[8] = face[1] < 64 ? ((uint64_t)1 << face[1]) - 1 : UINT64_MAX;
     }
     for (int at = 0; at < nodes; at++) {
         uint64_t *node = words + 129 + 12 * (64 * (at % 7) + at / 7);
@@ -158,6 +159,8 @@ static void calls(uint64_t unit, uint64_t node, int levels) {
     BOTH(sum_grow_speed, b, unit, a);
     BOTH(nodes_count, b, unit, a);
     BOTH(get_node, b, unit, 0, a);
+    BOTH(present_count, b, unit, a);
+    BOTH(next_present, b, unit, 0, W(vertices), a);
     BOTH(check_ptr_belonging, b, unit, node, a);
     BOTH(get_dual_variable, b, node, a);
     BOTH(get_ancestor_blossom, b, nested(0), a, W(out));

@@ -48,7 +48,7 @@ module _ (b : List ℕ) (F : Fit b) (unit : ℕ) (lu : unit < 8) (o : Order) (L 
     pub unit-low : u < 8
     unit-low = subst (λ (x : ℕ). x < 8) unit-at (tree-low (view b) (F .frame) unit i lu (omega (arith, counted)))
 
-    left-more : left i ≡ gather (view b) (u ∷ drop (i + 1) (tree 8 (view b) unit))
+    pub left-more : left i ≡ gather (view b) (u ∷ drop (i + 1) (tree 8 (view b) unit))
     left-more = ap (gather (view b)) (drop-cons (tree 8 (view b) unit) i 0 (omega (arith, counted)) ∙ ap₂ (λ (x : ℕ) (n : ℕ). x ∷ drop n (tree 8 (view b) unit)) unit-at (sym (add-one i)))
 
     pub index-there : (n : ℕ) (h : Handle) → u ≡ h .unit → h .slot < interfaceAt b (h .unit) .used → indexIn (left i) n h ≡ n + h .slot

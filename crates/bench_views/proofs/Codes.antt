@@ -7,8 +7,9 @@ use native.Mathlib.Decide.{ℕ-discrete}
 use native.Mathlib.Omega.{arith}
 use lib.ListN.{length, getD, set}
 use lib.Seq.{getD-set-other}
-use Rattle.bench_words.specs.Store.{nodeAt, interfaceAt, storeNode, storeInterface, base, ibase, interfaceWords, nodeWords}
+use Rattle.bench_words.specs.Store.{nodeAt, interfaceAt, storeNode, storeInterface, storeMap, base, ibase, interfaceWords, nodeWords}
 use Rattle.bench_words.proofs.Laws.{Good, GoodUp, inside, inside-interface, store-out, store-interface-out, load-same, load-other, store-node-interface, interface-same, interface-other, store-interface-node, interface-first, node-first}
+use Rattle.bench_words.proofs.Maps.{store-map-out, store-map-interface, store-map-node}
 use Rattle.bench_words.specs.declared.Node.{Node}
 use Rattle.bench_words.specs.declared.Interface.{Interface}
 use Rattle.ledger_spec.specs.Bench as plain
@@ -35,7 +36,7 @@ coded-interface b u n len lu g c =
       nodes = λ i li j lj. store-interface-out b u n len lu (base i + (1 + j)) (λ f lf e. omega arith) ∙ c .nodes i li j lj ∙ ap (λ (x : Node). getD (nodeWords x) j 0) (sym (store-interface-node b u n len lu i));
     }
   where
-    far : (m : ℕ) → 0 < m → m ≤ 128 → 7 ≤ (m - 1) % 16 → (i : ℕ) → i < 7 → m ≡ ibase u + (1 + i) → ⊥
+    far : (m : ℕ) → 0 < m → m ≤ 128 → 8 ≤ (m - 1) % 16 → (i : ℕ) → i < 7 → m ≡ ibase u + (1 + i) → ⊥
     far m z l h i li e = omega arith
 
 pub coded-first : (b : List ℕ) (x : ℕ) → Coded b → Coded (set b 0 x)
@@ -44,4 +45,12 @@ coded-first b x c =
       spare = λ m z l h. getD-set-other b 0 m x 0 (λ e. omega arith) ∙ c .spare m z l h;
       units = λ u lu j lj. getD-set-other b 0 (ibase u + (1 + j)) x 0 (λ e. omega arith) ∙ c .units u lu j lj ∙ ap (λ (w : Interface). getD (interfaceWords w) j 0) (sym (interface-first b x u));
       nodes = λ i li j lj. getD-set-other b 0 (base i + (1 + j)) x 0 (λ e. omega arith) ∙ c .nodes i li j lj ∙ ap (λ (w : Node). getD (nodeWords w) j 0) (sym (node-first b x i));
+    }
+
+pub coded-map : (b : List ℕ) (u w : ℕ) → length b ≡ 6273 → u < 8 → Coded b → Coded (storeMap b u w)
+coded-map b u w len lu c =
+    record {
+      spare = λ m z l h. store-map-out b u w len lu m (λ e. omega arith) ∙ c .spare m z l h;
+      units = λ v lv j lj. store-map-out b u w len lu (ibase v + (1 + j)) (λ e. omega arith) ∙ c .units v lv j lj ∙ ap (λ (x : Interface). getD (interfaceWords x) j 0) (sym (store-map-interface b u w len lu v));
+      nodes = λ i li j lj. store-map-out b u w len lu (base i + (1 + j)) (λ e. omega arith) ∙ c .nodes i li j lj ∙ ap (λ (x : Node). getD (nodeWords x) j 0) (sym (store-map-node b u w len lu i));
     }

@@ -6,6 +6,7 @@ pub mod Circles
 pub mod Rings
 pub mod Slots
 pub mod Codes
+pub mod Maps
 pub mod Ranges
 pub mod Unique
 pub mod Fits

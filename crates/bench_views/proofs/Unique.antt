@@ -10,7 +10,7 @@ use borrow.Author.Tests.{eq-eqb, ne-eqb}
 use lib.IntN.{ℤ, pos, _+ℤ_, -ℤ-+ℤ-cancel}
 use lib.ListN.{length, getD}
 use lib.Seq.{ext-getD}
-use Rattle.bench_words.specs.Store.{nodeAt, interfaceAt, base, ibase, interfaceWords, nodeWords}
+use Rattle.bench_words.specs.Store.{nodeAt, interfaceAt, mapAt, base, ibase, interfaceWords, nodeWords}
 use Rattle.kinds.specs.declared.GrowState.{GrowState}
 use Rattle.kinds.specs.declared.GrowState.the-variants.{Grow as Growing, Stay, Shrink}
 use Rattle.kinds.specs.declared.Class.{Class}
@@ -33,6 +33,7 @@ use Rattle.ledger_spec.specs.Named.{stateNamed, handleNamed, parentNamed}
 use Rattle.bench_views.specs.Canon.{Within, walk, Seated, Canon}
 use Rattle.bench_views.proofs.Sums.{sumUp-le, sumUp-same}
 use Rattle.bench_views.proofs.Ranges.{ranged}
+use Rattle.bench_views.proofs.Maps.{maps-same}
 use Rattle.bench_views.proofs.Views.{interface-in, view-next, view-slot, view-count}
 
 -- ---- what is seen decides what is held
@@ -370,6 +371,15 @@ module _ (b b' : List ℕ) (C : Canon b) (C' : Canon b') (near : Within (view b)
       subst (λ (x : ℕ). getD b x 0 ≡ getD b' x 0) q
       (C .coded .units u lu j lj ∙ ap (λ (x : Interface). getD (interfaceWords x) j 0) (interface-same u lu) ∙ sym (C' .coded .units u lu j lj))
 
+  map-word : (m : ℕ) → 0 < m → m ≤ 128 → (m - 1) % 16 ≡ 7 → getD b m 0 ≡ getD b' m 0
+  unfolding mapAt
+  map-word m z l h =
+      let u = (m - 1) / 16 in
+      let lu : u < 8 = omega arith in
+      let q : ibase u + 8 ≡ m = omega arith in
+      subst (λ (x : ℕ). getD b x 0 ≡ getD b' x 0) q
+      (C .map u lu ∙ maps-same (nodeAt b) (nodeAt b') u (λ s ls. ap (λ (n : Node). n .class) (sym (slot-node u s lu ls))) ∙ sym (C' .map u lu))
+
   node-word : (m : ℕ) → 128 < m → m < 6273 → getD b m 0 ≡ getD b' m 0
   node-word m l h =
       let k = (m - 129) / 12 in
@@ -380,14 +390,15 @@ module _ (b b' : List ℕ) (C : Canon b) (C' : Canon b') (near : Within (view b)
       subst (λ (x : ℕ). getD b x 0 ≡ getD b' x 0) q
       (C .coded .nodes k lk j lj ∙ ap (λ (x : Node). getD (nodeWords x) j 0) (node-same k lk) ∙ sym (C' .coded .nodes k lk j lj))
 
-  low-word : (m : ℕ) → m ≤ 128 → Dec (m ≡ 0) → Dec ((m - 1) % 16 < 7) → getD b m 0 ≡ getD b' m 0
-  low-word m l (yes z) r = rw z (sym (view-next (getD b 0 0) (interfaceAt b) (nodeAt b)) ∙ ap (λ (B : Bench). B .next) e ∙ view-next (getD b' 0 0) (interfaceAt b') (nodeAt b'))
-  low-word m l (no z) (yes r) = interface-word m (omega (arith, z)) l r
-  low-word m l (no z) (no r) = C .coded .spare m (omega (arith, z)) l (omega (arith, r)) ∙ sym (C' .coded .spare m (omega (arith, z)) l (omega (arith, r)))
+  low-word : (m : ℕ) → m ≤ 128 → Dec (m ≡ 0) → Dec ((m - 1) % 16 < 7) → Dec ((m - 1) % 16 ≡ 7) → getD b m 0 ≡ getD b' m 0
+  low-word m l (yes z) r s = rw z (sym (view-next (getD b 0 0) (interfaceAt b) (nodeAt b)) ∙ ap (λ (B : Bench). B .next) e ∙ view-next (getD b' 0 0) (interfaceAt b') (nodeAt b'))
+  low-word m l (no z) (yes r) s = interface-word m (omega (arith, z)) l r
+  low-word m l (no z) (no r) (yes s) = map-word m (omega (arith, z)) l s
+  low-word m l (no z) (no r) (no s) = C .coded .spare m (omega (arith, z)) l (omega (arith, r, s)) ∙ sym (C' .coded .spare m (omega (arith, z)) l (omega (arith, r, s)))
 
   -- no second answer in words
   pub words-same : b ≡ b'
   words-same = ext-getD 0 b b' (C .steady .len ∙ sym (C' .steady .len))
       (λ m l. by-cases (decLt m 129)
-      (λ (h : m < 129). low-word m (omega arith) (ℕ-discrete m 0) (decLt ((m - 1) % 16) 7))
+      (λ (h : m < 129). low-word m (omega arith) (ℕ-discrete m 0) (decLt ((m - 1) % 16) 7) (ℕ-discrete ((m - 1) % 16) 7))
       (λ (h : m < 129 → ⊥). node-word m (omega arith) (omega (arith, C .steady .len))))

@@ -115,3 +115,11 @@ noInterface = record { used = 0; progress = 0; sum = sumOffset; speed = speedOff
 
 unfoldable pub storeInterface : List ℕ → ℕ → Interface → List ℕ
 storeInterface b u n = writes b (ibase u) 1 (interfaceWords n)
+
+-- ---- the map of an interface's slots, beside its record
+
+unfoldable pub mapAt : List ℕ → ℕ → ℕ
+mapAt b u = getD b (ibase u + 8) 0
+
+unfoldable pub storeMap : List ℕ → ℕ → ℕ → List ℕ
+storeMap b u w = set b (ibase u + 8) w

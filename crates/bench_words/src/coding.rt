@@ -43,13 +43,12 @@ pub fn is_spare(b: &[u64; WORDS], u: usize) -> bool
     ensures { λ r. ⌜ r ≡ spareAt (now (b .entry)) u ⌝ }
 {
     let at = u * 16;
-    (b[at + 8] == 0)
-        & ((b[at + 9] == 0)
-            & ((b[at + 10] == 0)
-                & ((b[at + 11] == 0)
-                    & ((b[at + 12] == 0)
-                        & ((b[at + 13] == 0)
-                            & ((b[at + 14] == 0) & ((b[at + 15] == 0) & (b[at + 16] == 0))))))))
+    (b[at + 9] == 0)
+        & ((b[at + 10] == 0)
+            & ((b[at + 11] == 0)
+                & ((b[at + 12] == 0)
+                    & ((b[at + 13] == 0)
+                        & ((b[at + 14] == 0) & ((b[at + 15] == 0) & (b[at + 16] == 0)))))))
 }
 
 // The word of an interface's parent names one of eight.

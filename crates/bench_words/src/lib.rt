@@ -3,7 +3,8 @@
 //
 //   word 0                    the next serial
 //   words 16 u + 1 .. + 7     interface u: used slots, progress, sum + 2^62, speed + 1024, parent, left half, right half
-//   words 16 u + 8 .. + 16    zero: room for later fields of interface u
+//   word 16 u + 8             the map of interface u: bit s is 1 where slot s holds a node
+//   words 16 u + 9 .. + 16    zero: room for later fields of interface u
 //   words 128 + 12 k + 1 ..   node k = 64 * interface + slot: serial, class, state, parent, place, next, two touching handles,
 //                    .. + 12  bias + 2^60, size, first member, members
 pub mod coding; // whether words are the code of what is loaded from them
@@ -18,7 +19,7 @@ ghost use mathlib.Core.Path.{_≡_};
 ghost use lib.ListN.{length, getD, set};
 ghost use Prim.Native.Nat.{_+_, _*_, _<_};
 ghost use Rattle.bench_words.specs.Codec.{stateOf, stateWord, handleOf, handOf, handleWord, classOf, classWord, parentOf, parentWord, upOf, upWord};
-ghost use Rattle.bench_words.specs.Store.{nodeAt, storeNode, interfaceAt, storeInterface};
+ghost use Rattle.bench_words.specs.Store.{nodeAt, storeNode, interfaceAt, storeInterface, mapAt, storeMap};
 
 pub const WORDS: usize = 6273;
 
@@ -229,6 +230,23 @@ pub fn store_interface(b: &mut [u64; WORDS], u: usize, n: Interface)
     b[at + 5] = up_word(parent);
     b[at + 6] = n.left;
     b[at + 7] = n.right;
+}
+
+// The map of an interface's present slots stands beside its record: most calls change the record and leave the map.
+pub fn load_map(b: &[u64; WORDS], u: usize) -> u64
+    requires { ⌜ u < 8 ⌝ }
+    ensures { λ r. ⌜ r ≡ mapAt (now (b .entry)) u ⌝ }
+{
+    let at = u * 16;
+    b[at + 8]
+}
+
+pub fn store_map(b: &mut [u64; WORDS], u: usize, map: u64)
+    requires { ⌜ u < 8 ⌝ }
+    ensures { λ _. ⌜ now (b .exit) ≡ storeMap (now (b .entry)) u map ⌝ }
+{
+    let at = u * 16;
+    b[at + 8] = map;
 }
 
 pub fn load_node(b: &[u64; WORDS], k: usize) -> Node

@@ -3,6 +3,7 @@
 use Prim.Native.Nat.{ℕ, suc, _+_, _-_, _*_, _/_, _%_, _<_, _≤_}
 use mathlib.Core.Path.{_≡_, refl, ap, ap₂, sym, _∙_, subst}
 use mathlib.Core.Logic.{_≢_, by-cases}
+use mathlib.Core.Bool.{true}
 use mathlib.Core.Option.{none, some}
 use mathlib.Core.List.{List}
 use native.Mathlib.Decide.{ℕ-discrete}
@@ -16,7 +17,8 @@ use Rattle.kinds.specs.declared.Handle.{Handle as Packed}
 use Rattle.kinds.specs.declared.Parent.{Parent}
 use Rattle.kinds.specs.declared.Parent.the-variants.{Outermost, Inside}
 use Rattle.kinds.specs.declared.Vertex.{Vertex}
-use Rattle.bench_words.specs.Store.{nodeAt, interfaceAt}
+use Rattle.slot_map.specs.Slots.{put}
+use Rattle.bench_words.specs.Store.{nodeAt, interfaceAt, mapAt}
 use Rattle.bench_words.proofs.Laws.{Good, good-interface}
 use Rattle.bench_words.specs.declared.Node.{Node}
 use Rattle.bench_words.specs.declared.Interface.{Interface}
@@ -34,9 +36,10 @@ use Rattle.bench_views.proofs.Sums.{sumUp-same}
 use Rattle.bench_views.proofs.Views.{view-next}
 use Rattle.bench_views.proofs.Circles.{same-eq, circle-same}
 use Rattle.bench_views.proofs.Rings.{Ringed, ringed}
+use Rattle.bench_views.proofs.Maps.{held-present, mapped-put}
 use Rattle.deed_nodes.specs.Steps.{remarked, pushed}
 use Rattle.deed_nodes.proofs.Needs.{open-total}
-use Rattle.deed_nodes.proofs.Stores.{push-next, push-unit, push-unit-here, push-unit-there, push-node-here, push-node-there, push-steady, push-coded}
+use Rattle.deed_nodes.proofs.Stores.{push-next, push-unit, push-unit-here, push-unit-there, push-node-here, push-node-there, push-map-here, push-map-there, push-steady, push-coded}
 use Rattle.deed_nodes.proofs.Keeps.{not-blossom, ringed-walk, Intact, intact-chain, intact-seat, halves-kept}
 use Rattle.deed_nodes.proofs.Adds.{slot-old, ring-old, push-in}
 use Rattle.deed_nodes.proofs.Adding.{new-handle}
@@ -125,6 +128,12 @@ module _ (b : List ℕ) (u : ℕ) (ms ts : List ℕ) (F : Fit b) (R : Ringable b
 
   part : {X : Type 0} (φ : Interface → X) → ((x : Interface) (m z : ℕ) → φ (withUsed x m z) ≡ φ x) → (v : ℕ) → v < 8 → φ (interfaceAt b₂ v) ≡ φ (interfaceAt b v)
   part φ e v lv = push-unit b₁ u n₁ (sp + 1) (G .steady) lu room₁ good₁ φ e v lv ∙ ap φ (G .interfaces v lv)
+
+  map-here : mapAt b₂ u ≡ put (mapAt b u) (interfaceAt b u .used) true
+  map-here = push-map-here b₁ u n₁ (sp + 1) (G .steady) lu room₁ good₁ ∙ ap₂ (λ (w x : ℕ). put w x true) (G .maps u lu) used₁
+
+  map-there : (v : ℕ) → v < 8 → v ≢ u → mapAt b₂ v ≡ mapAt b v
+  map-there v lv ne = push-map-there b₁ u n₁ (sp + 1) (G .steady) lu room₁ good₁ v lv ne ∙ G .maps v lv
 
   more : (v : ℕ) → v < 8 → interfaceAt b v .used ≤ interfaceAt b₂ v .used
   more v lv = by-cases (ℕ-discrete v u) (λ (e : v ≡ u). rw (e, unit-here) (omega arith)) (λ (ne : v ≡ u → ⊥). rw (unit-there v lv ne) (omega arith))
@@ -231,6 +240,7 @@ module _ (b : List ℕ) (u : ℕ) (ms ts : List ℕ) (F : Fit b) (R : Ringable b
         whole = hv .0;
         both = hv .1;
         past = λ v r lv l h. node-old (v * 64 + r) (far v r l h (ℕ-discrete v u)) (apart v r lv l h) ∙ C .past v r lv l (omega (arith, more v lv));
+        map = mapped-put b b₂ u (interfaceAt b u .used) true (C .map) lu (R .room) map-here map-there (held-present (A₂ K .class) (not-absent (ap (λ (n : Node). n .class) node-new))) (λ k lk q. head k q .class);
         empty = λ k lk e. by-cases (ℕ-discrete k K)
             (λ (q : k ≡ K). absurd (not-absent (ap (λ (j : ℕ). A₂ j .class) q ∙ ap (λ (n : Node). n .class) node-new) e))
             (λ (q : k ≡ K → ⊥). empty-old k lk q e (among (spotAt ms) k (length ms)));

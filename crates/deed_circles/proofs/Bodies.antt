@@ -1,6 +1,7 @@
 -- What the calls of a function's body come to, over plain variables: each follows by putting the callees' results in. Assumes nothing.
 use Prim.Native.Nat.{ℕ, suc, _+_, _-_, _*_, _/_, _<_, _≤_}
 use mathlib.Core.Path.{_≡_, refl, ap, sym, _∙_, subst}
+use mathlib.Core.Bool.{false}
 use mathlib.Core.List.{List}
 use native.Mathlib.Numerals.{add-one}
 use native.Mathlib.Omega.{arith}
@@ -9,7 +10,8 @@ use lib.ListN.{length, getD}
 use Rattle.kinds.specs.declared.GrowState.the-variants.{Grow as Growing, Stay}
 use Rattle.kinds.specs.declared.Handle.{Handle as Packed}
 use Rattle.bench_words.specs.Codec.{handleOf}
-use Rattle.bench_words.specs.Store.{nodeAt, interfaceAt, storeNode}
+use Rattle.slot_map.specs.Slots.{put}
+use Rattle.bench_words.specs.Store.{nodeAt, interfaceAt, storeNode, mapAt, storeMap}
 use Rattle.bench_words.specs.declared.Node.{Node}
 use Rattle.bench_words.specs.declared.Interface.{Interface}
 use Rattle.ledger_spec.specs.Tests.{first}
@@ -169,13 +171,13 @@ module _ (b : List ℕ) (t : ℕ) (h : Packed) (F : Fit b) (p : first (expandTes
         (subst (λ (x : ℕ). Freeing b x b₂ p' (suc i)) (sym (ap (λ (x : Node). x .first) en))
         (free-turns b t (handleNamed h) F X₀ b₁ at i (subst (λ (x : ℕ). Freeing b x b₁ at i) (ap (λ (x : Node). x .first) en) G) (subst (λ (x : ℕ). i < x) (ap (λ (x : Node). x .count) en) l) b₂ p' e ep))
 
-    pub expand-ends : (f : Interface) {b₁ b₂ b₃ : List ℕ} {at i loss : ℕ} {e : Node} → Freeing b (n .first) b₁ at i → i ≡ n .count → f ≡ interfaceAt b t → loss ≡ rateOf (n .state) → e ≡ noNode
-        → b₂ ≡ storeNode b₁ (h .unit * 64 + h .slot) e → b₃ ≡ paced b₂ t (f .speed + 1 + n .count - loss) → Done b₃ (removeBlossom (view b) (handleNamed h))
-    expand-ends f {b₁} {b₂} {b₃} {at} {i} G n-is ef el ee e₂ e₃ =
+    pub expand-ends : (f : Interface) {b₁ b₂ b₃ b₄ : List ℕ} {at i loss : ℕ} {e : Node} → Freeing b (n .first) b₁ at i → i ≡ n .count → f ≡ interfaceAt b t → loss ≡ rateOf (n .state) → e ≡ noNode
+        → b₂ ≡ storeNode b₁ (h .unit * 64 + h .slot) e → b₃ ≡ paced b₂ t (f .speed + 1 + n .count - loss) → b₄ ≡ storeMap b₃ (h .unit) (put (mapAt b₃ (h .unit)) (h .slot) false) → Done b₄ (removeBlossom (view b) (handleNamed h))
+    expand-ends f {b₁} {b₂} {b₃} {b₄} {at} {i} G n-is ef el ee e₂ e₃ e₄ =
         let k = h .unit * 64 + h .slot in
         let r = rate-small (nodeAt b k .state) in
         let slow = expand-reach .slow in
         let s : interfaceAt b t .speed + 1 + nodeAt b k .count - rateOf (nodeAt b k .state) ≡ s₁ b t (handleNamed h) F X₀ + nodeAt b k .count = omega arith in
         let q : b₃ ≡ paced (storeNode b₁ k noNode) t (interfaceAt b t .speed + 1 + nodeAt b k .count - rateOf (nodeAt b k .state)) = simp (e₃, e₂, ee, el, ef, en) in
         let G' : Freeing b (nodeAt b k .first) b₁ at (nodeAt b k .count) = freeing-at G (ap (λ (x : Node). x .first) en) (n-is ∙ ap (λ (x : Node). x .count) en) in
-        rw (q, s) (expanded b t (handleNamed h) F X₀ b₁ at G')
+        rw (e₄, q, s) (expanded b t (handleNamed h) F X₀ b₁ at G')

@@ -3,6 +3,7 @@
 use Prim.Native.Nat.{ℕ, _+_, _*_, _/_, _%_, _<_, _≤_}
 use mathlib.Core.Path.{_≡_, refl, ap, ap₂, sym, _∙_, subst, fun-ext}
 use mathlib.Core.Logic.{_≢_, by-cases}
+use mathlib.Core.Bool.{false}
 use mathlib.Core.List.{List}
 use native.Mathlib.Decide.{ℕ-discrete}
 use native.Mathlib.Omega.{arith}
@@ -13,19 +14,23 @@ use Rattle.kinds.specs.declared.Class.the-variants.{Absent, Blossom, Defect}
 use Rattle.kinds.specs.declared.Handle.{Handle as Packed}
 use Rattle.kinds.specs.declared.Parent.the-variants.{Outermost, Inside}
 use Rattle.kinds.specs.declared.Vertex.{Vertex}
-use Rattle.bench_words.specs.Store.{nodeAt, interfaceAt, storeNode, setSpeed}
+use Rattle.slot_map.specs.Slots.{put}
+use Rattle.bench_words.specs.Store.{nodeAt, interfaceAt, storeNode, mapAt, storeMap, setSpeed}
 use Rattle.bench_words.proofs.Laws.{Good, good-interface}
+use Rattle.bench_words.proofs.Maps.{map-same, map-other, store-map-interface, store-map-node}
 use Rattle.bench_words.specs.declared.Node.{Node}
 use Rattle.bench_words.specs.declared.Interface.{Interface}
 use Rattle.ledger_spec.specs.Bench.{Handle}
 use Rattle.ledger_spec.specs.Deeds.{removeBlossom}
-use Rattle.bench_views.specs.Records.{noNode}
+use Rattle.bench_views.specs.Records.{Steady, noNode}
 use Rattle.bench_views.specs.View.{view, viewIn, sumUp}
 use Rattle.bench_views.specs.Canon.{walk, Seated, Alone, Canon}
 use Rattle.bench_views.specs.Fit.{Fit, Done}
 use Rattle.bench_views.proofs.Rings.{Ringed}
+use Rattle.bench_views.proofs.Codes.{coded-map}
+use Rattle.bench_views.proofs.Maps.{held-absent, mapped-put}
 use Rattle.deed_nodes.specs.Steps.{noSeat, remarked, paced}
-use Rattle.deed_nodes.proofs.Stores.{put-next, put-unit, put-unit-here, put-unit-there, put-node-here, put-node-there, put-steady, put-coded}
+use Rattle.deed_nodes.proofs.Stores.{put-next, put-unit, put-unit-here, put-unit-there, put-node-here, put-node-there, put-map, put-steady, put-coded, map-next, map-steady}
 use Rattle.deed_nodes.proofs.Keeps.{not-blossom, ringed-walk, Intact, intact-chain, intact-seat, halves-kept}
 use Rattle.deed_circles.proofs.Rounds.{Among, yes-at, not-at, among, Head, view-interfaces, pacing, pacing-here, pacing-else, pacing-part, turn-off, turn-head, turn-done}
 use Rattle.deed_circles.proofs.Blossoming.{not-inside}
@@ -54,8 +59,15 @@ module _ (b : List ℕ) (t : ℕ) (h : Handle) (F : Fit b) (X : Expandable b t h
   abbrev s : ℕ
   s = s₁ b t h F X + m
 
+  abbrev c₂ : List ℕ
+  c₂ = paced (storeNode b₁ k noNode) t s
+
+  -- and its bit taken out
+  abbrev w₂ : ℕ
+  w₂ = put (mapAt c₂ (h .unit)) (h .slot) false
+
   abbrev b₂ : List ℕ
-  b₂ = paced (storeNode b₁ k noNode) t s
+  b₂ = storeMap c₂ (h .unit) w₂
 
   abbrev A₂ : ℕ → Node
   A₂ = nodeAt b₂
@@ -66,12 +78,24 @@ module _ (b : List ℕ) (t : ℕ) (h : Handle) (F : Fit b) (X : Expandable b t h
   lk : k < 512
   lk = X .stands .low
 
+  lu : h .unit < 8
+  lu = X .stands .unit
+
+  st₂ : Steady c₂
+  st₂ = put-steady b₁ k noNode t s (G .steady) lk lt good-none
+
   -- ---- what stands where
+  as-was : (j : ℕ) → A₂ j ≡ nodeAt c₂ j
+  as-was = store-map-node c₂ (h .unit) w₂ (st₂ .len) lu
+
+  unit-was : (v : ℕ) → interfaceAt b₂ v ≡ interfaceAt c₂ v
+  unit-was = store-map-interface c₂ (h .unit) w₂ (st₂ .len) lu
+
   node-gone : A₂ k ≡ noNode
-  node-gone = put-node-here b₁ k noNode t s (G .steady) lk lt good-none
+  node-gone = as-was k ∙ put-node-here b₁ k noNode t s (G .steady) lk lt good-none
 
   node-off : (j : ℕ) → j ≢ k → A₂ j ≡ freeing b (f₁ b t h F X) m j
-  node-off j ne = put-node-there b₁ k noNode t s (G .steady) lk lt good-none j ne ∙ G .nodes j
+  node-off j ne = as-was j ∙ put-node-there b₁ k noNode t s (G .steady) lk lt good-none j ne ∙ G .nodes j
 
   off-top : (i : ℕ) → i < m → at i ≢ k
   off-top i l = not-top b t h F X (h .unit) (h .slot) (at i) (member b t h F X i l)
@@ -97,17 +121,26 @@ module _ (b : List ℕ) (t : ℕ) (h : Handle) (F : Fit b) (X : Expandable b t h
       go (no ne) (not-at f) = node-old j ne f ∙ sym (turn-off at T Growing (λ i. noSeat) (A₁ b t h F X) m j f ∙ gone-else b t h F X j ne)
 
   part : {Y : Type 0} (φ : Interface → Y) → ((x : Interface) (z : ℕ) → φ (setSpeed x z) ≡ φ x) → (v : ℕ) → v < 8 → φ (interfaceAt b₂ v) ≡ φ (interfaceAt b v)
-  part φ e v lv = put-unit b₁ k noNode t s (G .steady) lk lt good-none φ e v lv ∙ ap φ (G .interfaces v lv)
+  part φ e v lv = ap φ (unit-was v) ∙ put-unit b₁ k noNode t s (G .steady) lk lt good-none φ e v lv ∙ ap φ (G .interfaces v lv)
+
+  maps-were : (v : ℕ) → v < 8 → mapAt c₂ v ≡ mapAt b v
+  maps-were v lv = put-map b₁ k noNode t s (G .steady) lk lt good-none v lv ∙ G .maps v lv
+
+  map-here : mapAt b₂ (h .unit) ≡ put (mapAt b (h .unit)) (h .slot) false
+  map-here = map-same c₂ (h .unit) w₂ (st₂ .len) lu ∙ ap (λ (w : ℕ). put w (h .slot) false) (maps-were (h .unit) lu)
+
+  map-there : (v : ℕ) → v < 8 → v ≢ h .unit → mapAt b₂ v ≡ mapAt b v
+  map-there v lv ne = map-other c₂ (h .unit) w₂ (st₂ .len) lu v ne ∙ maps-were v lv
 
   interface-now : (v : ℕ) → v < 8 → interfaceAt b₂ v ≡ pacing (interfaceAt b) t s v
-  interface-now v lv = by-cases (ℕ-discrete v t)
+  interface-now v lv = unit-was v ∙ by-cases (ℕ-discrete v t)
       (λ (e : v ≡ t). rw e (put-unit-here b₁ k noNode t s (G .steady) lk lt good-none ∙ ap (λ (f : Interface). setSpeed f s) (G .interfaces t lt) ∙ sym (pacing-here (interfaceAt b) t s)))
       (λ (ne : v ≡ t → ⊥). put-unit-there b₁ k noNode t s (G .steady) lk lt good-none v lv ne ∙ G .interfaces v lv ∙ sym (pacing-else (interfaceAt b) t s v ne))
 
   seen : view b₂ ≡ removeBlossom (view b) h
   seen =
       let A-is : A₂ ≡ to₁ b t h F X m = fun-ext node-is in
-      ap₂ (λ (n : ℕ) (B : ℕ → Node). viewIn n (interfaceAt b₂) B) (put-next b₁ k noNode t s (G .steady) lk lt good-none ∙ G .next) A-is
+      ap₂ (λ (n : ℕ) (B : ℕ → Node). viewIn n (interfaceAt b₂) B) (map-next c₂ (h .unit) w₂ lu (st₂ .len) ∙ put-next b₁ k noNode t s (G .steady) lk lt good-none ∙ G .next) A-is
       ∙ view-interfaces (getD b 0 0) (pacing (interfaceAt b) t s) (interfaceAt b₂) (to₁ b t h F X m) (λ v lv. rw (pacing-part (interfaceAt b) t s (λ x. x .parent) (λ x z. refl) v) (good-interface b v)) interface-now
       ∙ freed-view b t h F X
 
@@ -131,13 +164,14 @@ module _ (b : List ℕ) (t : ℕ) (h : Handle) (F : Fit b) (X : Expandable b t h
   canon₂ : Canon b₂
   canon₂ =
       record {
-        steady = put-steady b₁ k noNode t s (G .steady) lk lt good-none;
-        coded = put-coded b₁ k noNode t s (G .steady) lk lt good-none (G .coded);
+        steady = map-steady c₂ (h .unit) w₂ lu st₂;
+        coded = coded-map c₂ (h .unit) w₂ (st₂ .len) lu (put-coded b₁ k noNode t s (G .steady) lk lt good-none (G .coded));
         whole = hv .0;
         both = hv .1;
         past = λ v r lv l q.
             let old : interfaceAt b v .used ≤ r = omega (arith, q, part (λ x. x .used) (λ x z. refl) v lv) in
             node-old (v * 64 + r) (far v r l old) (apart-from v r l old) ∙ C .past v r lv l old;
+        map = mapped-put b b₂ (h .unit) (h .slot) false (C .map) lu (omega (arith, X .stands .slot, C .steady .slots (h .unit) lu)) map-here map-there (held-absent (ap (λ (n : Node). n .class) node-gone)) (λ j lj q. head j q .class);
         empty = λ j lj e. by-cases (ℕ-discrete j k)
             (λ (q : j ≡ k). ap A₂ q ∙ node-gone)
             (λ (q : j ≡ k → ⊥). empty-old j lj q e (among at j m));

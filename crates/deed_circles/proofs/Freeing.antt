@@ -13,8 +13,9 @@ use Rattle.kinds.specs.declared.GrowState.the-variants.{Grow as Growing, Stay, 
 use Rattle.kinds.specs.declared.Class.{Class}
 use Rattle.kinds.specs.declared.Class.the-variants.{Absent, Blossom, Defect}
 use Rattle.kinds.specs.declared.Parent.the-variants.{Outermost}
-use Rattle.bench_words.specs.Store.{nodeAt, interfaceAt, storeNode}
+use Rattle.bench_words.specs.Store.{nodeAt, interfaceAt, storeNode, mapAt}
 use Rattle.bench_words.proofs.Laws.{Good, good-node, good-interface, load-same, load-other, store-node-interface}
+use Rattle.bench_words.proofs.Maps.{store-node-map}
 use Rattle.bench_words.specs.declared.Node.{Node}
 use Rattle.bench_words.specs.declared.Interface.{Interface}
 use Rattle.ledger_spec.specs.Bench.{Handle, stays, Member}
@@ -70,11 +71,12 @@ pub record Freeing (b : List ℕ) (f : ℕ) (b₁ : List ℕ) (p i : ℕ) : Type
   pub coded : Coded b₁
   pub next : getD b₁ 0 0 ≡ getD b 0 0
   pub interfaces : (v : ℕ) → v < 8 → interfaceAt b₁ v ≡ interfaceAt b v
+  pub maps : (v : ℕ) → v < 8 → mapAt b₁ v ≡ mapAt b v
   pub nodes : (k : ℕ) → nodeAt b₁ k ≡ freeing b f i k
 
 pub freeing-begins : (b : List ℕ) (f : ℕ) → Fit b → Freeing b f b f 0
 unfolding walk turned
-freeing-begins b f F = record { at = refl; steady = F .canon .steady; coded = F .canon .coded; next = refl; interfaces = λ v l. refl; nodes = λ k. refl }
+freeing-begins b f F = record { at = refl; steady = F .canon .steady; coded = F .canon .coded; next = refl; interfaces = λ v l. refl; maps = λ v l. refl; nodes = λ k. refl }
 
 -- ---- what a slot shows of a state
 slot-state : (n : Node) (t : ℕ) (ms : List Member) (m : plain.Node) → slotSeen n t ms ≡ some m → m .state ≡ stateNamed (n .state)
@@ -206,6 +208,7 @@ module _ (b : List ℕ) (t : ℕ) (h : Handle) (F : Fit b) (X : Expandable b t h
           coded = coded-node b₁ k x len lk good (G .coded);
           next = node-next b₁ k x lk good len ∙ G .next;
           interfaces = λ v lv. store-node-interface b₁ k x len lk v lv ∙ G .interfaces v lv;
+          maps = λ v lv. store-node-map b₁ k x len lk v lv ∙ G .maps v lv;
           nodes = λ j. by-cases (ℕ-discrete j k)
               (λ (z : j ≡ k).
               ap (nodeAt (storeNode b₁ k x)) z ∙ load-same b₁ k x len lk good ∙ ap₂ (λ (n : Node) (w : ℕ). remarked n w Growing noSeat) (G .nodes k) sum

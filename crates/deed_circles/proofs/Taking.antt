@@ -12,8 +12,9 @@ use lib.Seq.{drop-cons}
 use Rattle.kinds.specs.declared.GrowState.the-variants.{Stay}
 use Rattle.kinds.specs.declared.Class.the-variants.{Blossom}
 use Rattle.kinds.specs.declared.Handle.{Handle as Packed}
-use Rattle.bench_words.specs.Store.{nodeAt, interfaceAt, storeNode}
+use Rattle.bench_words.specs.Store.{nodeAt, interfaceAt, storeNode, mapAt}
 use Rattle.bench_words.proofs.Laws.{Good, GoodHandle, good-node, good-handle, good-interface, load-same, load-other, store-node-interface}
+use Rattle.bench_words.proofs.Maps.{store-node-map}
 use Rattle.bench_words.specs.declared.Node.{Node}
 use Rattle.bench_words.specs.declared.Interface.{Interface}
 use Rattle.ledger_spec.specs.Bench.{Handle, stays}
@@ -59,6 +60,7 @@ pub record Taking (b : List ℕ) (u : ℕ) (ms ts : List ℕ) (q : Packed) (b₁
   pub coded : Coded b₁
   pub next : getD b₁ 0 0 ≡ getD b 0 0
   pub interfaces : (v : ℕ) → v < 8 → interfaceAt b₁ v ≡ interfaceAt b v
+  pub maps : (v : ℕ) → v < 8 → mapAt b₁ v ≡ mapAt b v
   pub nodes : (k : ℕ) → nodeAt b₁ k ≡ taking b ms ts q i k
   pub paced : speed ≡ speedTo b u ms ts q i
   pub sized : size ≡ sizeTo b ms ts q i
@@ -72,6 +74,7 @@ taking-begins b u ms ts q U F e =
       coded = F .canon .coded;
       next = refl;
       interfaces = λ v l. refl;
+      maps = λ v l. refl;
       nodes = λ k. refl;
       paced = ap (λ (x : Interface). x .speed) e;
       sized = refl;
@@ -168,6 +171,7 @@ module _ (b : List ℕ) (u : ℕ) (ms ts : List ℕ) (F : Fit b) (R : Ringable b
           coded = coded-node b₁ k x len lk good (G .coded);
           next = node-next b₁ k x lk good len ∙ G .next;
           interfaces = λ v lv. store-node-interface b₁ k x len lk v lv ∙ G .interfaces v lv;
+          maps = λ v lv. store-node-map b₁ k x len lk v lv ∙ G .maps v lv;
           nodes = λ j. by-cases (ℕ-discrete j k)
               (λ (q : j ≡ k).
               ap (nodeAt (storeNode b₁ k x)) q ∙ load-same b₁ k x len lk good ∙ ap₂ (λ (n : Node) (t : ℕ). remarked n t Stay (seatOf ms ts q₀ i)) (G .nodes k) sum

@@ -9,10 +9,12 @@ use kinds::Handle;
 use kinds::Parent;
 use kinds::Serial;
 ghost use mathlib.Core.Path.{_≡_};
+ghost use mathlib.Core.Bool.{false};
 ghost use Prim.Native.Nat.{_+_, _*_, _/_, _%_, _<_, _≤_};
 ghost use lib.ListN.{length};
+ghost use Rattle.slot_map.specs.Slots.{put};
 ghost use Rattle.bench_words.specs.Codec.{handleOf};
-ghost use Rattle.bench_words.specs.Store.{nodeAt, interfaceAt, storeNode};
+ghost use Rattle.bench_words.specs.Store.{nodeAt, interfaceAt, storeNode, mapAt, storeMap};
 ghost use Rattle.ledger_spec.specs.Tests.{first};
 ghost use Rattle.ledger_spec.specs.Refuse.{blossomTests, expandTests};
 ghost use Rattle.ledger_spec.specs.Deeds.{newHandle, addBlossom, removeBlossom};
@@ -153,6 +155,15 @@ fn release(b: &mut [u64; WORDS], at: u64) -> u64
     n.next
 }
 
+// Takes a slot out of the map of its interface.
+fn unmark(b: &mut [u64; WORDS], unit: usize, slot: u8)
+    requires { ⌜ (unit < 8) × (slot < 64) ⌝ }
+    ensures { λ _. ⌜ now (b .exit) ≡ storeMap (now (b .entry)) unit (put (mapAt (now (b .entry)) unit) slot false) ⌝ }
+{
+    let map = bench_words::load_map(b, unit);
+    bench_words::store_map(b, unit, slot_map::without(map, slot));
+}
+
 // Expands a blossom: it leaves, and its members, which stayed, grow. The sum of its tree, whose top is `unit`, stays.
 pub fn remove_blossom(b: &mut [u64; WORDS], unit: usize, h: Handle)
     requires { ⌜ Fit (now b) × (first (expandTests (view (now b)) unit (handleNamed h)) ≡ 0) ⌝ }
@@ -172,4 +183,5 @@ pub fn remove_blossom(b: &mut [u64; WORDS], unit: usize, h: Handle)
     let loss = bench_trees::rate_of(old);
     bench_words::store_node(b, k, deed_nodes::no_node());
     deed_nodes::pace(b, unit, f.speed + 1 + count - loss);
+    unmark(b, h.unit as usize, h.slot);
 }

@@ -2,6 +2,7 @@
 use Prim.Native.Nat.{ℕ, suc, _+_, _-_, _*_, _/_, _%_, _<_, _≤_}
 use mathlib.Core.Path.{_≡_, refl, ap, ap₂, sym, _∙_, subst}
 use mathlib.Core.Logic.{_≢_, by-cases}
+use mathlib.Core.Bool.{true}
 use mathlib.Core.Option.{none, some}
 use mathlib.Core.List.{List}
 use native.Mathlib.Decide.{ℕ-discrete}
@@ -32,9 +33,10 @@ use Rattle.bench_views.proofs.Sums.{sumUp-le}
 use Rattle.bench_views.proofs.Views.{view-next, view-count}
 use Rattle.bench_views.proofs.Circles.{same-eq, circle-same}
 use Rattle.bench_views.proofs.Rings.{ringed}
+use Rattle.bench_views.proofs.Maps.{held-present, mapped-put}
 use Rattle.deed_nodes.specs.Steps.{defectNode, pushed}
 use Rattle.deed_nodes.proofs.Needs.{Pushable, open-total}
-use Rattle.deed_nodes.proofs.Stores.{push-next, push-unit, push-unit-here, push-unit-there, push-node-here, push-node-there, push-steady, push-coded}
+use Rattle.deed_nodes.proofs.Stores.{push-next, push-unit, push-unit-here, push-unit-there, push-node-here, push-node-there, push-map-here, push-map-there, push-steady, push-coded}
 use Rattle.deed_nodes.proofs.Keeps.{ringed-walk, Intact, intact-chain, intact-seat, halves-kept}
 use Rattle.deed_nodes.proofs.Adds.{slot-old, ring-old, push-in}
 
@@ -141,6 +143,8 @@ module _ (b : List ℕ) (u : ℕ) (v : Vertex) (F : Fit b) (P : Pushable b u) (f
         whole = hv .0;
         both = hv .1;
         past = λ w r lw l h. node-there (w * 64 + r) (far w r l h (ℕ-discrete w u)) ∙ C .past w r lw l (omega (arith, more w lw));
+        map = mapped-put b b₁ u (interfaceAt b u .used) true (C .map) (P .root .low) (P .room) (push-map-here b u n₁ (interfaceAt b u .speed + 1) st (P .root .low) (P .room) good₁) (push-map-there b u n₁ (interfaceAt b u .speed + 1) st (P .root .low) (P .room) good₁)
+            (held-present (nodeAt b₁ K .class) (not-absent (ap (λ (n : Node). n .class) node-here))) (λ k lk q. ap (λ (n : Node). n .class) (node-there k q));
         empty = λ k lk e. by-cases (ℕ-discrete k K)
             (λ (q : k ≡ K). absurd (not-absent (ap (λ (j : ℕ). nodeAt b₁ j .class) q ∙ ap (λ (n : Node). n .class) node-here) e))
             (λ (q : k ≡ K → ⊥). node-there k q ∙ C .empty k lk (ap (λ (n : Node). n .class) (sym (node-there k q)) ∙ e));

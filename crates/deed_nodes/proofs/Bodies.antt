@@ -1,6 +1,7 @@
 -- What the calls of a function's body come to, over plain variables: each follows by putting the callees' results in. Assumes nothing.
 use Prim.Native.Nat.{ℕ, _+_, _-_, _*_, _<_, _≤_}
 use mathlib.Core.Path.{_≡_, refl}
+use mathlib.Core.Bool.{true}
 use mathlib.Core.Option.{none}
 use mathlib.Core.List.{List}
 use native.Mathlib.Numerals.{add-one}
@@ -13,7 +14,8 @@ use Rattle.kinds.specs.declared.Class.the-variants.{Defect}
 use Rattle.kinds.specs.declared.Handle.{Handle as Packed}
 use Rattle.kinds.specs.declared.Parent.the-variants.{Outermost}
 use Rattle.kinds.specs.declared.Vertex.{Vertex}
-use Rattle.bench_words.specs.Store.{nodeAt, interfaceAt, storeNode, storeInterface, setSpeed}
+use Rattle.slot_map.specs.Slots.{put}
+use Rattle.bench_words.specs.Store.{nodeAt, interfaceAt, storeNode, storeInterface, mapAt, storeMap, setSpeed}
 use Rattle.bench_words.specs.declared.Node.{Node}
 use Rattle.bench_words.specs.declared.Interface.{Interface}
 use Rattle.ledger_spec.specs.Change.{mark}
@@ -36,10 +38,10 @@ pub pace-by : (b : List ℕ) (u s : ℕ) (U : Interface) {b' : List ℕ} → U �
 unfolding paced
 pace-by b u s U e e' = simp (e', e)
 
-pub push-by : (b : List ℕ) (u : ℕ) (n : Node) (s : ℕ) (U : Interface) {x : ℕ} {b₁ b₂ b₃ : List ℕ} → U ≡ interfaceAt b u → x ≡ getD b 0 0 → b₁ ≡ storeNode b (u * 64 + U .used) n
-    → b₂ ≡ storeInterface b₁ u (withUsed U (U .used + 1) s) → b₃ ≡ set b₂ 0 (x + 1) → b₃ ≡ pushed b u n s
+pub push-by : (b : List ℕ) (u : ℕ) (n : Node) (s : ℕ) (U : Interface) {x m w : ℕ} {b₁ b₂ b₃ b₄ : List ℕ} → U ≡ interfaceAt b u → x ≡ getD b 0 0 → m ≡ mapAt b u → b₁ ≡ storeNode b (u * 64 + U .used) n
+    → b₂ ≡ storeInterface b₁ u (withUsed U (U .used + 1) s) → w ≡ put m (U .used) true → b₃ ≡ storeMap b₂ u w → b₄ ≡ set b₃ 0 (x + 1) → b₄ ≡ pushed b u n s
 unfolding pushed
-push-by b u n s U eU ex e₁ e₂ e₃ = simp (e₃, e₂, e₁, ex, eU, add-one)
+push-by b u n s U eU ex em e₁ e₂ ew e₃ e₄ = simp (e₄, e₃, e₂, e₁, ew, em, ex, eU, add-one)
 
 pub ranged-of : {n m : Node} → n ≡ m → Ranged m → Ranged n
 ranged-of e r = rw e r

@@ -8,6 +8,7 @@ use lib.IntN.{pos}
 use lib.ListN.{getD}
 use Rattle.bench_words.specs.Store.{nodeAt, interfaceAt, storeInterface}
 use Rattle.bench_words.proofs.Laws.{good-interface, interface-same, interface-other, store-interface-node}
+use Rattle.bench_words.proofs.Maps.{store-interface-map}
 use Rattle.bench_words.specs.declared.Node.{Node}
 use Rattle.bench_words.specs.declared.Interface.{Interface}
 use Rattle.ledger_spec.specs.Tests.{first}
@@ -61,7 +62,7 @@ module _ (b : List ℕ) (u l : ℕ) (F : Fit b) (G : Growable b u l) where
       let h = halves-kept b b₁ C (λ v lv. stored-part b u f₁ (st .len) lu good (λ x. x .left) refl v) (λ v lv. stored-part b u f₁ (st .len) lu good (λ x. x .right) refl v) in
       record {
         canon = canon-like b b₁ C (stored-steady b u f₁ (st .len) lu good st (st .slots u lu) (G .short) refl) (coded-interface b u f₁ (st .len) lu good (C .coded))
-            (λ v lv. stored-part b u f₁ (st .len) lu good (λ x. x .used) refl v) (h .0) (h .1)
+            (λ v lv. stored-part b u f₁ (st .len) lu good (λ x. x .used) refl v) (h .0) (h .1) (λ v lv. store-interface-map b u f₁ (st .len) lu v)
             (λ k. sim-self (store-interface-node b u f₁ (st .len) lu k)) (λ k e. store-interface-node b u f₁ (st .len) lu k);
         seen = seen;
       }

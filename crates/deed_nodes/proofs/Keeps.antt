@@ -5,7 +5,7 @@ use mathlib.Core.Path.{_≡_, refl, ap, ap₂, sym, _∙_, subst}
 use mathlib.Core.List.{List}
 use native.Mathlib.Decide.{decLt}
 use native.Mathlib.Omega.{arith}
-use Rattle.bench_words.specs.Store.{nodeAt, interfaceAt}
+use Rattle.bench_words.specs.Store.{nodeAt, interfaceAt, mapAt}
 use Rattle.kinds.specs.declared.Class.{Class}
 use Rattle.kinds.specs.declared.Class.the-variants.{Absent, Blossom}
 use Rattle.kinds.specs.declared.Handle.{Handle as Packed}
@@ -16,6 +16,7 @@ use Rattle.bench_views.specs.View.{handleAt, follow, view}
 use Rattle.bench_views.specs.Records.{Steady}
 use Rattle.bench_views.specs.Canon.{walk, Seated, Coded, Canon}
 use Rattle.bench_views.proofs.Rings.{Ringed, ringed}
+use Rattle.bench_views.proofs.Maps.{mapped-like}
 
 pub not-blossom : {c : Class} → c ≡ Absent → c ≡ Blossom → ⊥
 not-blossom p q = let z : Absent ≡ Blossom = sym p ∙ q in let z2 : _≡_ {A = ℕ} 0 1 = cc in omega arith
@@ -113,7 +114,7 @@ sim-self e =
 
 module _ (b b' : List ℕ) (C : Canon b) (st : Steady b') (co : Coded b') (used : (u : ℕ) → u < 8 → interfaceAt b' u .used ≡ interfaceAt b u .used)
     (whole : (u : ℕ) → u < 8 → interfaceAt b' u .left ≡ 0 → interfaceAt b' u .right ≡ 0) (both : (u : ℕ) → u < 8 → (interfaceAt b' u .left ≡ 0 → ⊥) → 0 < interfaceAt b' u .right)
-    (sim : (k : ℕ) → Sim (nodeAt b' k) (nodeAt b k)) (keeps : (k : ℕ) → nodeAt b k .class ≡ Absent → nodeAt b' k ≡ nodeAt b k) where
+    (maps : (u : ℕ) → u < 8 → mapAt b' u ≡ mapAt b u) (sim : (k : ℕ) → Sim (nodeAt b' k) (nodeAt b k)) (keeps : (k : ℕ) → nodeAt b k .class ≡ Absent → nodeAt b' k ≡ nodeAt b k) where
   walk-same : (i k : ℕ) → walk i (nodeAt b') k ≡ walk i (nodeAt b) k
   unfolding walk
   walk-same zero k = refl
@@ -141,6 +142,7 @@ module _ (b b' : List ℕ) (C : Canon b) (st : Steady b') (co : Coded b') (used 
         past = λ u s lu l h.
             let p = C .past u s lu l (omega (arith, h, used u lu)) in
             keeps (u * 64 + s) (ap (λ (n : Node). n .class) p) ∙ p;
+        map = mapped-like b b' (C .map) maps (λ k lk. sim k .class);
         empty = λ k lk e. let z = sym (sim k .class) ∙ e in keeps k z ∙ C .empty k lk z;
         defect = λ k v lk e. let d = C .defect k v lk (sym (sim k .class) ∙ e) in (sim k .first ∙ d .0, sim k .count ∙ d .1);
         ring = λ k lk e. rw (sim k .count) (C .ring k lk (sym (sim k .class) ∙ e));

@@ -23,7 +23,7 @@ use Rattle.bench_views.proofs.Circles.{Same, same-eq, circle-same}
 use Rattle.deed_nodes.specs.Steps.{noSeat, remarked, paced}
 use Rattle.deed_nodes.proofs.Puts.{value-low, mark-in}
 use Rattle.deed_nodes.proofs.Needs.{Settable}
-use Rattle.deed_nodes.proofs.Stores.{put-next, put-unit-here, put-unit-there, put-unit, put-node-here, put-node-there, put-steady, put-coded}
+use Rattle.deed_nodes.proofs.Stores.{put-next, put-unit-here, put-unit-there, put-unit, put-node-here, put-node-there, put-map, put-steady, put-coded}
 use Rattle.deed_nodes.proofs.Keeps.{Sim, sim-self, canon-like, halves-kept}
 
 module _ (b : List ℕ) (u : ℕ) (h : Handle) (g : GrowState) (s : ℕ) (F : Fit b) (S : Settable b u h) where
@@ -92,7 +92,7 @@ module _ (b : List ℕ) (u : ℕ) (h : Handle) (g : GrowState) (s : ℕ) (F : Fi
         let hv = halves-kept b b₁ C (part (λ x. x .left) (λ x z. refl)) (part (λ x. x .right) (λ x z. refl)) in
         record {
           canon = canon-like b b₁ C (put-steady b k₀ n₁ u s (C .steady) (S .stands .low) (S .root .low) good₁) (put-coded b k₀ n₁ u s (C .steady) (S .stands .low) (S .root .low) good₁ (C .coded))
-              (part (λ x. x .used) (λ x z. refl)) (hv .0) (hv .1) sim
+              (part (λ x. x .used) (λ x z. refl)) (hv .0) (hv .1) (put-map b k₀ n₁ u s (C .steady) (S .stands .low) (S .root .low) good₁) sim
               (λ k e. node-there k (λ q. S .stands .shows .present (ap (λ (j : ℕ). nodeAt b j .class) (sym q) ∙ e)));
           seen = seen;
         }

@@ -2,18 +2,21 @@
 use Prim.Native.Nat.{ℕ, suc, _+_, _*_, _<_, _≤_}
 use mathlib.Core.Path.{_≡_, refl, ap, sym, _∙_}
 use mathlib.Core.Logic.{_≢_, by-cases}
+use mathlib.Core.Bool.{true}
 use mathlib.Core.List.{List}
 use native.Mathlib.Decide.{ℕ-discrete}
 use native.Mathlib.Omega.{arith}
 use lib.ListN.{length, getD, length-set}
 use lib.Seq.{getD-set-same}
-use Rattle.bench_words.specs.Store.{nodeAt, interfaceAt, storeNode, storeInterface, setSpeed}
+use Rattle.slot_map.specs.Slots.{put}
+use Rattle.bench_words.specs.Store.{nodeAt, interfaceAt, storeNode, storeInterface, mapAt, storeMap, setSpeed}
 use Rattle.bench_words.proofs.Laws.{Good, GoodUp, good-interface, load-same, load-other, length-store, store-out, store-node-interface, interface-same, interface-other, store-interface-out, store-interface-node, length-store-interface, interface-first, node-first}
+use Rattle.bench_words.proofs.Maps.{length-store-map, store-map-out, map-same, map-other, store-map-interface, store-map-node, store-node-map, store-interface-map, map-first}
 use Rattle.bench_words.specs.declared.Node.{Node}
 use Rattle.bench_words.specs.declared.Interface.{Interface}
 use Rattle.bench_views.specs.Records.{withUsed, Steady}
 use Rattle.bench_views.specs.Canon.{Coded}
-use Rattle.bench_views.proofs.Codes.{coded-node, coded-interface, coded-first}
+use Rattle.bench_views.proofs.Codes.{coded-node, coded-interface, coded-first, coded-map}
 use Rattle.deed_nodes.specs.Steps.{paced, pushed}
 
 -- ---- one interface stored
@@ -54,6 +57,20 @@ module _ (b : List ℕ) (k : ℕ) (n : Node) (lk : k < 512) (good : Good n) wher
         rising = λ v p lv e. s .rising v p lv (ap (λ (x : Interface). x .parent) (sym (store-node-interface b k n (s .len) lk v lv)) ∙ e);
       }
 
+-- ---- one map stored
+module _ (b : List ℕ) (u w : ℕ) (lu : u < 8) where
+  pub map-next : length b ≡ 6273 → getD (storeMap b u w) 0 0 ≡ getD b 0 0
+  map-next len = store-map-out b u w len lu 0 (λ e. omega arith)
+
+  pub map-steady : Steady b → Steady (storeMap b u w)
+  map-steady s =
+      record {
+        len = length-store-map b u w (s .len) lu;
+        slots = λ v lv. rw (store-map-interface b u w (s .len) lu v) (s .slots v lv);
+        progress = λ v lv. rw (store-map-interface b u w (s .len) lu v) (s .progress v lv);
+        rising = λ v p lv e. s .rising v p lv (ap (λ (x : Interface). x .parent) (sym (store-map-interface b u w (s .len) lu v)) ∙ e);
+      }
+
 -- ---- a node stored, and interface t paced
 module _ (b : List ℕ) (k : ℕ) (n : Node) (t s : ℕ) (st : Steady b) (lk : k < 512) (lt : t < 8) (good : Good n) where
   abbrev B₁ : List ℕ
@@ -88,6 +105,10 @@ module _ (b : List ℕ) (k : ℕ) (n : Node) (t s : ℕ) (st : Steady b) (lk : k
   unfolding paced
   put-node-there j ne = store-interface-node B₁ t (setSpeed (interfaceAt B₁ t) s) len₁ lt j ∙ load-other b k n (st .len) lk j ne
 
+  pub put-map : (v : ℕ) → v < 8 → mapAt B₂ v ≡ mapAt b v
+  unfolding paced
+  put-map v lv = store-interface-map B₁ t (setSpeed (interfaceAt B₁ t) s) len₁ lt v ∙ store-node-map b k n (st .len) lk v lv
+
   pub put-steady : Steady B₂
   unfolding paced
   put-steady =
@@ -112,6 +133,12 @@ module _ (b : List ℕ) (u : ℕ) (n : Node) (s : ℕ) (st : Steady b) (lu : u <
   abbrev P₂ : List ℕ
   P₂ = storeInterface P₁ u W₃
 
+  abbrev M₃ : ℕ
+  M₃ = put (mapAt b u) (interfaceAt b u .used) true
+
+  abbrev Q₂ : List ℕ
+  Q₂ = storeMap P₂ u M₃
+
   abbrev pub P₃ : List ℕ
   P₃ = pushed b u n s
 
@@ -124,36 +151,47 @@ module _ (b : List ℕ) (u : ℕ) (n : Node) (s : ℕ) (st : Steady b) (lu : u <
   long₂ : length P₂ ≡ 6273
   long₂ = length-store-interface P₁ u W₃ long₁ lu
 
+  long₃ : length Q₂ ≡ 6273
+  long₃ = length-store-map P₂ u M₃ long₂ lu
+
   pub push-unit-here : interfaceAt P₃ u ≡ W₃
   unfolding pushed
-  push-unit-here = interface-first P₂ _ u ∙ interface-same P₁ u W₃ long₁ lu (good-interface b u)
+  push-unit-here = interface-first Q₂ _ u ∙ store-map-interface P₂ u M₃ long₂ lu u ∙ interface-same P₁ u W₃ long₁ lu (good-interface b u)
 
   pub push-unit-there : (v : ℕ) → v < 8 → v ≢ u → interfaceAt P₃ v ≡ interfaceAt b v
   unfolding pushed
-  push-unit-there v lv ne = interface-first P₂ _ v ∙ interface-other P₁ u W₃ long₁ lu v ne ∙ store-node-interface b K₃ n (st .len) lk₃ v lv
+  push-unit-there v lv ne = interface-first Q₂ _ v ∙ store-map-interface P₂ u M₃ long₂ lu v ∙ interface-other P₁ u W₃ long₁ lu v ne ∙ store-node-interface b K₃ n (st .len) lk₃ v lv
 
   pub push-unit : {X : Type 0} (φ : Interface → X) → ((x : Interface) (m z : ℕ) → φ (withUsed x m z) ≡ φ x) → (v : ℕ) → v < 8 → φ (interfaceAt P₃ v) ≡ φ (interfaceAt b v)
   push-unit φ e v lv = by-cases (ℕ-discrete v u) (λ (q : v ≡ u). rw (q, push-unit-here) (e (interfaceAt b u) _ _)) (λ (q : v ≡ u → ⊥). rw (push-unit-there v lv q))
 
   pub push-node-here : nodeAt P₃ K₃ ≡ n
   unfolding pushed
-  push-node-here = node-first P₂ _ K₃ ∙ store-interface-node P₁ u W₃ long₁ lu K₃ ∙ load-same b K₃ n (st .len) lk₃ good
+  push-node-here = node-first Q₂ _ K₃ ∙ store-map-node P₂ u M₃ long₂ lu K₃ ∙ store-interface-node P₁ u W₃ long₁ lu K₃ ∙ load-same b K₃ n (st .len) lk₃ good
 
   pub push-node-there : (j : ℕ) → j ≢ K₃ → nodeAt P₃ j ≡ nodeAt b j
   unfolding pushed
-  push-node-there j ne = node-first P₂ _ j ∙ store-interface-node P₁ u W₃ long₁ lu j ∙ load-other b K₃ n (st .len) lk₃ j ne
+  push-node-there j ne = node-first Q₂ _ j ∙ store-map-node P₂ u M₃ long₂ lu j ∙ store-interface-node P₁ u W₃ long₁ lu j ∙ load-other b K₃ n (st .len) lk₃ j ne
+
+  pub push-map-here : mapAt P₃ u ≡ M₃
+  unfolding pushed
+  push-map-here = map-first Q₂ _ u ∙ map-same P₂ u M₃ long₂ lu
+
+  pub push-map-there : (v : ℕ) → v < 8 → v ≢ u → mapAt P₃ v ≡ mapAt b v
+  unfolding pushed
+  push-map-there v lv ne = map-first Q₂ _ v ∙ map-other P₂ u M₃ long₂ lu v ne ∙ store-interface-map P₁ u W₃ long₁ lu v ∙ store-node-map b K₃ n (st .len) lk₃ v lv
 
   pub push-next : getD P₃ 0 0 ≡ suc (getD b 0 0)
   unfolding pushed
-  push-next = getD-set-same P₂ 0 _ 0 (omega (arith, long₂))
+  push-next = getD-set-same Q₂ 0 _ 0 (omega (arith, long₃))
 
   pub push-coded : Coded b → Coded P₃
   unfolding pushed
-  push-coded c = coded-first P₂ _ (coded-interface P₁ u W₃ long₁ lu (good-interface b u) (coded-node b K₃ n (st .len) lk₃ good c))
+  push-coded c = coded-first Q₂ _ (coded-map P₂ u M₃ long₂ lu (coded-interface P₁ u W₃ long₁ lu (good-interface b u) (coded-node b K₃ n (st .len) lk₃ good c)))
 
   pushed-length : length P₃ ≡ 6273
   unfolding pushed
-  pushed-length = length-set P₂ 0 _ ∙ long₂
+  pushed-length = length-set Q₂ 0 _ ∙ long₃
 
   pub push-steady : Steady P₃
   push-steady =

@@ -1,7 +1,9 @@
 -- What the calls' work does to a node and to the words. Assumes nothing.
 use Prim.Native.Nat.{ℕ, suc, _+_, _-_, _*_}
+use mathlib.Core.Bool.{true}
 use mathlib.Core.List.{List}
 use lib.ListN.{getD, set}
+use Rattle.slot_map.specs.Slots.{put}
 use Rattle.bench_words.specs.Codec.{valueOffset}
 use Rattle.kinds.specs.Names.{noCode}
 use Rattle.kinds.specs.declared.GrowState.{GrowState}
@@ -9,7 +11,7 @@ use Rattle.kinds.specs.declared.GrowState.the-variants.{Grow as Growing}
 use Rattle.kinds.specs.declared.Class.the-variants.{Defect}
 use Rattle.kinds.specs.declared.Parent.the-variants.{Outermost}
 use Rattle.kinds.specs.declared.Vertex.{Vertex}
-use Rattle.bench_words.specs.Store.{interfaceAt, storeNode, storeInterface, setSpeed}
+use Rattle.bench_words.specs.Store.{interfaceAt, storeNode, storeInterface, mapAt, storeMap, setSpeed}
 use Rattle.bench_words.specs.declared.Node.{Node}
 use Rattle.bench_views.specs.Records.{withUsed}
 use Rattle.bench_views.specs.View.{valueBy, biasOf}
@@ -59,6 +61,13 @@ defectNode serial v t =
 unfoldable pub paced : List ℕ → ℕ → ℕ → List ℕ
 paced b u s = storeInterface b u (setSpeed (interfaceAt b u) s)
 
--- node n in the next slot of interface u, whose speed then is s; the next serial
+-- node n in the next slot of interface u, whose speed then is s; its bit in the map; the next serial
 unfoldable pub pushed : List ℕ → ℕ → Node → ℕ → List ℕ
-pushed b u n s = set (storeInterface (storeNode b (u * 64 + interfaceAt b u .used) n) u (withUsed (interfaceAt b u) (suc (interfaceAt b u .used)) s)) 0 (suc (getD b 0 0))
+pushed b u n s =
+    set
+    (storeMap
+    (storeInterface (storeNode b (u * 64 + interfaceAt b u .used) n) u (withUsed (interfaceAt b u) (suc (interfaceAt b u .used)) s))
+    u
+    (put (mapAt b u) (interfaceAt b u .used) true))
+    0
+    (suc (getD b 0 0))

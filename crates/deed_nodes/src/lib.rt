@@ -120,13 +120,14 @@ pub fn pace(b: &mut [u64; WORDS], unit: usize, speed: u64)
     );
 }
 
-// Puts a node into the next slot of an interface, whose speed then is `speed`, and counts its serial.
+// Puts a node into the next slot of an interface, whose speed then is `speed`, marks the slot in the map, and counts the serial.
 pub fn push(b: &mut [u64; WORDS], unit: usize, n: Node, speed: u64)
     requires { ⌜ (unit < 8) × (interfaceAt (now b) unit .used < 64) × (getD (now b) 0 0 < 4294967296) ⌝ }
     ensures { λ _. ⌜ now (b .exit) ≡ pushed (now (b .entry)) unit n speed ⌝ }
 {
     let old = bench_words::load_interface(b, unit);
     let next = bench_words::load_next(b);
+    let map = bench_words::load_map(b, unit);
     let parent = old.parent;
     bench_words::store_node(b, unit * 64 + (old.used as usize), n);
     bench_words::store_interface(
@@ -142,6 +143,7 @@ pub fn push(b: &mut [u64; WORDS], unit: usize, n: Node, speed: u64)
             right: old.right,
         },
     );
+    bench_words::store_map(b, unit, slot_map::with(map, old.used as u8));
     bench_words::store_next(b, next + 1);
 }
 

@@ -9,8 +9,9 @@ use lib.IntN.{pos}
 use lib.ListN.{length, getD, set, length-set, replicate, length-replicate, getD-replicate, List·getD-eq-default}
 use lib.Seq.{getD-set-same, getD-set-other}
 use Rattle.kinds.specs.declared.Class.the-variants.{Absent}
-use Rattle.bench_words.specs.Store.{base, ibase, nodeAt, interfaceAt, storeInterface, interfaceOf, interfaceWords, nodeWords, noInterface}
+use Rattle.bench_words.specs.Store.{base, ibase, nodeAt, interfaceAt, storeInterface, mapAt, interfaceOf, interfaceWords, nodeWords, noInterface}
 use Rattle.bench_words.proofs.Laws.{interface-same, interface-other, store-interface-node, length-store-interface, interface-first, node-first}
+use Rattle.bench_words.proofs.Maps.{store-interface-map, map-first}
 use Rattle.bench_words.specs.declared.Node.{Node}
 use Rattle.bench_words.specs.declared.Interface.{Interface}
 use Rattle.bench_words.specs.declared.Up.{Up}
@@ -24,6 +25,7 @@ use Rattle.bench_views.specs.Fit.{Done}
 use Rattle.bench_views.proofs.Offsets.{off-zero}
 use Rattle.bench_views.proofs.Views.{interface-is, view-is}
 use Rattle.bench_views.proofs.Codes.{coded-interface, coded-first}
+use Rattle.bench_views.proofs.Maps.{map-bare}
 use Rattle.deed_nodes.proofs.Keeps.{not-blossom}
 use Rattle.deed_trees.proofs.Cleared.{not-inside}
 
@@ -72,6 +74,10 @@ module _ (b : List ℕ) (zeros : (m : ℕ) → getD b m 0 ≡ 0) where
   unfolding interfaceAt
   zero-interface u = simp zeros
 
+  zero-map : (u : ℕ) → mapAt b u ≡ 0
+  unfolding mapAt
+  zero-map u = zeros (ibase u + 8)
+
   zero-coded : Coded b
   zero-coded =
       record {
@@ -86,10 +92,11 @@ pub record Filling (b : List ℕ) (n : ℕ) : Type 0 where
   pub within : n ≤ 8
   pub coded : Coded b
   pub interfaces : (u : ℕ) → u < n → interfaceAt b u ≡ noInterface
+  pub maps : (u : ℕ) → mapAt b u ≡ 0
   pub nodes : (k : ℕ) → nodeAt b k ≡ noNode
 
 pub filling-begins : (b : List ℕ) → (length b ≡ 6273) × ((m : ℕ) → getD b m 0 ≡ 0) → Filling b 0
-filling-begins b z = record { len = z .0; within = omega arith; coded = zero-coded b (z .1); interfaces = λ u l. absurd (omega arith); nodes = zero-node b (z .1) }
+filling-begins b z = record { len = z .0; within = omega arith; coded = zero-coded b (z .1); interfaces = λ u l. absurd (omega arith); maps = zero-map b (z .1); nodes = zero-node b (z .1) }
 
 pub filling-more : (b b' : List ℕ) (n : ℕ) {f : Interface} → Filling b n → n < 8 → f ≡ noInterface → b' ≡ storeInterface b n f → Filling b' (n + 1)
 filling-more b b' n I l ef e =
@@ -102,6 +109,7 @@ filling-more b b' n I l ef e =
       interfaces = λ u lu. by-cases (ℕ-discrete u n)
           (λ (z : u ≡ n). rw z (interface-same b n noInterface (I .len) l tt))
           (λ (ne : u ≡ n → ⊥). interface-other b n noInterface (I .len) l u ne ∙ I .interfaces u (omega arith));
+      maps = λ u. store-interface-map b n noInterface (I .len) l u ∙ I .maps u;
       nodes = λ k. store-interface-node b n noInterface (I .len) l k ∙ I .nodes k;
     })
 
@@ -110,7 +118,7 @@ not-under : {o : Up} {p : ℕ} → o ≡ Top → o ≡ Under p → ⊥
 not-under {p = p} z e = let y : Under p ≡ Top = sym e ∙ z in let y2 : _≡_ {A = ℕ} 0 1 = cc in omega arith
 
 module _ (b : List ℕ) (first : ℕ) (next : getD b 0 0 ≡ first) (len : length b ≡ 6273) (coded : Coded b)
-    (interfaces : (u : ℕ) → u < 8 → interfaceAt b u ≡ noInterface) (bare : (k : ℕ) → nodeAt b k ≡ noNode) where
+    (interfaces : (u : ℕ) → u < 8 → interfaceAt b u ≡ noInterface) (maps : (u : ℕ) → mapAt b u ≡ 0) (bare : (k : ℕ) → nodeAt b k ≡ noNode) where
   interface-seen : (v : ℕ) → v < 8 → interfaceIn (interfaceAt b) (nodeAt b) v ≡ fresh
   unfolding tab
   interface-seen v lv =
@@ -138,6 +146,7 @@ module _ (b : List ℕ) (first : ℕ) (next : getD b 0 0 ≡ first) (len : lengt
           whole = λ u lu e. ap (λ (f : Interface). f .right) (interfaces u lu);
           both = λ u lu ne. absurd (ne (ap (λ (f : Interface). f .left) (interfaces u lu)));
           past = λ u s lu l h. bare (u * 64 + s);
+          map = λ u lu. maps u ∙ sym (map-bare (nodeAt b) u (λ s ls. class-none (u * 64 + s)));
           empty = λ k lk e. bare k;
           defect = λ k v lk e. rw (bare k) (refl, refl);
           ring = λ k lk e. absurd (not-blossom (class-none k) e);
@@ -151,4 +160,4 @@ pub filled : (b b' : List ℕ) (n first : ℕ) → Filling b n → 8 ≤ n → b
 filled b b' n first I l e =
     rw e
     (begun (set b 0 first) first (getD-set-same b 0 first 0 (omega (arith, I .len))) (length-set b 0 first ∙ I .len) (coded-first b first (I .coded))
-    (λ u lu. interface-first b first u ∙ I .interfaces u (omega arith)) (λ k. node-first b first k ∙ I .nodes k))
+    (λ u lu. interface-first b first u ∙ I .interfaces u (omega arith)) (λ u. map-first b first u ∙ I .maps u) (λ k. node-first b first k ∙ I .nodes k))

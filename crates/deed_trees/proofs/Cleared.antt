@@ -13,7 +13,8 @@ use Rattle.kinds.specs.declared.Class.the-variants.{Absent, Blossom}
 use Rattle.kinds.specs.declared.Handle.{Handle as Packed}
 use Rattle.kinds.specs.declared.Parent.{Parent}
 use Rattle.kinds.specs.declared.Parent.the-variants.{Outermost, Inside}
-use Rattle.bench_words.specs.Store.{nodeAt, interfaceAt, noInterface}
+use Rattle.slot_map.specs.Slots.{mapOf}
+use Rattle.bench_words.specs.Store.{nodeAt, interfaceAt, mapAt, noInterface}
 use Rattle.bench_words.proofs.Laws.{GoodUp, good-interface}
 use Rattle.bench_words.specs.declared.Node.{Node}
 use Rattle.bench_words.specs.declared.Interface.{Interface}
@@ -29,13 +30,14 @@ use Rattle.ledger_spec.proofs.TreeReadings.{wipe-length, wipe-next, wipe-under,
 use Rattle.bench_views.specs.Records.{noNode}
 use Rattle.bench_views.specs.Tab.{tab}
 use Rattle.bench_views.specs.View.{off, upSeen, halvesSeen, sumUp, over, slotIn, slotSeen, circleOf, interfaceIn, viewIn, view}
-use Rattle.bench_views.specs.Canon.{walk, Seated, Alone, Canon}
+use Rattle.bench_views.specs.Canon.{walk, heldIn, Seated, Alone, Canon}
 use Rattle.bench_views.specs.Fit.{Fit, Done}
 use Rattle.bench_views.proofs.Offsets.{off-zero}
 use Rattle.bench_views.proofs.Tabs.{tab-same}
 use Rattle.bench_views.proofs.Views.{interface-in, interface-is, view-is, view-next, view-eight, view-parent, view-slot}
 use Rattle.bench_views.proofs.Circles.{same-eq, circle-same}
 use Rattle.bench_views.proofs.Rings.{Ringed, ringed, ring-near, slot-held}
+use Rattle.bench_views.proofs.Maps.{maps-same, map-bare}
 use Rattle.deed_nodes.proofs.Puts.{slot-like}
 use Rattle.deed_nodes.proofs.Keeps.{not-blossom, used-slot, ringed-walk, Intact, intact-chain, intact-seat}
 use Rattle.deed_trees.proofs.Wiping.{climb-up, Wiping}
@@ -77,6 +79,11 @@ module _ (b : List ℕ) (u : ℕ) (F : Fit b) (b₁ : List ℕ) (w : ℕ) (G : W
   node-kept k lk ne =
       let back : k / 64 * 64 + k % 64 ≡ k = omega arith in
       ap A₁ (sym back) ∙ G .same (k / 64) (k % 64) (omega arith) (omega arith) (λ z. ne) ∙ ap A back
+
+  map-now : (v : ℕ) → v < 8 → mapAt b₁ v ≡ mapOf (heldIn A₁ v) 64
+  map-now v lv = by-cases (ℕ-discrete (top B v) u)
+      (λ (e : top B v ≡ u). G .unmarked v lv (passed-by v e) e ∙ sym (map-bare A₁ v (λ s ls. ap (λ (n : Node). n .class) (G .bare v s lv ls (passed-by v e) e))))
+      (λ (ne : top B v ≡ u → ⊥). G .marked v lv (λ z. ne) ∙ F .canon .map v lv ∙ maps-same A A₁ v (λ s ls. ap (λ (n : Node). n .class) (G .same v s lv ls (λ z. ne))))
 
   -- a member of a circle that is left is left
   member-kept : (v r p : ℕ) → v < 8 → r < U v .used → A (v * 64 + r) .class ≡ Blossom → top B v ≢ u → Ringed b (F .sewn) v r p → A₁ p ≡ A p
@@ -172,6 +179,7 @@ module _ (b : List ℕ) (u : ℕ) (F : Fit b) (b₁ : List ℕ) (w : ℕ) (G : W
         past = λ v s lv l h. by-cases (ℕ-discrete (top B v) u)
             (λ (z : top B v ≡ u). G .bare v s lv l (passed-by v z) z)
             (λ (ne : top B v ≡ u → ⊥). G .same v s lv l (λ x. ne) ∙ C .past v s lv l (omega (arith, h, ap (λ (f : Interface). f .used) (interface-kept v lv ne))));
+        map = map-now;
         empty = λ k lk e. by-cases (ℕ-discrete (top B (k / 64)) u)
             (λ (z : top B (k / 64) ≡ u). node-gone k lk z)
             (λ (ne : top B (k / 64) ≡ u → ⊥). node-kept k lk ne ∙ C .empty k lk (ap (λ (n : Node). n .class) (sym (node-kept k lk ne)) ∙ e));

@@ -12,6 +12,7 @@ use lib.ListN.{length, getD}
 use borrow.Author.Tests.{ne-eqb}
 use Rattle.bench_words.specs.Store.{nodeAt, interfaceAt, storeInterface}
 use Rattle.bench_words.proofs.Laws.{interface-same, interface-other, store-interface-out, store-interface-node, length-store-interface}
+use Rattle.bench_words.proofs.Maps.{store-interface-map}
 use Rattle.bench_words.specs.declared.Node.{Node}
 use Rattle.bench_words.specs.declared.Interface.{Interface}
 use Rattle.bench_words.specs.declared.Up.the-variants.{Under}
@@ -239,6 +240,7 @@ module _ (b : List ℕ) (p l r : ℕ) (F : Fit b) (T : first (fuseTests (view b)
             (λ v lv ne. by-cases (ℕ-discrete v p)
             (λ (q : v ≡ p). rw (q, here-p) (omega arith))
             (λ (np : v ≡ p → ⊥). rw (part (λ f. f .right) (λ f q. refl) v np) (C .both v lv (λ e. ne (part (λ f. f .left) (λ f q. refl) v np ∙ e)))))
+            (λ v lv. store-interface-map b₂ p f₀ len₂ p<8 v ∙ store-interface-map b₁ r (withUp (interfaceAt b₁ r) p) len₁ r<8 v ∙ store-interface-map b l (withUp (U l) p) len₀ l<8 v)
             (λ k. sim-self (node₃ k)) (λ k e. node₃ k);
         seen = seen₃;
       }

@@ -8,7 +8,7 @@ use mathlib.Core.List.{List}
 use native.Mathlib.Decide.{ℕ-discrete, decLt}
 use native.Mathlib.Omega.{arith}
 use lib.ListN.{getD, List·getD-eq-default}
-use Rattle.bench_words.specs.Store.{nodeAt, interfaceAt, noInterface}
+use Rattle.bench_words.specs.Store.{nodeAt, interfaceAt, noInterface, mapAt}
 use Rattle.bench_words.specs.declared.Interface.{Interface}
 use Rattle.ledger_spec.specs.Bench.{Bench, fresh}
 use Rattle.ledger_spec.specs.Bench as plain
@@ -63,6 +63,8 @@ pub record Wiping (b : List ℕ) (u : ℕ) (b₁ : List ℕ) (w : ℕ) : Type 0 
   pub gone : (v : ℕ) → v < 8 → v < w → top (view b) v ≡ u → interfaceAt b₁ v ≡ noInterface
   pub bare : (v s : ℕ) → v < 8 → s < 64 → v < w → top (view b) v ≡ u → nodeAt b₁ (v * 64 + s) ≡ noNode
   pub kept : (v : ℕ) → v < 8 → (v < w → top (view b) v ≢ u) → interfaceAt b₁ v ≡ interfaceAt b v
+  pub unmarked : (v : ℕ) → v < 8 → v < w → top (view b) v ≡ u → mapAt b₁ v ≡ 0
+  pub marked : (v : ℕ) → v < 8 → (v < w → top (view b) v ≢ u) → mapAt b₁ v ≡ mapAt b v
   pub same : (v s : ℕ) → v < 8 → s < 64 → (v < w → top (view b) v ≢ u) → nodeAt b₁ (v * 64 + s) ≡ nodeAt b (v * 64 + s)
 
 module _ (b : List ℕ) (u : ℕ) (F : Fit b) (T : first (unitTests (view b) u) ≡ 0) where
@@ -79,6 +81,8 @@ module _ (b : List ℕ) (u : ℕ) (F : Fit b) (T : first (unitTests (view b) u) 
         gone = λ v lv l. absurd (omega arith);
         bare = λ v s lv ls l. absurd (omega arith);
         kept = λ v lv h. refl;
+        unmarked = λ v lv l. absurd (omega arith);
+        marked = λ v lv h. refl;
         same = λ v s lv ls h. refl;
       }
 
@@ -110,6 +114,8 @@ module _ (b : List ℕ) (u : ℕ) (F : Fit b) (T : first (unitTests (view b) u) 
           gone = λ v lv z e. G .gone v lv (less v z e) e;
           bare = λ v s lv ls z e. G .bare v s lv ls (less v z e) e;
           kept = λ v lv h. G .kept v lv (aside v h);
+          unmarked = λ v lv z e. G .unmarked v lv (less v z e) e;
+          marked = λ v lv h. G .marked v lv (aside v h);
           same = λ v s lv ls h. G .same v s lv ls (aside v h);
         }
 
@@ -134,6 +140,10 @@ module _ (b : List ℕ) (u : ℕ) (F : Fit b) (T : first (unitTests (view b) u) 
               (λ (x : v ≡ w). rw x (bare-here b₂ R s ls (decLt s (interfaceAt b₁ w .used))))
               (λ (ne : v ≡ w → ⊥). R .kept (v * 64 + s) (off v s ls ne) ∙ G .bare v s lv ls (omega arith) q);
           kept = λ v lv h. R .there v lv (apart v h) ∙ G .kept v lv (aside v h);
+          unmarked = λ v lv z q. by-cases (ℕ-discrete v w)
+              (λ (x : v ≡ w). rw x (R .unmarked))
+              (λ (ne : v ≡ w → ⊥). R .marked v lv ne ∙ G .unmarked v lv (omega arith) q);
+          marked = λ v lv h. R .marked v lv (apart v h) ∙ G .marked v lv (aside v h);
           same = λ v s lv ls h. R .kept (v * 64 + s) (off v s ls (apart v h)) ∙ G .same v s lv ls (aside v h);
         }
       where

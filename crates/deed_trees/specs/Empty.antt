@@ -5,7 +5,7 @@ use mathlib.Core.Logic.{_≢_}
 use mathlib.Core.List.{List}
 use lib.ListN.{getD}
 use Rattle.bench_words.specs.Codec.{sumOffset, speedOffset}
-use Rattle.bench_words.specs.Store.{nodeAt, interfaceAt, setSum, setSpeed, setParent, setHalves, noInterface}
+use Rattle.bench_words.specs.Store.{nodeAt, interfaceAt, mapAt, setSum, setSpeed, setParent, setHalves, noInterface}
 use Rattle.bench_words.specs.declared.Interface.{Interface}
 use Rattle.bench_words.specs.declared.Up.the-variants.{Under}
 use Rattle.bench_views.specs.Records.{Steady, noNode}
@@ -24,15 +24,18 @@ pub record Emptied (b : List ℕ) (u : ℕ) (b' : List ℕ) (n : ℕ) : Type 0 w
   pub coded : Coded b'
   pub next : getD b' 0 0 ≡ getD b 0 0
   pub interfaces : (v : ℕ) → v < 8 → interfaceAt b' v ≡ interfaceAt b v
+  pub maps : (v : ℕ) → v < 8 → mapAt b' v ≡ mapAt b v
   pub gone : (s : ℕ) → s < n → nodeAt b' (u * 64 + s) ≡ noNode
   pub kept : (k : ℕ) → ((s : ℕ) → s < n → k ≢ u * 64 + s) → nodeAt b' k ≡ nodeAt b k
 
--- b' is b with interface u as set-up leaves it, and the slots that it used empty
+-- b' is b with interface u as set-up leaves it, its map too, and the slots that it used empty
 pub record Reset (b : List ℕ) (u : ℕ) (b' : List ℕ) : Type 0 where
   pub steady : Steady b'
   pub coded : Coded b'
   pub serial : getD b' 0 0 ≡ getD b 0 0
   pub here : interfaceAt b' u ≡ noInterface
   pub there : (v : ℕ) → v < 8 → v ≢ u → interfaceAt b' v ≡ interfaceAt b v
+  pub unmarked : mapAt b' u ≡ 0
+  pub marked : (v : ℕ) → v < 8 → v ≢ u → mapAt b' v ≡ mapAt b v
   pub gone : (s : ℕ) → s < interfaceAt b u .used → nodeAt b' (u * 64 + s) ≡ noNode
   pub kept : (k : ℕ) → ((s : ℕ) → s < interfaceAt b u .used → k ≢ u * 64 + s) → nodeAt b' k ≡ nodeAt b k

@@ -89,13 +89,14 @@ fn empty_slots(b: &mut [u64; WORDS], unit: usize, used: usize)
     }
 }
 
-// Empties an interface and its used slots.
+// Empties an interface, its used slots and its map.
 fn reset(b: &mut [u64; WORDS], unit: usize)
     requires { ⌜ (unit < 8) × Steady (now b) × Coded (now b) ⌝ }
     ensures { λ _. ⌜ Reset (now (b .entry)) unit (now (b .exit)) ⌝ }
 {
     let f = bench_words::load_interface(b, unit);
     empty_slots(b, unit, f.used as usize);
+    bench_words::store_map(b, unit, 0);
     bench_words::store_interface(b, unit, no_interface());
 }
 

@@ -10,6 +10,7 @@ use Rattle.ledger_spec.specs.Bench.{Handle}
 use Rattle.read_sound.specs.Shown.{shownWeight}
 use Rattle.read_sound.specs.declared.Weighed.{Weighed}
 use Rattle.link_answers.specs.Forms.{nodeWord, signedWord, lengthWords, outerWords, worded, indexedWord, indexed}
+use Rattle.dual_ledger.specs.Nexts.{nextWords}
 
 pub worded-by : {A : Type 0} (f : A → ℕ) {n w : ℕ} {a : A} {r : ℕ × A} → (n, a) ≡ r → w ≡ f a → (n, w) ≡ worded f r
 worded-by f p k = let q = k ∙ ap f (λ i. p i .1) in λ i. (p i .0, q i)
@@ -19,6 +20,9 @@ indexed-by p k = let q = k ∙ (λ i. indexedWord (p i .0) (p i .1)) in λ i. (p
 
 pub outer-by : {n w l : ℕ} {h : Handle} {r : ℕ × (Handle × ℕ)} → (n, (h, l)) ≡ r → w ≡ nodeWord h → (n, (w, l)) ≡ worded outerWords r
 outer-by p k = let q = k ∙ ap nodeWord (λ i. p i .1 .0) in λ i. (p i .0, (q i, p i .1 .1))
+
+pub next-by : {n i w : ℕ} {m : Option Handle} {r : ℕ × (ℕ × Option Handle)} → (n, (i, m)) ≡ r → w ≡ indexedWord n m → (n, (i, w)) ≡ nextWords r
+next-by p k = let q = k ∙ (λ i. indexedWord (p i .0) (p i .1 .1)) in λ i. (p i .0, (p i .1 .0, q i))
 
 -- a weight is read again from 64 bits
 pub weighed : (a : Weighed) {w : ℕ} {r : ℕ × ℤ} → SFits w64 (a .weight) → shownWeight a ≡ r → w ≡ signedWord (toZ w64 (ofZ w64 (a .weight))) → (a .number, w) ≡ worded signedWord r

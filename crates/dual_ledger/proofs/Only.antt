@@ -18,11 +18,13 @@ use Rattle.bench_views.specs.View.{view}
 use Rattle.sound_bench.specs.Sound.{soundWords}
 use Rattle.sound_lent.specs.Verdict.{Verdict, readWords}
 use Rattle.link_answers.specs.Forms.{nodeWord, indexed, flagWord, signedWord, outerWords, lengthWords, worded}
+use Rattle.read_present.specs.Present.{presentOf, nextOf, presentRead, nextRead}
 use Rattle.group_lent.specs.Place.{groupIn}
 use Rattle.group_lent_takes.specs.Made.{Emptied}
 use Rattle.group_lent_sound.specs.Test.{soundIn}
 use Rattle.group_lent_any.specs.Any.{askedOf}
 use Rattle.dual_ledger.specs.Linked.{Settled, nodeOf, ToldBy, Left, CalledBy}
+use Rattle.dual_ledger.specs.Nexts.{nextWords}
 use Rattle.dual_ledger.proofs.Once.{settled-once, told-once, left-once, called-once}
 
 -- what is equal to z is one
@@ -156,6 +158,18 @@ module _ (b : List ℕ) (u : ℕ) where
 
   pub only-trusted-get-node : (k : ℕ) → Only (indexed (handleAtIndex (view b) u k))
   only-trusted-get-node k = one (indexed (handleAtIndex (view b) u k))
+
+  pub only-present-count : Only (readWords b (presentRead (view b) u))
+  only-present-count = one (readWords b (presentRead (view b) u))
+
+  pub only-trusted-present-count : Only (presentOf (view b) u)
+  only-trusted-present-count = one (presentOf (view b) u)
+
+  pub only-next-present : (k : ℕ) → Only (nextWords (readWords b (nextRead (view b) u k)))
+  only-next-present k = one (nextWords (readWords b (nextRead (view b) u k)))
+
+  pub only-trusted-next-present : (k : ℕ) → Only (nextWords (nextOf (view b) u k))
+  only-trusted-next-present k = one (nextWords (nextOf (view b) u k))
 
   pub only-check-ptr-belonging : (h : Handle) → Only (worded flagWord (readWords b (belongsRead (view b) u h)))
   only-check-ptr-belonging h = one (worded flagWord (readWords b (belongsRead (view b) u h)))

@@ -1,2 +1,3 @@
 pub mod Linked
 pub mod Texts
+pub mod Nexts

@@ -5,20 +5,23 @@ use mathlib.Core.List.{List}
 use native.Mathlib.Numerals.{add-one}
 use native.Mathlib.Omega.{arith}
 use lib.ListN.{length, getD}
+use Rattle.slot_map.specs.Slots.{bitAt}
+use Rattle.slot_map.proofs.Maps.{is-low-map}
 use Rattle.kinds.specs.declared.Class.{Class}
 use Rattle.kinds.specs.declared.Class.the-variants.{Absent, Blossom, Defect}
 use Rattle.kinds.specs.declared.Handle.{Handle}
 use Rattle.kinds.specs.declared.Parent.{Parent}
 use Rattle.kinds.specs.declared.Parent.the-variants.{Outermost, Inside}
 use Rattle.kinds.specs.declared.Vertex.{Vertex}
-use Rattle.bench_words.specs.Store.{nodeAt, interfaceAt, base, nodeWords}
+use Rattle.bench_words.specs.Store.{nodeAt, interfaceAt, mapAt, base, nodeWords}
 use Rattle.bench_words.specs.declared.Node.{Node}
 use Rattle.bench_words.proofs.Laws.{GoodHandle, GoodParent, good-node}
 use Rattle.ledger_spec.specs.Look.{climb}
 use Rattle.ledger_spec.specs.Frame.{Frame}
 use Rattle.bench_views.specs.Records.{Steady, noNode}
 use Rattle.bench_views.specs.View.{view}
-use Rattle.bench_views.specs.Canon.{walk, Seated, Alone, Coded, Canon}
+use Rattle.bench_views.specs.Canon.{walk, heldIn, Seated, Alone, Coded, Canon}
+use Rattle.bench_views.proofs.Maps.{held-absent, held-present}
 use Rattle.sound_trees.proofs.Codings.{Coding, blank-none, blank-coded, link-words, spare-words}
 use Rattle.sound_trees.proofs.Framing.{Linked, interface-says, interface-coded, linked-frame, linked-steady}
 use Rattle.sound_nodes.specs.Nodes.{handleIn}
@@ -59,30 +62,38 @@ module _ (b : List ℕ) (P : Parts b) (len : length b ≡ 6273) where
     coding = go (P .slot u s lu ls)
       where
         go : Slot b u s → Coding b (u * 64 + s)
-        go (blank e) = blank-coded b (u * 64 + s) e
-        go (held l K) = K .coded
+        go (blank m e) = blank-coded b (u * 64 + s) e
+        go (held m l K) = K .coded
 
     past : interfaceAt b u .used ≤ s → nodeAt b (u * 64 + s) ≡ noNode
     past h = go (P .slot u s lu ls)
       where
         go : Slot b u s → nodeAt b (u * 64 + s) ≡ noNode
-        go (blank e) = blank-none b (u * 64 + s) e
-        go (held l K) = absurd (omega (arith, l, h))
+        go (blank m e) = blank-none b (u * 64 + s) e
+        go (held m l K) = absurd (omega (arith, l, h))
 
     empty : n .class ≡ Absent → n ≡ noNode
     empty q = go (P .slot u s lu ls)
       where
         go : Slot b u s → n ≡ noNode
-        go (blank e) = blank-none b (u * 64 + s) e
-        go (held l K) = absurd (class-present (nodeAt b) (getD b 0 0) (handleIn u s n) n (K .class) q)
+        go (blank m e) = blank-none b (u * 64 + s) e
+        go (held m l K) = absurd (class-present (nodeAt b) (getD b 0 0) (handleIn u s n) n (K .class) q)
+
+    -- its bit in the map is its own
+    marked : bitAt (mapAt b u) s ≡ heldIn (nodeAt b) u s
+    marked = go (P .slot u s lu ls)
+      where
+        go : Slot b u s → bitAt (mapAt b u) s ≡ heldIn (nodeAt b) u s
+        go (blank m e) = m ∙ sym (held-absent (none-class (blank-none b (u * 64 + s) e)))
+        go (held m l K) = m ∙ sym (held-present (n .class) (class-present (nodeAt b) (getD b 0 0) (handleIn u s n) n (K .class)))
 
     -- a slot that is not empty is used, and its node keeps the rules
     pub present : (n .class ≡ Absent → ⊥) → (s < interfaceAt b u .used) × Kept b u s
     present q = go (P .slot u s lu ls)
       where
         go : Slot b u s → (s < interfaceAt b u .used) × Kept b u s
-        go (blank e) = absurd (q (none-class (blank-none b (u * 64 + s) e)))
-        go (held l K) = (l, K)
+        go (blank m e) = absurd (q (none-class (blank-none b (u * 64 + s) e)))
+        go (held m l K) = (l, K)
 
     pub ring-kept : n .class ≡ Blossom → Ring (nodeAt b) (getD b 0 0) (handleIn u s n) n
     ring-kept q = class-ring (nodeAt b) (getD b 0 0) (handleIn u s n) n (present (λ a. absent-blossom a q) .1 .class) q
@@ -101,16 +112,16 @@ module _ (b : List ℕ) (P : Parts b) (len : length b ≡ 6273) where
     alone q = go (P .slot u s lu ls)
       where
         go : Slot b u s → Alone n
-        go (blank e) = let z = blank-none b (u * 64 + s) e in record { place = ap (λ (x : Node). x .place) z; next = ap (λ (x : Node). x .next) z; left = ap (λ (x : Node). x .left) z; right = ap (λ (x : Node). x .right) z }
-        go (held l K) = parent-alone b (u * 64 + s) (climb 8 (view b) u) n (K .parent) q
+        go (blank m e) = let z = blank-none b (u * 64 + s) e in record { place = ap (λ (x : Node). x .place) z; next = ap (λ (x : Node). x .next) z; left = ap (λ (x : Node). x .left) z; right = ap (λ (x : Node). x .right) z }
+        go (held m l K) = parent-alone b (u * 64 + s) (climb 8 (view b) u) n (K .parent) q
 
     -- a member is used and has its seat
     pub seated : (q : Handle) → n .parent ≡ Inside q → (s < interfaceAt b u .used) × Kept b u s × Seat b (u * 64 + s) (climb 8 (view b) u) n q (nodeAt b (q .unit * 64 + q .slot))
     seated q e = go (P .slot u s lu ls)
       where
         go : Slot b u s → (s < interfaceAt b u .used) × Kept b u s × Seat b (u * 64 + s) (climb 8 (view b) u) n q (nodeAt b (q .unit * 64 + q .slot))
-        go (blank z) = absurd (outer-inside (none-parent (blank-none b (u * 64 + s) z)) e)
-        go (held l K) = (l, K, parent-seat b (u * 64 + s) (climb 8 (view b) u) n (K .parent) q e)
+        go (blank m z) = absurd (outer-inside (none-parent (blank-none b (u * 64 + s) z)) e)
+        go (held m l K) = (l, K, parent-seat b (u * 64 + s) (climb 8 (view b) u) n (K .parent) q e)
 
     pub good-inside : (q : Handle) → n .parent ≡ Inside q → GoodHandle q
     good-inside q e = subst GoodParent e (good-node b (u * 64 + s) .parent)
@@ -149,6 +160,7 @@ module _ (b : List ℕ) (P : Parts b) (len : length b ≡ 6273) where
     whole = λ u l. links u l .none;
     both = λ u l z. links u l .both z .some;
     past = λ u s lu ls. past u s lu ls;
+    map = λ u l. is-low-map (mapAt b u) (heldIn (nodeAt b) u) 64 (P .map u l) (λ s ls. marked u s l ls);
     empty = empty-slot;
     defect = λ k v l. by-place (λ k. nodeAt b k .class ≡ Defect v → (nodeAt b k .first ≡ 0) × (nodeAt b k .count ≡ 0)) (λ u s lu ls. defect u s lu ls v) k l;
     ring = by-place (λ k. nodeAt b k .class ≡ Blossom → 0 < nodeAt b k .count) ring;

@@ -1,13 +1,14 @@
 -- The test taken apart: what it says of the next serial, each interface, each slot, each top and each serial. Assumes nothing.
 use Prim.Native.Nat.{ℕ, _+_, _*_, _<_, _≤_}
 use mathlib.Core.Path.{_≡_, refl, _∙_, ap}
-use mathlib.Core.Logic.{_⊎_, inl, inr}
-use mathlib.Core.Bool.{Bool, true, false, not, _&&_, _||_, or-true}
+use mathlib.Core.Bool.{Bool, true, false, not, _&&_}
 use mathlib.Core.List.{List}
 use lib.Dec.{eqb, leb, ltb}
 use lib.ListN.{getD}
 use borrow.Author.Tests.{eqb-false, ne-eqb, leb-true, le-leb, ltb-true, lt-ltb, not-true}
-use Rattle.bench_words.specs.Store.{nodeAt, interfaceAt}
+use Rattle.slot_map.specs.Slots.{bitAt}
+use Rattle.bench_words.specs.Codec.{pick}
+use Rattle.bench_words.specs.Store.{nodeAt, interfaceAt, mapAt}
 use Rattle.ledger_spec.specs.Look.{climb}
 use Rattle.ledger_spec.proofs.Lists.{and-true, both-true}
 use Rattle.bench_views.specs.View.{sumUp, view}
@@ -34,20 +35,17 @@ pub record Kept (b : List ℕ) (u s : ℕ) : Type 0 where
   pub parent : parentTest b (u * 64 + s) (climb 8 (view b) u) (nodeAt b (u * 64 + s)) ≡ true
 
 pub data Slot (b : List ℕ) (u s : ℕ) : Type 0 where
-  blank : blankAt b (u * 64 + s) ≡ true → Slot b u s
-  held : s < interfaceAt b u .used → Kept b u s → Slot b u s
+  blank : bitAt (mapAt b u) s ≡ false → blankAt b (u * 64 + s) ≡ true → Slot b u s
+  held : bitAt (mapAt b u) s ≡ true → s < interfaceAt b u .used → Kept b u s → Slot b u s
 
 pub record Parts (b : List ℕ) : Type 0 where
   pub some : getD b 0 0 ≡ 0 → ⊥
   pub worn : getD b 0 0 ≤ 4294967296
   pub interface : (u : ℕ) → u < 8 → interfaceTest b u ≡ true
+  pub map : (u : ℕ) → u < 8 → mapAt b u < 18446744073709551616
   pub slot : (u s : ℕ) → u < 8 → s < 64 → Slot b u s
   pub top : (u : ℕ) → u < 8 → topTest b u ≡ true
   pub once : (k : ℕ) → k < 512 → onceTest b k ≡ true
-
-or-cases : (a c : Bool) → (a || c) ≡ true → (a ≡ true) ⊎ (c ≡ true)
-or-cases true c e = inl refl
-or-cases false c e = inr e
 
 module _ (b : List ℕ) (u s : ℕ) where
   kept-of : nodeTest b u s ≡ true → Kept b u s
@@ -66,18 +64,18 @@ module _ (b : List ℕ) (u s : ℕ) where
   kept-node K =
       both-true (words-coded b (u * 64 + s) (K .coded)) (both-true (both-true (both-true (le-leb 1 (nodeAt b (u * 64 + s) .serial .0) (K .least)) (lt-ltb (nodeAt b (u * 64 + s) .serial .0) (getD b 0 0) (K .below))) (K .near)) (both-true (K .class) (K .parent)))
 
-  slot-says : slotTest b (interfaceAt b u .used) u s ≡ true → Slot b u s
+  slot-says : slotTest b (interfaceAt b u .used) (mapAt b u) u s ≡ true → Slot b u s
   unfolding slotTest
-  slot-says e = go (or-cases (blankAt b (u * 64 + s)) (ltb s (interfaceAt b u .used) && nodeTest b u s) e)
+  slot-says e = go (bitAt (mapAt b u) s) refl e
     where
-      go : (blankAt b (u * 64 + s) ≡ true) ⊎ ((ltb s (interfaceAt b u .used) && nodeTest b u s) ≡ true) → Slot b u s
-      go (inl h) = blank h
-      go (inr h) = let x = and-true (ltb s (interfaceAt b u .used)) (nodeTest b u s) h in held (ltb-true s (interfaceAt b u .used) (x .0)) (kept-of (x .1))
+      go : (c : Bool) → bitAt (mapAt b u) s ≡ c → pick c (ltb s (interfaceAt b u .used) && nodeTest b u s) (blankAt b (u * 64 + s)) ≡ true → Slot b u s
+      go false q h = blank q h
+      go true q h = let x = and-true (ltb s (interfaceAt b u .used)) (nodeTest b u s) h in held q (ltb-true s (interfaceAt b u .used) (x .0)) (kept-of (x .1))
 
-  slot-holds : Slot b u s → slotTest b (interfaceAt b u .used) u s ≡ true
+  slot-holds : Slot b u s → slotTest b (interfaceAt b u .used) (mapAt b u) u s ≡ true
   unfolding slotTest
-  slot-holds (blank h) = ap (λ (c : Bool). c || (ltb s (interfaceAt b u .used) && nodeTest b u s)) h
-  slot-holds (held l K) = ap (λ (c : Bool). blankAt b (u * 64 + s) || c) (both-true (lt-ltb s (interfaceAt b u .used) l) (kept-node K)) ∙ or-true (blankAt b (u * 64 + s))
+  slot-holds (blank q h) = ap (λ (c : Bool). pick c (ltb s (interfaceAt b u .used) && nodeTest b u s) (blankAt b (u * 64 + s))) q ∙ h
+  slot-holds (held q l K) = ap (λ (c : Bool). pick c (ltb s (interfaceAt b u .used) && nodeTest b u s) (blankAt b (u * 64 + s))) q ∙ both-true (lt-ltb s (interfaceAt b u .used) l) (kept-node K)
 
 pub parts : (b : List ℕ) → soundWords b ≡ true → Parts b
 unfolding soundWords slotsTest
@@ -87,11 +85,13 @@ parts b e =
     let z = and-true (allTo (interfaceTest b) 8) _ (y .1) in
     let w = and-true (allTo (slotsTest b) 8) _ (z .1) in
     let v = and-true (allTo (topTest b) 8) (allTo (onceTest b) 512) (w .1) in
+    let slots : (u : ℕ) → u < 8 → (ltb (mapAt b u) 18446744073709551616 ≡ true) × (allTo (slotTest b (interfaceAt b u .used) (mapAt b u) u) 64 ≡ true) = λ u lu. and-true (ltb (mapAt b u) 18446744073709551616) _ (all-each (slotsTest b) 8 (w .0) u lu) in
     record {
       some = eqb-false (getD b 0 0) 0 (not-true (eqb (getD b 0 0) 0) (x .0));
       worn = leb-true (getD b 0 0) 4294967296 (y .0);
       interface = all-each (interfaceTest b) 8 (z .0);
-      slot = λ u s lu ls. slot-says b u s (all-each (slotTest b (interfaceAt b u .used) u) 64 (all-each (slotsTest b) 8 (w .0) u lu) s ls);
+      map = λ u lu. ltb-true (mapAt b u) 18446744073709551616 (slots u lu .0);
+      slot = λ u s lu ls. slot-says b u s (all-each (slotTest b (interfaceAt b u .used) (mapAt b u) u) 64 (slots u lu .1) s ls);
       top = all-each (topTest b) 8 (v .0);
       once = all-each (onceTest b) 512 (v .1);
     }
@@ -100,4 +100,4 @@ pub whole : (b : List ℕ) → Parts b → soundWords b ≡ true
 unfolding soundWords slotsTest
 whole b P =
     both-true (ap not (ne-eqb (getD b 0 0) 0 (P .some))) (both-true (le-leb (getD b 0 0) 4294967296 (P .worn)) (both-true (all-of (interfaceTest b) 8 (P .interface))
-    (both-true (all-of (slotsTest b) 8 (λ u lu. all-of (slotTest b (interfaceAt b u .used) u) 64 (λ s ls. slot-holds b u s (P .slot u s lu ls)))) (both-true (all-of (topTest b) 8 (P .top)) (all-of (onceTest b) 512 (P .once))))))
+    (both-true (all-of (slotsTest b) 8 (λ u lu. both-true (lt-ltb (mapAt b u) 18446744073709551616 (P .map u lu)) (all-of (slotTest b (interfaceAt b u .used) (mapAt b u) u) 64 (λ s ls. slot-holds b u s (P .slot u s lu ls))))) (both-true (all-of (topTest b) 8 (P .top)) (all-of (onceTest b) 512 (P .once))))))

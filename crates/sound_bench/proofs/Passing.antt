@@ -17,7 +17,9 @@ use Rattle.kinds.specs.declared.GrowState.the-variants.{Grow, Stay, Shrink}
 use Rattle.kinds.specs.declared.Handle.{Handle as Packed}
 use Rattle.kinds.specs.declared.Parent.{Parent}
 use Rattle.kinds.specs.declared.Parent.the-variants.{Outermost, Inside}
-use Rattle.bench_words.specs.Store.{nodeAt, interfaceAt}
+use Rattle.slot_map.specs.Slots.{bitAt}
+use Rattle.slot_map.proofs.Maps.{map-lt, bit-map}
+use Rattle.bench_words.specs.Store.{nodeAt, interfaceAt, mapAt}
 use Rattle.bench_words.specs.declared.Node.{Node}
 use Rattle.bench_words.specs.declared.Up.{Up}
 use Rattle.bench_words.specs.declared.Up.the-variants.{Top, Under}
@@ -33,7 +35,8 @@ use Rattle.ledger_spec.proofs.Knit.{some-eq}
 use Rattle.ledger_spec.proofs.Tops.{top-root, below}
 use Rattle.ledger_spec.proofs.Passed.{has-node}
 use Rattle.bench_views.specs.View.{upSeen, over, sumUp, valueBy, circleOf, handleAt, memberAt, view}
-use Rattle.bench_views.specs.Canon.{walk, Seated, Canon}
+use Rattle.bench_views.specs.Canon.{walk, heldIn, Seated, Canon}
+use Rattle.bench_views.proofs.Maps.{held-absent, held-present}
 use Rattle.bench_views.specs.Fit.{SoundWords, Fit}
 use Rattle.bench_views.proofs.Views.{interface-in, view-next, view-slot, view-parent}
 use Rattle.bench_views.proofs.Rings.{slot-held, Ringed, ringed}
@@ -224,17 +227,20 @@ module _ (b : List ℕ) (Z : SoundWords b) where
       low : u * 64 + s < 512
       low = place-low u s lu ls
 
+      bit : bitAt (mapAt b u) s ≡ heldIn A u s
+      bit = ap (λ (w : ℕ). bitAt w s) (C .map u lu) ∙ bit-map (heldIn A u) 64 s ls
+
       go : (k : Class) → A (u * 64 + s) .class ≡ k → Slot b u s
-      go Absent e = blank (none-blank b (u * 64 + s) (C .coded .nodes (u * 64 + s) low) (C .empty (u * 64 + s) low e))
+      go Absent e = blank (bit ∙ held-absent e) (none-blank b (u * 64 + s) (C .coded .nodes (u * 64 + s) low) (C .empty (u * 64 + s) low e))
       go Blossom e =
           let p : A (u * 64 + s) .class ≡ Absent → ⊥ = λ a. let z : Absent ≡ Blossom = sym a ∙ e in let z2 : _≡_ {A = ℕ} 0 1 = cc in omega arith in
           let o = used-slot u s lu ls p in
-          held o (kept u s lu ls o (blossom (circleOf A (u * 64 + s))) (see-ring b u s lu o e) p (ring-class A N (handleIn u s (A (u * 64 + s))) (A (u * 64 + s)) e (ring-held u s lu ls o e)))
+          held (bit ∙ held-present (A (u * 64 + s) .class) p) o (kept u s lu ls o (blossom (circleOf A (u * 64 + s))) (see-ring b u s lu o e) p (ring-class A N (handleIn u s (A (u * 64 + s))) (A (u * 64 + s)) e (ring-held u s lu ls o e)))
       go (Defect v) e =
           let p : A (u * 64 + s) .class ≡ Absent → ⊥ = λ a. let z : Absent ≡ Defect v = sym a ∙ e in let z2 : _≡_ {A = ℕ} 0 1 = cc in omega arith in
           let o = used-slot u s lu ls p in
           let f = C .defect (u * 64 + s) v low e in
-          held o (kept u s lu ls o (defect (v .0)) (see-single b u s lu o v e) p (single-class A N (handleIn u s (A (u * 64 + s))) (A (u * 64 + s)) v e (S .rings u s (shownAs b u s (defect (v .0))) (see-single b u s lu o v e) .single (v .0) refl) (f .0) (f .1)))
+          held (bit ∙ held-present (A (u * 64 + s) .class) p) o (kept u s lu ls o (defect (v .0)) (see-single b u s lu o v e) p (single-class A N (handleIn u s (A (u * 64 + s))) (A (u * 64 + s)) v e (S .rings u s (shownAs b u s (defect (v .0))) (see-single b u s lu o v e) .single (v .0) refl) (f .0) (f .1)))
 
   -- ---- tops
   top : (j : ℕ) → j < 8 → topTest b j ≡ true
@@ -283,6 +289,7 @@ module _ (b : List ℕ) (Z : SoundWords b) where
     some = λ e. omega (arith, e, F .begun);
     worn = F .next;
     interface = λ u l. interface-holds b u (words-spare b (C .coded .spare) u l) (words-link b u (C .coded .units u l 4 (omega arith))) (frame-linked b (C .steady) (S .frame) (C .whole) (C .both) u l);
+    map = λ u l. subst (λ (w : ℕ). w < 18446744073709551616) (sym (C .map u l)) (map-lt (heldIn A u) 64);
     slot = slot;
     top = top;
     once = once-held;

@@ -1,13 +1,15 @@
 -- The code's tests of a slot, put together as the definitions have them. Assumes nothing.
 use Prim.Native.Nat.{ℕ, _+_, _-_, _*_, _<_, _≤_}
 use mathlib.Core.Path.{_≡_, sym, _∙_, ap, ap₂, subst}
-use mathlib.Core.Bool.{Bool, true, false, _&&_, _||_}
+use mathlib.Core.Bool.{Bool, true, false, _&&_}
 use mathlib.Core.List.{List}
 use lib.Dec.{leb, ltb}
 use lib.ListN.{getD}
 use borrow.Author.Tests.{le-leb, lt-leb, lt-ltb, le-ltb}
 use Rattle.kinds.specs.declared.GrowState.{GrowState}
-use Rattle.bench_words.specs.Store.{nodeAt, interfaceAt}
+use Rattle.slot_map.specs.Slots.{bitAt}
+use Rattle.bench_words.specs.Codec.{pick}
+use Rattle.bench_words.specs.Store.{nodeAt, interfaceAt, mapAt}
 use Rattle.bench_words.specs.declared.Interface.{Interface}
 use Rattle.bench_words.specs.declared.Node.{Node}
 use Rattle.bench_words.proofs.Laws.{GoodParent, good-node}
@@ -54,19 +56,21 @@ module _ (b : List ℕ) (u s : ℕ) where
       rw (ex, ey, ez, G .total, G .width, G .top, en, eq)
       (sym (ap (λ (c : Bool). c && nodeIn b u s (sumUp 8 (interfaceAt b) u) (widthOf b (climb 8 (view b) u)) (climb 8 (view b) u) (nodeAt b (u * 64 + s))) (sym e ∙ f)))
 
-  module _ (used : ℕ) (t : Bool) (e : t ≡ blankAt b (u * 64 + s)) where
-    pub slot-blank : t ≡ true → true ≡ slotTest b used u s
+  module _ (used w : ℕ) (t : Bool) (e : t ≡ bitAt w s) where
+    pub slot-blank : t ≡ false → (r : Bool) → r ≡ blankAt b (u * 64 + s) → r ≡ slotTest b used w u s
     unfolding slotTest
-    slot-blank f = sym (ap (λ (x : Bool). x || (ltb s used && nodeTest b u s)) (sym e ∙ f))
+    slot-blank f r h = h ∙ sym (ap (λ (x : Bool). pick x (ltb s used && nodeTest b u s) (blankAt b (u * 64 + s))) (sym e ∙ f))
 
-    pub slot-past : t ≡ false → used ≤ s → false ≡ slotTest b used u s
+    pub slot-past : t ≡ true → used ≤ s → false ≡ slotTest b used w u s
     unfolding slotTest
-    slot-past f l = sym (ap₂ (λ (x y : Bool). x || (y && nodeTest b u s)) (sym e ∙ f) (le-ltb s used l))
+    slot-past f l = sym (ap₂ (λ (x y : Bool). pick x (y && nodeTest b u s) (blankAt b (u * 64 + s))) (sym e ∙ f) (le-ltb s used l))
 
-    pub slot-node : t ≡ false → s < used → (r : Bool) → r ≡ nodeTest b u s → r ≡ slotTest b used u s
+    pub slot-node : t ≡ true → s < used → (r : Bool) → r ≡ nodeTest b u s → r ≡ slotTest b used w u s
     unfolding slotTest
-    slot-node f l r h = h ∙ sym (ap₂ (λ (x y : Bool). x || (y && nodeTest b u s)) (sym e ∙ f) (lt-ltb s used l))
+    slot-node f l r h = h ∙ sym (ap₂ (λ (x y : Bool). pick x (y && nodeTest b u s) (blankAt b (u * 64 + s))) (sym e ∙ f) (lt-ltb s used l))
 
-pub slots-of : (b : List ℕ) (u : ℕ) (f : Interface) → f ≡ interfaceAt b u → (r : Bool) → r ≡ allTo (slotTest b (f .used) u) 64 → r ≡ slotsTest b u
+pub slots-of : (b : List ℕ) (u : ℕ) (f : Interface) (w : ℕ) → f ≡ interfaceAt b u → w ≡ mapAt b u → w < 18446744073709551616 → (r : Bool) → r ≡ allTo (slotTest b (f .used) w u) 64 → r ≡ slotsTest b u
 unfolding slotsTest
-slots-of b u f e r h = h ∙ ap (λ (x : Interface). allTo (slotTest b (x .used) u) 64) e
+slots-of b u f w e ew l r h =
+    h ∙ ap₂ (λ (x : Interface) (y : ℕ). allTo (slotTest b (x .used) y u) 64) e ew
+    ∙ sym (ap (λ (c : Bool). c && allTo (slotTest b (interfaceAt b u .used) (mapAt b u) u) 64) (lt-ltb (mapAt b u) 18446744073709551616 (subst (λ (x : ℕ). x < 18446744073709551616) ew l)))

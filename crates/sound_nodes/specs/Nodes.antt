@@ -1,14 +1,15 @@
--- The tests of a slot: blank, or used and with a node that keeps every rule. Assumes nothing.
+-- The tests of a slot: blank and not in the map, or in the map, used and with a node that keeps every rule. Assumes nothing.
 use Prim.Native.Nat.{ℕ, _+_, _*_, _≤_}
 use mathlib.Core.Path.{_≡_}
-use mathlib.Core.Bool.{Bool, _&&_, _||_}
+use mathlib.Core.Bool.{Bool, _&&_}
 use mathlib.Core.List.{List}
 use lib.Dec.{leb, ltb}
 use lib.ListN.{getD}
-use Rattle.bench_words.specs.Codec.{valueOffset}
+use Rattle.slot_map.specs.Slots.{bitAt}
+use Rattle.bench_words.specs.Codec.{valueOffset, pick}
 use Rattle.kinds.specs.declared.GrowState.{GrowState}
 use Rattle.kinds.specs.declared.Handle.{Handle}
-use Rattle.bench_words.specs.Store.{nodeAt, interfaceAt}
+use Rattle.bench_words.specs.Store.{nodeAt, interfaceAt, mapAt}
 use Rattle.bench_words.specs.declared.Node.{Node}
 use Rattle.ledger_spec.specs.Look.{climb}
 use Rattle.bench_views.specs.View.{valueBy, sumUp, view}
@@ -43,9 +44,10 @@ unfoldable pub nodeTest : List ℕ → ℕ → ℕ → Bool
 nodeTest b u s = codedAt b (u * 64 + s)
     && nodeIn b u s (sumUp 8 (interfaceAt b) u) (widthOf b (climb 8 (view b) u)) (climb 8 (view b) u) (nodeAt b (u * 64 + s))
 
--- slot s of interface u, of which so many are used
-unfoldable pub slotTest : List ℕ → ℕ → ℕ → ℕ → Bool
-slotTest b used u s = blankAt b (u * 64 + s) || (ltb s used && nodeTest b u s)
+-- slot s of interface u, of which so many are used and w is the map
+unfoldable pub slotTest : List ℕ → ℕ → ℕ → ℕ → ℕ → Bool
+slotTest b used w u s = pick (bitAt w s) (ltb s used && nodeTest b u s) (blankAt b (u * 64 + s))
 
+-- a map is a word: it has no bit past the last slot
 unfoldable pub slotsTest : List ℕ → ℕ → Bool
-slotsTest b u = allTo (slotTest b (interfaceAt b u .used) u) 64
+slotsTest b u = ltb (mapAt b u) 18446744073709551616 && allTo (slotTest b (interfaceAt b u .used) (mapAt b u) u) 64

@@ -1,4 +1,4 @@
-// The slots of a sound bench: each is blank, or is used and holds a node that keeps every rule. Everything here only reads, and any words may be
+// The slots of a sound bench: each is blank and not in the map, or is in the map, used and holds a node that keeps every rule. Everything here only reads, and any words may be
 // lent whose interfaces are in range. Assumes nothing.
 use bench_words::Node;
 use bench_words::WORDS;
@@ -75,15 +75,16 @@ fn is_node(b: &[u64; WORDS], u: usize, s: usize, g: Ground) -> bool
     (given & near) & (class & seat)
 }
 
-fn is_slot(b: &[u64; WORDS], u: usize, s: usize, used: u64, g: Ground) -> bool
+// The map says which of both a slot must be.
+fn is_slot(b: &[u64; WORDS], u: usize, s: usize, used: u64, map: u64, g: Ground) -> bool
     requires { ⌜ Steady (now b) ⌝ }
     requires { ⌜ u < 8 ⌝ }
     requires { ⌜ s < 64 ⌝ }
     requires { ⌜ Grounds (now b) u g ⌝ }
-    ensures { λ r. ⌜ r ≡ slotTest (now (b .entry)) used u s ⌝ }
+    ensures { λ r. ⌜ r ≡ slotTest (now (b .entry)) used map u s ⌝ }
 {
-    if bench_words::coding::is_blank(b, u * 64 + s) {
-        return true;
+    if !slot_map::has(map, s as u8) {
+        return bench_words::coding::is_blank(b, u * 64 + s);
     }
     if used <= (s as u64) {
         return false;
@@ -98,10 +99,11 @@ fn are_slots(b: &[u64; WORDS], u: usize) -> bool
 {
     let f = bench_words::load_interface(b, u);
     let used = f.used;
+    let map = bench_words::load_map(b, u);
     let g = ground_of(b, u);
     let mut s: usize = 0;
     while s < 64 {
-        if !is_slot(b, u, s, used, g) {
+        if !is_slot(b, u, s, used, map, g) {
             return false;
         }
         s = s + 1;
@@ -109,7 +111,7 @@ fn are_slots(b: &[u64; WORDS], u: usize) -> bool
     true
 }
 
-// Whether every slot of the bench is blank or holds a node that keeps the rules.
+// Whether every slot of the bench is blank or holds a node that keeps the rules, as its map says.
 pub fn are_nodes(b: &[u64; WORDS]) -> bool
     requires { ⌜ Steady (now b) ⌝ }
     ensures { λ r. ⌜ r ≡ allTo (slotsTest (now (b .entry))) 8 ⌝ }

@@ -55,7 +55,7 @@ uint8_t dual_ledger_told_create_blossom(uint64_t *bench, uint8_t unit, const uin
 /* 8: a defect refused by FULL leaves a word behind, public form; 9: a wrong number for it */
 uint8_t dual_ledger_create_defect_node(uint64_t *bench, uint8_t unit, uint32_t vertex, uint64_t *answer) {
     uint8_t number = real_dual_ledger_create_defect_node(bench, unit, vertex, answer);
-    if (number == DUAL_LEDGER_FULL && spoiled(8)) bench[16 * unit + 8] = 1;
+    if (number == DUAL_LEDGER_FULL && spoiled(8)) bench[16 * unit + 9] = 1;
     return number == DUAL_LEDGER_FULL && spoiled(9) ? DUAL_LEDGER_WORN : number;
 }
 

@@ -1,6 +1,6 @@
 //! The benchmark: the original's bare calls and the linked ledger's in one run, over the fixed list and call by call. Best of several passes, each side in turn, by
 //! processor time. Prints a table, and writes the same numbers as lines of tabs for the picture.
-use crate::bench_groups;
+use crate::{bench_groups, bench_present};
 use crate::ledger::state;
 use crate::nests::{self, BY_CALLS, BY_HAND};
 use crate::words::encode;
@@ -319,6 +319,7 @@ pub fn run(list_file: &str, numbers: &str) -> Result<(), String> {
     let link = slope(&walks);
     rows.extend(walks);
     rows.extend(hardest());
+    rows.extend(bench_present::rows());
     rows.extend(bench_groups::rows());
     let tabs: String = rows
         .iter()
@@ -328,6 +329,7 @@ pub fn run(list_file: &str, numbers: &str) -> Result<(), String> {
     print!("{}", table(&rows));
     println!("original: bare calls over a dual module that counts. trusted: a Bench's calls. told: with notices to a module that counts. public: on any words, tested first.");
     println!("In rows D to C, operations of the list in place of nodes; ratio: original to trusted.");
+    println!("3 of 448, get_node: a walk of 448 slots of which 3 hold a node, beside the reads of present nodes on the same bench.");
     println!("get_ancestor_blossom: links in place of nodes, {BY_CALLS} the most by calls, {BY_HAND} the most of a sound bench; a link takes {link:.2} ns, trusted.");
     println!("check and strict: both checks. nest: each blossom in the next, touching by the defect at the bottom; one bucket: vertices that are multiples of 512.");
     Ok(())

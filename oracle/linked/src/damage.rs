@@ -14,7 +14,7 @@ use oracle::show;
 /// A way to damage words.
 type Damage = fn(&mut Rng, &mut Words);
 
-const KINDS: [(&str, Damage); 8] = [
+const KINDS: [(&str, Damage); 12] = [
     ("none", |_, _| {}),
     ("one bit of a word in use", |rng, words| flip(rng, words, 1)),
     ("up to eight bits of words in use", |rng, words| (0..1 + rng.below(8)).for_each(|_| flip(rng, words, 1))),
@@ -23,7 +23,21 @@ const KINDS: [(&str, Damage); 8] = [
     ("two fields exchanged", exchange),
     ("a field of another node or interface", copy),
     ("a field set to a limit", limit),
+    ("a map's bit for an emptied slot", |rng, words| mark(rng, words, |used, slot, held| slot < used && !held)),
+    ("a map without a present node's bit", |rng, words| mark(rng, words, |_, _, held| held)),
+    ("a map's bit past the used slots", |rng, words| mark(rng, words, |used, slot, _| used <= slot)),
+    ("a map of 0", |rng, words| words[16 * rng.below(8) + 8] = 0),
 ];
+
+/// One bit of a map changed: of a slot, used or not, and held or not, as asked. Words without such a slot are left.
+fn mark(rng: &mut Rng, words: &mut Words, asked: fn(usize, usize, bool) -> bool) {
+    let held = |words: &Words, unit: usize, slot: usize| words[128 + 12 * (64 * unit + slot) + 2] != 0;
+    let all = (0..8).flat_map(|unit| (0..64).map(move |slot| (unit, slot)));
+    let found: Vec<_> = all.filter(|(unit, slot)| asked(words[16 * unit + 1] as usize, *slot, held(words, *unit, *slot))).collect();
+    if let Some((unit, slot)) = rng.pick(&found) {
+        words[16 * unit + 8] ^= 1 << slot
+    }
+}
 
 /// A word that is not zero, or any: where something is kept.
 fn in_use(rng: &mut Rng, words: &Words) -> usize {

@@ -1,6 +1,7 @@
 //! The linked ledger beside the original and the plain model: comparison at scale, and the benchmark.
 mod bench;
 mod bench_groups;
+mod bench_present;
 mod bend;
 mod damage;
 mod damage_groups;

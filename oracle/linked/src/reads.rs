@@ -1,6 +1,7 @@
 //! The reads and checks of the linked ledger, as numbers. Each fourth is made by both forms, which must agree: the public one tests the whole bench each time.
 use crate::ledger::{number, unit, Answer, Ledger};
-use dual_ledger::{lent, Refusal, Verdict};
+use crate::words::Words;
+use dual_ledger::{lent, Bench, Refusal, Verdict};
 use oracle::line::{Line, FILLER};
 use oracle::model::Model;
 use std::fmt::Debug;
@@ -23,6 +24,20 @@ fn both<T: PartialEq + Debug>(
     }
 }
 
+/// The reads of present nodes beside a walk of every slot by `get_node`, which is compared with the model: how many, and the next from an index on.
+fn stepped(two: bool, bench: &Bench, words: &Words, u: u8, index: u32) -> Result<(), String> {
+    let at = |place: u32| bench.get_node(u, place).ok().flatten().map(|node| (place, node));
+    let walked = bench.nodes_count(u).map(|count| (0..count).filter_map(at).collect::<Vec<_>>());
+    let count = both(two, bench.present_count(u), || lent::present_count(words, u))?;
+    let next = both(two, bench.next_present(u, index), || lent::next_present(words, u, index))?;
+    let expected = bench.get_node(u, index).map(|_| walked.iter().flatten().copied().find(|(place, _)| index <= *place));
+    let stepped = bench.present_nodes(u).map(|nodes| nodes.collect::<Vec<_>>());
+    if count != walked.as_ref().map(|all| all.len() as u32).map_err(|refusal| *refusal) || next != expected || stepped != walked {
+        return Err(format!("present nodes of {u} from {index}: {count:?}, {next:?}, {stepped:?}, by a walk {expected:?}, {walked:?}"));
+    }
+    Ok(())
+}
+
 impl Ledger {
     pub fn look(&mut self, line: &Line) -> Answer {
         self.asked += 1;
@@ -41,8 +56,12 @@ impl Ledger {
             }
             Line::Sum(u) => shown(&both(two, bench.sum_dual_variables(unit(*u)), || lent::sum_dual_variables(words, unit(*u)))?, one),
             Line::Speed(u) => shown(&both(two, bench.sum_grow_speed(unit(*u)), || lent::sum_grow_speed(words, unit(*u)))?, one),
-            Line::Count(u) => shown(&both(two, bench.nodes_count(unit(*u)), || lent::nodes_count(words, unit(*u)))?, |n| [n as i64]),
+            Line::Count(u) => {
+                stepped(two, bench, words, unit(*u), 0)?;
+                shown(&both(two, bench.nodes_count(unit(*u)), || lent::nodes_count(words, unit(*u)))?, |n| [n as i64])
+            }
             Line::HandleAt(u, index) => {
+                stepped(two, bench, words, unit(*u), *index)?;
                 let found = both(two, bench.get_node(unit(*u), *index), || lent::get_node(words, unit(*u), *index))?;
                 shown(&found, |node| node.map_or([0; 3], |h| [h.serial() as i64, h.interface() as i64, h.slot() as i64]))
             }

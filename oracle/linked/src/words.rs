@@ -41,12 +41,18 @@ pub fn encode(bench: &Bench) -> Box<Words> {
         let (sum, speed) = ((face.sum as u64).wrapping_add(SUM), (face.speed as u64).wrapping_add(SPEED));
         let fields = [face.slots.len() as u64, face.progress as u64, sum, speed, face.parent.map_or(0, one_more), left, right];
         words[16 * unit + 1..16 * unit + 8].copy_from_slice(&fields);
+        words[16 * unit + 8] = map(face);
         let above = above(bench, unit);
         for (slot, node) in face.slots.iter().enumerate() {
             node.iter().for_each(|node| put(bench, &mut words, SLOTS * unit + slot, node, above));
         }
     }
     words
+}
+
+/// A bit for each slot that holds a node.
+fn map(face: &Face) -> u64 {
+    face.slots.iter().enumerate().filter(|(_, node)| node.is_some()).map(|(slot, _)| 1 << slot).sum()
 }
 
 /// A node's own fields, and for a blossom those of its members that say where they are in the circle.

@@ -1,4 +1,5 @@
--- The loop walks the circle as it was at the call, and lets its members out one by one; then the slot is emptied and the speed set. Assumes nothing.
+-- The loop walks the circle as it was at the call, and lets its members out one by one; then the slot is emptied, the speed set and the bit taken out.
+-- Assumes nothing.
 use Prim.Native.Nat.{_-_, _≤_}
 use mathlib.Core.Path.{ap}
 use native.Mathlib.Omega.{arith}
@@ -11,10 +12,10 @@ use Rattle.deed_circles.proofs.remove_blossom.Statement.{statement}
 use Rattle.deed_circles.proofs.remove_blossom.Tie as tie
 
 abbrev Inv-loop : tie.InvT-loop
-Inv-loop b₀ unit k n f count at₀ i₀ b at i = Freeing b₀ at₀ b at i × (i ≤ count)
+Inv-loop b₀ unit h k n f count at₀ i₀ b at i = Freeing b₀ at₀ b at i × (i ≤ count)
 
 abbrev μ-loop : tie.MeasureT-loop
-μ-loop b₀ unit k n f count at₀ i₀ b at i = count - i
+μ-loop b₀ unit h k n f count at₀ i₀ b at i = count - i
 
 cast-k : tie.Need-cast-k Inv-loop μ-loop
 cast-k c = search needs
@@ -84,11 +85,19 @@ sub-pace c =
 pace-requires : tie.Need-pace-requires Inv-loop μ-loop
 pace-requires c κs = let a = c .before .before .before .before .before .before .before .before .before .before .before .before .before .before .args in expand-reach (a .b .now) (a .unit) (a .h) (c .before .before .before .before .before .before .before .before .before .before .before .before .before .before .pre .0) (c .before .before .before .before .before .before .before .before .before .before .before .before .before .before .pre .1) .top
 
+cast-unmark : tie.Need-cast-unmark Inv-loop μ-loop
+cast-unmark c = search needs
+
+unmark-requires : tie.Need-unmark-requires Inv-loop μ-loop
+unmark-requires c κs = let a = c .before .before .before .before .before .before .before .before .before .before .before .before .before .before .before .before .before .args in let r = expand-reach (a .b .now) (a .unit) (a .h) (c .before .before .before .before .before .before .before .before .before .before .before .before .before .before .before .before .before .pre .0) (c .before .before .before .before .before .before .before .before .before .before .before .before .before .before .before .before .before .pre .1) in (r .home, r .slot)
+
 returns : tie.Need-returns Inv-loop μ-loop
 returns c =
-    let a = c .before .before .before .before .before .before .before .before .before .before .before .before .before .before .before .args in
-    expand-ends (a .b .now) (a .unit) (a .h) (c .before .before .before .before .before .before .before .before .before .before .before .before .before .before .before .pre .0) (c .before .before .before .before .before .before .before .before .before .before .before .before .before .before .before .pre .1) (c .before .before .before .before .before .before .before .before .before .before .before .load-node .result) (c .before .before .before .before .before .before .before .before .before .before .before .load-node .ensures) (c .before .before .before .before .before .before .before .before .before .load-interface .result)
-    (c .before .before .before .before .before .before .before .before .loop .inv .0) (omega arith) (c .before .before .before .before .before .before .before .before .before .load-interface .ensures) (c .before .before .before .before .before .before .rate-of .ensures .0) (c .before .before .before .before .no-node .ensures) (c .before .before .before .store-node .ensures) (c .pace .ensures)
+    let a = c .before .before .before .before .before .before .before .before .before .before .before .before .before .before .before .before .before .before .args in
+    let n = c .before .before .before .before .before .before .before .before .before .before .before .before .before .before .load-node in
+    let f = c .before .before .before .before .before .before .before .before .before .before .before .before .load-interface in
+    expand-ends (a .b .now) (a .unit) (a .h) (c .before .before .before .before .before .before .before .before .before .before .before .before .before .before .before .before .before .before .pre .0) (c .before .before .before .before .before .before .before .before .before .before .before .before .before .before .before .before .before .before .pre .1) (n .result) (n .ensures) (f .result)
+    (c .before .before .before .before .before .before .before .before .before .before .before .loop .inv .0) (omega (arith, c .before .before .before .before .before .before .before .before .before .before .before .loop .inv .1, c .before .before .before .before .before .before .before .before .before .before .loop-test .left)) (f .ensures) (c .before .before .before .before .before .before .before .before .before .rate-of .ensures .0) (c .before .before .before .before .before .before .before .no-node .ensures) (c .before .before .before .before .before .before .store-node .ensures) (c .before .before .before .pace .ensures) (c .unmark .ensures)
 
 pub remove-blossom-spec : {M : Type 1} → statement M
 remove-blossom-spec =
@@ -114,4 +123,6 @@ remove-blossom-spec =
     add-pace-2
     sub-pace
     pace-requires
+    cast-unmark
+    unmark-requires
     returns)

@@ -1,4 +1,4 @@
--- The used slots are emptied, and then the interface. Assumes nothing.
+-- The used slots are emptied, then the map and the interface. Assumes nothing.
 use mathlib.Core.Path.{ap}
 use native.Mathlib.Omega.{arith}
 use borrow.Author.Needs.{needs}
@@ -15,6 +15,9 @@ empty-slots-requires c κs =
     let p = c .before .before .before .pre in
     (p .0, omega (arith, p .1 .slots (c .before .before .before .args .unit) (p .0), ap (λ (x : Interface). x .used) (c .before .load-interface .ensures)), p .1, p .2)
 
+store-map-requires : tie.Need-store-map-requires
+store-map-requires c κs = search needs
+
 no-interface-requires : tie.Need-no-interface-requires
 no-interface-requires c κs = search needs
 
@@ -22,9 +25,12 @@ store-interface-requires : tie.Need-store-interface-requires
 store-interface-requires c κs = search needs
 
 returns : tie.Need-returns
-returns c = let a = c .before .before .before .before .before .before .before .args in reset-by (a .b .now) (a .unit) (c .before .before .before .before .before .load-interface .result) (c .before .before .before .before .before .before .before .pre .0) (c .before .before .before .before .before .load-interface .ensures) (c .before .before .before .empty-slots .ensures) (c .before .no-interface .ensures) (c .store-interface .ensures)
+returns c =
+    let a = c .before .before .before .before .before .before .before .before .before .args in
+    let f = c .before .before .before .before .before .before .before .load-interface in
+    reset-by (a .b .now) (a .unit) (f .result) (c .before .before .before .before .before .before .before .before .before .pre .0) (f .ensures) (c .before .before .before .before .before .empty-slots .ensures) (c .before .before .before .store-map .ensures) (c .before .no-interface .ensures) (c .store-interface .ensures)
 
 pub reset-spec : {M : Type 1} → statement M
 reset-spec =
     tie.close
-    (tie.spec load-interface-requires empty-slots-requires no-interface-requires store-interface-requires returns)
+    (tie.spec load-interface-requires empty-slots-requires store-map-requires no-interface-requires store-interface-requires returns)

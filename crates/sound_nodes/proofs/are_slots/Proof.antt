@@ -13,25 +13,33 @@ use Rattle.sound_nodes.proofs.are_slots.Statement.{statement}
 use Rattle.sound_nodes.proofs.are_slots.Tie as tie
 
 abbrev Inv-loop : tie.InvT-loop
-Inv-loop b u used g s₀ s = (allTo (slotTest b used u) s ≡ true) × (s ≤ 64)
+Inv-loop b u used map g s₀ s = (allTo (slotTest b used map u) s ≡ true) × (s ≤ 64)
 
 abbrev μ-loop : tie.MeasureT-loop
-μ-loop b u used g s₀ s = 64 - s
+μ-loop b u used map g s₀ s = 64 - s
 
 load-interface-requires : tie.Need-load-interface-requires Inv-loop μ-loop
 load-interface-requires c κs = search needs
+
+load-map-requires : tie.Need-load-map-requires Inv-loop μ-loop
+load-map-requires c κs = search needs
 
 ground-of-requires : tie.Need-ground-of-requires Inv-loop μ-loop
 ground-of-requires c κs = search needs
 
 loop-holds : tie.Need-loop-holds Inv-loop μ-loop
-loop-holds c = (sym (all-none (slotTest (c .before .before .args .b .now) (c .before .load-interface .result .used) (c .before .before .args .u))), omega arith)
+loop-holds c = (sym (all-none (slotTest (c .before .before .before .args .b .now) (c .before .before .load-interface .result .used) (c .before .load-map .result) (c .before .before .before .args .u))), omega arith)
 
 is-slot-requires : tie.Need-is-slot-requires Inv-loop μ-loop
 is-slot-requires c κs = search needs
 
 returns : tie.Need-returns Inv-loop μ-loop
-returns c = slots-of (c .before .before .before .before .before .before .args .b .now) (c .before .before .before .before .before .before .args .u) (c .before .before .before .before .before .load-interface .result) (c .before .before .before .before .before .load-interface .ensures) false (all-not (slotTest (c .before .before .before .before .before .before .args .b .now) (c .before .before .before .before .before .load-interface .result .used) (c .before .before .before .before .before .before .args .u)) 64 (c .before .before .before .loop .s) (c .before .before .loop-test .taken) (sym (c .before .is-slot .ensures) ∙ not-true (c .before .is-slot .result) (c .if1 .taken)))
+returns c =
+    let a = c .before .before .before .before .before .before .before .args in
+    let f = c .before .before .before .before .before .before .load-interface in
+    let m = c .before .before .before .before .before .load-map in
+    slots-of (a .b .now) (a .u) (f .result) (m .result) (f .ensures) (m .ensures) (m .ok) false
+    (all-not (slotTest (a .b .now) (f .result .used) (m .result) (a .u)) 64 (c .before .before .before .loop .s) (c .before .before .loop-test .taken) (sym (c .before .is-slot .ensures) ∙ not-true (c .before .is-slot .result) (c .if1 .taken)))
 
 add-s : tie.Need-add-s Inv-loop μ-loop
 add-s c = search needs
@@ -40,10 +48,17 @@ loop-less : tie.Need-loop-less Inv-loop μ-loop
 loop-less c = search needs
 
 loop-again : tie.Need-loop-again Inv-loop μ-loop
-loop-again c = (all-more (slotTest (c .before .before .before .before .before .before .args .b .now) (c .before .before .before .before .before .load-interface .result .used) (c .before .before .before .before .before .before .args .u)) (c .before .before .before .loop .s) (c .before .before .before .loop .inv .0) (sym (c .before .is-slot .ensures) ∙ not-false (c .before .is-slot .result) (c .if1 .left)), omega arith)
+loop-again c =
+    let a = c .before .before .before .before .before .before .before .args in
+    (all-more (slotTest (a .b .now) (c .before .before .before .before .before .before .load-interface .result .used) (c .before .before .before .before .before .load-map .result) (a .u)) (c .before .before .before .loop .s) (c .before .before .before .loop .inv .0) (sym (c .before .is-slot .ensures) ∙ not-false (c .before .is-slot .result) (c .if1 .left)), omega arith)
 
 returns-2 : tie.Need-returns-2 Inv-loop μ-loop
-returns-2 c = slots-of (c .before .before .before .before .args .b .now) (c .before .before .before .before .args .u) (c .before .before .before .load-interface .result) (c .before .before .before .load-interface .ensures) true (all-done (slotTest (c .before .before .before .before .args .b .now) (c .before .before .before .load-interface .result .used) (c .before .before .before .before .args .u)) 64 (c .before .loop .s) (c .before .loop .inv .0) (omega arith))
+returns-2 c =
+    let a = c .before .before .before .before .before .args in
+    let f = c .before .before .before .before .load-interface in
+    let m = c .before .before .before .load-map in
+    slots-of (a .b .now) (a .u) (f .result) (m .result) (f .ensures) (m .ensures) (m .ok) true
+    (all-done (slotTest (a .b .now) (f .result .used) (m .result) (a .u)) 64 (c .before .loop .s) (c .before .loop .inv .0) (omega arith))
 
 pub are-slots-spec : {M : Type 1} → statement M
 are-slots-spec =
@@ -52,6 +67,7 @@ are-slots-spec =
     Inv-loop
     μ-loop
     load-interface-requires
+    load-map-requires
     ground-of-requires
     loop-holds
     is-slot-requires

@@ -70,8 +70,7 @@ fn fields(line: &[u8]) -> impl Iterator<Item = u32> + '_ {
 
 /// The nodes of an interface's tree.
 fn present(bench: &Bench, interface: u8) -> impl Iterator<Item = Handle> + '_ {
-    let count = bench.nodes_count(interface).unwrap_or(0);
-    (0..count).filter_map(move |index| bench.get_node(interface, index).ok().flatten())
+    bench.present_nodes(interface).into_iter().flatten().map(|(_, node)| node)
 }
 
 fn value(bench: &Bench, node: Handle) -> i64 {

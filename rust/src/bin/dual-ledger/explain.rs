@@ -9,10 +9,7 @@ fn numbers(line: &[u8]) -> Vec<i128> {
 
 /// Each present node with the interface without a parent whose tree it stands in.
 fn nodes(bench: &Bench) -> impl Iterator<Item = (Handle, u8)> + '_ {
-    (0..8).flat_map(move |top| {
-        let count = bench.nodes_count(top).unwrap_or(0);
-        (0..count).filter_map(move |index| bench.get_node(top, index).ok().flatten()).map(move |node| (node, top))
-    })
+    (0..8).flat_map(move |top| bench.present_nodes(top).into_iter().flatten().map(move |(_, node)| (node, top)))
 }
 
 fn named(bench: &Bench, serial: i128) -> Option<(Handle, u8)> {

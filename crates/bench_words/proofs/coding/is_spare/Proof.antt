@@ -79,15 +79,6 @@ mul-result-8 c = search needs
 element-copy-out-result-8 : tie.Need-element-copy-out-result-8
 element-copy-out-result-8 c = search needs
 
-add-result-9 : tie.Need-add-result-9
-add-result-9 c = search needs
-
-mul-result-9 : tie.Need-mul-result-9
-mul-result-9 c = search needs
-
-element-copy-out-result-9 : tie.Need-element-copy-out-result-9
-element-copy-out-result-9 c = search needs
-
 returns : tie.Need-returns
 unfolding spareAt
 returns c = search needs
@@ -121,7 +112,4 @@ is-spare-spec =
     add-result-8
     mul-result-8
     element-copy-out-result-8
-    add-result-9
-    mul-result-9
-    element-copy-out-result-9
     returns)

@@ -1,0 +1,4 @@
+pub mod Nexts
+pub mod Presence
+pub mod Walking
+pub mod Saying
