@@ -191,6 +191,14 @@ uint8_t dual_ledger_strict_check(const uint64_t *bench, uint8_t unit, uint64_t *
 uint8_t dual_ledger_trusted_sanity_check(const uint64_t *bench, uint8_t unit, uint64_t *verdict, uint64_t *index);
 uint8_t dual_ledger_trusted_strict_check(const uint64_t *bench, uint8_t unit, uint64_t *verdict, uint64_t *index);
 
+/* ---- the picture [The picture] */
+
+/* The nodes of an interface as JSON for the Rust's viewer, the values of its `snapshot`: abbreviated names unless abbreviated is 0. Written to the first bytes
+ * of out, without a zero at the end, if the plain check says 0 and it has room; bytes past it stay. UNSOUND comes before SMALL. Refused, *length is 0 and out is
+ * as it was. At most 128 bytes and 144 a slot. */
+uint8_t dual_ledger_snapshot(const uint64_t *bench, uint8_t unit, uint8_t abbreviated, uint8_t *out, size_t out_len, uint64_t *length);
+uint8_t dual_ledger_trusted_snapshot(const uint64_t *bench, uint8_t unit, uint8_t abbreviated, uint8_t *out, size_t out_len, uint64_t *length);
+
 /* ---- groups of obstacles. Words of a group or an obstacle that are not written as above, and groups that are not sound, are refused as BROKEN. */
 
 /* Makes any words the empty group: words 0 to 2 are written, the others stay. */
@@ -267,14 +275,16 @@ uint8_t dual_ledger_text_end(size_t held, uint8_t *out, size_t out_len, size_t *
 #define DUAL_LEDGER_PAIR 16 /* fuse: left is right, or parent's number not above both */
 #define DUAL_LEDGER_USED 17 /* fuse: parent has slots used, progress or children */
 #define DUAL_LEDGER_RANGE 18 /* index at or past the count */
-#define DUAL_LEDGER_SMALL 19 /* slice shorter than the defect size */
+#define DUAL_LEDGER_SMALL 19 /* slice shorter than the defect size, or than the picture */
 #define DUAL_LEDGER_ROOM 20 /* list or stops would pass 128 at any step */
 #define DUAL_LEDGER_NOTHING 21 /* growth asked of (largest weight, any flag) */
+#define DUAL_LEDGER_UNSOUND 24 /* the check of the interface says other than 0 */
 
 /* The name of a number: "STALE" for 8; "ACCEPTED" for 0; NULL for a number that no function answers. */
 static inline const char *dual_ledger_refusal_name(uint8_t number) {
     static const char *const names[22] = {"ACCEPTED", "LINE", "BROKEN", "UNIT", "CHILD", "LENGTH", "CIRCLE", "TOUCH", "STALE", "FOREIGN", "KIND", "INSIDE",
                                           "TOP",      "TWICE", "FULL",  "WORN", "PAIR",  "USED",   "RANGE",  "SMALL", "ROOM",  "NOTHING"};
+    if (number == DUAL_LEDGER_UNSOUND) return "UNSOUND";
     return number < 22 ? names[number] : NULL;
 }
 
@@ -311,6 +321,7 @@ static inline const char *dual_ledger_refusal_name(uint8_t number) {
  *   dual_ledger_sanity_check                          14248
  *   dual_ledger_set_grow_state                         3816
  *   dual_ledger_set_up                                   40
+ *   dual_ledger_snapshot                              22632
  *   dual_ledger_strict_check                          14248
  *   dual_ledger_sum_dual_variables                      872
  *   dual_ledger_sum_grow_speed                          872
@@ -346,6 +357,7 @@ static inline const char *dual_ledger_refusal_name(uint8_t number) {
  *   dual_ledger_trusted_nodes_count                    1528
  *   dual_ledger_trusted_sanity_check                  14232
  *   dual_ledger_trusted_set_grow_state                  152
+ *   dual_ledger_trusted_snapshot                      22584
  *   dual_ledger_trusted_strict_check                  14232
  *   dual_ledger_trusted_sum_dual_variables                8
  *   dual_ledger_trusted_sum_grow_speed                    8

@@ -67,6 +67,11 @@ impl Replay {
         Turn { answer, original: Some(original), mark }
     }
 
+    /// The original's picture of an interface.
+    pub fn snapshot(&self, unit: u32, abbrev: bool) -> Result<String, String> {
+        self.driver.snapshot(unit, abbrev).map_err(|trouble| trouble.to_string())
+    }
+
     /// A refused set-up still hands out a bench, as from serial 1.
     fn refused(&mut self, line: &Line, answer: Vec<i64>) -> Turn {
         if let Line::SetUp(_) = line {

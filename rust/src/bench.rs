@@ -4,6 +4,7 @@ use crate::reads::sound as asked;
 use crate::refusal::settled;
 use crate::{GrowState, Handle, Refusal, Telling, Verdict};
 use alloc::boxed::Box;
+use alloc::string::String;
 use alloc::vec::Vec;
 
 /// Eight interfaces, numbers 0 to 7, with 64 slots each. What the original keeps in one `DualModuleInterfacePtr` stands in one interface here, and halves are fused
@@ -219,6 +220,30 @@ impl Bench {
     #[doc = errors!(strict_check)]
     pub fn strict_check(&self, interface: u8) -> Result<Verdict, Refusal> {
         asked::strict_check(&self.0, interface)
+    }
+
+    /// The picture of an interface's nodes for the viewer, as JSON: the values of the original's `snapshot`, with its abbreviated names or its full ones. As
+    /// the original unwraps its check, it is written only where [`sanity_check`](Bench::sanity_check) finds nothing.
+    ///
+    /// ```
+    /// let mut bench = dual_ledger::Bench::default();
+    /// bench.create_defect_node(0, 3)?;
+    /// bench.grow(0, 5)?;
+    /// assert_eq!(
+    ///     bench.snapshot(0, true)?,
+    ///     r#"{"interface":{"s":1,"d":5},"dual_nodes":[{"o":null,"t":null,"s":3,"g":"grow","u":1,"p":null}]}"#
+    /// );
+    /// # Ok::<(), dual_ledger::Refusal>(())
+    /// ```
+    #[doc = errors!(snapshot)]
+    pub fn snapshot(&self, interface: u8, abbrev: bool) -> Result<String, Refusal> {
+        asked::snapshot(&self.0, interface, abbrev)
+    }
+
+    /// The same into the first bytes of a slice, and its length; bytes past it stay. Refused, the slice is as it was.
+    #[doc = errors!(snapshot_into)]
+    pub fn snapshot_into(&self, interface: u8, abbrev: bool, out: &mut [u8]) -> Result<usize, Refusal> {
+        asked::snapshot_into(&self.0, interface, abbrev, out)
     }
 }
 

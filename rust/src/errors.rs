@@ -45,6 +45,8 @@ table! {
     get_all_vertices_into: Stale Small;
     sanity_check: Unit Child;
     strict_check: Unit Child;
+    snapshot: Unit Child Unsound;
+    snapshot_into: Unit Child Small Unsound;
     add: Stale Room;
     extend: Stale Room;
     get_none_zero_growth: Nothing;

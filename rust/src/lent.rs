@@ -13,10 +13,12 @@
 //! assert_eq!(lent::get_dual_variable(&words, node), Err(Refusal::Broken));
 //! ```
 use crate::linked::{any, AnswerWords, Words};
-use crate::reads::{reads, MOST_VERTICES};
+use crate::reads::{reads, MOST_VERTICES, PICTURE_FRAME, PICTURE_SLOT};
 use crate::refusal::settled;
 use crate::text::any_line;
 use crate::{GrowState, Handle, Refusal, Reply, Told, Verdict};
+use alloc::string::String;
+use alloc::vec;
 use alloc::vec::Vec;
 
 reads!(any, Words, " [`Broken`](Refusal::Broken)");

@@ -189,6 +189,15 @@ macro_rules! link_reads {
             // SAFETY: as above; the slice is of the length said and lent alone
             unsafe { linked(bench, node, out.as_mut_ptr(), out.len(), count) }
         }
+
+        pub fn snapshot(bench: &$bench, unit: u8, abbreviated: u8, out: &mut [u8], length: &mut u64) -> u8 {
+            extern "C" {
+                #[link_name = concat!("dual_ledger_", $form, "snapshot")]
+                fn linked(bench: &$bench, unit: u8, abbreviated: u8, out: *mut u8, room: usize, length: &mut u64) -> u8;
+            }
+            // SAFETY: as above; the slice is of the length said and lent alone
+            unsafe { linked(bench, unit, abbreviated, out.as_mut_ptr(), out.len(), length) }
+        }
     };
 }
 

@@ -3,6 +3,11 @@
 /// More vertices than a node can have: a tree has at most 448 slots.
 pub(crate) const MOST_VERTICES: usize = 512;
 
+/// At least the bytes of a picture, less those of its slots: full names, the longest numbers.
+pub(crate) const PICTURE_FRAME: usize = 128;
+/// At least the bytes of a slot in a picture: full names, the longest numbers, and its own entries in the lists of its blossom.
+pub(crate) const PICTURE_SLOT: usize = 144;
+
 macro_rules! reads {
     ($form:ident, $words:ty, $broken:literal) => {
         /// The stored sum of an interface without a parent, its halves counted in.
@@ -135,16 +140,36 @@ macro_rules! reads {
             let number = $form::strict_check(words, interface, &mut verdict, &mut index);
             settled(number, Verdict::of(verdict, index))
         }
+
+        /// The picture of an interface's nodes for the viewer, as JSON: the values of the original's `snapshot`, with its abbreviated names or its full ones.
+        #[doc = errors!(snapshot)]
+        #[doc = $broken]
+        pub fn snapshot(words: &$words, interface: u8, abbrev: bool) -> Result<String, Refusal> {
+            let mut out = vec![0; PICTURE_FRAME + PICTURE_SLOT * nodes_count(words, interface)? as usize];
+            let length = snapshot_into(words, interface, abbrev, &mut out)?;
+            out.truncate(length);
+            Ok(String::from_utf8(out).expect("a picture is ASCII"))
+        }
+
+        /// The same into the first bytes of a slice, and its length; bytes past it stay. Refused, the slice is as it was.
+        #[doc = errors!(snapshot_into)]
+        #[doc = $broken]
+        pub fn snapshot_into(words: &$words, interface: u8, abbrev: bool, out: &mut [u8]) -> Result<usize, Refusal> {
+            let mut length = 0;
+            settled($form::snapshot(words, interface, abbrev.into(), out, &mut length), length as usize)
+        }
     };
 }
 pub(crate) use reads;
 
 /// On sound words.
 pub(crate) mod sound {
-    use super::MOST_VERTICES;
+    use super::{MOST_VERTICES, PICTURE_FRAME, PICTURE_SLOT};
     use crate::linked::{trusted, Sound};
     use crate::refusal::settled;
     use crate::{Handle, Refusal, Verdict};
+    use alloc::string::String;
+    use alloc::vec;
     use alloc::vec::Vec;
     reads!(trusted, Sound, "");
 }

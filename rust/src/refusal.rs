@@ -3,7 +3,8 @@ use core::fmt;
 
 macro_rules! refusals {
     ($($name:ident = $number:literal, $words:literal, $about:literal;)*) => {
-        /// Why a call was refused. The names and numbers are the manual's (docs/MANUAL.md, Refusals); where several apply, the lowest is given.
+        /// Why a call was refused. The names and numbers are the manual's (docs/MANUAL.md, Refusals); where several apply, the lowest is given (of a picture
+        /// SMALL after UNSOUND, since only a picture that may be written has a length).
         #[derive(Clone, Copy, Debug, PartialEq, Eq, PartialOrd, Ord, Hash)]
         #[repr(u8)]
         pub enum Refusal {
@@ -12,7 +13,7 @@ macro_rules! refusals {
 
         impl Refusal {
             /// All of them, in rising order.
-            pub const ALL: [Refusal; 21] = [$(Refusal::$name),*];
+            pub const ALL: [Refusal; 22] = [$(Refusal::$name),*];
 
             /// The name in the manual's table.
             pub fn name(self) -> &'static str {
@@ -50,20 +51,21 @@ refusals! {
     Pair = 16, "PAIR", "the halves are one interface, or the parent's number is not above both";
     Used = 17, "USED", "the parent has slots used, progress or halves";
     Range = 18, "RANGE", "the index is at or past the count";
-    Small = 19, "SMALL", "the slice is shorter than the node's vertices";
+    Small = 19, "SMALL", "the slice is shorter than the node's vertices, or than the picture";
     Room = 20, "ROOM", "the list or the stops would pass 128";
     Nothing = 21, "NOTHING", "the group holds no growth to ask for";
+    Unsound = 24, "UNSOUND", "the check of the interface finds something";
 }
 
 impl Refusal {
-    /// The manual's number, 1 to 21.
+    /// The manual's number.
     pub fn number(self) -> u8 {
         self as u8
     }
 
-    /// The refusal of a number; none for 0, which is accepted, and for numbers above 21.
+    /// The refusal of a number; none for 0, which is accepted, and for numbers that nothing is refused by.
     pub fn from_number(number: u8) -> Option<Refusal> {
-        Refusal::ALL.get(usize::from(number).checked_sub(1)?).copied()
+        Refusal::ALL.into_iter().find(|refusal| refusal.number() == number)
     }
 }
 
@@ -81,6 +83,6 @@ impl std::error::Error for Refusal {}
 pub(crate) fn settled<T>(number: u8, value: T) -> Result<T, Refusal> {
     match number {
         0 => Ok(value),
-        other => Err(Refusal::from_number(other).expect("no function answers a number above 21")),
+        other => Err(Refusal::from_number(other).expect("no function answers a number that has no name")),
     }
 }

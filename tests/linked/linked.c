@@ -288,6 +288,43 @@ static void under(void) {
     check(0, 0, 0, 0), check_strictly(0, 0, 6, 5);
 }
 
+/* the picture in both forms: its bytes and none past them, or a refusal that leaves the buffer as it was */
+static void picture(uint8_t unit, uint8_t abbreviated, size_t room, int number, const char *expected) {
+    uint8_t out[1024];
+    size_t length = strlen(expected);
+    for (int form = 0; form < 2; form++) {
+        uint64_t said = 77;
+        memset(out, 7, sizeof out);
+        same("the picture", (form ? dual_ledger_trusted_snapshot : dual_ledger_snapshot)(bench, unit, abbreviated, out, room, &said), number);
+        same("its length", (int64_t)said, (int64_t)length), same("its bytes", memcmp(out, expected, length), 0);
+        for (size_t i = length; i < sizeof out; i++) same("a byte past it", out[i], 7);
+    }
+}
+
+/* two defects in a blossom that shrinks: every key, both choices of names, each refusal at its edge, and UNSOUND before SMALL */
+static void pictures(void) {
+    static const char brief[] = "{\"interface\":{\"s\":-1,\"d\":-4},\"dual_nodes\":[{\"o\":null,\"t\":null,\"s\":20,\"g\":\"stay\",\"u\":0,\"p\":2},"
+                                "{\"o\":null,\"t\":null,\"s\":30,\"g\":\"stay\",\"u\":0,\"p\":2},"
+                                "{\"o\":[1,0],\"t\":[[1,1],[0,0]],\"s\":null,\"g\":\"shrink\",\"u\":-1,\"p\":null}]}";
+    static const char gone[] = "{\"interface\":{\"sum_grow_speed\":1,\"sum_dual_variables\":0},\"dual_nodes\":[{\"blossom\":null,\"touching_children\":null,"
+                               "\"defect_vertex\":20,\"grow_state\":\"grow\",\"unit_growth\":1,\"parent_blossom\":null},null]}";
+    uint64_t node[4];
+    same("set-up", dual_ledger_set_up(bench, 1), 0);
+    picture(0, 1, 1024, 0, "{\"interface\":{\"s\":0,\"d\":0},\"dual_nodes\":[]}"), picture(8, 1, 1024, DUAL_LEDGER_UNIT, "");
+    dual_ledger_trusted_create_defect_node(bench, 0, 20, node), dual_ledger_trusted_create_defect_node(bench, 0, 30, node + 1);
+    dual_ledger_trusted_grow(bench, 0, 3), node[2] = node[0], node[0] = node[1], node[1] = node[2];
+    same("blossom", dual_ledger_trusted_create_blossom(bench, 0, node, 2, NULL, 0, node + 3), 0);
+    dual_ledger_trusted_set_grow_state(bench, 0, node[3], -1), dual_ledger_trusted_grow(bench, 0, 10);
+    picture(0, 1, 1024, 0, brief), picture(0, 255, sizeof brief - 1, 0, brief), picture(0, 1, sizeof brief - 2, DUAL_LEDGER_SMALL, "");
+    picture(0, 1, 0, DUAL_LEDGER_SMALL, "");
+    same("expand", dual_ledger_trusted_expand_blossom(bench, 0, node[3]), 0); /* with value 3 - 10 still in the sum: verdict 5 */
+    picture(0, 1, 1024, DUAL_LEDGER_UNSOUND, ""), picture(0, 1, 0, DUAL_LEDGER_UNSOUND, "");
+    dual_ledger_trusted_fuse(bench, 2, 0, 1), picture(0, 1, 1024, DUAL_LEDGER_CHILD, "");
+    same("set-up", dual_ledger_set_up(bench, 1), 0), dual_ledger_trusted_create_defect_node(bench, 0, 20, node);
+    same("blossom", dual_ledger_trusted_create_blossom(bench, 0, node, 1, NULL, 0, node + 3), 0);
+    same("expand", dual_ledger_trusted_expand_blossom(bench, 0, node[3]), 0), picture(0, 0, 1024, 0, gone);
+}
+
 static void reads(void) {
     uint64_t node[4], count = 77;
     static const uint32_t two[5] = {30, 20, 1, 1, 1}, none[5] = {1, 1, 1, 1, 1};
@@ -396,6 +433,7 @@ static void names(void) {
     same("a handle's parts", DUAL_LEDGER_HANDLE_SERIAL(node), 4294967295u);
     same("the name of 8", strcmp(dual_ledger_refusal_name(DUAL_LEDGER_STALE), "STALE"), 0);
     same("the name of 21", strcmp(dual_ledger_refusal_name(DUAL_LEDGER_NOTHING), "NOTHING"), 0);
+    same("the name of 24", strcmp(dual_ledger_refusal_name(DUAL_LEDGER_UNSOUND), "UNSOUND"), 0);
     same("the name of 22", dual_ledger_refusal_name(22) == NULL, 1), same("the name of 0", strcmp(dual_ledger_refusal_name(0), "ACCEPTED"), 0);
 }
 
@@ -457,6 +495,7 @@ static void broken(void) {
     same("broken: outermost", dual_ledger_get_ancestor_blossom(bench, node, &v, &w), DUAL_LEDGER_BROKEN), same("broken: outermost", (int64_t)(v + w), 0);
     same("broken: vertex", dual_ledger_get_representative_vertex(bench, node, &vertex), DUAL_LEDGER_BROKEN), same("broken: vertex", vertex, 0);
     same("broken: check", dual_ledger_strict_check(bench, 0, &v, &w), DUAL_LEDGER_BROKEN), same("broken: check", (int64_t)(v + w), 0);
+    same("broken: picture", dual_ledger_snapshot(bench, 0, 1, NULL, 0, &v), DUAL_LEDGER_BROKEN), same("broken: picture", (int64_t)v, 0);
 }
 
 /* ---- groups of obstacles */
@@ -617,6 +656,7 @@ int main(void) {
     largest_circle();
     reads();
     under();
+    pictures();
     text();
     names();
     refusals();

@@ -77,6 +77,7 @@ static uint64_t bench[DUAL_LEDGER_WORDS], start[DUAL_LEDGER_WORDS], answer[DUAL_
 static uint64_t group[DUAL_LEDGER_GROUP_WORDS], other[DUAL_LEDGER_GROUP_WORDS], first_group[DUAL_LEDGER_GROUP_WORDS];
 static uint64_t members[64], touching[128], out[8];
 static uint32_t vertices[512];
+static uint8_t drawn[1 << 17];
 
 static void must(const char *what, int holds) {
     if (holds) return;
@@ -167,6 +168,7 @@ static void calls(uint64_t unit, uint64_t node, int levels) {
     BOTH(get_secondary_ancestor_blossom, b, nested(0), a);
     BOTH(get_representative_vertex, b, node, a);
     BOTH(get_all_vertices, b, node, W(vertices), 512, a);
+    BOTH(snapshot, b, unit, 0, W(drawn), sizeof drawn, a);
     BOTH(sanity_check, b, unit, a, W(out));
     BOTH(strict_check, b, unit, a, W(out));
 }

@@ -7,3 +7,4 @@ pub mod Texting
 pub mod Writing
 pub mod Only
 pub mod OnlyText
+pub mod OnlyPicture

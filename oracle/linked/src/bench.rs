@@ -8,6 +8,7 @@ use dual_ledger::{lent, Bench, DualModule, GrowState, Handle, Verdict};
 use oracle::line::{read, Line};
 use oracle::timing::{self, by_kind, keep, kind, least, processor, whole, Original, Timed, KINDS};
 use original::pointers::RwLockPtr;
+use original::visualize::FusionVisualizer;
 use std::fmt::Write;
 use std::hint::black_box;
 
@@ -180,6 +181,7 @@ fn singles(nodes: usize) -> Vec<Row> {
     }
     let last = *ours.nodes.last().expect("there are nodes");
     let mut words = Box::new(*ours.bench.words());
+    let mut picture = vec![0; 1 << 16];
     let face = theirs.faces[top as usize].clone();
     let node = theirs.nodes.last().cloned().flatten().expect("there are nodes");
     let (grow, set) = (Line::Grow(top as u32, 1), |at: u64| Line::SetState(top as u32, last.serial(), (at % 3) as i64 - 1));
@@ -220,6 +222,13 @@ fn singles(nodes: usize) -> Vec<Row> {
             once(|_| keep(ours.bench.sanity_check(top))),
             None,
             once(|_| keep(lent::sanity_check(&words, top))),
+        ),
+        row(
+            "snapshot",
+            once(|_| drop(black_box(face.snapshot(true)))),
+            once(|_| keep(ours.bench.snapshot_into(top, true, &mut picture))),
+            None,
+            once(|_| keep(lent::snapshot_into(&words, top, true, &mut picture))),
         ),
     ]
 }
@@ -328,6 +337,7 @@ pub fn run(list_file: &str, numbers: &str) -> Result<(), String> {
     std::fs::write(numbers, tabs).map_err(|why| format!("{numbers}: {why}"))?;
     print!("{}", table(&rows));
     println!("original: bare calls over a dual module that counts. trusted: a Bench's calls. told: with notices to a module that counts. public: on any words, tested first.");
+    println!("snapshot: the original makes a JSON value of the nodes, the ledger writes the text into a lent buffer.");
     println!("In rows D to C, operations of the list in place of nodes; ratio: original to trusted.");
     println!("3 of 448, get_node: a walk of 448 slots of which 3 hold a node, beside the reads of present nodes on the same bench.");
     println!("get_ancestor_blossom: links in place of nodes, {BY_CALLS} the most by calls, {BY_HAND} the most of a sound bench; a link takes {link:.2} ns, trusted.");

@@ -10,6 +10,7 @@ mod groups;
 mod ledger;
 mod nests;
 mod openings;
+mod pictures;
 mod reads;
 mod runs;
 mod sparing;
@@ -26,6 +27,7 @@ use table::Table;
 const HELP: &str = "\
 linked small                              a part of a few seconds
 linked scale [ACCEPTED REFUSED DAMAGED [SEED]]   until so many of each were compared; by default 10000000 1000000 1000000 1
+linked pictures [COUNT [SEED]]            pictures beside the original's, until so many benches with check 0; by default 30000 1
 linked play FILE                          lines of a file by all three: the first difference, if there is one
 bench LIST NUMBERS                        times of both sides in one run, over such a list; the same as numbers into a file";
 
@@ -94,6 +96,10 @@ fn played(text: &str) -> usize {
     lines.len()
 }
 
+fn pictured(least: usize, seed: u64) {
+    print!("{}no difference\n", pictures::compare(least, seed, nth).unwrap_or_else(|why| fail(why)));
+}
+
 fn play(path: &str) {
     let text = std::fs::read_to_string(path).unwrap_or_else(|why| fail(format!("{path}: {why}")));
     println!("{} lines, no difference", played(&text));
@@ -104,10 +110,16 @@ fn main() {
     let words: Vec<&str> = arguments.iter().map(String::as_str).collect();
     let count = |text: &str| text.parse::<u64>().unwrap_or_else(|_| fail(format!("`{text}` is no number")));
     match words[..] {
-        ["small"] => scale(60_000, 6_000, 10_000, 1),
+        ["small"] => {
+            scale(60_000, 6_000, 10_000, 1);
+            pictured(2_000, 1)
+        }
         ["scale"] => scale(10_000_000, 1_000_000, 1_000_000, 1),
         ["scale", accepted, refused, damaged] => scale(count(accepted) as usize, count(refused) as usize, count(damaged) as usize, 1),
         ["scale", accepted, refused, damaged, seed] => scale(count(accepted) as usize, count(refused) as usize, count(damaged) as usize, count(seed)),
+        ["pictures"] => pictured(30_000, 1),
+        ["pictures", least] => pictured(count(least) as usize, 1),
+        ["pictures", least, seed] => pictured(count(least) as usize, count(seed)),
         ["play", path] => play(path),
         ["bench", list, numbers] => bench::run(list, numbers).unwrap_or_else(|why| fail(why)),
         _ => fail(HELP),

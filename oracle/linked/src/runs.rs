@@ -16,7 +16,7 @@ pub struct Sides {
 }
 
 /// Whether a line may change the bench.
-fn changes(line: &Line) -> bool {
+pub fn changes(line: &Line) -> bool {
     use Line::*;
     matches!(line, SetUp(_) | Defect(..) | Blossom(..) | Expand(..) | SetState(..) | Grow(..) | Fuse(..) | Clear(_))
 }

@@ -3,6 +3,7 @@ use super::{Driver, Trouble};
 use crate::panics::caught;
 use original::dual_module::{DualNodeClass, DualNodePtr, DualNodeWeak};
 use original::pointers::RwLockPtr;
+use original::visualize::FusionVisualizer;
 use std::collections::HashSet;
 
 /// A member of a circle with its two touching nodes.
@@ -18,6 +19,12 @@ impl Driver {
             Err(panic) if self.bare => Err(Trouble::Panic(panic)),
             Err(panic) => self.first_gone(unit)?.map(|index| (4, index)).ok_or(Trouble::Panic(panic)),
         }
+    }
+
+    /// The original's picture of an interface, as the JSON that it writes for its viewer. It unwraps its check, so that only an interface whose check says 0 has one.
+    pub fn snapshot(&self, unit: u32, abbrev: bool) -> Result<String, Trouble> {
+        let face = self.face(unit)?;
+        caught(|| face.snapshot(abbrev).to_string()).map_err(Trouble::Panic)
     }
 
     /// The verdict in the check's words.

@@ -18,6 +18,13 @@ dual-ledger ages [--csv | --json] [--quiet] FILE
     --csv, --json  as one table, as one object
     --quiet        does not show refused lines
 
+dual-ledger picture [--unit U] [--full] [--at N] [--svg] FILE
+    runs a record and prints the nodes of an interface as JSON for the viewer, if its check says 0.
+    --unit U       of this interface; else of 0
+    --full         with full names; else abbreviated
+    --at N         as they stand after the first N lines
+    --svg          the nest of blossoms drawn, as an SVG that any browser shows
+
 A FILE named - is standard input. Status 0: all was read, answered and written. Status 1: it was not,
 and a message says why; a last line without newline counts as cut. Status 2: called wrongly.
 
@@ -36,6 +43,10 @@ pub struct Args {
     pub is_quiet: bool,
     pub answers: Option<PathBuf>,
     pub form: Form,
+    pub unit: u8,
+    pub is_full: bool,
+    pub is_drawn: bool,
+    pub at: Option<u64>,
 }
 
 pub enum Asked {
@@ -43,44 +54,63 @@ pub enum Asked {
     Version,
     Check(Args),
     Ages(Args),
+    Picture(Args),
+}
+
+#[derive(Clone, Copy, PartialEq, Eq)]
+enum Work {
+    Check,
+    Ages,
+    Picture,
 }
 
 impl Args {
     /// The words after the program's name.
     pub fn read(mut words: impl Iterator<Item = OsString>) -> Result<Asked, String> {
-        let first = words.next().ok_or("what is to be done? check or ages")?;
-        let is_check = match first.to_str() {
+        let first = words.next().ok_or("what is to be done? check, ages or picture")?;
+        let work = match first.to_str() {
             Some("--help" | "-h" | "help") => return Ok(Asked::Help),
             Some("--version" | "-V") => return Ok(Asked::Version),
-            Some("check") => true,
-            Some("ages") => false,
+            Some("check") => Work::Check,
+            Some("ages") => Work::Ages,
+            Some("picture") => Work::Picture,
             _ => return Err(format!("there is no subcommand {}", first.to_string_lossy())),
         };
         let jobs = std::thread::available_parallelism().map_or(1, usize::from);
-        let mut args = Args { files: vec![], jobs, is_quiet: false, answers: None, form: Form::Text };
+        let mut args = Args { files: vec![], jobs, is_quiet: false, answers: None, form: Form::Text, unit: 0, is_full: false, is_drawn: false, at: None };
         let mut no_more_options = false;
         while let Some(word) = words.next() {
             match word.to_str() {
                 Some("--") if !no_more_options => no_more_options = true,
                 Some("--help" | "-h") if !no_more_options => return Ok(Asked::Help),
-                Some("--quiet" | "-q") if !no_more_options => args.is_quiet = true,
-                Some("--jobs" | "-j") if is_check && !no_more_options => args.jobs = count(words.next())?,
-                Some("--answers") if is_check && !no_more_options => args.answers = Some(words.next().ok_or("--answers wants a file")?.into()),
-                Some("--csv") if !is_check && !no_more_options => args.form = Form::Csv,
-                Some("--json") if !is_check && !no_more_options => args.form = Form::Json,
+                Some("--quiet" | "-q") if work != Work::Picture && !no_more_options => args.is_quiet = true,
+                Some("--jobs" | "-j") if work == Work::Check && !no_more_options => args.jobs = count(words.next())?,
+                Some("--answers") if work == Work::Check && !no_more_options => args.answers = Some(words.next().ok_or("--answers wants a file")?.into()),
+                Some("--csv") if work == Work::Ages && !no_more_options => args.form = Form::Csv,
+                Some("--json") if work == Work::Ages && !no_more_options => args.form = Form::Json,
+                Some("--full") if work == Work::Picture && !no_more_options => args.is_full = true,
+                Some("--svg") if work == Work::Picture && !no_more_options => args.is_drawn = true,
+                Some("--unit") if work == Work::Picture && !no_more_options => args.unit = number(words.next(), "--unit wants an interface, 0 to 7")?,
+                Some("--at") if work == Work::Picture && !no_more_options => args.at = Some(number(words.next(), "--at wants a number of lines")?),
                 Some(option) if !no_more_options && option.starts_with('-') && option != "-" => {
                     return Err(format!("there is no option {option} here"))
                 }
                 _ => args.files.push(word.into()),
             }
         }
-        match (is_check, args.files.len()) {
+        match (work, args.files.len()) {
             (_, 0) => Err("which file? - is standard input".to_string()),
-            (true, _) => Ok(Asked::Check(args)),
-            (false, 1) => Ok(Asked::Ages(args)),
-            (false, _) => Err("ages takes one file".to_string()),
+            (Work::Check, _) => Ok(Asked::Check(args)),
+            (Work::Ages, 1) => Ok(Asked::Ages(args)),
+            (Work::Ages, _) => Err("ages takes one file".to_string()),
+            (Work::Picture, 1) => Ok(Asked::Picture(args)),
+            (Work::Picture, _) => Err("picture takes one file".to_string()),
         }
     }
+}
+
+fn number<T: std::str::FromStr>(word: Option<OsString>, wanted: &str) -> Result<T, String> {
+    word.as_ref().and_then(|word| word.to_str()).and_then(|word| word.parse().ok()).ok_or_else(|| wanted.to_string())
 }
 
 fn count(word: Option<OsString>) -> Result<usize, String> {

@@ -6,7 +6,10 @@ mod args;
 mod check;
 mod explain;
 mod input;
+mod json;
 mod output;
+mod picture;
+mod svg;
 mod table;
 
 use args::{Args, Asked};
@@ -25,6 +28,7 @@ fn main() -> ExitCode {
         Asked::Version => output::print(&format!("dual-ledger {}\n", env!("CARGO_PKG_VERSION"))),
         Asked::Check(args) => check::run(&args),
         Asked::Ages(args) => ages::run(&args),
+        Asked::Picture(args) => picture::run(&args),
     };
     match done {
         Ok(true) => ExitCode::SUCCESS,
