@@ -68,7 +68,10 @@ fn the_worked_case() {
     assert_eq!((bench.nodes_count(0), bench.get_node(0, 3), bench.get_node(0, 4)), (Ok(4), Ok(None), Err(Refusal::Range)));
     assert_eq!((bench.check_ptr_belonging(0, nodes[0]), bench.check_ptr_belonging(0, blossom)), (Ok(true), Ok(false)));
     assert_eq!((bench.present_count(0), bench.next_present(0, 1), bench.next_present(0, 3)), (Ok(3), Ok(Some((1, nodes[1]))), Ok(None)));
-    assert_eq!((bench.next_present(0, 4), bench.next_present(8, 0), bench.present_count(8)), (Err(Refusal::Range), Err(Refusal::Unit), Err(Refusal::Unit)));
+    assert_eq!(
+        (bench.next_present(0, 4), bench.next_present(8, 0), bench.present_count(8)),
+        (Err(Refusal::Range), Err(Refusal::Unit), Err(Refusal::Unit))
+    );
 }
 
 #[test]

@@ -118,7 +118,15 @@ fn as_a_browser_shows_it() {
     assert!(!lies_in(0, 1) && !lies_in(6, 2));
     let colours: Vec<&str> = boxes.iter().map(|one| one[4].as_str()).collect();
     assert_eq!(colours[..3], ["rgb(253, 230, 223)", "rgb(227, 244, 229)", "rgb(238, 241, 244)"]);
-    for words in ["interface 0: speed 0, sum ", "node 4: vertex 21", "value 9: shrinks", "node 6: blossom", "value 4: grows", "node 5: blossom", "value 2: stays"] {
+    for words in [
+        "interface 0: speed 0, sum ",
+        "node 4: vertex 21",
+        "value 9: shrinks",
+        "node 6: blossom",
+        "value 4: grows",
+        "node 5: blossom",
+        "value 2: stays",
+    ] {
         assert!(svg.contains(words) && seen.contains(words), "{words}");
     }
     fs::remove_dir_all(at).unwrap();

@@ -13,7 +13,7 @@ const TOP: u8 = 6;
 fn lines() -> Vec<Line> {
     let mut lines = vec![];
     let mut next = 1;
-    let mut blossoms = |lines: &mut Vec<String>, unit: usize, member: usize, count: usize, next: &mut usize| {
+    let blossoms = |lines: &mut Vec<String>, unit: usize, member: usize, count: usize, next: &mut usize| {
         for _ in 0..count {
             lines.extend([format!("B {unit} {member}"), format!("E {unit} {next}")]);
             *next += 1;

@@ -25,7 +25,11 @@ pub struct Seen {
 impl std::fmt::Display for Seen {
     fn fmt(&self, f: &mut std::fmt::Formatter) -> std::fmt::Result {
         writeln!(f, "{} benches with check 0, each by both choices of names: {} single, {} fused;", self.pictures, self.single, self.fused)?;
-        writeln!(f, "{} with a nest of two blossoms or more, {} touching by other nodes than members, {} with emptied slots", self.deep, self.touching, self.emptied)?;
+        writeln!(
+            f,
+            "{} with a nest of two blossoms or more, {} touching by other nodes than members, {} with emptied slots",
+            self.deep, self.touching, self.emptied
+        )?;
         writeln!(f, "{} refused as UNSOUND, {} as UNIT or CHILD", self.unsound, self.refused)
     }
 }
@@ -33,7 +37,8 @@ impl std::fmt::Display for Seen {
 /// Keys in the order of the manual, each node's six: the text with its values taken out.
 fn order(picture: &str, abbrev: bool) -> bool {
     let key = |short: &str, full: &str| format!("\"{}\":", if abbrev { short } else { full });
-    let keys = [("o", "blossom"), ("t", "touching_children"), ("s", "defect_vertex"), ("g", "grow_state"), ("u", "unit_growth"), ("p", "parent_blossom")];
+    let keys =
+        [("o", "blossom"), ("t", "touching_children"), ("s", "defect_vertex"), ("g", "grow_state"), ("u", "unit_growth"), ("p", "parent_blossom")];
     let mut rest = picture;
     let mut next = |wanted: String| rest.find(&wanted).map(|at| rest = &rest[at + wanted.len()..]).is_some();
     let count = picture.matches(&key("g", "grow_state")).count();

@@ -77,7 +77,8 @@ impl Args {
             _ => return Err(format!("there is no subcommand {}", first.to_string_lossy())),
         };
         let jobs = std::thread::available_parallelism().map_or(1, usize::from);
-        let mut args = Args { files: vec![], jobs, is_quiet: false, answers: None, form: Form::Text, unit: 0, is_full: false, is_drawn: false, at: None };
+        let mut args =
+            Args { files: vec![], jobs, is_quiet: false, answers: None, form: Form::Text, unit: 0, is_full: false, is_drawn: false, at: None };
         let mut no_more_options = false;
         while let Some(word) = words.next() {
             match word.to_str() {
@@ -85,7 +86,9 @@ impl Args {
                 Some("--help" | "-h") if !no_more_options => return Ok(Asked::Help),
                 Some("--quiet" | "-q") if work != Work::Picture && !no_more_options => args.is_quiet = true,
                 Some("--jobs" | "-j") if work == Work::Check && !no_more_options => args.jobs = count(words.next())?,
-                Some("--answers") if work == Work::Check && !no_more_options => args.answers = Some(words.next().ok_or("--answers wants a file")?.into()),
+                Some("--answers") if work == Work::Check && !no_more_options => {
+                    args.answers = Some(words.next().ok_or("--answers wants a file")?.into())
+                }
                 Some("--csv") if work == Work::Ages && !no_more_options => args.form = Form::Csv,
                 Some("--json") if work == Work::Ages && !no_more_options => args.form = Form::Json,
                 Some("--full") if work == Work::Picture && !no_more_options => args.is_full = true,

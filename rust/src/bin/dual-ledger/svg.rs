@@ -83,8 +83,10 @@ impl Nest {
             None => format!("node {index}: blossom"),
         };
         let by = touch.filter(|two| *two != (index as i64, index as i64)).map_or(String::new(), |(a, b)| format!("touches by {a} and {b}"));
-        let _ = writeln!(out, r#"<rect x="{x}" y="{y}" width="{width}" height="{height}" rx="6" fill="{fill}" stroke="{stroke}" stroke-width="1.5"/>"#);
-        let lines = [(name, "#1b1f24", "bold"), (format!("value {}: {}", node.value, word(&node.state)), stroke, "normal"), (by, "#57606a", "normal")];
+        let _ =
+            writeln!(out, r#"<rect x="{x}" y="{y}" width="{width}" height="{height}" rx="6" fill="{fill}" stroke="{stroke}" stroke-width="1.5"/>"#);
+        let lines =
+            [(name, "#1b1f24", "bold"), (format!("value {}: {}", node.value, word(&node.state)), stroke, "normal"), (by, "#57606a", "normal")];
         for (at, (line, colour, weight)) in lines.iter().enumerate() {
             let (left, base) = (x + 8, y + LINE * (at + 1));
             let _ = writeln!(out, r#"<text x="{left}" y="{base}" fill="{colour}" font-weight="{weight}">{line}</text>"#);
