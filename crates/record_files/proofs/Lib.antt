@@ -1,0 +1,4 @@
+pub mod Slices
+pub mod Adding
+pub mod Walking
+pub mod Trailers

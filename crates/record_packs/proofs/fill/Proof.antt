@@ -1,0 +1,130 @@
+-- What is written and what is left make the whole (`Filling`); each line ends further on. Assumes nothing.
+use native.Mathlib.Omega.{arith}
+use Prim.Native.Nat.{_-_}
+use mathlib.Core.Path.{_≡_, _∙_, sym, ap}
+use mathlib.Core.List.{List}
+use borrow.Author.Needs.{needs}
+use lib.ListN.{length, take, drop}
+use Rattle.text_decimals.proofs.Writes.{same-text}
+use Rattle.record_spec.specs.Operations.{Operation}
+use Rattle.record_packs.proofs.Filling.{Filling, filling, line-read, next, enough, fill-on, filled}
+use Rattle.record_packs.proofs.fill.Statement.{statement}
+use Rattle.record_packs.proofs.fill.Tie as tie
+
+abbrev Inv-loop : tie.InvT-loop
+Inv-loop text out₀ start serials₀ from₀ p₀ entry₀ out serials from p entry = Filling text out₀ start from p entry out × (length serials ≡ 1024)
+
+abbrev μ-loop : tie.MeasureT-loop
+μ-loop text out₀ start serials₀ from₀ p₀ entry₀ out serials from p entry = length text - from
+
+loop-holds : tie.Need-loop-holds Inv-loop μ-loop
+loop-holds c = (filling (c .before .before .args .text .now) (c .before .before .args .out .now) (c .before .before .args .start) (c .before .before .pre), search needs)
+
+line-end-requires : tie.Need-line-end-requires Inv-loop μ-loop
+line-end-requires c κs = c .before .loop .inv .0 .low
+
+sub-read-line : tie.Need-sub-read-line Inv-loop μ-loop
+sub-read-line c = omega (arith, c .line-end .ensures .low)
+
+part-read-line-start : tie.Need-part-read-line-start Inv-loop μ-loop
+part-read-line-start c = omega (arith, c .line-end .ensures .low, c .line-end .ensures .high)
+
+part-read-line-end : tie.Need-part-read-line-end Inv-loop μ-loop
+part-read-line-end c = omega (arith, c .line-end .ensures .low, c .line-end .ensures .high)
+
+slice-aggregate-read-line : tie.Need-slice-aggregate-read-line Inv-loop μ-loop
+slice-aggregate-read-line c = search needs
+
+read-line-requires : tie.Need-read-line-requires Inv-loop μ-loop
+read-line-requires c κs = search needs
+
+slice-aggregate-put-record : tie.Need-slice-aggregate-put-record Inv-loop μ-loop
+slice-aggregate-put-record c = search needs
+
+put-record-requires : tie.Need-put-record-requires Inv-loop μ-loop
+put-record-requires c κs =
+    let a = c .before .before .before .before .before .before .before .before .before .before .before .args in
+    let l = c .before .before .before .before .before .before .before .before .loop in
+    let e = c .before .before .before .before .before .before .line-end in
+    let n = next (a .text .now) (a .out .now) (a .start) (l .from) (l .p) (l .entry) (l .out) (l .inv .0) (c .before .before .before .before .before .before .before .loop-test .taken) (e .result) (e .ensures) in
+    let r = c .before .before .before .read-line in
+    let f = take (e .result - l .from) (drop (l .from) (a .text .now)) in
+    let x = line-read f _ _ (r .result) (n .op) (r .ensures) (l .inv .1) (r .kept .1 .0 ∙ l .inv .1) (n .said) in
+    enough (a .text .now) (a .out .now) (a .start) (l .from) (l .p) (l .entry) (l .out) (l .inv .0) (c .before .before .before .before .before .before .before .loop-test .taken) (e .result) (e .ensures) n _ (r .result) x
+
+put-four-requires : tie.Need-put-four-requires Inv-loop μ-loop
+put-four-requires c κs =
+    let a = c .before .before .before .before .before .before .before .before .before .before .before .before .before .before .before .args in
+    let l = c .before .before .before .before .before .before .before .before .before .before .before .before .loop in
+    let e = c .before .before .before .before .before .before .before .before .before .before .line-end in
+    let n = next (a .text .now) (a .out .now) (a .start) (l .from) (l .p) (l .entry) (l .out) (l .inv .0) (c .before .before .before .before .before .before .before .before .before .before .before .loop-test .taken) (e .result) (e .ensures) in
+    omega (arith, l .inv .0 .room, ap (λ (y : List Operation). length y) (n .first), c .before .before .before .put-record .kept .0)
+
+add-entry : tie.Need-add-entry Inv-loop μ-loop
+add-entry c =
+    let a = c .before .before .before .before .before .before .before .before .before .before .before .before .before .before .before .before .before .before .args in
+    let l = c .before .before .before .before .before .before .before .before .before .before .before .before .before .before .before .loop in
+    let e = c .before .before .before .before .before .before .before .before .before .before .before .before .before .line-end in
+    let n = next (a .text .now) (a .out .now) (a .start) (l .from) (l .p) (l .entry) (l .out) (l .inv .0) (c .before .before .before .before .before .before .before .before .before .before .before .before .before .before .loop-test .taken) (e .result) (e .ensures) in
+    omega (arith, l .inv .0 .room, ap (λ (y : List Operation). length y) (n .first), l .inv .0 .long, c .before .before .before .before .before .before .before .before .before .before .before .before .before .before .before .before .before .before .good)
+
+add-from : tie.Need-add-from Inv-loop μ-loop
+add-from c =
+    let a = c .before .before .before .before .before .before .before .before .before .before .before .before .before .before .before .before .before .before .args in
+    let l = c .before .before .before .before .before .before .before .before .before .before .before .before .before .before .before .loop in
+    let e = c .before .before .before .before .before .before .before .before .before .before .before .before .before .line-end in
+    let n = next (a .text .now) (a .out .now) (a .start) (l .from) (l .p) (l .entry) (l .out) (l .inv .0) (c .before .before .before .before .before .before .before .before .before .before .before .before .before .before .loop-test .taken) (e .result) (e .ensures) in
+    omega (arith, n .inside)
+
+loop-less : tie.Need-loop-less Inv-loop μ-loop
+loop-less c =
+    let a = c .before .before .before .before .before .before .before .before .before .before .before .before .before .before .before .before .before .before .args in
+    let l = c .before .before .before .before .before .before .before .before .before .before .before .before .before .before .before .loop in
+    let e = c .before .before .before .before .before .before .before .before .before .before .before .before .before .line-end in
+    let n = next (a .text .now) (a .out .now) (a .start) (l .from) (l .p) (l .entry) (l .out) (l .inv .0) (c .before .before .before .before .before .before .before .before .before .before .before .before .before .before .loop-test .taken) (e .result) (e .ensures) in
+    omega (arith, n .inside, e .ensures .low)
+
+loop-again : tie.Need-loop-again Inv-loop μ-loop
+loop-again c =
+    let a = c .before .before .before .before .before .before .before .before .before .before .before .before .before .before .before .before .before .before .args in
+    let l = c .before .before .before .before .before .before .before .before .before .before .before .before .before .before .before .loop in
+    let e = c .before .before .before .before .before .before .before .before .before .before .before .before .before .line-end in
+    let n = next (a .text .now) (a .out .now) (a .start) (l .from) (l .p) (l .entry) (l .out) (l .inv .0) (c .before .before .before .before .before .before .before .before .before .before .before .before .before .before .loop-test .taken) (e .result) (e .ensures) in
+    let r = c .before .before .before .before .before .before .before .before .before .before .read-line in
+    let f = take (e .result - l .from) (drop (l .from) (a .text .now)) in
+    let x = line-read f _ _ (r .result) (n .op) (r .ensures) (l .inv .1) (r .kept .1 .0 ∙ l .inv .1) (n .said) in
+    let w = c .before .before .before .before .before .before .put-record in
+    let v = c .before .before .put-four in
+    (fill-on (a .text .now) (a .out .now) (a .start) (l .from) (l .p) (l .entry) (l .out) (l .inv .0) (c .before .before .before .before .before .before .before .before .before .before .before .before .before .before .loop-test .taken) (e .result) (e .ensures) n _ (w .result) (same-text (l .out) (l .p) _ _ _ _ (x .bytes) (w .ensures)) _ (v .result) (v .ensures) (v .kept .0 ∙ w .kept .0), r .kept .1 .0 ∙ l .inv .1)
+
+same-length : tie.Need-same-length Inv-loop μ-loop
+same-length c = c .before .loop .inv .0 .long
+
+returns : tie.Need-returns Inv-loop μ-loop
+returns c =
+    let a = c .before .before .before .before .args in
+    let l = c .before .loop in
+    filled (a .text .now) (a .out .now) (a .start) (l .from) (l .p) (l .entry) (l .out) (l .inv .0) (c .loop-test .left)
+
+pub fill-spec : {M : Type 1} → statement M
+fill-spec =
+    tie.close
+    (tie.spec
+    Inv-loop
+    μ-loop
+    loop-holds
+    line-end-requires
+    sub-read-line
+    part-read-line-start
+    part-read-line-end
+    slice-aggregate-read-line
+    read-line-requires
+    slice-aggregate-put-record
+    put-record-requires
+    put-four-requires
+    add-entry
+    add-from
+    loop-less
+    loop-again
+    same-length
+    returns)

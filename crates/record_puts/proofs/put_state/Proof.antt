@@ -1,0 +1,37 @@
+-- The head and the serial, and then the state. Assumes nothing.
+use native.Mathlib.Omega.{arith}
+use mathlib.Core.Path.{sym, _∙_, ap}
+use mathlib.Core.List.{_++_}
+use lib.ListN.{length, length-append}
+use Rattle.text_decimals.proofs.Writes.{chain, same-text, length-wrote}
+use Rattle.record_spec.specs.Numbers.{bytes, complement}
+use Rattle.record_spec.specs.Records.{stateByte}
+use Rattle.record_spec.proofs.Numbers.{length-bytes}
+use Rattle.ledger_spec.specs.Named.{stateNamed}
+use Rattle.record_puts.specs.Puts.{headOf}
+use Rattle.record_puts.proofs.Putting.{head-long}
+use borrow.Author.Needs.{needs}
+use Rattle.record_puts.proofs.put_state.Statement.{statement}
+use Rattle.record_puts.proofs.put_state.Tie as tie
+
+put-four-after-requires : tie.Need-put-four-after-requires
+put-four-after-requires c κs = search needs
+
+state-byte-requires : tie.Need-state-byte-requires
+state-byte-requires c κs = search needs
+
+put-byte-requires : tie.Need-put-byte-requires
+put-byte-requires c κs = omega (arith, c .before .before .before .before .put-four-after .ensures .next, c .before .before .before .before .put-four-after .kept .0, head-long 83 (c .before .before .before .before .before .before .before .args .unit), length-append (headOf 83 (c .before .before .before .before .before .before .before .args .unit)) (bytes 4 (c .before .before .before .before .before .before .before .args .serial)), length-bytes 4 (c .before .before .before .before .before .before .before .args .serial), c .before .before .before .before .before .before .before .pre)
+
+same-length : tie.Need-same-length
+same-length c = search needs
+
+returns : tie.Need-returns
+returns c =
+    let a = c .before .before .before .before .before .before .before .before .before .before .args in
+    chain (a .out .now) (a .at) (headOf 83 (a .unit) ++ bytes 4 (a .serial)) _ _ (bytes 1 (stateByte (stateNamed (a .state)))) _ _ (c .before .before .before .before .before .before .before .put-four-after .ensures) (rw (sym (c .before .before .before .before .state-byte .ensures)) (c .before .before .put-byte .ensures))
+
+pub put-state-spec : {M : Type 1} → statement M
+put-state-spec =
+    tie.close
+    (tie.spec put-four-after-requires state-byte-requires put-byte-requires same-length returns)

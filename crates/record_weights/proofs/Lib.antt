@@ -1,0 +1,3 @@
+pub mod Newlines
+pub mod Sizes
+pub mod Weighing
