@@ -319,27 +319,17 @@ static inline const char *dual_ledger_refusal_name(uint8_t number) {
  *   dual_ledger_is_sound                                936
  *   dual_ledger_next_present                           1544
  *   dual_ledger_nodes_count                            1544
- *   dual_ledger_sanity_check                          18344
  *   dual_ledger_present_count                          1528
- *   dual_ledger_sanity_check                          14248
+ *   dual_ledger_sanity_check                          18344
  *   dual_ledger_set_grow_state                         3816
  *   dual_ledger_set_up                                   40
- *   dual_ledger_snapshot                              22632
- *   dual_ledger_strict_check                          14248
+ *   dual_ledger_snapshot                              26728
  *   dual_ledger_strict_check                          18344
- *   dual_ledger_sum_dual_variables                      872
- *   dual_ledger_sum_grow_speed                          872
+ *   dual_ledger_sum_dual_variables                      952
+ *   dual_ledger_sum_grow_speed                          952
  *   dual_ledger_text_chunk                            19304
  *   dual_ledger_text_end                                  8
  *   dual_ledger_text_line                             19160
- *   dual_ledger_told_create_blossom                    6248
- *   dual_ledger_told_create_defect_node                 200
- *   dual_ledger_told_expand_blossom                    5624
- *   dual_ledger_sum_dual_variables                      952
- *   dual_ledger_sum_grow_speed                          952
- *   dual_ledger_text_chunk                            15208
- *   dual_ledger_text_end                                  8
- *   dual_ledger_text_line                             15064
  *   dual_ledger_told_create_blossom                    6256
  *   dual_ledger_told_create_defect_node                 208
  *   dual_ledger_told_expand_blossom                    5640
@@ -368,12 +358,10 @@ static inline const char *dual_ledger_refusal_name(uint8_t number) {
  *   dual_ledger_trusted_grow                              8
  *   dual_ledger_trusted_next_present                   1544
  *   dual_ledger_trusted_nodes_count                    1528
- *   dual_ledger_trusted_sanity_check                  18328
  *   dual_ledger_trusted_present_count                  1528
- *   dual_ledger_trusted_sanity_check                  14232
+ *   dual_ledger_trusted_sanity_check                  18328
  *   dual_ledger_trusted_set_grow_state                  152
- *   dual_ledger_trusted_snapshot                      22584
- *   dual_ledger_trusted_strict_check                  14232
+ *   dual_ledger_trusted_snapshot                      26680
  *   dual_ledger_trusted_strict_check                  18328
  *   dual_ledger_trusted_sum_dual_variables                8
  *   dual_ledger_trusted_sum_grow_speed                    8
