@@ -53,6 +53,14 @@ module _ (g : Code) (h : Fits g) where
     pub free-done : (t : List Stop) → g .stopped < 128 → t ≡ over (insertedAt p x (take (g .stopped) (g .stops))) (g .stops) → done (record { kind = Conflicts; list = g .list; stops = t; listed = g .listed; stopped = g .stopped + 1 }) ≡ changed (grouped (addStop x (listOf g) (stopsOf g))) g
     free-done t m f = answers-lists _ g (listOf g) (insertedAt p x (stopsOf g)) _ (e ∙ room-yes (listOf g) (insertedAt p x (stopsOf g)) list-few (omega (arith, put-in-long g h p x k))) (put-in g h p x t k f)
 
+  -- ---- a stop goes for an entry
+  module _ (p : ℕ) (e : Entry) where
+    pub moved-full : 128 ≤ g .listed → full g ≡ changed (grouped (roomFor (listOf g ++ e ∷ []) (removedAt p (stopsOf g)))) g
+    moved-full k = answers-room _ g (room-list (listOf g ++ e ∷ []) (removedAt p (stopsOf g)) (omega (arith, pushed-long g h e)))
+
+    pub moved-done : (t : List Stop) → g .listed < 128 → p < g .stopped → t ≡ over (removedAt p (take (g .stopped) (g .stops))) (g .stops) → done (record { kind = Conflicts; list = set (g .list) (g .listed) e; stops = t; listed = g .listed + 1; stopped = g .stopped - 1 }) ≡ changed (grouped (roomFor (listOf g ++ e ∷ []) (removedAt p (stopsOf g)))) g
+    moved-done t k m f = answers-lists _ g (listOf g ++ e ∷ []) (removedAt p (stopsOf g)) _ (room-yes (listOf g ++ e ∷ []) (removedAt p (stopsOf g)) (omega (arith, pushed-long g h e)) (omega (arith, taken-long g h p m, h .short))) (moved g h p e t k m f)
+
   -- ---- two stops at one vertex
   module _ (p : ℕ) (x y : Stop) (k : p < g .stopped) (stands : stopsOf g ≡ take p (stopsOf g) ++ y ∷ afterAt p (stopsOf g)) (a b : MaybePair) where
     abbrev met : Option Lists
@@ -67,17 +75,8 @@ module _ (g : Code) (h : Fits g) where
         (replaces x y (listOf g) (take p (stopsOf g)) (afterAt p (stopsOf g)) a b e ∙ room-yes (listOf g) (take p (stopsOf g) ++ x ∷ afterAt p (stopsOf g)) list-few (omega (arith, swap-long p (stopsOf g) x (omega (arith, stopped-is g)), stops-few)))
         (replaced g h p x k)
 
-    module _ (c d : Pair) (e : meetingOf a b ≡ Join c d) where
-      abbrev both : Entry
-      both = record { obstacle = Conflicting c d }
-
-      pub met-full : 128 ≤ g .listed → full g ≡ changed (grouped met) g
-      met-full m = answers-room _ g (joins x y (listOf g) (take p (stopsOf g)) (afterAt p (stopsOf g)) a b c d e ∙ room-list (listOf g ++ both ∷ []) (removedAt p (stopsOf g)) (omega (arith, pushed-long g h both)))
-
-      pub met-join : (t : List Stop) → g .listed < 128 → t ≡ over (removedAt p (take (g .stopped) (g .stops))) (g .stops) → done (record { kind = Conflicts; list = set (g .list) (g .listed) both; stops = t; listed = g .listed + 1; stopped = g .stopped - 1 }) ≡ changed (grouped met) g
-      met-join t m f = answers-lists _ g (listOf g ++ both ∷ []) (removedAt p (stopsOf g)) _
-          (joins x y (listOf g) (take p (stopsOf g)) (afterAt p (stopsOf g)) a b c d e ∙ room-yes (listOf g ++ both ∷ []) (removedAt p (stopsOf g)) (omega (arith, pushed-long g h both)) (omega (arith, taken-long g h p k, h .short)))
-          (moved g h p both t m k f)
+    pub met-join : (c d : Pair) (r : Changed) → meetingOf a b ≡ Join c d → r ≡ changed (grouped (roomFor (listOf g ++ record { obstacle = Conflicting c d } ∷ []) (removedAt p (stopsOf g)))) g → r ≡ changed (grouped met) g
+    met-join c d r e f = f ∙ sym (ap (λ (o : Option Lists). changed (grouped o) g) (joins x y (listOf g) (take p (stopsOf g)) (afterAt p (stopsOf g)) a b c d e))
 
 -- ---- by the obstacle, to a growth
 module _ (a : ℤ) (f : Bool) (o : Obstacle) (v : ℕ) (g r : Code) where

@@ -8,6 +8,7 @@ use kinds::Entry;
 use kinds::Obstacle;
 use kinds::Stop;
 use kinds::Vertex;
+use kinds::numbers;
 ghost use mathlib.Core.Path.{_≡_};
 ghost use mathlib.Core.Bool.{true, _||_};
 ghost use mathlib.Core.List.{[], _∷_, _++_};
@@ -16,7 +17,7 @@ ghost use lib.ListN.{take};
 ghost use Rattle.kinds.specs.Obstacles.{pairOf};
 ghost use Rattle.ledger_spec.specs.Groups.{growth, conflicts, soundGroup, smaller, grouped, roomFor, meet, addStop, addToGrowth, addToConflicts, added};
 ghost use Rattle.groups.specs.View.{listOf, stopsOf, groupOf, laid};
-ghost use Rattle.group_stops.specs.Places.{afterAt};
+ghost use Rattle.group_stops.specs.Places.{afterAt, removedAt};
 ghost use Rattle.group_adds.specs.Adds.{changed};
 
 // A number, and the group after the call.
@@ -32,7 +33,7 @@ fn add_listed(g: Group, e: Entry) -> Changed
     let at = g.listed;
     if Group::MOST <= at {
         return Changed {
-            number: 20,
+            number: numbers::ROOM,
             group: g,
         };
     }
@@ -42,6 +43,35 @@ fn add_listed(g: Group, e: Entry) -> Changed
     Changed {
         number: 0,
         group: r,
+    }
+}
+
+// The stop that is pending at p goes, and e is listed.
+fn moved(g: Group, p: usize, e: Entry) -> Changed
+    requires { ⌜ (g .kind ≡ Kind.Conflicts) × ((g .listed ≤ 128) × (g .stopped ≤ 128)) ⌝ }
+    requires { ⌜ p < g .stopped ⌝ }
+    ensures { λ r. ⌜ r ≡ changed (grouped (roomFor (listOf g ++ e ∷ []) (removedAt p (stopsOf g)))) g ⌝ }
+{
+    let n = g.listed;
+    if Group::MOST <= n {
+        return Changed {
+            number: numbers::ROOM,
+            group: g,
+        };
+    }
+    let mut list = g.list;
+    list[n] = e;
+    let all = g.stops;
+    let stops = group_stops::taken_out(all, g.stopped, p);
+    Changed {
+        number: 0,
+        group: Group {
+            kind: Kind::Conflicts,
+            list,
+            stops,
+            listed: n + 1,
+            stopped: g.stopped - 1,
+        },
     }
 }
 
@@ -66,30 +96,10 @@ fn met(g: Group, p: usize, x: Stop, y: Stop) -> Changed
             }
         }
         Meeting::Join(a, b) => {
-            let n = g.listed;
-            if Group::MOST <= n {
-                return Changed {
-                    number: 20,
-                    group: g,
-                };
-            }
-            let mut list = g.list;
             let e = Entry {
                 obstacle: Obstacle::Conflicting(a, b),
             };
-            list[n] = e;
-            let all = g.stops;
-            let stops = group_stops::taken_out(all, g.stopped, p);
-            Changed {
-                number: 0,
-                group: Group {
-                    kind: Kind::Conflicts,
-                    list,
-                    stops,
-                    listed: n + 1,
-                    stopped: g.stopped - 1,
-                },
-            }
+            moved(g, p, e)
         }
     }
 }
@@ -107,7 +117,7 @@ fn add_stop(g: Group, x: Stop) -> Changed
         Spot::Free(p) => {
             if Group::MOST <= count {
                 return Changed {
-                    number: 20,
+                    number: numbers::ROOM,
                     group: g,
                 };
             }

@@ -6,6 +6,7 @@ use bench_words::WORDS;
 use group_adds::Changed;
 use groups::Group;
 use kinds::Obstacle;
+use kinds::numbers;
 ghost use mathlib.Core.Path.{_≡_};
 ghost use Rattle.ledger_spec.specs.GroupCalls.{add, extend};
 ghost use Rattle.bench_views.specs.View.{view};
@@ -14,29 +15,25 @@ ghost use Rattle.groups.specs.View.{groupOf};
 ghost use Rattle.group_extends.specs.Extends.{wholeOf};
 ghost use Rattle.group_calls.specs.Whole.{whole};
 
-const BROKEN: u8 = 2;
-
-const STALE: u8 = 8;
-
 // STALE where a node that the obstacle names is not present.
 pub fn add(b: &[u64; WORDS], g: Group, o: Obstacle) -> Changed
     ensures { λ r. ⌜ r ≡ whole (asked (now (b .entry)) (groupOf g) (add (view (now (b .entry))) (groupOf g) o)) g g ⌝ }
 {
     if !sound_lent::is_bench(b) {
         return Changed {
-            number: BROKEN,
+            number: numbers::BROKEN,
             group: g,
         };
     }
     if !groups::group_is_sound(g) {
         return Changed {
-            number: BROKEN,
+            number: numbers::BROKEN,
             group: g,
         };
     }
     if presence::names_gone(b, o) {
         return Changed {
-            number: STALE,
+            number: numbers::STALE,
             group: g,
         };
     }
@@ -50,25 +47,25 @@ pub fn extend(b: &[u64; WORDS], g: Group, other: Group) -> Changed
 {
     if !sound_lent::is_bench(b) {
         return Changed {
-            number: BROKEN,
+            number: numbers::BROKEN,
             group: g,
         };
     }
     if !groups::group_is_sound(g) {
         return Changed {
-            number: BROKEN,
+            number: numbers::BROKEN,
             group: g,
         };
     }
     if !groups::group_is_sound(other) {
         return Changed {
-            number: BROKEN,
+            number: numbers::BROKEN,
             group: g,
         };
     }
     if presence::group_gone(b, other) {
         return Changed {
-            number: STALE,
+            number: numbers::STALE,
             group: g,
         };
     }

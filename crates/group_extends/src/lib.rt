@@ -4,6 +4,7 @@ use group_adds::Changed;
 use groups::Group;
 use groups::Kind;
 use kinds::Obstacle;
+use kinds::numbers;
 ghost use mathlib.Core.Path.{_≡_};
 ghost use mathlib.Core.Bool.{true, _&&_};
 ghost use Prim.Native.Nat.{_≤_};
@@ -49,7 +50,7 @@ fn extend_conflicts(g: Group, h: Group) -> Changed
     let free = Group::MOST - g.listed;
     if free < h.listed {
         return Changed {
-            number: 20,
+            number: numbers::ROOM,
             group: g,
         };
     }

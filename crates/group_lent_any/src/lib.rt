@@ -7,14 +7,13 @@ use group_lent::OBSTACLE;
 use groups::Asked;
 use groups::Told;
 use kinds::MaybeLength;
+use kinds::numbers;
 ghost use mathlib.Core.Path.{_≡_};
 ghost use mathlib.Core.Bool.{false};
 ghost use mathlib.Core.Option.{none};
 ghost use Rattle.ledger_spec.specs.GroupCalls.{isEmpty, isActive, growthOf};
 ghost use Rattle.groups.specs.Shown.{shownTold, shownAsked};
 ghost use Rattle.group_lent_any.specs.Any.{Judged, askedOf, noObstacle, PeekedAny, PoppedAny, SparedAny, AddedAny, ExtendedAny};
-
-const BROKEN: u8 = 2;
 
 // Whether the words hold a sound group.
 pub fn is_group(w: &[u64; GROUP]) -> bool
@@ -29,7 +28,7 @@ pub fn is_empty(w: &[u64; GROUP]) -> Told
 {
     if !is_group(w) {
         return Told {
-            number: BROKEN,
+            number: numbers::BROKEN,
             yes: false,
         };
     }
@@ -42,7 +41,7 @@ pub fn is_active(w: &[u64; GROUP]) -> Told
 {
     if !is_group(w) {
         return Told {
-            number: BROKEN,
+            number: numbers::BROKEN,
             yes: false,
         };
     }
@@ -55,7 +54,7 @@ pub fn get_none_zero_growth(w: &[u64; GROUP]) -> Asked
 {
     if !is_group(w) {
         return Asked {
-            number: BROKEN,
+            number: numbers::BROKEN,
             length: MaybeLength::NoLength,
         };
     }
@@ -74,7 +73,7 @@ fn broken(o: &mut [u64; OBSTACLE]) -> u8
         d: 0,
     };
     group_lent::put_in(o, none);
-    BROKEN
+    numbers::BROKEN
 }
 
 pub fn peek(w: &[u64; GROUP], o: &mut [u64; OBSTACLE]) -> u8
@@ -110,14 +109,14 @@ pub fn add(b: &[u64; WORDS], w: &mut [u64; GROUP], o: &[u64; OBSTACLE]) -> u8
     ensures { λ r. ⌜ AddedAny (now (b .entry)) (now (w .entry)) (now (o .entry)) r (now (w .exit)) ⌝ }
 {
     if !sound_lent::is_bench(b) {
-        return BROKEN;
+        return numbers::BROKEN;
     }
     if !is_group(w) {
-        return BROKEN;
+        return numbers::BROKEN;
     }
     let f = group_lent::five_in(o);
     if !group_lent::is_form(f) {
-        return BROKEN;
+        return numbers::BROKEN;
     }
     group_lent_calls::add(b, w, o)
 }
@@ -127,13 +126,13 @@ pub fn extend(b: &[u64; WORDS], w: &mut [u64; GROUP], other: &[u64; GROUP]) -> u
     ensures { λ r. ⌜ ExtendedAny (now (b .entry)) (now (w .entry)) (now (other .entry)) r (now (w .exit)) ⌝ }
 {
     if !sound_lent::is_bench(b) {
-        return BROKEN;
+        return numbers::BROKEN;
     }
     if !is_group(w) {
-        return BROKEN;
+        return numbers::BROKEN;
     }
     if !is_group(other) {
-        return BROKEN;
+        return numbers::BROKEN;
     }
     group_lent_calls::extend(b, w, other)
 }

@@ -3,6 +3,7 @@
 use bench_words::WORDS;
 use group_lent::GROUP;
 use group_lent::OBSTACLE;
+use kinds::numbers;
 ghost use mathlib.Core.Path.{_≡_};
 ghost use mathlib.Core.Bool.{true};
 ghost use Rattle.bench_views.specs.Fit.{SoundWords};
@@ -54,7 +55,7 @@ pub fn add(b: &[u64; WORDS], w: &mut [u64; GROUP], o: &[u64; OBSTACLE]) -> u8
     }
     let f = group_lent::five_in(o);
     if group_lent_nodes::names_gone(b, f) {
-        return 8;
+        return numbers::STALE;
     }
     let v = group_lent_nodes::vertex_of(b, f);
     group_lent_stops::add(w, f, v)
@@ -66,7 +67,7 @@ pub fn extend(b: &[u64; WORDS], w: &mut [u64; GROUP], other: &[u64; GROUP]) -> u
     ensures { λ r. ⌜ Extended (now (b .entry)) (now (w .entry)) (now (other .entry)) r (now (w .exit)) ⌝ }
 {
     if group_lent_nodes::group_gone(b, other) {
-        return 8;
+        return numbers::STALE;
     }
     group_lent_extends::extend(w, other)
 }

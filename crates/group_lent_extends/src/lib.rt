@@ -2,6 +2,7 @@
 // stops are added where they stand. Both hold a sound group, and so does what is left. Assumes nothing.
 use group_lent::Five;
 use group_lent::GROUP;
+use kinds::numbers;
 ghost use mathlib.Core.Path.{_≡_};
 ghost use Prim.Native.Nat.{_+_, _≤_};
 ghost use lib.ListN.{length};
@@ -135,7 +136,7 @@ pub fn extend(w: &mut [u64; GROUP], other: &[u64; GROUP]) -> u8
         return 0;
     }
     if !group_lent_room::has_room(w, other) {
-        return 20;
+        return numbers::ROOM;
     }
     append(w, other);
     add_stops(w, other);

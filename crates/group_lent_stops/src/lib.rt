@@ -2,6 +2,7 @@
 // one. The words hold a sound group: the call requires it, and leaves them so. Assumes nothing.
 use group_lent::Five;
 use group_lent::GROUP;
+use kinds::numbers;
 ghost use mathlib.Core.Path.{_≡_};
 ghost use mathlib.Core.Bool.{true, _&&_};
 ghost use mathlib.Core.List.{_∷_};
@@ -113,7 +114,7 @@ fn meet(w: &mut [u64; GROUP], p: usize, v: u64, f: Five) -> u8
         return 0;
     }
     if 128 <= w[3] {
-        return 20;
+        return numbers::ROOM;
     }
     join(w, p, f);
     0
@@ -142,7 +143,7 @@ pub fn add_stop(w: &mut [u64; GROUP], f: Five, v: u64) -> u8
         return meet(w, p, v, f);
     }
     if 128 <= w[4] {
-        return 20;
+        return numbers::ROOM;
     }
     insert(w, p, v, f);
     0

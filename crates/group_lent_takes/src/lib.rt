@@ -4,6 +4,7 @@ use group_lent::Five;
 use group_lent::GROUP;
 use groups::Asked;
 use kinds::MaybeLength;
+use kinds::numbers;
 ghost use mathlib.Core.Path.{_≡_};
 ghost use mathlib.Core.Bool.{true};
 ghost use Prim.Native.Nat.{ℕ, _-_};
@@ -65,7 +66,7 @@ pub fn get_none_zero_growth(w: &[u64; GROUP]) -> Asked
     }
     if l == LARGEST {
         return Asked {
-            number: 21,
+            number: numbers::NOTHING,
             length: MaybeLength::NoLength,
         };
     }
@@ -136,7 +137,7 @@ pub fn add_listed(w: &mut [u64; GROUP], f: Five) -> u8
     }
     let n = w[3] as usize;
     if 128 <= n {
-        return 20;
+        return numbers::ROOM;
     }
     group_lent::put_five(w, 5 + n * 5, f);
     w[3] = (n + 1) as u64;
@@ -178,7 +179,7 @@ pub fn peek(w: &[u64; GROUP]) -> Top
     let obstacle = top_of(w);
     if w[0] == 1 {
         return Top {
-            number: 10,
+            number: numbers::KIND,
             obstacle,
         };
     }
@@ -205,7 +206,7 @@ pub fn pop(w: &mut [u64; GROUP]) -> Top
     let obstacle = top_of(w);
     if w[0] == 1 {
         return Top {
-            number: 10,
+            number: numbers::KIND,
             obstacle,
         };
     }

@@ -5,6 +5,7 @@ use groups::Kind;
 use kinds::Entry;
 use kinds::Obstacle;
 use kinds::Stop;
+use kinds::numbers;
 ghost use mathlib.Core.Path.{_≡_};
 ghost use Prim.Native.Nat.{_-_, _<_};
 ghost use Rattle.ledger_spec.specs.GroupCalls.{peek, pop};
@@ -75,14 +76,14 @@ pub fn peek(g: Group) -> Peeked
 {
     if !groups::group_is_sound(g) {
         return Peeked {
-            number: 2,
+            number: numbers::BROKEN,
             obstacle: MaybeObstacle::NoObstacle,
         };
     }
     let kind = g.kind;
     match kind {
         Kind::Growth(_, _) => Peeked {
-            number: 10,
+            number: numbers::KIND,
             obstacle: MaybeObstacle::NoObstacle,
         },
         Kind::Conflicts => {
@@ -104,7 +105,7 @@ pub fn pop(g: Group) -> Popped
 {
     if !groups::group_is_sound(g) {
         return Popped {
-            number: 2,
+            number: numbers::BROKEN,
             obstacle: MaybeObstacle::NoObstacle,
             group: g,
         };
@@ -112,7 +113,7 @@ pub fn pop(g: Group) -> Popped
     let kind = g.kind;
     match kind {
         Kind::Growth(_, _) => Popped {
-            number: 10,
+            number: numbers::KIND,
             obstacle: MaybeObstacle::NoObstacle,
             group: g,
         },

@@ -7,6 +7,7 @@ use kinds::MaybePair;
 use kinds::Obstacle;
 use kinds::Stop;
 use kinds::Vertex;
+use kinds::numbers;
 ghost use mathlib.Core.Path.{_≡_};
 ghost use Prim.Native.Nat.{_≤_};
 ghost use lib.ListN.{take};
@@ -136,7 +137,7 @@ pub fn is_empty(g: Group) -> Told
 {
     if !group_is_sound(g) {
         return Told {
-            number: 2,
+            number: numbers::BROKEN,
             yes: false,
         };
     }
@@ -159,7 +160,7 @@ pub fn is_active(g: Group) -> Told
 {
     if !group_is_sound(g) {
         return Told {
-            number: 2,
+            number: numbers::BROKEN,
             yes: false,
         };
     }
@@ -191,7 +192,7 @@ pub fn get_none_zero_growth(g: Group) -> Asked
 {
     if !group_is_sound(g) {
         return Asked {
-            number: 2,
+            number: numbers::BROKEN,
             length: MaybeLength::NoLength,
         };
     }
@@ -200,7 +201,7 @@ pub fn get_none_zero_growth(g: Group) -> Asked
         Kind::Growth(length, _) => {
             if length == Obstacle::LARGEST {
                 return Asked {
-                    number: 21,
+                    number: numbers::NOTHING,
                     length: MaybeLength::NoLength,
                 };
             }

@@ -3,6 +3,7 @@
 // Assumes nothing.
 use bench_serials::HINTS;
 use bench_words::WORDS;
+use kinds::numbers;
 use text_numbers::Reply;
 ghost use Rattle.ledger_spec.specs.Grammar.{lineOf};
 ghost use Rattle.bench_views.specs.Fit.{SoundWords};
@@ -34,7 +35,7 @@ pub fn line_on_any(b: &mut [u64; WORDS], line: &[u8], hints: &mut [u16; HINTS]) 
     ensures { λ r. ⌜ LineOn (now (b .entry)) (now (line .entry)) r (now (b .exit)) ⌝ }
 {
     if !sound_lent::is_bench(b) {
-        return text_numbers::silent(2, 0);
+        return text_numbers::silent(numbers::BROKEN, 0);
     }
     line_on_sound(b, line, hints)
 }
@@ -53,14 +54,14 @@ pub fn chunk_on_sound(
 {
     if HELD < held {
         return Chunked {
-            number: 2,
+            number: numbers::BROKEN,
             held,
             wrote: 0,
         };
     }
     if out.len() / 57 < chunk.len() {
         return Chunked {
-            number: 19,
+            number: numbers::SMALL,
             held,
             wrote: 0,
         };
@@ -87,7 +88,7 @@ pub fn chunk_on_any(
 {
     if !sound_lent::is_bench(b) {
         return Chunked {
-            number: 2,
+            number: numbers::BROKEN,
             held,
             wrote: 0,
         };
@@ -101,7 +102,7 @@ pub fn end(held: usize, out: &mut [u8]) -> Chunked
 {
     if out.len() < 57 {
         return Chunked {
-            number: 19,
+            number: numbers::SMALL,
             held,
             wrote: 0,
         };

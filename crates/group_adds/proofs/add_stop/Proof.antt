@@ -31,8 +31,10 @@ enum-known-spot c = search needs
 
 met-requires : tie.Need-met-requires
 met-requires c κs =
-    let s = c .before .before .before .before .before .before in
-    let h = held-adds (s .args .x) (listOf (s .args .g)) (stopsOf (s .args .g)) (c .before .spot .given .0 .0) (c .before .spot .given .0 .1 .0) (at-stops (s .args .g) (fits s) (s .args .x .vertex .0) _ (sym (c .before .spot .given .1) ∙ c .before .before .before .spot-of .ensures)) in
+    let p = c .before in
+    let f = p .before .before in
+    let s = f .before .before .before in
+    let h = held-adds (s .args .x) (listOf (s .args .g)) (stopsOf (s .args .g)) (p .spot .given .0 .0) (p .spot .given .0 .1 .0) (at-stops (s .args .g) (fits s) (s .args .x .vertex .0) _ (sym (p .spot .given .1) ∙ f .spot-of .ensures)) in
     (s .pre, (omega (arith, h .0, stopped-is (s .args .g)), h .1))
 
 enum-known-spot-2 : tie.Need-enum-known-spot-2
@@ -40,33 +42,43 @@ enum-known-spot-2 c = search needs
 
 returns : tie.Need-returns
 returns c =
-    let s = c .before .before .before .before .before .before .before in
-    let h = free-adds (s .args .x) (listOf (s .args .g)) (stopsOf (s .args .g)) (c .before .before .spot2 .given .0 .0) (at-stops (s .args .g) (fits s) (s .args .x .vertex .0) _ (sym (c .before .before .spot2 .given .1) ∙ c .before .before .before .before .spot-of .ensures)) in
+    let p = c .before .before in
+    let f = p .before .before in
+    let s = f .before .before .before in
+    let h = free-adds (s .args .x) (listOf (s .args .g)) (stopsOf (s .args .g)) (p .spot2 .given .0 .0) (at-stops (s .args .g) (fits s) (s .args .x .vertex .0) _ (sym (p .spot2 .given .1) ∙ f .spot-of .ensures)) in
     let z = stopped-is (s .args .g) in
-    free-full (s .args .g) (fits s) (c .before .before .spot2 .given .0 .0) (s .args .x) (omega (arith, h .0, z)) (h .1) (c .if1 .taken)
+    free-full (s .args .g) (fits s) (p .spot2 .given .0 .0) (s .args .x) (omega (arith, h .0, z)) (h .1) (c .if1 .taken)
 
 put-in-requires : tie.Need-put-in-requires
 put-in-requires c κs =
-    let s = c .before .before .before .before .before .before .before .before in
-    let h = free-adds (s .args .x) (listOf (s .args .g)) (stopsOf (s .args .g)) (c .before .before .before .spot2 .given .0 .0) (at-stops (s .args .g) (fits s) (s .args .x .vertex .0) _ (sym (c .before .before .before .spot2 .given .1) ∙ c .before .before .before .before .before .spot-of .ensures)) in
+    let q = c .before in
+    let p = q .before .before in
+    let f = p .before .before in
+    let s = f .before .before .before in
+    let h = free-adds (s .args .x) (listOf (s .args .g)) (stopsOf (s .args .g)) (p .spot2 .given .0 .0) (at-stops (s .args .g) (fits s) (s .args .x .vertex .0) _ (sym (p .spot2 .given .1) ∙ f .spot-of .ensures)) in
     let z = stopped-is (s .args .g) in
-    (omega (arith, h .0, z), c .before .if1 .left)
+    (omega (arith, h .0, z), q .if1 .left)
 
 add-t15 : tie.Need-add-t15
 add-t15 c = omega (arith, c .before .before .if1 .left)
 
 returns-2 : tie.Need-returns-2
 returns-2 c =
-    let s = c .before .before .before .before .before .before .before in
-    let h = held-adds (s .args .x) (listOf (s .args .g)) (stopsOf (s .args .g)) (c .before .before .spot .given .0 .0) (c .before .before .spot .given .0 .1 .0) (at-stops (s .args .g) (fits s) (s .args .x .vertex .0) _ (sym (c .before .before .spot .given .1) ∙ c .before .before .before .before .spot-of .ensures)) in
+    let p = c .before .before in
+    let f = p .before .before in
+    let s = f .before .before .before in
+    let h = held-adds (s .args .x) (listOf (s .args .g)) (stopsOf (s .args .g)) (p .spot .given .0 .0) (p .spot .given .0 .1 .0) (at-stops (s .args .g) (fits s) (s .args .x .vertex .0) _ (sym (p .spot .given .1) ∙ f .spot-of .ensures)) in
     c .met .ensures ∙ ap (λ (o : Option Lists). changed (grouped o) (s .args .g)) (sym (h .2))
 
 returns-3 : tie.Need-returns-3
 returns-3 c =
-    let s = c .before .before .before .before .before .before .before .before .before in
-    let h = free-adds (s .args .x) (listOf (s .args .g)) (stopsOf (s .args .g)) (c .before .before .before .before .spot2 .given .0 .0) (at-stops (s .args .g) (fits s) (s .args .x .vertex .0) _ (sym (c .before .before .before .before .spot2 .given .1) ∙ c .before .before .before .before .before .before .spot-of .ensures)) in
+    let q = c .before .before in
+    let p = q .before .before in
+    let f = p .before .before in
+    let s = f .before .before .before in
+    let h = free-adds (s .args .x) (listOf (s .args .g)) (stopsOf (s .args .g)) (p .spot2 .given .0 .0) (at-stops (s .args .g) (fits s) (s .args .x .vertex .0) _ (sym (p .spot2 .given .1) ∙ f .spot-of .ensures)) in
     let z = stopped-is (s .args .g) in
-    free-done (s .args .g) (fits s) (c .before .before .before .before .spot2 .given .0 .0) (s .args .x) (omega (arith, h .0, z)) (h .1) (c .put-in .result) (c .before .before .if1 .left) (c .put-in .ensures)
+    free-done (s .args .g) (fits s) (p .spot2 .given .0 .0) (s .args .x) (omega (arith, h .0, z)) (h .1) (c .put-in .result) (q .if1 .left) (c .put-in .ensures)
 
 pub add-stop-spec : {M : Type 1} → statement M
 add-stop-spec =

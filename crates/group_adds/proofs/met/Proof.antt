@@ -5,7 +5,7 @@ use borrow.Author.Needs.{needs}
 use lib.ListN.{length, length-map}
 use Rattle.kinds.specs.Obstacles.{pairOf}
 use Rattle.group_adds.proofs.Bytes.{Fits}
-use Rattle.group_adds.proofs.Adding.{met-keep, met-replace, met-full, met-join}
+use Rattle.group_adds.proofs.Adding.{met-keep, met-replace, met-join}
 use Rattle.group_adds.proofs.met.Statement.{statement}
 use Rattle.group_adds.proofs.met.Tie as tie
 
@@ -40,44 +40,25 @@ element-set-from-x c =
 enum-known-m : tie.Need-enum-known-m
 enum-known-m c = search needs
 
+moved-requires : tie.Need-moved-requires
+moved-requires c κs = search needs
+
 returns : tie.Need-returns
 returns c =
-    let s = c .before .before .before .before .before in
-    met-full (s .args .g) (fits s) (s .args .p) (s .args .x) (s .args .y) (s .pre .1 .0) (s .pre .1 .1) (pairOf (s .args .x .obstacle)) (pairOf (s .args .y .obstacle)) _ _ (sym (c .before .before .before .before .meeting-of .ensures) ∙ c .before .before .m .given .1) (c .if1 .taken)
-
-mul-list : tie.Need-mul-list
-mul-list c = omega (arith, c .before .if1 .left)
-
-array-set-from-list : tie.Need-array-set-from-list
-array-set-from-list c = omega (arith, c .before .if1 .left)
-
-taken-out-requires : tie.Need-taken-out-requires
-taken-out-requires c κs =
-    let s = c .before .before .before .before .before .before .before in
-    (s .pre .1 .0, s .pre .0 .1 .1)
-
-add-t21 : tie.Need-add-t21
-add-t21 c = omega (arith, c .before .before .before .if1 .left)
-
-sub-t26 : tie.Need-sub-t26
-sub-t26 c =
-    let s = c .before .before .before .before .before .before .before .before .before in
-    omega (arith, s .pre .1 .0)
+    let s = c .before .before .before in
+    met-keep (s .args .g) (fits s) (s .args .p) (s .args .x) (s .args .y) (s .pre .1 .0) (s .pre .1 .1) (pairOf (s .args .x .obstacle)) (pairOf (s .args .y .obstacle)) (sym (c .before .before .meeting-of .ensures) ∙ c .enum-told .given .1)
 
 returns-2 : tie.Need-returns-2
 returns-2 c =
     let s = c .before .before .before in
-    met-keep (s .args .g) (fits s) (s .args .p) (s .args .x) (s .args .y) (s .pre .1 .0) (s .pre .1 .1) (pairOf (s .args .x .obstacle)) (pairOf (s .args .y .obstacle)) (sym (c .before .before .meeting-of .ensures) ∙ c .enum-told .given .1)
+    met-replace (s .args .g) (fits s) (s .args .p) (s .args .x) (s .args .y) (s .pre .1 .0) (s .pre .1 .1) (pairOf (s .args .x .obstacle)) (pairOf (s .args .y .obstacle)) (sym (c .before .before .meeting-of .ensures) ∙ c .enum-told2 .given .1)
 
 returns-3 : tie.Need-returns-3
 returns-3 c =
-    let s = c .before .before .before in
-    met-replace (s .args .g) (fits s) (s .args .p) (s .args .x) (s .args .y) (s .pre .1 .0) (s .pre .1 .1) (pairOf (s .args .x .obstacle)) (pairOf (s .args .y .obstacle)) (sym (c .before .before .meeting-of .ensures) ∙ c .enum-told2 .given .1)
-
-returns-4 : tie.Need-returns-4
-returns-4 c =
-    let s = c .before .before .before .before .before .before .before .before .before in
-    met-join (s .args .g) (fits s) (s .args .p) (s .args .x) (s .args .y) (s .pre .1 .0) (s .pre .1 .1) (pairOf (s .args .x .obstacle)) (pairOf (s .args .y .obstacle)) _ _ (sym (c .before .before .before .before .before .before .before .before .meeting-of .ensures) ∙ c .before .before .before .before .before .before .m .given .1) (c .before .taken-out .result) (c .before .before .before .before .if1 .left) (c .before .taken-out .ensures)
+    let m = c .before .before in
+    let t = m .before .before in
+    let s = t .before in
+    met-join (s .args .g) (fits s) (s .args .p) (s .args .x) (s .args .y) (s .pre .1 .0) (s .pre .1 .1) (pairOf (s .args .x .obstacle)) (pairOf (s .args .y .obstacle)) _ _ _ (sym (t .meeting-of .ensures) ∙ m .m .given .1) (c .moved .ensures)
 
 pub met-spec : {M : Type 1} → statement M
 met-spec =
@@ -89,12 +70,7 @@ met-spec =
     mul-x
     element-set-from-x
     enum-known-m
+    moved-requires
     returns
-    mul-list
-    array-set-from-list
-    taken-out-requires
-    add-t21
-    sub-t26
     returns-2
-    returns-3
-    returns-4)
+    returns-3)
