@@ -2,11 +2,13 @@
 -- the whole answer; and past what is written the arrays are as they were. Assumes nothing.
 use Prim.Native.Nat.{ℕ, _+_, _-_, _≤_, _<_}
 use mathlib.Core.Path.{_≡_, refl, sym, ap, _∙_, subst}
-use mathlib.Core.Bool.{true}
+use mathlib.Core.Bool.{Bool, true, false, cond}
 use mathlib.Core.Option.{Option, none, some}
 use mathlib.Core.List.{List, [], _∷_, _++_, append-assoc}
 use native.Mathlib.Numerals.{add-one}
 use native.Mathlib.Omega.{arith}
+use borrow.Author.Tests.{leb-true, leb-false, ltb-true, ltb-false}
+use lib.Dec.{leb, ltb}
 use lib.ListN.{length, take, drop, getD, set, length-append, length-drop, length-set, take-append-drop}
 use lib.Seq.{length-take-le, take-suc-set, drop-set-lt, drop-drop, append-snoc}
 use Rattle.kinds.specs.Obstacles.{pairOf}
@@ -16,11 +18,18 @@ use Rattle.kinds.specs.declared.Entry.{Entry}
 use Rattle.kinds.specs.declared.Stop.{Stop}
 use Rattle.ledger_spec.specs.Groups.{Lists, risingFrom, addStops}
 use Rattle.groups.specs.View.{over}
+use Rattle.groups.specs.declared.Kind.the-variants.{Conflicts}
+use Rattle.groups.specs.declared.Group.{Group as Code}
 use Rattle.groups.proofs.Lists.{step, spent}
+use Rattle.groups.proofs.View.{same}
 use Rattle.group_stops.specs.Places.{meetingOf}
+use Rattle.group_stops.specs.declared.Meeting.{Meeting}
 use Rattle.group_stops.specs.declared.Meeting.the-variants.{Keep, Replace, Join}
 use Rattle.group_adds.proofs.Places.{keeps, replaces, joins}
 use Rattle.group_runs.specs.Runs.{laidAt}
+use Rattle.group_merges.specs.Turns.{comesIn, meets, turnOf}
+use Rattle.group_merges.specs.declared.Turn.{Turn}
+use Rattle.group_merges.specs.declared.Turn.the-variants.{Put, Enter, Full}
 use Rattle.group_merges.proofs.Fronts.{Below, Past, Under, below-snoc, under-none, rise-rest, rise-zero, under-next, under-same, comes, comes-full, meets-one, meets-none, meets-full, all-added}
 
 -- ---- a store at the end of what is written
@@ -44,6 +53,13 @@ pub record Merging (own other : List Stop) (own-list : List Entry) (n m : ℕ) (
   pub rest : whole ≡ addStops (drop j (take m other)) (take at list) (take k out ++ drop i (take n own))
   pub rises : risingFrom 0 (drop j (take m other)) ≡ true
   pub under : Under (take k out) (drop j (take m other))
+
+-- what a pass comes to by a turn: it stands further on, or the whole has no room
+module _ (own other : List Stop) (own-list : List Entry) (n m : ℕ) (whole : Option Lists) (list : List Entry) (out : List Stop) (at i j k : ℕ) where
+  abbrev pub After : Turn → Type 0
+  After (Put z a b) = (0 < a + b) × Merging own other own-list n m whole list (set out k z) at (i + a) (j + b) (k + 1)
+  After (Enter e) = Merging own other own-list n m whole (set list at e) out (at + 1) (i + 1) (j + 1) k
+  After Full = whole ≡ none
 
 module _ (own other : List Stop) (own-list : List Entry) (n m : ℕ) where
   pub starts : (list : List Entry) (at : ℕ) → n ≤ 128 → at ≤ 128 → length list ≡ 128 → length own ≡ 128 → drop at list ≡ drop at own-list → risingFrom 0 (take m other) ≡ true →
@@ -143,11 +159,17 @@ module _ (own other : List Stop) (own-list : List Entry) (n m : ℕ) where
       no-room : 128 ≤ k + (n - i) → whole ≡ none
       no-room h = rest-x ∙ comes-full x xs l f (drop i (take n own)) below p l-few (omega (arith, h, back-long, both-long (drop i (take n own)) x))
 
-    pub last-comes : n ≤ i → k < 128 → Merging own other own-list n m whole list (set out k x) at i (j + 1) (k + 1)
-    last-comes h a = comes-in (past-x h) (omega (arith, h, a))
+      -- told by a count of stops that is full where they are
+      come-turn : (s : ℕ) → (128 ≤ s → 128 ≤ k + (n - i)) → (s < 128 → k + (n - i) < 128) → After own other own-list n m whole list out at i j k (comesIn x s)
+      unfolding comesIn
+      come-turn s full room = go (leb 128 s) refl
+        where
+          go : (b : Bool) → leb 128 s ≡ b → After own other own-list n m whole list out at i j k (cond b Full (Put x 0 1))
+          go true e = no-room (full (leb-true 128 s e))
+          go false e = let z : i + 0 ≡ i = omega arith in (omega arith, rw z (comes-in (room (leb-false 128 s e))))
 
-    pub last-full : n ≤ i → 128 ≤ k → whole ≡ none
-    last-full h a = no-room (past-x h) (omega (arith, h, a))
+    pub last-turn : n ≤ i → After own other own-list n m whole list out at i j k (comesIn x k)
+    last-turn h = come-turn (past-x h) k (λ a. omega (arith, h, a)) (λ a. omega (arith, h, a))
 
     module _ (h : i < n) where
       back : drop i (take n own) ≡ y ∷ drop (i + 1) (take n own)
@@ -159,14 +181,8 @@ module _ (own other : List Stop) (own-list : List Entry) (n m : ℕ) where
       tail-long : length (drop (i + 1) (take n own)) ≡ n - (i + 1)
       tail-long = omega (arith, length-drop (i + 1) (take n own), length-take-le n own own-long)
 
-      pub between-comes : x .vertex .0 < y .vertex .0 → k + (n - i) < 128 → Merging own other own-list n m whole list (set out k x) at i (j + 1) (k + 1)
-      between-comes v a = comes-in (before-y h v) a
-
-      pub between-full : x .vertex .0 < y .vertex .0 → 128 ≤ k + (n - i) → whole ≡ none
-      between-full v a = no-room (before-y h v) a
-
       -- y is passed
-      pub passes : y .vertex .0 < x .vertex .0 → Merging own other own-list n m whole list (set out k y) at (i + 1) j (k + 1)
+      passes : y .vertex .0 < x .vertex .0 → Merging own other own-list n m whole list (set out k y) at (i + 1) j (k + 1)
       passes v = writes y (i + 1) j (omega (arith, h, M .room)) (omega (arith, h)) (M .other-in) (omega (arith, h, M .room))
           (rest-y ∙ ap (addStops (x ∷ xs) l) (sym (append-snoc f y (drop (i + 1) (take n own)))) ∙ ap (λ (t : List Stop). addStops t l ((f ++ y ∷ []) ++ drop (i + 1) (take n own))) (sym next))
           (M .rises) (subst (λ (t : List Stop). Under (f ++ y ∷ []) t) (sym next) (below-snoc (x .vertex .0) f y below v))
@@ -179,12 +195,12 @@ module _ (own other : List Stop) (own-list : List Entry) (n m : ℕ) where
         swaps : length (f ++ y ∷ drop (i + 1) (take n own)) ≤ 128
         swaps = omega (arith, h, M .room, tail-long, both-long (drop (i + 1) (take n own)) y)
 
-        pub kept : meetingOf (pairOf (x .obstacle)) (pairOf (y .obstacle)) ≡ Keep → Merging own other own-list n m whole list (set out k y) at (i + 1) (j + 1) (k + 1)
+        kept : meetingOf (pairOf (x .obstacle)) (pairOf (y .obstacle)) ≡ Keep → Merging own other own-list n m whole list (set out k y) at (i + 1) (j + 1) (k + 1)
         kept q = writes y (i + 1) (j + 1) (omega (arith, h, M .room)) (omega (arith, h)) (omega (arith, jm)) (omega (arith, h, M .room))
             (rest-y ∙ meets-one x y xs l f t below e y (keeps x y l f t (pairOf (x .obstacle)) (pairOf (y .obstacle)) q) l-few swaps)
             (rise-zero x xs rising-x) (under-next (x .vertex .0) f y xs (rise-rest x xs rising-x) below (omega (arith, e)))
 
-        pub replaced : meetingOf (pairOf (x .obstacle)) (pairOf (y .obstacle)) ≡ Replace → Merging own other own-list n m whole list (set out k x) at (i + 1) (j + 1) (k + 1)
+        replaced : meetingOf (pairOf (x .obstacle)) (pairOf (y .obstacle)) ≡ Replace → Merging own other own-list n m whole list (set out k x) at (i + 1) (j + 1) (k + 1)
         replaced q = writes x (i + 1) (j + 1) (omega (arith, h, M .room)) (omega (arith, h)) (omega (arith, jm)) (omega (arith, h, M .room))
             (rest-y ∙ meets-one x y xs l f t below e x (replaces x y l f t (pairOf (x .obstacle)) (pairOf (y .obstacle)) q) l-few (omega (arith, h, M .room, tail-long, both-long (drop (i + 1) (take n own)) x)))
             (rise-zero x xs rising-x) (under-next (x .vertex .0) f x xs (rise-rest x xs rising-x) below (omega arith))
@@ -196,10 +212,10 @@ module _ (own other : List Stop) (own-list : List Entry) (n m : ℕ) where
           pushed-long : length (l ++ c ∷ []) ≡ at + 1
           pushed-long = omega (arith, length-append l (c ∷ []), l-long)
 
-          pub list-full : 128 ≤ at → whole ≡ none
+          list-full : 128 ≤ at → whole ≡ none
           list-full z = rest-y ∙ meets-full x y xs l f t below e c (joins x y l f t (pairOf (x .obstacle)) (pairOf (y .obstacle)) a b q) (omega (arith, z, pushed-long))
 
-          pub joined : at < 128 → Merging own other own-list n m whole (set list at c) out (at + 1) (i + 1) (j + 1) k
+          joined : at < 128 → Merging own other own-list n m whole (set list at c) out (at + 1) (i + 1) (j + 1) k
           joined z = record {
             own-in = omega (arith, h);
             other-in = omega (arith, jm);
@@ -215,22 +231,47 @@ module _ (own other : List Stop) (own-list : List Entry) (n m : ℕ) where
             under = under-same (x .vertex .0) f xs (rise-rest x xs rising-x) below;
           }
 
+        meet-turn : (r : Meeting) → meetingOf (pairOf (x .obstacle)) (pairOf (y .obstacle)) ≡ r → After own other own-list n m whole list out at i j k (meets r x y at)
+        unfolding meets
+        meet-turn Keep q = (omega arith, kept q)
+        meet-turn Replace q = (omega arith, replaced q)
+        meet-turn (Join a b) q = go (leb 128 at) refl
+          where
+            go : (f : Bool) → leb 128 at ≡ f → After own other own-list n m whole list out at i j k (cond f Full (Enter (record { obstacle = Conflicting a b })))
+            go true z = list-full a b q (leb-true 128 at z)
+            go false z = joined a b q (leb-false 128 at z)
+
+      pub turn : After own other own-list n m whole list out at i j k (turnOf x y (k + (n - i)) at)
+      unfolding turnOf
+      turn = go (ltb (y .vertex .0) (x .vertex .0)) (ltb (x .vertex .0) (y .vertex .0)) refl refl
+        where
+          go : (b c : Bool) → ltb (y .vertex .0) (x .vertex .0) ≡ b → ltb (x .vertex .0) (y .vertex .0) ≡ c →
+              After own other own-list n m whole list out at i j k (cond b (Put y 1 0) (cond c (comesIn x (k + (n - i))) (meets (meetingOf (pairOf (x .obstacle)) (pairOf (y .obstacle))) x y at)))
+          go true c p q = let z : j + 0 ≡ j = omega arith in (omega arith, rw z (passes (ltb-true _ _ p)))
+          go false true p q = come-turn (before-y h (ltb-true _ _ q)) (k + (n - i)) (λ a. a) (λ a. a)
+          go false false p q = meet-turn (omega (arith, ltb-false (y .vertex .0) (x .vertex .0) p, ltb-false (x .vertex .0) (y .vertex .0) q)) (meetingOf (pairOf (x .obstacle)) (pairOf (y .obstacle))) refl
+
   -- ---- all others are added: what is left of the own stops follows
   module _ (own-long : n ≤ length own) (other-long : m ≤ length other) (whole : Option Lists) (list : List Entry) (out : List Stop) (at i j k : ℕ)
       (M : Merging own other own-list n m whole list out at i j k) (mj : m ≤ j) where
     pub ended : whole ≡ some (take at list, take k out ++ drop i (take n own))
     ended = M .rest ∙ ap (λ (t : List Stop). addStops t (take at list) (take k out ++ drop i (take n own))) (spent m j other mj other-long) ∙ all-added (take at list) (take k out ++ drop i (take n own))
 
-    pub list-bytes : list ≡ over (take at list) own-list
+    list-bytes : list ≡ over (take at list) own-list
     list-bytes = sym (ap (λ (p : ℕ). take at list ++ drop p own-list) (length-take-le at list (omega (arith, M .few, M .list-long))) ∙ ap (λ (r : List Entry). take at list ++ r) (sym (M .list-past)) ∙ take-append-drop at list)
 
-    pub list-count : at ≡ length (take at list)
+    list-count : at ≡ length (take at list)
     list-count = sym (length-take-le at list (omega (arith, M .few, M .list-long)))
 
-    pub stops-count : k + (n - i) ≡ length (take k out ++ drop i (take n own))
+    stops-count : k + (n - i) ≡ length (take k out ++ drop i (take n own))
     stops-count = omega (arith, length-append (take k out) (drop i (take n own)), length-take-le k out (omega (arith, M .room, M .out-long)), length-drop i (take n own), length-take-le n own own-long)
 
-    pub stops-bytes : laidAt k out i n own ≡ over (take k out ++ drop i (take n own)) own
+    stops-bytes : laidAt k out i n own ≡ over (take k out ++ drop i (take n own)) own
     stops-bytes = sym (append-assoc (take k out) (drop i (take n own)) (drop (k + (n - i)) out))
         ∙ ap (λ (r : List Stop). (take k out ++ drop i (take n own)) ++ r)
         (sym (drop-drop (n - i) k out) ∙ ap (drop (n - i)) (M .out-past) ∙ drop-drop (n - i) k own ∙ ap (λ (p : ℕ). drop p own) stops-count)
+
+    -- the bytes of the group that is then answered
+    pub closes : _≡_ {A = Code} (record { kind = Conflicts; list = list; stops = laidAt k out i n own; listed = at; stopped = k + (n - i) })
+        (record { kind = Conflicts; list = over (take at list) own-list; stops = over (take k out ++ drop i (take n own)) own; listed = length (take at list); stopped = length (take k out ++ drop i (take n own)) })
+    closes = same _ _ refl list-bytes stops-bytes list-count stops-count
