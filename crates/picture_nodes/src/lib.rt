@@ -13,18 +13,20 @@ ghost use mathlib.Core.Option.{none};
 ghost use mathlib.Core.List.{map};
 ghost use lib.ListN.{getD};
 ghost use Prim.Native.Nat.{_<_};
+ghost use Rattle.kinds.specs.declared.Class.the-variants.{Blossom};
 ghost use Rattle.ledger_spec.specs.Named.{stateNamed, parentNamed};
 ghost use Rattle.ledger_spec.specs.Reads.{slotsOf};
 ghost use Rattle.bench_words.specs.Store.{nodeAt};
 ghost use Rattle.bench_views.specs.Fit.{Fit};
-ghost use Rattle.bench_views.specs.View.{view};
+ghost use Rattle.bench_views.specs.View.{view, circleOf};
+ghost use Rattle.bench_vertices.specs.Under.{Placed};
 ghost use Rattle.bench_orders.specs.Order.{AtIndex};
 ghost use Rattle.check_places.specs.Places.{Places};
-ghost use Rattle.picture_spec.specs.Sketch.{indexed, indexOf, slotSeenBy};
+ghost use Rattle.picture_spec.specs.Sketch.{circle, linked, indexed, indexOf, slotSeenBy};
 ghost use Rattle.picture_spec.specs.Text.{namesBy, parentText, array, slotText};
 ghost use Rattle.picture_pieces.specs.Drawn.{Drawn};
 ghost use Rattle.picture_indices.specs.Indices.{Indices};
-ghost use Rattle.picture_nodes.specs.Rest.{Lowly, restText};
+ghost use Rattle.picture_nodes.specs.Rest.{Lowly, shapeText, restText};
 
 fn put_parent(
     b: &[u64; WORDS],
@@ -68,6 +70,29 @@ fn put_rest(
     put(out, u, b"}")
 }
 
+// The keys that go by a blossom's circle: its members, those that they touch by, and no vertex.
+fn put_ring(
+    b: &[u64; WORDS],
+    unit: usize,
+    index: &[u64; 512],
+    out: &mut [u8],
+    at: usize,
+    p: usize,
+    short: bool,
+) -> usize
+    requires { ⌜ Fit (now b) ⌝ }
+    requires { ⌜ Indices (now b) unit (now index) ⌝ }
+    requires { ⌜ Placed (now b) p ⌝ }
+    requires { ⌜ nodeAt (now b) p .class ≡ Blossom ⌝ }
+    ensures { λ r. ⌜ Drawn (now (out .entry)) at (shapeText (namesBy short) (circle (map (linked (indexOf (view (now (b .entry))) unit)) (circleOf (nodeAt (now (b .entry))) p)))) (now (out .exit)) r ⌝ }
+{
+    let q = put_either(out, at, short, b"{\"o\":", b"{\"blossom\":");
+    let r = picture_circles::put_circle(b, unit, index, out, q, p, false);
+    let s = put_either(out, r, short, b",\"t\":", b",\"touching_children\":");
+    let t = picture_circles::put_circle(b, unit, index, out, s, p, true);
+    put_either(out, t, short, b",\"s\":null", b",\"defect_vertex\":null")
+}
+
 // The slot at position p, with index k.
 fn put_slot(
     b: &[u64; WORDS],
@@ -102,12 +127,8 @@ fn put_slot(
             put_rest(b, unit, index, out, r, state, parent, short)
         }
         Class::Blossom => {
-            let q = put_either(out, at, short, b"{\"o\":", b"{\"blossom\":");
-            let r = picture_circles::put_circle(b, unit, index, out, q, p, false);
-            let s = put_either(out, r, short, b",\"t\":", b",\"touching_children\":");
-            let t = picture_circles::put_circle(b, unit, index, out, s, p, true);
-            let u = put_either(out, t, short, b",\"s\":null", b",\"defect_vertex\":null");
-            put_rest(b, unit, index, out, u, state, parent, short)
+            let q = put_ring(b, unit, index, out, at, p, short);
+            put_rest(b, unit, index, out, q, state, parent, short)
         }
     }
 }

@@ -51,13 +51,29 @@ put-requires : tie.Need-put-requires
 put-requires c κs = search needs
 
 same-length : tie.Need-same-length
-same-length c = let w = (chain (c .before .before .before .before .before .before .before .before .before .before .before .before .before .before .before .before .before .before .before .before .before .before .before .before .before .before .before .before .before .before .before .put-either .ensures) (chain (c .before .before .before .before .before .before .before .before .before .before .before .before .before .before .before .before .before .before .before .before .before .before .before .before .before .before .before .put-state .ensures) (chain (c .before .before .before .before .before .before .before .before .before .before .before .before .before .before .before .before .before .before .before .before .before .put-either2 .ensures) (chain (c .before .before .before .before .before .before .before .before .before .before .before .before .before .before .before .before .before .put-growth .ensures) (chain (c .before .before .before .before .before .before .before .before .before .before .before .put-either3 .ensures) (chain (c .before .before .before .before .before .before .before .put-parent .ensures) (c .before .before .put .ensures))))))) in w .long
+same-length c =
+    let v = c .before .before in
+    let u = v .before .before .before .before .before in
+    let t = u .before .before .before .before in
+    let h = t .before .before .before .before .before .before in
+    let r = h .before .before .before .before in
+    let q = r .before .before .before .before .before .before in
+    let p = q .before .before .before .before in
+    let w = (chain (p .put-either .ensures) (chain (q .put-state .ensures) (chain (r .put-either2 .ensures) (chain (h .put-growth .ensures) (chain (t .put-either3 .ensures) (chain (u .put-parent .ensures) (v .put .ensures))))))) in
+    w .long
 
 returns : tie.Need-returns
 returns c =
-    let s = c .before .before .before .before .before .before .before .before .before .before .before .before .before .before .before .before .before .before .before .before .before .before .before .before .before .before .before .before .before .before .before .before .before .before .before .before in
+    let v = c .before .before in
+    let u = v .before .before .before .before .before in
+    let t = u .before .before .before .before in
+    let h = t .before .before .before .before .before .before in
+    let r = h .before .before .before .before in
+    let q = r .before .before .before .before .before .before in
+    let p = q .before .before .before .before in
+    let s = p .before .before .before .before .before in
     same-text (rest-text (stateNamed (s .args .state)) (indexed (indexOf (view (s .args .b .now)) (s .args .unit)) (parentNamed (s .args .parent))) (s .args .short))
-    (chain (c .before .before .before .before .before .before .before .before .before .before .before .before .before .before .before .before .before .before .before .before .before .before .before .before .before .before .before .before .before .before .before .put-either .ensures) (chain (c .before .before .before .before .before .before .before .before .before .before .before .before .before .before .before .before .before .before .before .before .before .before .before .before .before .before .before .put-state .ensures) (chain (c .before .before .before .before .before .before .before .before .before .before .before .before .before .before .before .before .before .before .before .before .before .put-either2 .ensures) (chain (c .before .before .before .before .before .before .before .before .before .before .before .before .before .before .before .before .before .put-growth .ensures) (chain (c .before .before .before .before .before .before .before .before .before .before .before .put-either3 .ensures) (chain (c .before .before .before .before .before .before .before .put-parent .ensures) (c .before .before .put .ensures)))))))
+    (chain (p .put-either .ensures) (chain (q .put-state .ensures) (chain (r .put-either2 .ensures) (chain (h .put-growth .ensures) (chain (t .put-either3 .ensures) (chain (u .put-parent .ensures) (v .put .ensures)))))))
 
 pub put-rest-spec : {M : Type 1} → statement M
 put-rest-spec =

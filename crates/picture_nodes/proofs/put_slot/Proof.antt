@@ -1,12 +1,11 @@
 -- By its class: null; a vertex; a circle, in two lists. Assumes nothing.
 use mathlib.Core.Path.{_≡_, refl, ap, _∙_}
-use mathlib.Core.Option.{Option}
 use mathlib.Core.List.{map}
 use Rattle.kinds.specs.declared.Class.the-variants.{Absent, Blossom, Defect}
 use Rattle.bench_words.specs.Store.{nodeAt}
 use Rattle.ledger_spec.specs.Named.{stateNamed, parentNamed}
 use Rattle.bench_views.specs.View.{view, circleOf}
-use Rattle.picture_spec.specs.Sketch.{Seen, linked, indexed, indexOf}
+use Rattle.picture_spec.specs.Sketch.{linked, indexed, indexOf}
 use Rattle.picture_spec.specs.Text.{namesBy, slotText}
 use Rattle.picture_pieces.proofs.Drawing.{chain, same-text}
 use Rattle.picture_nodes.proofs.Texts.{null-text, defect-text, blossom-text}
@@ -46,92 +45,70 @@ put-number-requires : tie.Need-put-number-requires
 put-number-requires c κs = search needs
 
 put-rest-requires : tie.Need-put-rest-requires
-put-rest-requires c κs = let s = c .before .before .before .before .before .before .before .before .before .before .before .before .before .before .before .before .before in (s .pre .1 .0, parent-low (s .args .b .now) (s .args .p) (c .before .before .before .before .before .before .before .before .before .before .before .before .before .before .before .load-node .result) (c .before .before .before .before .before .before .before .before .before .before .before .before .before .before .before .load-node .ensures))
+put-rest-requires c κs =
+    let e = c .before .before .before .before .before .before .before .before in
+    let n = e .before .before .before .before .before .before .before in
+    let s = n .before .before in
+    (s .pre .1 .0, parent-low (s .args .b .now) (s .args .p) (n .load-node .result) (n .load-node .ensures))
 
 enum-told-2 : tie.Need-enum-told-2
 enum-told-2 c = search needs
 
-slice-aggregate-put-either-3 : tie.Need-slice-aggregate-put-either-3
-slice-aggregate-put-either-3 c = search needs
-
-slice-aggregate-put-either-4 : tie.Need-slice-aggregate-put-either-4
-slice-aggregate-put-either-4 c = search needs
-
-put-either-requires-2 : tie.Need-put-either-requires-2
-put-either-requires-2 c κs = search needs
-
-put-circle-requires : tie.Need-put-circle-requires
-put-circle-requires c κs =
-    let s = c .before .before .before .before .before .before .before .before .before .before .before in
-    let n = c .before .before .before .before .before .before .before .before .before .load-node in
-    let e : n .result .class ≡ Blossom = cc in
-    (s .pre .0, (s .pre .1 .0, (ring-placed (s .args .b .now) (s .args .unit) (s .args .k) (s .args .p) (s .pre .1 .1) (n .result) (n .ensures) e, ring-is (s .args .b .now) (s .args .unit) (s .args .k) (s .args .p) (s .pre .1 .1) (n .result) (n .ensures) e)))
-
-slice-aggregate-put-either-5 : tie.Need-slice-aggregate-put-either-5
-slice-aggregate-put-either-5 c = search needs
-
-slice-aggregate-put-either-6 : tie.Need-slice-aggregate-put-either-6
-slice-aggregate-put-either-6 c = search needs
-
-put-either-requires-3 : tie.Need-put-either-requires-3
-put-either-requires-3 c κs = search needs
-
-put-circle-requires-2 : tie.Need-put-circle-requires-2
-put-circle-requires-2 c κs =
-    let s = c .before .before .before .before .before .before .before .before .before .before .before .before .before .before .before .before .before .before .before .before .before in
-    let n = c .before .before .before .before .before .before .before .before .before .before .before .before .before .before .before .before .before .before .before .load-node in
-    let m = c .before .before .before .before .before .before .before .before .before .before .before .before .before .before .before .before .before in
-    let e : n .result .class ≡ Blossom = cc in
-    (s .pre .0, (s .pre .1 .0, (ring-placed (s .args .b .now) (s .args .unit) (s .args .k) (s .args .p) (s .pre .1 .1) (n .result) (n .ensures) e, ring-is (s .args .b .now) (s .args .unit) (s .args .k) (s .args .p) (s .pre .1 .1) (n .result) (n .ensures) e)))
-
-slice-aggregate-put-either-7 : tie.Need-slice-aggregate-put-either-7
-slice-aggregate-put-either-7 c = search needs
-
-slice-aggregate-put-either-8 : tie.Need-slice-aggregate-put-either-8
-slice-aggregate-put-either-8 c = search needs
-
-put-either-requires-4 : tie.Need-put-either-requires-4
-put-either-requires-4 c κs = search needs
+put-ring-requires : tie.Need-put-ring-requires
+put-ring-requires c κs =
+    let n = c .before .before .before in
+    let s = n .before .before in
+    let e : n .load-node .result .class ≡ Blossom = cc in
+    (s .pre .0, (s .pre .1 .0, (ring-placed (s .args .b .now) (s .args .unit) (s .args .k) (s .args .p) (s .pre .1 .1) (n .load-node .result) (n .load-node .ensures) e, ring-is (s .args .b .now) (s .args .unit) (s .args .k) (s .args .p) (s .pre .1 .1) (n .load-node .result) (n .load-node .ensures) e)))
 
 put-rest-requires-2 : tie.Need-put-rest-requires-2
-put-rest-requires-2 c κs = let s = c .before .before .before .before .before .before .before .before .before .before .before .before .before .before .before .before .before .before .before .before .before .before .before .before .before .before .before .before .before .before .before in (s .pre .1 .0, parent-low (s .args .b .now) (s .args .p) (c .before .before .before .before .before .before .before .before .before .before .before .before .before .before .before .before .before .before .before .before .before .before .before .before .before .before .before .before .before .load-node .result) (c .before .before .before .before .before .before .before .before .before .before .before .before .before .before .before .before .before .before .before .before .before .before .before .before .before .before .before .before .before .load-node .ensures))
+put-rest-requires-2 c κs =
+    let r = c .before .before .before in
+    let n = r .before .before .before .before in
+    let s = n .before .before in
+    (s .pre .1 .0, parent-low (s .args .b .now) (s .args .p) (n .load-node .result) (n .load-node .ensures))
 
 same-length : tie.Need-same-length
 same-length c = search needs
 
 returns : tie.Need-returns
 returns c =
-    let s = c .before .before .before .before .before .before .before .before .before in
-    let n = c .before .before .before .before .before .before .before .load-node in
-    let e : n .result .class ≡ Absent = cc in
-    same-text (null-text (s .args .short) ∙ ap (slotText (namesBy (s .args .short))) (seen-absent (s .args .b .now) (s .args .unit) (s .args .k) (s .args .p) (s .pre .1 .1) (n .result) (n .ensures) e)) (c .before .before .put .ensures)
+    let z = c .before .before in
+    let n = z .before .before .before .before .before in
+    let s = n .before .before in
+    let e : n .load-node .result .class ≡ Absent = cc in
+    same-text (null-text (s .args .short) ∙ ap (slotText (namesBy (s .args .short))) (seen-absent (s .args .b .now) (s .args .unit) (s .args .k) (s .args .p) (s .pre .1 .1) (n .load-node .result) (n .load-node .ensures) e)) (z .put .ensures)
 
 same-length-2 : tie.Need-same-length-2
 same-length-2 c = search needs
 
 returns-2 : tie.Need-returns-2
 returns-2 c =
-    let s = c .before .before .before .before .before .before .before .before .before .before .before .before .before .before .before .before .before .before .before .before in
-    let n = c .before .before .before .before .before .before .before .before .before .before .before .before .before .before .before .before .before .before .load-node in
-    let v = c .before .before .before .before .before .before .before .before .before .before .before .before .before .before .before .before .class .given .0 .0 in
-    let m = c .before .before .before .before .before .before .before .before .before .before .before .before .before .before .before in
-    let e : n .result .class ≡ Defect v = cc in
-    same-text (defect-text (stateNamed (n .result .state)) (indexed (indexOf (view (s .args .b .now)) (s .args .unit)) (parentNamed (n .result .parent))) (v .0) (s .args .short)
-    ∙ ap (slotText (namesBy (s .args .short))) (seen-defect (s .args .b .now) (s .args .unit) (s .args .k) (s .args .p) (s .pre .1 .1) (n .result) (n .ensures) v e))
-    (chain (c .before .before .before .before .before .before .before .before .before .before .before .put-either .ensures) (chain (c .before .before .before .before .before .before .put-number .ensures) (c .before .before .put-rest .ensures)))
+    let z = c .before .before in
+    let d = z .before .before .before .before in
+    let f = d .before .before .before .before .before in
+    let v = f .before .before .before .before .before in
+    let n = v .before .before in
+    let s = n .before .before in
+    let w = v .class .given .0 .0 in
+    let e : n .load-node .result .class ≡ Defect w = cc in
+    same-text (defect-text (stateNamed (n .load-node .result .state)) (indexed (indexOf (view (s .args .b .now)) (s .args .unit)) (parentNamed (n .load-node .result .parent))) (w .0) (s .args .short)
+    ∙ ap (slotText (namesBy (s .args .short))) (seen-defect (s .args .b .now) (s .args .unit) (s .args .k) (s .args .p) (s .pre .1 .1) (n .load-node .result) (n .load-node .ensures) w e))
+    (chain (f .put-either .ensures) (chain (d .put-number .ensures) (z .put-rest .ensures)))
 
 same-length-3 : tie.Need-same-length-3
-same-length-3 c = let w = (chain (c .before .before .before .before .before .before .before .before .before .before .before .before .before .before .before .before .before .before .before .before .before .before .before .before .before .before .put-either2 .ensures) (chain (c .before .before .before .before .before .before .before .before .before .before .before .before .before .before .before .before .before .before .before .before .before .before .put-circle .ensures) (chain (c .before .before .before .before .before .before .before .before .before .before .before .before .before .before .before .before .put-either3 .ensures) (chain (c .before .before .before .before .before .before .before .before .before .before .before .before .put-circle2 .ensures) (chain (c .before .before .before .before .before .before .put-either4 .ensures) (c .before .before .put-rest2 .ensures)))))) in w .long
+same-length-3 c = search needs
 
 returns-3 : tie.Need-returns-3
 returns-3 c =
-    let s = c .before .before .before .before .before .before .before .before .before .before .before .before .before .before .before .before .before .before .before .before .before .before .before .before .before .before .before .before .before .before .before .before .before .before in
-    let n = c .before .before .before .before .before .before .before .before .before .before .before .before .before .before .before .before .before .before .before .before .before .before .before .before .before .before .before .before .before .before .before .before .load-node in
-    let m = c .before .before .before .before .before .before .before .before .before .before .before .before .before .before .before .before .before .before .before .before .before .before .before .before .before .before .before .before .before .before in
-    let e : n .result .class ≡ Blossom = cc in
-    same-text (blossom-text (stateNamed (n .result .state)) (indexed (indexOf (view (s .args .b .now)) (s .args .unit)) (parentNamed (n .result .parent))) (map (linked (indexOf (view (s .args .b .now)) (s .args .unit))) (circleOf (nodeAt (s .args .b .now)) (s .args .p))) (s .args .short)
-    ∙ ap (slotText (namesBy (s .args .short))) (seen-ring (s .args .b .now) (s .args .unit) (s .args .k) (s .args .p) (s .pre .1 .1) (n .result) (n .ensures) e))
-    (chain (c .before .before .before .before .before .before .before .before .before .before .before .before .before .before .before .before .before .before .before .before .before .before .before .before .before .before .put-either2 .ensures) (chain (c .before .before .before .before .before .before .before .before .before .before .before .before .before .before .before .before .before .before .before .before .before .before .put-circle .ensures) (chain (c .before .before .before .before .before .before .before .before .before .before .before .before .before .before .before .before .put-either3 .ensures) (chain (c .before .before .before .before .before .before .before .before .before .before .before .before .put-circle2 .ensures) (chain (c .before .before .before .before .before .before .put-either4 .ensures) (c .before .before .put-rest2 .ensures))))))
+    let z = c .before .before in
+    let r = z .before .before .before .before in
+    let n = r .before .before .before .before in
+    let s = n .before .before in
+    let e : n .load-node .result .class ≡ Blossom = cc in
+    same-text (blossom-text (stateNamed (n .load-node .result .state)) (indexed (indexOf (view (s .args .b .now)) (s .args .unit)) (parentNamed (n .load-node .result .parent))) (map (linked (indexOf (view (s .args .b .now)) (s .args .unit))) (circleOf (nodeAt (s .args .b .now)) (s .args .p))) (s .args .short)
+    ∙ ap (slotText (namesBy (s .args .short))) (seen-ring (s .args .b .now) (s .args .unit) (s .args .k) (s .args .p) (s .pre .1 .1) (n .load-node .result) (n .load-node .ensures) e))
+    (chain (r .put-ring .ensures) (z .put-rest2 .ensures))
 
 pub put-slot-spec : {M : Type 1} → statement M
 put-slot-spec =
@@ -149,17 +126,7 @@ put-slot-spec =
     put-number-requires
     put-rest-requires
     enum-told-2
-    slice-aggregate-put-either-3
-    slice-aggregate-put-either-4
-    put-either-requires-2
-    put-circle-requires
-    slice-aggregate-put-either-5
-    slice-aggregate-put-either-6
-    put-either-requires-3
-    put-circle-requires-2
-    slice-aggregate-put-either-7
-    slice-aggregate-put-either-8
-    put-either-requires-4
+    put-ring-requires
     put-rest-requires-2
     same-length
     returns
