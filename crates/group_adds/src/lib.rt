@@ -63,16 +63,14 @@ fn moved(g: Group, p: usize, e: Entry) -> Changed
     list[n] = e;
     let all = g.stops;
     let stops = group_stops::taken_out(all, g.stopped, p);
-    Changed {
-        number: 0,
-        group: Group {
-            kind: Kind::Conflicts,
-            list,
-            stops,
-            listed: n + 1,
-            stopped: g.stopped - 1,
-        },
-    }
+    let group = Group {
+        kind: Kind::Conflicts,
+        list,
+        stops,
+        listed: n + 1,
+        stopped: g.stopped - 1,
+    };
+    Changed { number: 0, group }
 }
 
 // x comes to the vertex of the stop y, which is pending at p.
@@ -123,16 +121,14 @@ fn add_stop(g: Group, x: Stop) -> Changed
             }
             let list = g.list;
             let stops = group_stops::put_in(all, count, p, x);
-            Changed {
-                number: 0,
-                group: Group {
-                    kind: Kind::Conflicts,
-                    list,
-                    stops,
-                    listed: g.listed,
-                    stopped: count + 1,
-                },
-            }
+            let group = Group {
+                kind: Kind::Conflicts,
+                list,
+                stops,
+                listed: g.listed,
+                stopped: count + 1,
+            };
+            Changed { number: 0, group }
         }
     }
 }

@@ -81,16 +81,14 @@ fn ended(g: Group, list: List, listed: usize, out: Stops, i: usize, k: usize) ->
     let n = g.stopped;
     let own = g.stops;
     let stops = group_runs::stops_laid(out, k, own, i, n);
-    Changed {
-        number: 0,
-        group: Group {
-            kind: Kind::Conflicts,
-            list,
-            stops,
-            listed,
-            stopped: k + (n - i),
-        },
-    }
+    let group = Group {
+        kind: Kind::Conflicts,
+        list,
+        stops,
+        listed,
+        stopped: k + (n - i),
+    };
+    Changed { number: 0, group }
 }
 
 // The first m of `other` are added to the stops of g and to the first `listed` of `list`, which past them is that of g. The pass writes `out` up to k.

@@ -9,6 +9,7 @@ use kinds::Stop;
 use kinds::Vertex;
 use kinds::numbers;
 ghost use mathlib.Core.Path.{_≡_};
+ghost use mathlib.Core.Bool.{false};
 ghost use Prim.Native.Nat.{_≤_};
 ghost use lib.ListN.{take};
 ghost use Rattle.ledger_spec.specs.Groups.{allListable, risingFrom, soundGroup};
@@ -131,15 +132,19 @@ pub fn group_is_sound(g: Group) -> bool
     }
 }
 
+// Refused, or accepted, and no.
+fn no(number: u8) -> Told
+    ensures { λ r. ⌜ r ≡ record { number = number; yes = false } ⌝ }
+{
+    Told { number, yes: false }
+}
+
 // A growth of largest weight, either flag.
 pub fn is_empty(g: Group) -> Told
     ensures { λ r. ⌜ shownTold r ≡ isEmpty (groupOf g) ⌝ }
 {
     if !group_is_sound(g) {
-        return Told {
-            number: numbers::BROKEN,
-            yes: false,
-        };
+        return no(numbers::BROKEN);
     }
     let kind = g.kind;
     match kind {
@@ -147,10 +152,7 @@ pub fn is_empty(g: Group) -> Told
             number: 0,
             yes: length == Obstacle::LARGEST,
         },
-        Kind::Conflicts => Told {
-            number: 0,
-            yes: false,
-        },
+        Kind::Conflicts => no(0),
     }
 }
 
@@ -159,10 +161,7 @@ pub fn is_active(g: Group) -> Told
     ensures { λ r. ⌜ shownTold r ≡ isActive (groupOf g) ⌝ }
 {
     if !group_is_sound(g) {
-        return Told {
-            number: numbers::BROKEN,
-            yes: false,
-        };
+        return no(numbers::BROKEN);
     }
     let kind = g.kind;
     match kind {

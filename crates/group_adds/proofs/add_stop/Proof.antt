@@ -59,8 +59,8 @@ put-in-requires c κs =
     let z = stopped-is (s .args .g) in
     (omega (arith, h .0, z), q .if1 .left)
 
-add-t15 : tie.Need-add-t15
-add-t15 c = omega (arith, c .before .before .if1 .left)
+add-t16 : tie.Need-add-t16
+add-t16 c = omega (arith, c .before .before .if1 .left)
 
 returns-2 : tie.Need-returns-2
 returns-2 c =
@@ -90,6 +90,6 @@ add-stop-spec =
     enum-known-spot-2
     returns
     put-in-requires
-    add-t15
+    add-t16
     returns-2
     returns-3)

@@ -29,11 +29,11 @@ array-set-from-list c = search needs
 taken-out-requires : tie.Need-taken-out-requires
 taken-out-requires c κs = search needs
 
-add-t9 : tie.Need-add-t9
-add-t9 c = search needs
+add-t10 : tie.Need-add-t10
+add-t10 c = search needs
 
-sub-t14 : tie.Need-sub-t14
-sub-t14 c = search needs
+sub-t15 : tie.Need-sub-t15
+sub-t15 c = search needs
 
 returns-2 : tie.Need-returns-2
 returns-2 c =
@@ -45,4 +45,4 @@ returns-2 c =
 pub moved-spec : {M : Type 1} → statement M
 moved-spec =
     tie.close
-    (tie.spec returns mul-list array-set-from-list taken-out-requires add-t9 sub-t14 returns-2)
+    (tie.spec returns mul-list array-set-from-list taken-out-requires add-t10 sub-t15 returns-2)

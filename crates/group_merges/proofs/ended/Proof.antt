@@ -6,14 +6,14 @@ use Rattle.group_merges.proofs.ended.Tie as tie
 stops-laid-requires : tie.Need-stops-laid-requires
 stops-laid-requires c κs = search needs
 
-sub-t11 : tie.Need-sub-t11
-sub-t11 c = search needs
+sub-t12 : tie.Need-sub-t12
+sub-t12 c = search needs
 
-add-t12 : tie.Need-add-t12
-add-t12 c = search needs
+add-t13 : tie.Need-add-t13
+add-t13 c = search needs
 
 returns : tie.Need-returns
 returns c = rw (c .stops-laid .ensures)
 
 pub ended-spec : {M : Type 1} → statement M
-ended-spec = tie.close (tie.spec stops-laid-requires sub-t11 add-t12 returns)
+ended-spec = tie.close (tie.spec stops-laid-requires sub-t12 add-t13 returns)

@@ -7,6 +7,7 @@ use mir.Syntax.{w64}
 use mir.Val.{SFits}
 use Rattle.ledger_spec.specs.Groups.{growth, conflicts}
 use Rattle.groups.specs.View.{groupOf, listOf, stopsOf}
+use Rattle.groups.specs.Shown.{shownTold}
 use Rattle.groups.proofs.View.{view-growth, view-conflicts}
 use Rattle.groups.proofs.Asking.{same-bits, active-broken, active-is}
 use Rattle.groups.proofs.is_active.Statement.{statement}
@@ -15,8 +16,14 @@ use Rattle.groups.proofs.is_active.Tie as tie
 group-is-sound-requires : tie.Need-group-is-sound-requires
 group-is-sound-requires c κs = search needs
 
+no-requires : tie.Need-no-requires
+no-requires c κs = search needs
+
 returns : tie.Need-returns
-returns c = active-broken (groupOf (c .before .before .args .g)) (sym (c .before .group-is-sound .ensures) ∙ not-true _ (c .if1 .taken))
+returns c =
+    let t = c .before in
+    let s = t .before in
+    ap shownTold (c .no .ensures) ∙ active-broken (groupOf (s .before .args .g)) (sym (s .group-is-sound .ensures) ∙ not-true _ (t .if1 .taken))
 
 enum-known-kind : tie.Need-enum-known-kind
 enum-known-kind c = search needs
@@ -57,6 +64,7 @@ is-active-spec =
     tie.close
     (tie.spec
     group-is-sound-requires
+    no-requires
     returns
     enum-known-kind
     enum-told
