@@ -14,10 +14,7 @@ use Rattle.groups.specs.Shown.{maybeLength}
 use Rattle.ledger_spec.specs.Bench.{grows, stays, shrinks}
 use Rattle.kinds.specs.declared.MaybeLength.{MaybeLength}
 use Rattle.kinds.specs.declared.MaybeLength.the-variants.{Length}
-use Rattle.kinds.specs.declared.Notice.{Notice}
-use Rattle.kinds.specs.declared.Notice.the-variants.{Grown}
 use Rattle.link_answers.specs.Forms.{signedWord, lengthWords, stateGiven}
-use Rattle.link_answers.specs.Answers.{whatWord}
 
 -- as the code reads it again from its bits
 abbrev pub again : Width → ℤ → ℤ
@@ -82,9 +79,6 @@ kept-once (negsuc n) f e = absurd (true≢false e)
 
 pub kept : (z : ℤ) → SFits w64 z → ltZ (again w64 z) (pos 0) ≡ false → Kept z (again w64 z)
 kept z f e = let t = kept-once z f (rw (toZ-ofZ f) at e) in rw (toZ-ofZ f) t
-
-pub grown-word : (n : Notice) (l : ℤ) (w : ℕ) → SFits w64 l → w ≡ signedWord (again w64 l) → n ≡ Grown l → w ≡ whatWord n
-grown-word n l w f e q = e ∙ ap signedWord (toZ-ofZ f) ∙ ap whatWord (sym q)
 
 pub length-written : (m : MaybeLength) (l : ℤ) (w : ℕ) → SFits w64 l → w ≡ signedWord (again w64 l) → m ≡ Length l → w ≡ lengthWords (maybeLength m) .1
 length-written m l w f e q = e ∙ ap signedWord (toZ-ofZ f) ∙ ap (λ (x : MaybeLength). lengthWords (maybeLength x) .1) (sym q)

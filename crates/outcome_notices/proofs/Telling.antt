@@ -130,12 +130,16 @@ unfolding follow
 past-long A zero k = refl
 past-long A (suc i) k = ap suc (past-long A i (A k .next))
 
-past-suc : (A : ℕ → Node) (i k : ℕ) → past A k (suc i) ≡ past A k i ++ (grow (handleAt A (walk i A k)) ∷ [])
+-- one member more
+pub nodes-suc : (A : ℕ → Node) (i k : ℕ) → nodes (follow (suc i) A k) ≡ nodes (follow i A k) ++ (handleAt A (walk i A k) ∷ [])
 unfolding follow walk
-past-suc A zero k = refl
-past-suc A (suc i) k =
-    ap (λ (l : List Told). grow (handleAt A k) ∷ l) (past-suc A i (A k .next))
-    ∙ ap (λ (p : ℕ). grow (handleAt A k) ∷ (past A (A k .next) i ++ (grow (handleAt A p) ∷ []))) (walk-next i A k)
+nodes-suc A zero k = refl
+nodes-suc A (suc i) k =
+    ap (λ (l : List Handle). handleAt A k ∷ l) (nodes-suc A i (A k .next))
+    ∙ ap (λ (p : ℕ). handleAt A k ∷ (nodes (follow i A (A k .next)) ++ (handleAt A p ∷ []))) (walk-next i A k)
+
+past-suc : (A : ℕ → Node) (i k : ℕ) → past A k (suc i) ≡ past A k i ++ (grow (handleAt A (walk i A k)) ∷ [])
+past-suc A i k = ap (map grow) (nodes-suc A i k) ∙ map-append grow (nodes (follow i A k)) (handleAt A (walk i A k) ∷ [])
 
 -- the entry that stands first
 abbrev pub head : Notices → Told
