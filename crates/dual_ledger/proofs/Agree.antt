@@ -1,12 +1,12 @@
 -- The three forms of a call are one on sound words: what meets the public contract meets the one with notices, and what meets that meets the one without,
 -- its node being the answer's first word. Assumes nothing.
-use Prim.Native.Nat.{ℕ}
+use Prim.Native.Nat.{ℕ, _<_}
 use mathlib.Core.Path.{_≡_, sym, ap, _∙_, subst}
 use mathlib.Core.Logic.{by-cases}
 use mathlib.Core.Bool.{Bool}
 use mathlib.Core.List.{List}
 use native.Mathlib.Decide.{ℕ-discrete}
-use lib.ListN.{getD}
+use lib.ListN.{length, getD}
 use Rattle.ledger_spec.specs.Answers.{Answer as Plain, whole, answer}
 use Rattle.ledger_spec.specs.Calls.{Call, perform}
 use Rattle.ledger_spec.specs.Notices.{tells}
@@ -15,10 +15,10 @@ use Rattle.bench_views.specs.View.{view}
 use Rattle.bench_views.specs.Fit.{SoundWords}
 use Rattle.sound_bench.specs.Sound.{soundWords}
 use Rattle.sound_bench.proofs.Theorem.{sound-holds}
-use Rattle.call_told.specs.Shown.{shown}
 use Rattle.call_told.specs.Told.{answerOn}
 use Rattle.link_answers.specs.Forms.{nodeWord}
-use Rattle.link_answers.specs.Answers.{frontWords, answerWords}
+use Rattle.link_told.specs.Answers.{answerOver}
+use Rattle.link_told.proofs.Back.{said-first}
 use Rattle.dual_ledger.specs.Linked.{Settled, nodeOf, ToldBy, Left, CalledBy}
 
 module _ {b : List ℕ} (W : SoundWords b) (c : Call) where
@@ -41,17 +41,17 @@ module _ {b : List ℕ} (W : SoundWords b) (c : Call) where
         (λ (z : n ≡ 0). L .seen z ∙ ap (λ (a : Plain). a .bench) on-sound)
         (λ (z : n ≡ 0 → ⊥). ap view (L .refused z) ∙ sym (refused-bench (view b) c (λ e. z (left-number L ∙ e))))
 
-    module _ {ws : List ℕ} where
-      pub called-told : CalledBy b c n ws b′ → ToldBy b c n ws b′
+    module _ {ws ws′ : List ℕ} where
+      pub called-told : CalledBy b c n ws ws′ b′ → ToldBy b c n ws ws′ b′
       called-told C = record {
         number = left-number (C .left);
-        told = C .told ∙ ap (λ (a : Plain). answerWords (shown a)) on-sound;
+        told = C .told ∙ ap (answerOver ws) on-sound;
         words = left-sound (C .left);
         seen = left-seen (C .left);
         refused = C .left .refused;
       }
 
-      pub told-settled : ToldBy b c n ws b′ → Settled b c n b′
+      pub told-settled : ToldBy b c n ws ws′ b′ → Settled b c n b′
       unfolding whole
       told-settled T = record {
         number = T .number ∙ ap (λ (a : Plain). a .number) as-performed;
@@ -60,6 +60,6 @@ module _ {b : List ℕ} (W : SoundWords b) (c : Call) where
         refused = T .refused;
       }
 
-      pub told-node : ToldBy b c n ws b′ → getD ws 0 0 ≡ nodeOf b c
-      unfolding whole answerWords frontWords
-      told-node T = ap (λ (l : List ℕ). getD l 0 0) (T .told) ∙ ap (λ (a : Plain). nodeWord (a .node)) as-performed
+      pub told-node : 0 < length ws → ToldBy b c n ws ws′ b′ → getD ws′ 0 0 ≡ nodeOf b c
+      unfolding whole
+      told-node l T = ap (λ (v : List ℕ). getD v 0 0) (T .told) ∙ said-first ws l (answer (view b) c) ∙ ap (λ (a : Plain). nodeWord (a .node)) as-performed

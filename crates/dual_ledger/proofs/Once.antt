@@ -30,9 +30,9 @@ module _ {b : List ℕ} {c : Call} {n m : ℕ} {b′ b″ : List ℕ} where
       one : n ≡ m
       one = x .number ∙ sym (y .number)
 
-  module _ {ws vs : List ℕ} where
-    pub told-once : ToldBy b c n ws b′ → ToldBy b c m vs b″ → (n ≡ m) × ((ws ≡ vs) × (b′ ≡ b″))
+  module _ {ws ws′ ws″ : List ℕ} where
+    pub told-once : ToldBy b c n ws ws′ b′ → ToldBy b c m ws ws″ b″ → (n ≡ m) × ((ws′ ≡ ws″) × (b′ ≡ b″))
     told-once x y = (x .number ∙ sym (y .number), (x .told ∙ sym (y .told), same-bench (x .words) (y .words) (x .seen ∙ sym (y .seen))))
 
-    pub called-once : CalledBy b c n ws b′ → CalledBy b c m vs b″ → (n ≡ m) × ((ws ≡ vs) × (b′ ≡ b″))
+    pub called-once : CalledBy b c n ws ws′ b′ → CalledBy b c m ws ws″ b″ → (n ≡ m) × ((ws′ ≡ ws″) × (b′ ≡ b″))
     called-once x y = let l = left-once (x .left) (y .left) in (l .0, (x .told ∙ sym (y .told), l .1))

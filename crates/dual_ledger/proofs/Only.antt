@@ -52,25 +52,25 @@ module _ (b : List ℕ) where
 -- ---- the calls, on words b: on any words, with notices; on any words, without; on sound words, with notices; on sound words, without
 module _ (b : List ℕ) where
   abbrev pub CalledOnce : Call → Type 0
-  CalledOnce c = (n m : ℕ) (ws vs b′ b″ : List ℕ) → CalledBy b c n ws b′ → CalledBy b c m vs b″ → (n ≡ m) × ((ws ≡ vs) × (b′ ≡ b″))
+  CalledOnce c = (n m : ℕ) (ws ws′ ws″ b′ b″ : List ℕ) → CalledBy b c n ws ws′ b′ → CalledBy b c m ws ws″ b″ → (n ≡ m) × ((ws′ ≡ ws″) × (b′ ≡ b″))
 
   abbrev pub LeftOnce : Call → Type 0
   LeftOnce c = (n m : ℕ) (b′ b″ : List ℕ) → Left b c n b′ → Left b c m b″ → (n ≡ m) × (b′ ≡ b″)
 
   abbrev pub ToldOnce : Call → Type 0
-  ToldOnce c = (n m : ℕ) (ws vs b′ b″ : List ℕ) → ToldBy b c n ws b′ → ToldBy b c m vs b″ → (n ≡ m) × ((ws ≡ vs) × (b′ ≡ b″))
+  ToldOnce c = (n m : ℕ) (ws ws′ ws″ b′ b″ : List ℕ) → ToldBy b c n ws ws′ b′ → ToldBy b c m ws ws″ b″ → (n ≡ m) × ((ws′ ≡ ws″) × (b′ ≡ b″))
 
   abbrev pub SettledOnce : Call → Type 0
   SettledOnce c = (n m : ℕ) (b′ b″ : List ℕ) → Settled b c n b′ → Settled b c m b″ → (n ≡ m) × (b′ ≡ b″)
 
   called : (c : Call) → CalledOnce c
-  called c n m ws vs b′ b″ x y = called-once x y
+  called c n m ws ws′ ws″ b′ b″ x y = called-once x y
 
   left : (c : Call) → LeftOnce c
   left c n m b′ b″ x y = left-once x y
 
   told : (c : Call) → ToldOnce c
-  told c n m ws vs b′ b″ x y = told-once x y
+  told c n m ws ws′ ws″ b′ b″ x y = told-once x y
 
   settled : (c : Call) → SettledOnce c
   settled c n m b′ b″ x y = settled-once x y

@@ -7,10 +7,9 @@ use Rattle.ledger_spec.specs.Answers.{answer}
 use Rattle.bench_views.specs.View.{view}
 use Rattle.bench_views.specs.Fit.{SoundWords}
 use Rattle.sound_bench.specs.Sound.{soundWords}
-use Rattle.call_told.specs.Shown.{shown}
 use Rattle.call_told.specs.Told.{answerOn}
 use Rattle.link_answers.specs.Forms.{nodeWord}
-use Rattle.link_answers.specs.Answers.{answerWords}
+use Rattle.link_told.specs.Answers.{answerOver}
 
 -- on sound words b, call c answers n and leaves the words b′; refused, every word is as it was
 pub record Settled (b : List ℕ) (c : Call) (n : ℕ) (b′ : List ℕ) : Type 0 where
@@ -25,10 +24,10 @@ nodeOf b c = nodeWord (perform (view b) c .node)
 
 -- ---- with the notices
 
--- on sound words b, call c answers n, writes ws and leaves the words b′
-pub record ToldBy (b : List ℕ) (c : Call) (n : ℕ) (ws b′ : List ℕ) : Type 0 where
+-- on sound words b, call c answers n, writes its answer over ws, which makes them ws′, and leaves the words b′
+pub record ToldBy (b : List ℕ) (c : Call) (n : ℕ) (ws ws′ b′ : List ℕ) : Type 0 where
   pub number : n ≡ answer (view b) c .number
-  pub told : ws ≡ answerWords (shown (answer (view b) c))
+  pub told : ws′ ≡ answerOver ws (answer (view b) c)
   pub words : SoundWords b′
   pub seen : view b′ ≡ answer (view b) c .bench
   pub refused : (n ≡ 0 → ⊥) → b′ ≡ b
@@ -42,7 +41,7 @@ pub record Left (b : List ℕ) (c : Call) (n : ℕ) (b′ : List ℕ) : Type 0 w
   pub seen : n ≡ 0 → view b′ ≡ answerOn (soundWords b) b c .bench
   pub refused : (n ≡ 0 → ⊥) → b′ ≡ b
 
--- and it writes ws
-pub record CalledBy (b : List ℕ) (c : Call) (n : ℕ) (ws b′ : List ℕ) : Type 0 where
+-- and it writes its answer over ws, which makes them ws′
+pub record CalledBy (b : List ℕ) (c : Call) (n : ℕ) (ws ws′ b′ : List ℕ) : Type 0 where
   pub left : Left b c n b′
-  pub told : ws ≡ answerWords (shown (answerOn (soundWords b) b c))
+  pub told : ws′ ≡ answerOver ws (answerOn (soundWords b) b c)

@@ -4,7 +4,7 @@ use crate::tapes;
 use crate::tapes::ROOM;
 use crate::told;
 use bench_words::WORDS;
-use link_answers::ANSWER;
+use link_told::ANSWER;
 
 pub fn unit_of(z: i64) -> u8 {
     let n = tapes::natural(z);

@@ -4,7 +4,7 @@ use crate::nodes;
 use crate::tapes;
 use crate::tapes::ROOM;
 use bench_words::WORDS;
-use link_answers::ANSWER;
+use link_told::ANSWER;
 ghost use Prim.Native.Nat.{_≤_};
 
 // Members and touching handles of one line, at most: more than any circle holds.

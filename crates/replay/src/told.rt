@@ -1,7 +1,7 @@
 // What answers' words say, as numbers: handles by their serials, lengths with their sign, notices whole.
 use crate::tapes;
 use crate::tapes::ROOM;
-use link_answers::ANSWER;
+use link_told::ANSWER;
 
 // The serial of a handle's word; 0 of the word that names no node.
 pub fn serial(w: u64) -> i64 {
