@@ -9,6 +9,7 @@
 
 use crate::Handle;
 use alloc::boxed::Box;
+use core::mem::MaybeUninit;
 
 /// How many words a bench has.
 pub const WORDS: usize = 6273;
@@ -26,19 +27,44 @@ pub type Held = [u8; 1024];
 pub type ObstacleWords = [u64; 5];
 pub type Touching = [[Handle; 2]];
 
-/// The answer of a call that tells its notices: 199 words, of which those past the counts are 0.
+/// The answer of a call that tells its notices: 199 words. A call writes the first three, and of the others as many as those say; the rest stay as they were,
+/// so nothing is written there beforehand and nothing is read.
 #[derive(Clone)]
 #[repr(C)]
 pub struct AnswerWords {
-    pub node: Handle,
-    pub count: u64,
-    pub members: u64,
+    node: Handle,
+    count: u64,
+    members: u64,
     /// kind, and what it is of
-    pub notices: [[u64; 2]; 66],
-    pub circle: [Handle; 64],
+    notices: [[MaybeUninit<u64>; 2]; 66],
+    circle: [MaybeUninit<Handle>; 64],
 }
 
 const _: () = assert!(core::mem::size_of::<AnswerWords>() == 199 * 8);
+
+impl AnswerWords {
+    /// No node and nothing told.
+    pub fn blank() -> Self {
+        AnswerWords { node: Handle::from_word(0), count: 0, members: 0, notices: [[MaybeUninit::uninit(); 2]; 66], circle: [MaybeUninit::uninit(); 64] }
+    }
+
+    pub fn node(&self) -> Handle {
+        self.node
+    }
+
+    /// The notices, each its kind and what it is of.
+    pub fn notices(&self) -> &[[u64; 2]] {
+        let told = &self.notices[..self.count as usize];
+        // SAFETY: a call is proved to write as many notices as it says, and a blank answer says none; nothing else writes the counts
+        unsafe { core::slice::from_raw_parts(told.as_ptr().cast(), told.len()) }
+    }
+
+    pub fn circle(&self) -> &[Handle] {
+        let members = &self.circle[..self.members as usize];
+        // SAFETY: as above, of members
+        unsafe { core::slice::from_raw_parts(members.as_ptr().cast(), members.len()) }
+    }
+}
 
 /// Words that hold a sound bench.
 #[derive(Clone, PartialEq, Eq)]

@@ -25,8 +25,7 @@ pub struct Told(AnswerWords);
 
 impl Told {
     pub(crate) fn blank() -> Told {
-        let none = Handle::from_word(0);
-        Told(AnswerWords { node: none, count: 0, members: 0, notices: [[0; 2]; 66], circle: [none; 64] })
+        Told(AnswerWords::blank())
     }
 
     pub(crate) fn words(&mut self) -> &mut AnswerWords {
@@ -36,12 +35,12 @@ impl Told {
     /// The node made or named; of a growth there is none.
     pub fn node(&self) -> Option<Handle> {
         let is_grown = matches!(self.notices().next(), Some(Notice::Grown(_)));
-        (!is_grown).then_some(self.0.node)
+        (!is_grown).then_some(self.0.node())
     }
 
     /// The notices in order, at most 66.
     pub fn notices(&self) -> impl ExactSizeIterator<Item = Notice<'_>> {
-        self.0.notices[..self.0.count as usize].iter().map(|[kind, of]| self.notice(*kind, *of))
+        self.0.notices().iter().map(|[kind, of]| self.notice(*kind, *of))
     }
 
     fn notice(&self, kind: u64, of: u64) -> Notice<'_> {
@@ -51,7 +50,7 @@ impl Told {
             2 => Notice::StateSet(node, GrowState::Stay),
             3 => Notice::StateSet(node, GrowState::Grow),
             4 => Notice::StateSet(node, GrowState::Shrink),
-            5 => Notice::ShrinkPrepared(&self.0.circle[..self.0.members as usize]),
+            5 => Notice::ShrinkPrepared(self.0.circle()),
             6 => Notice::BlossomAdded(node),
             7 => Notice::BlossomRemoved(node),
             8 => Notice::Grown(of as i64),

@@ -128,7 +128,7 @@ impl<M: DualModule + ?Sized> Telling<'_, M> {
         let mut answer = Told::blank();
         settled(call(&mut self.bench.0, answer.words()), ())?;
         answer.notices().for_each(|notice| self.tell(notice));
-        Ok(answer.words().node)
+        Ok(answer.words().node())
     }
 
     fn tell(&mut self, notice: Notice) {

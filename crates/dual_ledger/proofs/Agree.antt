@@ -8,9 +8,8 @@ use mathlib.Core.List.{List}
 use native.Mathlib.Decide.{ℕ-discrete}
 use lib.ListN.{length, getD}
 use Rattle.ledger_spec.specs.Answers.{Answer as Plain, whole, answer}
-use Rattle.ledger_spec.specs.Calls.{Call, perform}
-use Rattle.ledger_spec.specs.Notices.{tells}
-use Rattle.ledger_laws.proofs.Answered.{answer-true, refused-bench}
+use Rattle.ledger_spec.specs.Calls.{Call}
+use Rattle.ledger_laws.proofs.Answered.{refused-bench}
 use Rattle.bench_views.specs.View.{view}
 use Rattle.bench_views.specs.Fit.{SoundWords}
 use Rattle.sound_bench.specs.Sound.{soundWords}
@@ -20,14 +19,12 @@ use Rattle.link_answers.specs.Forms.{nodeWord}
 use Rattle.link_told.specs.Answers.{answerOver}
 use Rattle.link_told.proofs.Back.{said-first}
 use Rattle.dual_ledger.specs.Linked.{Settled, nodeOf, ToldBy, Left, CalledBy}
+use Rattle.dual_ledger.proofs.Telling.{as-performed}
 
 module _ {b : List ℕ} (W : SoundWords b) (c : Call) where
   on-sound : answerOn (soundWords b) b c ≡ answer (view b) c
   unfolding answerOn
   on-sound = ap (λ (s : Bool). answerOn s b c) (sound-holds b W)
-
-  as-performed : answer (view b) c ≡ whole (perform (view b) c) (tells (view b) c)
-  as-performed = answer-true (view b) c (W .sound)
 
   module _ {n : ℕ} {b′ : List ℕ} where
     left-sound : Left b c n b′ → SoundWords b′
@@ -54,12 +51,12 @@ module _ {b : List ℕ} (W : SoundWords b) (c : Call) where
       pub told-settled : ToldBy b c n ws ws′ b′ → Settled b c n b′
       unfolding whole
       told-settled T = record {
-        number = T .number ∙ ap (λ (a : Plain). a .number) as-performed;
+        number = T .number ∙ ap (λ (a : Plain). a .number) (as-performed W c);
         words = T .words;
-        seen = T .seen ∙ ap (λ (a : Plain). a .bench) as-performed;
+        seen = T .seen ∙ ap (λ (a : Plain). a .bench) (as-performed W c);
         refused = T .refused;
       }
 
       pub told-node : 0 < length ws → ToldBy b c n ws ws′ b′ → getD ws′ 0 0 ≡ nodeOf b c
       unfolding whole
-      told-node l T = ap (λ (v : List ℕ). getD v 0 0) (T .told) ∙ said-first ws l (answer (view b) c) ∙ ap (λ (a : Plain). nodeWord (a .node)) as-performed
+      told-node l T = ap (λ (v : List ℕ). getD v 0 0) (T .told) ∙ said-first ws l (answer (view b) c) ∙ ap (λ (a : Plain). nodeWord (a .node)) (as-performed W c)

@@ -1,60 +1,125 @@
--- A call's answer with notices, on sound words or on any, handed on as words. Assumes nothing.
+-- A call's answer written over words, from the call on sound words and from the verdict on any. Assumes nothing.
 use Prim.Native.Nat.{ℕ}
 use mathlib.Core.Path.{_≡_, refl, sym, ap, _∙_, subst}
-use mathlib.Core.List.{List, [], _∷_}
-use lib.IntN.{ℤ}
+use mathlib.Core.Bool.{Bool, not, true, false}
+use mathlib.Core.Logic.{_≢_}
+use mathlib.Core.List.{List, []}
+use native.Mathlib.Omega.{arith}
+use borrow.Author.Tests.{not-true, not-false}
 use Rattle.kinds.specs.declared.Handle.{Handle}
-use Rattle.kinds.specs.declared.GrowState.{GrowState}
-use Rattle.kinds.specs.declared.GrowState.the-variants.{Grow, Stay, Shrink}
-use Rattle.kinds.specs.declared.Notice.the-variants.{DefectAdded, StateSet, Grown}
-use Rattle.ledger_spec.specs.Named.{handleNamed, stateNamed}
-use Rattle.ledger_spec.specs.Notices.{defectAdded, stateSet, grown}
-use Rattle.outcome_notices.specs.Laid.{only, laid, circleIn}
-use Rattle.ledger_spec.specs.Calls.{Call}
+use Rattle.ledger_spec.specs.Bench as plain
+use Rattle.ledger_spec.specs.Tests.{first}
+use Rattle.ledger_spec.specs.Named.{handleNamed}
+use Rattle.ledger_spec.specs.Calls.{Call, perform, nobody}
+use Rattle.ledger_spec.specs.Notices.{Notice, tells}
+use Rattle.ledger_spec.specs.Answers.{Answer as Plain, whole, broken, answer}
+use Rattle.ledger_laws.proofs.Answered.{testsOf, nodeOf, answer-true, zero-tests, zero-node, zero-notices}
+use Rattle.ledger_laws.proofs.Answered as laws
+use Rattle.bench_views.specs.View.{view}
+use Rattle.bench_views.specs.Fit.{SoundWords}
 use Rattle.sound_bench.specs.Sound.{soundWords}
-use Rattle.call_told.specs.declared.Answer.{Answer}
-use Rattle.call_told.specs.Told.{Told, Called}
-use Rattle.link_answers.specs.Answers.{answerWords}
-use Rattle.dual_ledger.specs.Linked.{ToldBy, Left, CalledBy}
+use Rattle.sound_lent.specs.Verdict.{Verdict}
+use Rattle.outcomes.specs.Answered.{Answered}
+use Rattle.call_told.specs.Told.{answerOn}
+use Rattle.link_told.specs.Answers.{saidOver, answerOver}
+use Rattle.dual_ledger.specs.Linked.{Settled, ToldBy, Left, CalledBy}
 
-module _ {b : List ℕ} {c : Call} {a : Answer} {b′ : List ℕ} where
-  told-so : Told b c a b′ → {n : ℕ} {ws : List ℕ} → n ≡ a .number → ws ≡ answerWords a → ToldBy b c n ws b′
-  told-so T m w = record {
-    number = m ∙ ap (λ (x : Answer). x .number) (T .reply);
-    told = w ∙ ap answerWords (T .reply);
-    words = T .words;
-    seen = T .seen;
-    refused = λ q. T .refused (λ z. q (m ∙ z));
+-- ---- on sound words
+pub as-performed : {b : List ℕ} → SoundWords b → (c : Call) → answer (view b) c ≡ whole (perform (view b) c) (tells (view b) c)
+as-performed {b} W c = answer-true (view b) c (W .sound)
+
+module _ {b : List ℕ} (W : SoundWords b) {c : Call} {n : ℕ} {h : Handle} {b′ : List ℕ} (A : Answered b c n h b′) where
+  number-is : n ≡ answer (view b) c .number
+  unfolding whole
+  number-is = A .number ∙ sym (ap (λ (a : Plain). a .number) (as-performed W c))
+
+  seen-is : view b′ ≡ answer (view b) c .bench
+  unfolding whole
+  seen-is = A .seen ∙ sym (ap (λ (a : Plain). a .bench) (as-performed W c))
+
+  module _ (z : n ≡ 0) where
+    zero-is : answer (view b) c .number ≡ 0
+    zero-is = sym number-is ∙ z
+
+    pub passed : first (testsOf (view b) c) ≡ 0
+    passed = zero-tests (view b) c zero-is
+
+    pub made-node : handleNamed h ≡ nodeOf (view b) c
+    unfolding whole
+    made-node = A .node ∙ sym (ap (λ (a : Plain). a .node) (as-performed W c)) ∙ zero-node (view b) c zero-is
+
+  -- refused: no node, no notice
+  pub told-stops : n ≢ 0 → {m : ℕ} {ws ws′ : List ℕ} → (m ≡ n) × (ws′ ≡ saidOver ws nobody []) → ToldBy b c m ws ws′ b′
+  told-stops q {ws = ws} e = record {
+    number = e .0 ∙ number-is;
+    told = e .1 ∙ sym (ap (answerOver ws) (laws.refused (view b) c (λ z. q (number-is ∙ z))));
+    words = A .words;
+    seen = seen-is;
+    refused = λ z. A .refused q;
   }
 
-  pub told-by : {d : Call} → c ≡ d → Told b c a b′ → {n : ℕ} {ws : List ℕ} → n ≡ a .number → ws ≡ answerWords a → ToldBy b d n ws b′
-  told-by e T {n} {ws} m w = subst (λ (x : Call). ToldBy b x n ws b′) e (told-so T m w)
+  -- accepted: the node, and what the ledger tells
+  pub told-goes : n ≡ 0 → {g : plain.Handle} {ns : List Notice} → g ≡ nodeOf (view b) c → ns ≡ tells (view b) c → {ws ws′ : List ℕ} → ws′ ≡ saidOver ws g ns → ToldBy b c 0 ws ws′ b′
+  told-goes z x y {ws} e =
+      let k = zero-is z in
+      record {
+        number = sym k;
+        told = e ∙ λ i. saidOver ws ((x ∙ sym (zero-node (view b) c k)) i) ((y ∙ sym (zero-notices (view b) c k)) i);
+        words = A .words;
+        seen = seen-is;
+        refused = λ q. absurd (q refl);
+      }
 
-  left-so : Called (soundWords b) b c a b′ → {n : ℕ} → n ≡ a .number → Left b c n b′
-  left-so C m = record {
-    number = m ∙ ap (λ (x : Answer). x .number) (C .reply);
-    words = λ z. C .words (sym m ∙ z);
-    seen = λ z. C .seen (sym m ∙ z);
-    refused = λ q. C .refused (λ z. q (m ∙ z));
-  }
+-- the same call, said otherwise
+pub told-as : {b : List ℕ} {c d : Call} {n : ℕ} {ws ws′ b′ : List ℕ} → c ≡ d → ToldBy b c n ws ws′ b′ → ToldBy b d n ws ws′ b′
+told-as {b} {n = n} {ws} {ws′} {b′} e T = subst (λ (x : Call). ToldBy b x n ws ws′ b′) e T
 
-  pub called-by : {d : Call} → c ≡ d → Called (soundWords b) b c a b′ → {n : ℕ} {ws : List ℕ} → n ≡ a .number → ws ≡ answerWords a → CalledBy b d n ws b′
-  called-by e C {n} {ws} m w = subst (λ (x : Call). CalledBy b x n ws b′) e (record { left = left-so C m; told = w ∙ ap answerWords (C .reply) })
+-- ---- on any words, by the verdict on them
+module _ {b : List ℕ} {s : Bool} (v : Verdict b s) where
+  pub sound-so : not s ≡ false → SoundWords b
+  sound-so t = v .says (not-false s t)
 
-  pub left-by : Called (soundWords b) b c a b′ → Left b c (a .number) b′
-  left-by C = left-so C refl
+  module _ (c : Call) where
+    on-broken : not s ≡ true → answerOn (soundWords b) b c ≡ broken (view b)
+    unfolding answerOn
+    on-broken t = ap (λ (x : Bool). answerOn x b c) (sym (v .is) ∙ not-true s t)
 
--- ---- one notice, as the value that stands for it
-pub one-defect : (h : Handle) → only (record { notice = DefectAdded h }) ≡ laid (defectAdded (handleNamed h) ∷ [])
-unfolding laid circleIn
-one-defect h = refl
+    on-sound : not s ≡ false → answerOn (soundWords b) b c ≡ answer (view b) c
+    unfolding answerOn
+    on-sound t = ap (λ (x : Bool). answerOn x b c) (sym (v .is) ∙ not-false s t)
 
-pub one-grown : (l : ℤ) → only (record { notice = Grown l }) ≡ laid (grown l ∷ [])
-unfolding laid circleIn
-one-grown l = refl
+    module _ {n : ℕ} {b′ : List ℕ} where
+      pub left-broken : not s ≡ true → n ≡ 2 → b′ ≡ b → Left b c n b′
+      unfolding broken
+      left-broken t e same = record {
+        number = e ∙ sym (ap (λ (a : Plain). a .number) (on-broken t));
+        words = λ z. absurd (omega (arith, e, z));
+        seen = λ z. absurd (omega (arith, e, z));
+        refused = λ q. same;
+      }
 
-pub one-state : (h : Handle) (s : GrowState) → only (record { notice = StateSet h s }) ≡ laid (stateSet (handleNamed h) (stateNamed s) ∷ [])
-unfolding laid circleIn
-one-state h Grow = refl
-one-state h Stay = refl
-one-state h Shrink = refl
+      pub called-broken : not s ≡ true → {ws ws′ : List ℕ} → (n ≡ 2) × (ws′ ≡ saidOver ws nobody []) → b′ ≡ b → CalledBy b c n ws ws′ b′
+      unfolding broken
+      called-broken t {ws} e same = record { left = left-broken t (e .0) same; told = e .1 ∙ sym (ap (answerOver ws) (on-broken t)) }
+
+      pub left-settled : not s ≡ false → Settled b c n b′ → Left b c n b′
+      unfolding whole
+      left-settled t S =
+          let e : answerOn (soundWords b) b c ≡ whole (perform (view b) c) (tells (view b) c) = on-sound t ∙ as-performed (sound-so t) c in
+          record {
+            number = S .number ∙ sym (ap (λ (a : Plain). a .number) e);
+            words = λ z. S .words;
+            seen = λ z. S .seen ∙ sym (ap (λ (a : Plain). a .bench) e);
+            refused = S .refused;
+          }
+
+      pub called-sound : not s ≡ false → {ws ws′ : List ℕ} → ToldBy b c n ws ws′ b′ → CalledBy b c n ws ws′ b′
+      called-sound t {ws} T = record {
+        left = record {
+          number = T .number ∙ sym (ap (λ (a : Plain). a .number) (on-sound t));
+          words = λ z. T .words;
+          seen = λ z. T .seen ∙ sym (ap (λ (a : Plain). a .bench) (on-sound t));
+          refused = T .refused;
+        };
+        told = T .told ∙ sym (ap (answerOver ws) (on-sound t));
+      }

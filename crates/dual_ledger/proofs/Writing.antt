@@ -1,5 +1,5 @@
--- Every answer of a call is one that its words say (`Written`): its handles are packed ones, its notices at most 66. So the words of an answer give its node
--- and its notices back, and two answers of one number with the same words are one, without a hypothesis. Assumes nothing.
+-- Every answer of a call is one that its words say (`Written`): its handles are packed ones, its notices at most 66. So the words that a call writes give the
+-- node and the notices of the same call by value, whatever the words were before. Assumes nothing.
 use Prim.Native.Nat.{ℕ, zero, suc, _+_, _≤_, _<_, _^_}
 use mathlib.Core.Path.{_≡_, refl, sym, _∙_, ap, subst}
 use mathlib.Core.Bool.{Bool, true, false, true≢false}
@@ -8,7 +8,7 @@ use mathlib.Core.Option.{none, some}
 use mathlib.Core.List.{List, [], _∷_, _++_, map, append-nil}
 use native.Mathlib.Omega.{arith}
 use borrow.Author.Tests.{ltb-false}
-use lib.ListN.{length, length-map}
+use lib.ListN.{length, getD}
 use lib.IntN.{ℤ, pos, negsuc, natAbs, _+ℤ_}
 use lib.Signed.{ltZ}
 use mir.Syntax.{w64}
@@ -28,20 +28,19 @@ use Rattle.ledger_spec.proofs.Accepted.{Named, DefectPassed, defect-passed, Blo
 use Rattle.ledger_laws.proofs.CameCalls.{named-touch}
 use Rattle.ledger_laws.proofs.Answered.{testsOf, nodeOf, zero-sound, zero-tests, zero-node, zero-notices, refused-node, refused-notices, few-notices}
 use Rattle.bench_views.specs.View.{view}
-use Rattle.bench_words.proofs.Laws.{GoodHandle}
-use Rattle.outcome_notices.specs.Laid.{packed, entry, circleOr, circleIn, laid}
-use Rattle.call_told.specs.Shown.{shown}
-use Rattle.call_told.specs.Told.{answerOn}
-use Rattle.link_answers.proofs.Back.{GoodTold, GoodRing, Written}
+use Rattle.bench_words.specs.Codec.{handleOf}
+use Rattle.sound_bench.specs.Sound.{soundWords}
+use Rattle.outcome_notices.specs.Laid.{circleIn}
+use Rattle.call_told.specs.declared.Answer.{Answer as Value}
+use Rattle.call_told.specs.Told.{Told, answerOn, Called}
+use Rattle.link_told.proofs.Back.{Good, GoodTold, GoodRing, noticesRead, Written, says-notices, says-node}
+use Rattle.dual_ledger.specs.Linked.{ToldBy, CalledBy}
 
--- ---- notices whose handles are packed ones and whose lengths have 64 bits
-abbrev Good : Handle → Type 0
-Good h = GoodHandle (packed h)
-
+-- ---- notices whose handles are packed ones and whose lengths have 64 bits, and a circle of at most 64
 abbrev GoodPlain : Notice → Type 0
 GoodPlain (defectAdded h) = Good h
 GoodPlain (stateSet h s) = Good h
-GoodPlain (shrinkPrepared hs) = GoodRing (map packed hs)
+GoodPlain (shrinkPrepared hs) = GoodRing hs × (length hs ≤ 64)
 GoodPlain (blossomAdded h) = Good h
 GoodPlain (blossomRemoved h) = Good h
 GoodPlain (grown l) = SFits w64 l
@@ -50,7 +49,7 @@ abbrev AllGood : List Notice → Type 0
 AllGood [] = Unit {0}
 AllGood (n ∷ ns) = GoodPlain n × AllGood ns
 
-good-told : (ns : List Notice) → AllGood ns → GoodTold (map entry ns)
+good-told : (ns : List Notice) → AllGood ns → GoodTold ns
 good-told [] g = tt
 good-told (defectAdded h ∷ ns) g = (g .0, good-told ns (g .1))
 good-told (stateSet h s ∷ ns) g = (g .0, good-told ns (g .1))
@@ -59,9 +58,9 @@ good-told (blossomAdded h ∷ ns) g = (g .0, good-told ns (g .1))
 good-told (blossomRemoved h ∷ ns) g = (g .0, good-told ns (g .1))
 good-told (grown l ∷ ns) g = (g .0, good-told ns (g .1))
 
-good-circle : (ns : List Notice) → AllGood ns → GoodRing (map packed (circleIn ns))
+good-circle : (ns : List Notice) → AllGood ns → GoodRing (circleIn ns) × (length (circleIn ns) ≤ 64)
 unfolding circleIn
-good-circle [] g = tt
+good-circle [] g = (tt, omega arith)
 good-circle (defectAdded h ∷ ns) g = good-circle ns (g .1)
 good-circle (stateSet h s ∷ ns) g = good-circle ns (g .1)
 good-circle (shrinkPrepared hs ∷ ns) g = g .0
@@ -69,7 +68,7 @@ good-circle (blossomAdded h ∷ ns) g = good-circle ns (g .1)
 good-circle (blossomRemoved h ∷ ns) g = good-circle ns (g .1)
 good-circle (grown l ∷ ns) g = good-circle ns (g .1)
 
-good-ring : (hs : List Handle) → ((h : Handle) → In h hs → Good h) → GoodRing (map packed hs)
+good-ring : (hs : List Handle) → ((h : Handle) → In h hs → Good h) → GoodRing hs
 good-ring [] f = tt
 good-ring (h ∷ hs) f = (f h (here refl), good-ring hs (λ g i. f g (there i)))
 
@@ -103,7 +102,7 @@ module _ (b : Bench) (S : Sound b) where
   good-tells (Blossom u hs ts) e =
       let P = blossom-passed b u hs ts e in
       let f : (h : Handle) → In h hs → Good h = λ h i. present h (P .member h i .node) (P .member h i .has) in
-      good-states stays hs f (shrinkPrepared hs ∷ blossomAdded (newHandle b u) ∷ []) (good-ring hs f, (new u (P .here) (P .room) (P .unworn), tt))
+      good-states stays hs f (shrinkPrepared hs ∷ blossomAdded (newHandle b u) ∷ []) ((good-ring hs f, P .most), (new u (P .here) (P .room) (P .unworn), tt))
   good-tells (Expand u h) e =
       let P = expand-passed b u h e in
       (present h (P .named .node) (P .named .has), subst AllGood (append-nil (map (λ (g : Handle). stateSet g grows) (members (nodeNamed b h)))) (good-states grows (members (nodeNamed b h)) (below u h P) [] tt))
@@ -123,29 +122,47 @@ module _ (b : Bench) (S : Sound b) where
   good-node (Clear u) e = (omega arith, omega arith, omega arith)
 
 -- ---- every answer, on any bench
-written-of : (a : Plain) → length (a .notices) ≤ 66 → Good (a .node) → AllGood (a .notices) → Written (shown a)
-unfolding laid
+written-of : (a : Plain) → length (a .notices) ≤ 66 → Good (a .node) → AllGood (a .notices) → Written a
 written-of a few n g = record {
-  ts = map entry (a .notices);
-  hs = map packed (circleIn (a .notices));
-  notices = refl;
-  few = omega (arith, few, length-map (a .notices) entry);
+  few = few;
+  most = good-circle (a .notices) g .1;
   node = n;
   told = good-told (a .notices) g;
-  ring = good-circle (a .notices) g;
+  ring = good-circle (a .notices) g .0;
 }
 
-pub written : (b : Bench) (c : Call) → Written (shown (answer b c))
+pub written : (b : Bench) (c : Call) → Written (answer b c)
 written b c = go (answer b c .number) refl
   where
-    go : (n : ℕ) → answer b c .number ≡ n → Written (shown (answer b c))
+    go : (n : ℕ) → answer b c .number ≡ n → Written (answer b c)
     go zero e = let S = says b (zero-sound b c e) in
         written-of (answer b c) (few-notices b c) (subst Good (sym (zero-node b c e)) (good-node b S c (zero-tests b c e))) (subst AllGood (sym (zero-notices b c e)) (good-tells b S c (zero-tests b c e)))
     go (suc n) e = let q : answer b c .number ≡ 0 → ⊥ = λ z. omega (arith, e, z) in
         written-of (answer b c) (few-notices b c) (subst Good (sym (refused-node b c q)) (omega arith, omega arith, omega arith)) (subst AllGood (sym (refused-notices b c q)) tt)
 
 -- and of any words, with either verdict on them
-pub written-on : (s : Bool) (ws : List ℕ) (c : Call) → Written (shown (answerOn s ws c))
+pub written-on : (s : Bool) (ws : List ℕ) (c : Call) → Written (answerOn s ws c)
 unfolding answerOn broken
 written-on true ws c = written (view ws) c
 written-on false ws c = written-of (broken (view ws)) (omega arith) (omega arith, omega arith, omega arith) tt
+
+-- ---- the words that a call writes say what the call by value answers (crates call_told, call_any)
+module _ {b : List ℕ} {c : Call} {n : ℕ} {ws ws′ b′ : List ℕ} {r : Value} {b″ : List ℕ} (long : length ws ≡ 199) where
+  pub told-value : ToldBy b c n ws ws′ b′ → Told b c r b″ → (n ≡ r .number) × ((handleOf (getD ws′ 0 0) ≡ r .node) × (noticesRead ws′ ≡ r .notices))
+  told-value x y = (
+    x .number ∙ sym (ap (λ (a : Value). a .number) (y .reply)),
+    (
+      ap (λ (v : List ℕ). handleOf (getD v 0 0)) (x .told) ∙ says-node (written (view b) c) ws long ∙ sym (ap (λ (a : Value). a .node) (y .reply)),
+      ap noticesRead (x .told) ∙ says-notices (written (view b) c) ws long ∙ sym (ap (λ (a : Value). a .notices) (y .reply)),
+    ),
+  )
+
+  pub called-value : CalledBy b c n ws ws′ b′ → Called (soundWords b) b c r b″ → (n ≡ r .number) × ((handleOf (getD ws′ 0 0) ≡ r .node) × (noticesRead ws′ ≡ r .notices))
+  called-value x y =
+      let W = written-on (soundWords b) b c in (
+        x .left .number ∙ sym (ap (λ (a : Value). a .number) (y .reply)),
+        (
+          ap (λ (v : List ℕ). handleOf (getD v 0 0)) (x .told) ∙ says-node W ws long ∙ sym (ap (λ (a : Value). a .node) (y .reply)),
+          ap noticesRead (x .told) ∙ says-notices W ws long ∙ sym (ap (λ (a : Value). a .notices) (y .reply)),
+        ),
+      )

@@ -138,7 +138,7 @@ module _ (b : List ℕ) (k i p : ℕ) (m : Node) (ws out : List ℕ) (w : ℕ) (
       let f : Handle → Notice = λ (g : Handle). stateSet g grows in
       let g : w ≡ nodeWord (handleAt A (walk i A k)) = e ∙ ap (λ (x : Node). nodeWord (record { unit = p / 64; slot = p % 64; serial = x .serial .0 })) load ∙ ap (λ (x : ℕ). nodeWord (handleAt A x)) at in
       let more : map f (nodes (follow (i + 1) A k)) ≡ map f (nodes (follow i A k)) ++ (f (handleAt A (walk i A k)) ∷ [])
-          = ap (λ (j : ℕ). map f (nodes (follow j A k))) (add-one i) ∙ ap (map f) (nodes-suc A i k) ∙ map-append f (nodes (follow i A k)) (handleAt A (walk i A k) ∷ []) in
+      = ap (λ (j : ℕ). map f (nodes (follow j A k))) (add-one i) ∙ ap (map f) (nodes-suc A i k) ∙ map-append f (nodes (follow i A k)) (handleAt A (walk i A k) ∷ []) in
       ap (λ (x : ℕ). set (set out (i * 2 + 5) 3) (i * 2 + 5 + 1) x) g
       ∙ told-more (growing b k i) (f (handleAt A (walk i A k))) ws out 5 (i * 2 + 5) q (omega (arith, growing-long A i k))
       ∙ ap (λ (ns : List Notice). sets ws 5 (toldWords ns)) (sym more)

@@ -54,7 +54,7 @@ returns c =
     let h = handleNamed (s .args .h) in
     let n = c .before .before .before .before .before .before .load-node in
     let seen : members (look.nodeNamed (view b) h) ≡ nodes (follow (n .result .count) (nodeAt b) (n .result .first))
-        = members-seen b h (s .pre .0) (s .pre .1) ∙ ap (λ (x : Node). nodes (follow (x .count) (nodeAt b) (x .first))) (sym (n .ensures)) in
+    = members-seen b h (s .pre .0) (s .pre .1) ∙ ap (λ (x : Node). nodes (follow (x .count) (nodeAt b) (x .first))) (sym (n .ensures)) in
     gone-steps b (n .result .first) (n .result .count) h (s .args .out .now) (members (look.nodeNamed (view b) h)) seen (c .before .before .before .before .before .node-word .ensures) (c .before .before .put-heads .ensures) (c .put-grows .ensures)
 
 pub expanded-spec : {M : Type 1} → statement M

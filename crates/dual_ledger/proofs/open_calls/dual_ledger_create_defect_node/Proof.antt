@@ -1,18 +1,35 @@
--- The call below answers; its answer as words and its number are handed on. Assumes nothing.
-use borrow.Author.Needs.{needs}
+-- BROKEN on words that hold no sound bench; else the call on sound words answers. Assumes nothing.
 use mathlib.Core.Path.{refl}
-use Rattle.dual_ledger.proofs.Telling.{called-by}
-use Rattle.dual_ledger.proofs.open_calls.dual_ledger_create_defect_node.Statement.{statement}
+use Rattle.ledger_spec.specs.Calls.{Defect}
+use Rattle.dual_ledger.proofs.Telling.{sound-so, called-broken, called-sound}
+use borrow.Author.Needs.{needs}
+use Rattle.dual_ledger.proofs.open_calls.dual_ledger_create_defect_node.Statement.{
+  statement,
+}
 use Rattle.dual_ledger.proofs.open_calls.dual_ledger_create_defect_node.Tie as tie
 
-create-defect-node-requires : tie.Need-create-defect-node-requires
-create-defect-node-requires c κs = search needs
+is-bench-requires : tie.Need-is-bench-requires
+is-bench-requires c κs = search needs
 
-put-answer-requires : tie.Need-put-answer-requires
-put-answer-requires c κs = search needs
+refused-requires : tie.Need-refused-requires
+refused-requires c κs = search needs
 
 returns : tie.Need-returns
-returns c = called-by refl (c .before .before .create-defect-node .ensures) (c .put-answer .ensures .0) (c .put-answer .ensures .1)
+returns c = called-broken (c .before .before .before .is-bench .ensures) (Defect (c .before .before .before .before .before .args .unit) (c .before .before .before .before .before .args .vertex)) (c .before .before .if1 .taken) (c .refused .ensures) refl
+
+dual-ledger-told-create-defect-node-requires :
+    tie.Need-dual-ledger-told-create-defect-node-requires
+dual-ledger-told-create-defect-node-requires c κs = sound-so (c .before .before .before .is-bench .ensures) (c .before .before .if1 .left)
+
+returns-2 : tie.Need-returns-2
+returns-2 c = called-sound (c .before .before .before .before .is-bench .ensures) (Defect (c .before .before .before .before .before .before .args .unit) (c .before .before .before .before .before .before .args .vertex)) (c .before .before .before .if1 .left) (c .dual-ledger-told-create-defect-node .ensures)
 
 pub dual-ledger-create-defect-node-spec : {M : Type 1} → statement M
-dual-ledger-create-defect-node-spec = tie.close (tie.spec create-defect-node-requires put-answer-requires returns)
+dual-ledger-create-defect-node-spec =
+    tie.close
+    (tie.spec
+    is-bench-requires
+    refused-requires
+    returns
+    dual-ledger-told-create-defect-node-requires
+    returns-2)

@@ -1,22 +1,33 @@
--- The call below answers; its answer as words and its number are handed on. Assumes nothing.
-use borrow.Author.Needs.{needs}
-use mathlib.Core.Path.{ap}
+-- BROKEN on words that hold no sound bench; else the call on sound words answers. Assumes nothing.
+use mathlib.Core.Path.{refl}
 use Rattle.ledger_spec.specs.Calls.{Expand}
-use Rattle.dual_ledger.proofs.Telling.{called-by}
+use Rattle.bench_views.specs.Given.{handGiven}
+use Rattle.dual_ledger.proofs.Telling.{sound-so, called-broken, called-sound}
+use borrow.Author.Needs.{needs}
 use Rattle.dual_ledger.proofs.open_calls.dual_ledger_expand_blossom.Statement.{statement}
 use Rattle.dual_ledger.proofs.open_calls.dual_ledger_expand_blossom.Tie as tie
 
-hand-requires : tie.Need-hand-requires
-hand-requires c κs = search needs
+is-bench-requires : tie.Need-is-bench-requires
+is-bench-requires c κs = search needs
 
-expand-blossom-requires : tie.Need-expand-blossom-requires
-expand-blossom-requires c κs = search needs
-
-put-answer-requires : tie.Need-put-answer-requires
-put-answer-requires c κs = search needs
+refused-requires : tie.Need-refused-requires
+refused-requires c κs = search needs
 
 returns : tie.Need-returns
-returns c = called-by (ap (Expand (c .before .before .before .before .before .args .unit)) (c .before .before .before .before .hand .ensures)) (c .before .before .expand-blossom .ensures) (c .put-answer .ensures .0) (c .put-answer .ensures .1)
+returns c = called-broken (c .before .before .before .is-bench .ensures) (Expand (c .before .before .before .before .before .args .unit) (handGiven (c .before .before .before .before .before .args .node))) (c .before .before .if1 .taken) (c .refused .ensures) refl
+
+dual-ledger-told-expand-blossom-requires : tie.Need-dual-ledger-told-expand-blossom-requires
+dual-ledger-told-expand-blossom-requires c κs = sound-so (c .before .before .before .is-bench .ensures) (c .before .before .if1 .left)
+
+returns-2 : tie.Need-returns-2
+returns-2 c = called-sound (c .before .before .before .before .is-bench .ensures) (Expand (c .before .before .before .before .before .before .args .unit) (handGiven (c .before .before .before .before .before .before .args .node))) (c .before .before .before .if1 .left) (c .dual-ledger-told-expand-blossom .ensures)
 
 pub dual-ledger-expand-blossom-spec : {M : Type 1} → statement M
-dual-ledger-expand-blossom-spec = tie.close (tie.spec hand-requires expand-blossom-requires put-answer-requires returns)
+dual-ledger-expand-blossom-spec =
+    tie.close
+    (tie.spec
+    is-bench-requires
+    refused-requires
+    returns
+    dual-ledger-told-expand-blossom-requires
+    returns-2)

@@ -1,18 +1,28 @@
--- The call below answers; its answer as words and its number are handed on. Assumes nothing.
-use borrow.Author.Needs.{needs}
+-- BROKEN on words that hold no sound bench; else the call on sound words answers. Assumes nothing.
+use mathlib.Core.Path.{refl}
+use Rattle.ledger_spec.specs.Calls.{Grow}
 use Rattle.dual_ledger.proofs.Settling.{same-length}
-use Rattle.dual_ledger.proofs.Telling.{called-by}
+use Rattle.dual_ledger.proofs.Telling.{sound-so, called-broken, called-sound, told-as}
+use borrow.Author.Needs.{needs}
 use Rattle.dual_ledger.proofs.open_calls.dual_ledger_grow.Statement.{statement}
 use Rattle.dual_ledger.proofs.open_calls.dual_ledger_grow.Tie as tie
 
-grow-requires : tie.Need-grow-requires
-grow-requires c κs = search needs
+is-bench-requires : tie.Need-is-bench-requires
+is-bench-requires c κs = search needs
 
-put-answer-requires : tie.Need-put-answer-requires
-put-answer-requires c κs = search needs
+refused-requires : tie.Need-refused-requires
+refused-requires c κs = search needs
 
 returns : tie.Need-returns
-returns c = called-by (same-length _ (c .before .before .before .before .fits .length)) (c .before .before .grow .ensures) (c .put-answer .ensures .0) (c .put-answer .ensures .1)
+returns c = called-broken (c .before .before .before .is-bench .ensures) (Grow (c .before .before .before .before .before .args .unit) (c .before .before .before .before .before .args .length)) (c .before .before .if1 .taken) (c .refused .ensures) refl
+
+dual-ledger-told-grow-requires : tie.Need-dual-ledger-told-grow-requires
+dual-ledger-told-grow-requires c κs = sound-so (c .before .before .before .is-bench .ensures) (c .before .before .if1 .left)
+
+returns-2 : tie.Need-returns-2
+returns-2 c = called-sound (c .before .before .before .before .is-bench .ensures) (Grow (c .before .before .before .before .before .before .args .unit) (c .before .before .before .before .before .before .args .length)) (c .before .before .before .if1 .left) (told-as (same-length _ (c .before .before .before .before .before .before .fits .length)) (c .dual-ledger-told-grow .ensures))
 
 pub dual-ledger-grow-spec : {M : Type 1} → statement M
-dual-ledger-grow-spec = tie.close (tie.spec grow-requires put-answer-requires returns)
+dual-ledger-grow-spec =
+    tie.close
+    (tie.spec is-bench-requires refused-requires returns dual-ledger-told-grow-requires returns-2)

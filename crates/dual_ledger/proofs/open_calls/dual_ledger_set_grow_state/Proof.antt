@@ -1,24 +1,35 @@
--- The call below answers; its answer as words and its number are handed on. Assumes nothing.
-use borrow.Author.Needs.{needs}
+-- BROKEN on words that hold no sound bench; else the call on sound words answers. Assumes nothing.
+use mathlib.Core.Path.{refl}
+use Rattle.ledger_spec.specs.Calls.{SetState}
+use Rattle.bench_views.specs.Given.{handGiven}
+use Rattle.link_answers.specs.Forms.{stateGiven}
 use Rattle.dual_ledger.proofs.Settling.{same-state}
-use Rattle.dual_ledger.proofs.Telling.{called-by}
+use Rattle.dual_ledger.proofs.Telling.{sound-so, called-broken, called-sound, told-as}
+use borrow.Author.Needs.{needs}
 use Rattle.dual_ledger.proofs.open_calls.dual_ledger_set_grow_state.Statement.{statement}
 use Rattle.dual_ledger.proofs.open_calls.dual_ledger_set_grow_state.Tie as tie
 
-hand-requires : tie.Need-hand-requires
-hand-requires c κs = search needs
+is-bench-requires : tie.Need-is-bench-requires
+is-bench-requires c κs = search needs
 
-state-given-requires : tie.Need-state-given-requires
-state-given-requires c κs = search needs
-
-set-grow-state-requires : tie.Need-set-grow-state-requires
-set-grow-state-requires c κs = search needs
-
-put-answer-requires : tie.Need-put-answer-requires
-put-answer-requires c κs = search needs
+refused-requires : tie.Need-refused-requires
+refused-requires c κs = search needs
 
 returns : tie.Need-returns
-returns c = called-by (same-state _ (c .before .before .before .before .before .hand .ensures) (c .before .before .before .before .before .before .fits .state) (c .before .before .before .before .state-given .ensures)) (c .before .before .set-grow-state .ensures) (c .put-answer .ensures .0) (c .put-answer .ensures .1)
+returns c = called-broken (c .before .before .before .is-bench .ensures) (SetState (c .before .before .before .before .before .args .unit) (handGiven (c .before .before .before .before .before .args .node)) (stateGiven (c .before .before .before .before .before .args .state))) (c .before .before .if1 .taken) (c .refused .ensures) refl
+
+dual-ledger-told-set-grow-state-requires : tie.Need-dual-ledger-told-set-grow-state-requires
+dual-ledger-told-set-grow-state-requires c κs = sound-so (c .before .before .before .is-bench .ensures) (c .before .before .if1 .left)
+
+returns-2 : tie.Need-returns-2
+returns-2 c = called-sound (c .before .before .before .before .is-bench .ensures) (SetState (c .before .before .before .before .before .before .args .unit) (handGiven (c .before .before .before .before .before .before .args .node)) (stateGiven (c .before .before .before .before .before .before .args .state))) (c .before .before .before .if1 .left) (told-as (same-state _ refl (c .before .before .before .before .before .before .fits .state) refl) (c .dual-ledger-told-set-grow-state .ensures))
 
 pub dual-ledger-set-grow-state-spec : {M : Type 1} → statement M
-dual-ledger-set-grow-state-spec = tie.close (tie.spec hand-requires state-given-requires set-grow-state-requires put-answer-requires returns)
+dual-ledger-set-grow-state-spec =
+    tie.close
+    (tie.spec
+    is-bench-requires
+    refused-requires
+    returns
+    dual-ledger-told-set-grow-state-requires
+    returns-2)

@@ -1,40 +1,33 @@
--- The call on sound words answers; a refusal has no notice, and an accepted call tells the length. Assumes nothing.
-use borrow.Author.Needs.{needs}
-use mathlib.Core.Path.{refl, _∙_}
-use mir.Facts.{toZ-ofZ}
-use Rattle.kinds.specs.declared.Notice.the-variants.{Grown}
-use Rattle.ledger_spec.specs.Calls.{Grow}
+-- The call on sound words answers; a refusal tells nothing, and a growth tells its length. Assumes nothing.
+use mathlib.Core.Path.{refl}
+use Rattle.ledger_laws.proofs.Answered.{nodeOf}
+use Rattle.bench_views.specs.View.{view}
 use Rattle.refuse_calls.proofs.Lengths.{again}
-use Rattle.outcome_notices.specs.Laid.{only}
-use Rattle.call_told.specs.Shown.{refusedBy}
-use Rattle.call_told.proofs.Telling.{stops, goes, told-grown, grow-said}
-use Rattle.dual_ledger.proofs.Telling.{told-by, one-grown}
+use Rattle.outcome_notices.proofs.Tells.{tells-grown}
+use Rattle.dual_ledger.proofs.Settling.{same-length}
+use Rattle.dual_ledger.proofs.Telling.{told-stops, told-goes, told-as}
+use borrow.Author.Needs.{needs}
 use Rattle.dual_ledger.proofs.told_calls.dual_ledger_told_grow.Statement.{statement}
 use Rattle.dual_ledger.proofs.told_calls.dual_ledger_told_grow.Tie as tie
 
 grow-requires : tie.Need-grow-requires
 grow-requires c κs = search needs
 
-put-refused-requires : tie.Need-put-refused-requires
-put-refused-requires c κs = search needs
+refused-requires : tie.Need-refused-requires
+refused-requires c κs = search needs
 
 returns : tie.Need-returns
-returns c =
-    let s = c .before .before .before .before .before .before in
-    let m = c .before .before .before .before .grow in
-    told-by refl (stops (s .args .bench .now) (s .pre) (Grow (s .args .unit) (s .args .length)) (m .result .number) (m .result .node) _ (grow-said (s .args .bench .now) (s .args .unit) (s .fits .length) (m .ensures)) (c .before .before .if1 .taken) (refusedBy (m .result .number)) refl)
-    (c .put-refused .ensures .0) (c .put-refused .ensures .1)
+returns c = told-as (same-length _ (c .before .before .before .before .before .before .fits .length)) (told-stops (c .before .before .before .before .before .before .pre) (c .before .before .before .before .grow .ensures) (c .before .before .if1 .taken) (c .refused .ensures))
 
-put-one-requires : tie.Need-put-one-requires
-put-one-requires c κs = search needs
+grown-requires : tie.Need-grown-requires
+grown-requires c κs = search needs
 
 returns-2 : tie.Need-returns-2
+unfolding nodeOf
 returns-2 c =
-    let s = c .before .before .before .before .before .before .before in
-    let m = c .before .before .before .before .before .grow in
-    told-by refl (goes (s .args .bench .now) (s .pre) (Grow (s .args .unit) (s .args .length)) (m .result .number) (m .result .node) _ (grow-said (s .args .bench .now) (s .args .unit) (s .fits .length) (m .ensures)) (c .before .before .before .if1 .left) 0 refl (only (record { notice = Grown (again (s .args .length)) }))
-    (one-grown (again (s .args .length)) ∙ told-grown (s .args .bench .now) (s .args .unit) (s .args .length) (again (s .args .length)) (toZ-ofZ (s .fits .length))))
-    (c .put-one .ensures .0) (c .put-one .ensures .1)
+    let s = c .before .before .before .before .before .before in
+    told-as (same-length _ (s .fits .length)) (told-goes (s .pre) (c .before .before .before .before .grow .ensures) (c .before .before .if1 .left) refl (tells-grown (view (s .args .bench .now)) (s .args .unit) (again (s .args .length))) (c .grown .ensures))
 
 pub dual-ledger-told-grow-spec : {M : Type 1} → statement M
-dual-ledger-told-grow-spec = tie.close (tie.spec grow-requires put-refused-requires returns put-one-requires returns-2)
+dual-ledger-told-grow-spec =
+    tie.close (tie.spec grow-requires refused-requires returns grown-requires returns-2)

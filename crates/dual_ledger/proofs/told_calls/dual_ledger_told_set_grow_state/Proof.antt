@@ -1,16 +1,15 @@
--- The call on sound words answers; a refusal has no notice, and an accepted call tells the state. Assumes nothing.
-use borrow.Author.Needs.{needs}
+-- The call on sound words answers; a refusal tells nothing, and else the state is told. Assumes nothing.
 use mathlib.Core.Path.{refl}
-use Rattle.kinds.specs.declared.Notice.the-variants.{StateSet}
-use Rattle.ledger_spec.specs.Calls.{SetState}
 use Rattle.ledger_spec.specs.Named.{handleNamed, stateNamed}
-use Rattle.ledger_spec.specs.Notices.{tells}
-use Rattle.outcome_notices.specs.Laid.{only}
-use Rattle.call_told.specs.Shown.{refusedBy}
-use Rattle.call_told.proofs.Telling.{stops, goes}
+use Rattle.ledger_laws.proofs.Answered.{nodeOf}
+use Rattle.bench_views.specs.View.{view}
+use Rattle.outcome_notices.proofs.Tells.{tells-state}
 use Rattle.dual_ledger.proofs.Settling.{same-state}
-use Rattle.dual_ledger.proofs.Telling.{told-by, one-state}
-use Rattle.dual_ledger.proofs.told_calls.dual_ledger_told_set_grow_state.Statement.{statement}
+use Rattle.dual_ledger.proofs.Telling.{told-stops, told-goes, told-as}
+use borrow.Author.Needs.{needs}
+use Rattle.dual_ledger.proofs.told_calls.dual_ledger_told_set_grow_state.Statement.{
+  statement,
+}
 use Rattle.dual_ledger.proofs.told_calls.dual_ledger_told_set_grow_state.Tie as tie
 
 hand-requires : tie.Need-hand-requires
@@ -22,33 +21,34 @@ state-given-requires c κs = search needs
 set-grow-state-requires : tie.Need-set-grow-state-requires
 set-grow-state-requires c κs = search needs
 
-put-refused-requires : tie.Need-put-refused-requires
-put-refused-requires c κs = search needs
+refused-requires : tie.Need-refused-requires
+refused-requires c κs = search needs
 
 returns : tie.Need-returns
 returns c =
-    let g = c .before .before .before .before .before .before in
-    let h = g .before in
-    let s = h .before in
-    let m = c .before .before .before .before .set-grow-state in
-    told-by (same-state _ (h .hand .ensures) (s .fits .state) (g .state-given .ensures))
-    (stops (s .args .bench .now) (s .pre) (SetState (s .args .unit) (handleNamed (h .hand .result)) (stateNamed (g .state-given .result))) (m .result .number) (m .result .node) _ (m .ensures) (c .before .before .if1 .taken) (refusedBy (m .result .number)) refl)
-    (c .put-refused .ensures .0) (c .put-refused .ensures .1)
+    told-as (same-state _ (c .before .before .before .before .before .before .before .hand .ensures) (c .before .before .before .before .before .before .before .before .fits .state) (c .before .before .before .before .before .before .state-given .ensures))
+    (told-stops (c .before .before .before .before .before .before .before .before .pre) (c .before .before .before .before .set-grow-state .ensures) (c .before .before .if1 .taken) (c .refused .ensures))
 
-put-one-requires : tie.Need-put-one-requires
-put-one-requires c κs = search needs
+state-requires : tie.Need-state-requires
+state-requires c κs = search needs
 
 returns-2 : tie.Need-returns-2
-unfolding tells
+unfolding nodeOf
 returns-2 c =
-    let g = c .before .before .before .before .before .before .before in
-    let h = g .before in
-    let s = h .before in
-    let m = c .before .before .before .before .before .set-grow-state in
-    told-by (same-state _ (h .hand .ensures) (s .fits .state) (g .state-given .ensures))
-    (goes (s .args .bench .now) (s .pre) (SetState (s .args .unit) (handleNamed (h .hand .result)) (stateNamed (g .state-given .result))) (m .result .number) (m .result .node) _ (m .ensures) (c .before .before .before .if1 .left) 0 refl
-    (only (record { notice = StateSet (h .hand .result) (g .state-given .result) })) (one-state (h .hand .result) (g .state-given .result)))
-    (c .put-one .ensures .0) (c .put-one .ensures .1)
+    let s = c .before .before .before .before .before .before .before .before in
+    let h = c .before .before .before .before .before .before .before .hand in
+    let g = c .before .before .before .before .before .before .state-given in
+    told-as (same-state _ (h .ensures) (s .fits .state) (g .ensures))
+    (told-goes (s .pre) (c .before .before .before .before .set-grow-state .ensures) (c .before .before .if1 .left) refl (tells-state (view (s .args .bench .now)) (s .args .unit) (handleNamed (h .result)) (stateNamed (g .result))) (c .state .ensures))
 
 pub dual-ledger-told-set-grow-state-spec : {M : Type 1} → statement M
-dual-ledger-told-set-grow-state-spec = tie.close (tie.spec hand-requires state-given-requires set-grow-state-requires put-refused-requires returns put-one-requires returns-2)
+dual-ledger-told-set-grow-state-spec =
+    tie.close
+    (tie.spec
+    hand-requires
+    state-given-requires
+    set-grow-state-requires
+    refused-requires
+    returns
+    state-requires
+    returns-2)
