@@ -51,7 +51,7 @@ extern "C" {
  *   word 2              how many members the circle of "shrink prepared" has, at most 64
  *   words 3 + 2 i, + 4  notice i: its kind, and what it is of
  *   words 135 + i       member i of the circle
- * Words past those counts are 0. */
+ * Words past those counts say nothing and stay as they were: read by the counts. A refused call writes three words, 0 each. */
 #define DUAL_LEDGER_DEFECT_ADDED 1    /* the node */
 #define DUAL_LEDGER_STATE_STAY 2      /* the node, set to stay */
 #define DUAL_LEDGER_STATE_GROW 3      /* the node, set to grow */

@@ -130,8 +130,9 @@ static void whole_case(enum form form) {
 
 static uint64_t expected[DUAL_LEDGER_ANSWER_WORDS];
 
+/* Words that say nothing stay as they were. */
 static void expect(uint64_t node, uint64_t count, uint64_t members) {
-    memset(expected, 0, sizeof expected);
+    memset(expected, 0xa5, sizeof expected);
     expected[0] = node, expected[1] = count, expected[2] = members;
 }
 
@@ -139,7 +140,7 @@ static void notice(size_t i, uint64_t kind, uint64_t what) { expected[3 + 2 * i]
 
 static void told(const char *what) {
     same_words(what, answer, expected, DUAL_LEDGER_ANSWER_WORDS);
-    memset(answer, 0xa5, sizeof answer); /* the next answer must write every word */
+    memset(answer, 0xa5, sizeof answer);
 }
 
 static void notices(void) {
@@ -440,11 +441,9 @@ static void names(void) {
 /* ---- refusals: the number, no value, and every word as it was */
 
 static void refused(const char *what, uint8_t got, int number) {
-    static const uint64_t zeros[DUAL_LEDGER_ANSWER_WORDS];
     same(what, got, number);
     same_words(what, bench, kept, DUAL_LEDGER_WORDS);
-    same_words(what, answer, zeros, DUAL_LEDGER_ANSWER_WORDS);
-    memset(answer, 0xa5, sizeof answer);
+    expect(0, 0, 0), told(what);
 }
 
 static void refusals(void) {
@@ -467,9 +466,9 @@ static void refusals(void) {
     refused("a member's state", dual_ledger_set_grow_state(bench, 0, node[0], 1, answer), DUAL_LEDGER_INSIDE);
     node[0] = node[1] = node[2];
     refused("a member twice", dual_ledger_create_blossom(bench, 0, node, 2, NULL, 0, answer), DUAL_LEDGER_TWICE);
-    memset(answer, 0, sizeof answer), refused("a half twice", dual_ledger_fuse(bench, 2, 1, 1), DUAL_LEDGER_PAIR);
-    memset(answer, 0, sizeof answer), refused("a used parent", dual_ledger_fuse(bench, 3, 0, 1), DUAL_LEDGER_USED);
-    memset(answer, 0, sizeof answer), refused("clear of interface 255", dual_ledger_clear(bench, 255), DUAL_LEDGER_UNIT);
+    memset(answer, 0, 3 * sizeof *answer), refused("a half twice", dual_ledger_fuse(bench, 2, 1, 1), DUAL_LEDGER_PAIR);
+    memset(answer, 0, 3 * sizeof *answer), refused("a used parent", dual_ledger_fuse(bench, 3, 0, 1), DUAL_LEDGER_USED);
+    memset(answer, 0, 3 * sizeof *answer), refused("clear of interface 255", dual_ledger_clear(bench, 255), DUAL_LEDGER_UNIT);
 }
 
 /* Words that hold no sound bench: each public call and read says so and changes none. */
@@ -485,8 +484,8 @@ static void broken(void) {
     refused("broken: expand", dual_ledger_expand_blossom(bench, 0, node, answer), DUAL_LEDGER_BROKEN);
     refused("broken: set state", dual_ledger_set_grow_state(bench, 0, node, 1, answer), DUAL_LEDGER_BROKEN);
     refused("broken: grow", dual_ledger_grow(bench, 0, 1, answer), DUAL_LEDGER_BROKEN);
-    memset(answer, 0, sizeof answer), refused("broken: fuse", dual_ledger_fuse(bench, 2, 0, 1), DUAL_LEDGER_BROKEN);
-    memset(answer, 0, sizeof answer), refused("broken: clear", dual_ledger_clear(bench, 0), DUAL_LEDGER_BROKEN);
+    memset(answer, 0, 3 * sizeof *answer), refused("broken: fuse", dual_ledger_fuse(bench, 2, 0, 1), DUAL_LEDGER_BROKEN);
+    memset(answer, 0, 3 * sizeof *answer), refused("broken: clear", dual_ledger_clear(bench, 0), DUAL_LEDGER_BROKEN);
     same("broken: sum", dual_ledger_sum_dual_variables(bench, 0, &z), DUAL_LEDGER_BROKEN), same("broken: sum", z, 0);
     same("broken: value", dual_ledger_get_dual_variable(bench, node, &z), DUAL_LEDGER_BROKEN), same("broken: value", z, 0);
     same("broken: node", dual_ledger_get_node(bench, 0, 0, &v), DUAL_LEDGER_BROKEN), same("broken: node", (int64_t)v, 0);
