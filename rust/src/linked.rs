@@ -44,21 +44,25 @@ const _: () = assert!(core::mem::size_of::<AnswerWords>() == 199 * 8);
 
 impl AnswerWords {
     /// No node and nothing told.
+    #[inline]
     pub fn blank() -> Self {
         AnswerWords { node: Handle::from_word(0), count: 0, members: 0, notices: [[MaybeUninit::uninit(); 2]; 66], circle: [MaybeUninit::uninit(); 64] }
     }
 
+    #[inline]
     pub fn node(&self) -> Handle {
         self.node
     }
 
     /// The notices, each its kind and what it is of.
+    #[inline]
     pub fn notices(&self) -> &[[u64; 2]] {
         let told = &self.notices[..self.count as usize];
         // SAFETY: a call is proved to write as many notices as it says, and a blank answer says none; nothing else writes the counts
         unsafe { core::slice::from_raw_parts(told.as_ptr().cast(), told.len()) }
     }
 
+    #[inline]
     pub fn circle(&self) -> &[Handle] {
         let members = &self.circle[..self.members as usize];
         // SAFETY: as above, of members
@@ -176,6 +180,7 @@ macro_rules! link {
 /// A blossom's call: the lists go as pointer and length.
 macro_rules! link_blossom {
     ($form:literal $bench:ty, $out:ty) => {
+        #[inline]
         pub fn create_blossom(bench: &mut $bench, unit: u8, members: &[Handle], touching: &Touching, out: &mut $out) -> u8 {
             type List = *const Handle;
             extern "C" {

@@ -24,10 +24,12 @@ pub enum Notice<'a> {
 pub struct Told(AnswerWords);
 
 impl Told {
+    #[inline]
     pub(crate) fn blank() -> Told {
         Told(AnswerWords::blank())
     }
 
+    #[inline]
     pub(crate) fn words(&mut self) -> &mut AnswerWords {
         &mut self.0
     }
@@ -39,10 +41,12 @@ impl Told {
     }
 
     /// The notices in order, at most 66.
+    #[inline]
     pub fn notices(&self) -> impl ExactSizeIterator<Item = Notice<'_>> {
         self.0.notices().iter().map(|[kind, of]| self.notice(*kind, *of))
     }
 
+    #[inline]
     fn notice(&self, kind: u64, of: u64) -> Notice<'_> {
         let node = Handle::from_word(of);
         match kind {
