@@ -46,7 +46,13 @@ impl AnswerWords {
     /// No node and nothing told.
     #[inline]
     pub fn blank() -> Self {
-        AnswerWords { node: Handle::from_word(0), count: 0, members: 0, notices: [[MaybeUninit::uninit(); 2]; 66], circle: [MaybeUninit::uninit(); 64] }
+        AnswerWords {
+            node: Handle::from_word(0),
+            count: 0,
+            members: 0,
+            notices: [[MaybeUninit::uninit(); 2]; 66],
+            circle: [MaybeUninit::uninit(); 64],
+        }
     }
 
     #[inline]
