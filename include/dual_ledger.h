@@ -13,7 +13,7 @@
  * Threads: there is no state but what is lent. Functions may run at once on any threads as long as nothing that one of them writes is lent to another; reads of
  * one bench may run at once.
  *
- * The archive needs at most memcpy, memmove and memset of the C library and nothing else. It has some 110 KB (x86-64).
+ * The archive needs at most memcpy, memmove and memset of the C library and nothing else. It has some 80 KB (x86-64).
  *
  * Three forms. dual_ledger_NAME takes any words at all and tests them first (BROKEN if they hold no sound bench). dual_ledger_trusted_NAME tests
  * nothing about the words: lend it only words that dual_ledger_set_up and accepted or refused calls of this library alone have written, or that
@@ -295,10 +295,10 @@ static inline const char *dual_ledger_refusal_name(uint8_t number) {
  *
  *   dual_ledger_check_ptr_belonging                     984
  *   dual_ledger_clear                                  1000
- *   dual_ledger_create_blossom                         7888
- *   dual_ledger_create_defect_node                     3816
+ *   dual_ledger_create_blossom                          984
+ *   dual_ledger_create_defect_node                     1080
  *   dual_ledger_empty_group                               8
- *   dual_ledger_expand_blossom                         7272
+ *   dual_ledger_expand_blossom                          968
  *   dual_ledger_fuse                                    968
  *   dual_ledger_get_all_vertices                      35912   80 a level, of 448
  *   dual_ledger_get_ancestor_blossom                    984
@@ -315,13 +315,13 @@ static inline const char *dual_ledger_refusal_name(uint8_t number) {
  *   dual_ledger_group_peek                               40
  *   dual_ledger_group_pop                                88
  *   dual_ledger_group_pop_sparing_stops                  88
- *   dual_ledger_grow                                   3800
+ *   dual_ledger_grow                                    968
  *   dual_ledger_is_sound                                936
  *   dual_ledger_next_present                           1544
  *   dual_ledger_nodes_count                            1544
  *   dual_ledger_present_count                          1528
  *   dual_ledger_sanity_check                          18344
- *   dual_ledger_set_grow_state                         3816
+ *   dual_ledger_set_grow_state                         1000
  *   dual_ledger_set_up                                   40
  *   dual_ledger_snapshot                              26728
  *   dual_ledger_strict_check                          18344
@@ -330,16 +330,16 @@ static inline const char *dual_ledger_refusal_name(uint8_t number) {
  *   dual_ledger_text_chunk                            19304
  *   dual_ledger_text_end                                  8
  *   dual_ledger_text_line                             19160
- *   dual_ledger_told_create_blossom                    6256
- *   dual_ledger_told_create_defect_node                 208
- *   dual_ledger_told_expand_blossom                    5640
- *   dual_ledger_told_grow                                40
- *   dual_ledger_told_set_grow_state                     200
+ *   dual_ledger_told_create_blossom                     880
+ *   dual_ledger_told_create_defect_node                 192
+ *   dual_ledger_told_expand_blossom                     232
+ *   dual_ledger_told_grow                                 8
+ *   dual_ledger_told_set_grow_state                     168
  *   dual_ledger_trusted_check_ptr_belonging              56
  *   dual_ledger_trusted_clear                            88
  *   dual_ledger_trusted_create_blossom                  800
  *   dual_ledger_trusted_create_defect_node              192
- *   dual_ledger_trusted_expand_blossom                  168
+ *   dual_ledger_trusted_expand_blossom                  216
  *   dual_ledger_trusted_fuse                             24
  *   dual_ledger_trusted_get_all_vertices              35880   80 a level, of 448
  *   dual_ledger_trusted_get_ancestor_blossom             24
