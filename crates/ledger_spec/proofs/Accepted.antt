@@ -12,9 +12,9 @@ use lib.ListN.{length}
 use lib.IntN.{ℤ, pos, _+ℤ_}
 use lib.Signed.{ltZ}
 use Rattle.ledger_spec.specs.Bench.{Handle, Member, Class, defect, blossom, Node, Bench}
-use Rattle.ledger_spec.specs.Look.{interface, slotOf, nodeNamed, top, sameHandle}
-use Rattle.ledger_spec.specs.Tests.{first, any, empty, stale, foreign, hasParent, isDefect, twice, both}
-use Rattle.ledger_spec.specs.Refuse.{unitTests, defectTests, blossomTests, expandTests, stateTests, growTests}
+use Rattle.ledger_spec.specs.Look.{interface, freeSlot, slotOf, nodeNamed, top, sameHandle}
+use Rattle.ledger_spec.specs.Tests.{first, any, isSome, empty, stale, foreign, hasParent, isDefect, twice, both}
+use Rattle.ledger_spec.specs.Refuse.{unitTests, defectTests, blossomTests, expandTests, stateTests, growTests, markTests}
 use Rattle.ledger_spec.specs.Deeds.{members}
 use Rattle.ledger_spec.specs.SoundTree.{tally}
 use Rattle.ledger_spec.specs.Knit.{nodes, In, here, there, Has}
@@ -43,13 +43,13 @@ clear-passed b u e = let t = passed (unitTests b u) tt e in open-of b u (t .0) (
 -- ---- defect
 pub record DefectPassed (b : Bench) (u : ℕ) : Type 0 where
   pub here : Open b u
-  pub room : length (interface b u .slots) < 64
+  pub room : freeSlot b u < 64
   pub unworn : b .next < 2 ^ 32
 
 pub defect-passed : (b : Bench) (u : ℕ) → first (defectTests b u) ≡ 0 → DefectPassed b u
 unfolding defectTests
 defect-passed b u e = let t = passed (defectTests b u) tt e in
-    record { here = open-of b u (t .0) (t .1 .0); room = leb-false 64 (length (interface b u .slots)) (t .1 .1 .0); unworn = leb-false (2 ^ 32) (b .next) (t .1 .1 .1 .0) }
+    record { here = open-of b u (t .0) (t .1 .0); room = leb-false 64 (freeSlot b u) (t .1 .1 .0); unworn = leb-false (2 ^ 32) (b .next) (t .1 .1 .1 .0) }
 
 -- ---- blossom
 pub record BlossomPassed (b : Bench) (u : ℕ) (hs : List Handle) (ts : List (Handle × Handle)) : Type 0 where
@@ -61,7 +61,7 @@ pub record BlossomPassed (b : Bench) (u : ℕ) (hs : List Handle) (ts : List (Ha
   pub orphan : (h : Handle) (i : In h hs) → member h i .node .parent ≡ none
   pub touch : (h : Handle) → In h (both ts) → Named b u h
   pub once : (h : Handle) → In h hs → tally (sameHandle h) hs ≡ 1
-  pub room : length (interface b u .slots) < 64
+  pub room : freeSlot b u < 64
   pub unworn : b .next < 2 ^ 32
 
 -- no handle twice
@@ -95,7 +95,7 @@ blossom-passed b u hs ts e = record {
   orphan = λ h i. orphan-of b u h (member h i) (any-no (λ g. hasParent (nodeNamed b g)) hs (t .1 .1 .1 .1 .1 .1 .0) i);
   touch = λ h i. named h (in-right hs i);
   once = λ h i. once-of hs h (t .1 .1 .1 .1 .1 .1 .1 .0) i;
-  room = leb-false 64 (length (interface b u .slots)) (t .1 .1 .1 .1 .1 .1 .1 .1 .0);
+  room = leb-false 64 (freeSlot b u) (t .1 .1 .1 .1 .1 .1 .1 .1 .0);
   unworn = leb-false (2 ^ 32) (b .next) (t .1 .1 .1 .1 .1 .1 .1 .1 .1 .0);
 }
   where
@@ -107,6 +107,19 @@ blossom-passed b u hs ts e = record {
 
     member : (h : Handle) → In h hs → Named b u h
     member h i = named h (in-left (both ts) i)
+
+-- ---- mark
+pub record MarkPassed (b : Bench) (u : ℕ) : Type 0 where
+  pub here : Open b u
+  pub no-slots : interface b u .slots ≡ []
+  pub no-halves : isSome (interface b u .halves) ≡ false
+
+pub mark-passed : (b : Bench) (u : ℕ) → first (markTests b u) ≡ 0 → MarkPassed b u
+unfolding markTests
+mark-passed b u e =
+    let t = passed (markTests b u) tt e in
+    let o = or-false (not (empty (interface b u .slots))) (isSome (interface b u .halves)) (t .1 .1 .0) in
+    record { here = open-of b u (t .0) (t .1 .0); no-slots = empty-true (interface b u .slots) (not-false (empty (interface b u .slots)) (o .0)); no-halves = o .1 }
 
 -- ---- expand
 pub record ExpandPassed (b : Bench) (u : ℕ) (h : Handle) : Type 0 where

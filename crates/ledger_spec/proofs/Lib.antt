@@ -4,6 +4,7 @@ pub mod Lists
 pub mod Sums
 pub mod Knit
 pub mod Interfaces
+pub mod Slots
 pub mod Tops
 pub mod Trees
 pub mod Passed

@@ -90,6 +90,17 @@ serial-is k n e = go (eq-eqb k (n .serial) (sym e))
     go : eqb k (n .serial) ≡ true → ifSerial k (some n) ≡ some n
     go t = rw (t, ifSerial)
 
+pub serial-none : (k : ℕ) → ifSerial k none ≡ none
+unfolding ifSerial
+serial-none k = refl
+
+pub serial-other : (k : ℕ) (n : Node) → k ≢ n .serial → ifSerial k (some n) ≡ none
+unfolding ifSerial
+serial-other k n q = go (ne-eqb k (n .serial) q)
+  where
+    go : eqb k (n .serial) ≡ false → ifSerial k (some n) ≡ none
+    go t = rw (t, ifSerial)
+
 pub node-has : (b : Bench) (h : Handle) (n : Node) → nodeNamed b h ≡ some n → Has (slotOf b) h n
 unfolding nodeNamed
 node-has b h n e = let r = serial-some (h .serial) (slotOf b (h .unit) (h .slot)) n e in record { stands = r .0; serial = r .1 }

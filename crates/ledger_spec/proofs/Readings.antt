@@ -1,20 +1,21 @@
 -- What a bench says of its interfaces and slots after a slot was changed (`place`), a node marked (`mark`, `markAll`) or a slot added (`push`).
 -- Each law is of one field; the definitions stay shut for whoever cites these. Assumes nothing.
-use Prim.Native.Nat.{ℕ, zero, suc, _≤_, _<_}
+use Prim.Native.Nat.{ℕ, zero, suc, _≤_, _<_, max}
 use mathlib.Core.Path.{_≡_, refl, sym, _∙_, ap, ap₂, subst}
 use mathlib.Core.Logic.{_≢_}
 use mathlib.Core.Option.{Option, none, some}
-use mathlib.Core.List.{List, [], _∷_, _++_}
+use mathlib.Core.List.{List, [], _∷_}
 use native.Mathlib.Omega.{arith}
 use native.Mathlib.Decide.{ℕ-discrete, decLt}
-use lib.ListN.{getD, length, set, length-set, length-append, List·getD-eq-default}
-use lib.Seq.{getD-set-same, getD-set-other, set-out, getD-append-seam}
+use lib.ListN.{getD, length, set, length-set, List·getD-eq-default}
+use lib.Seq.{getD-set-same, getD-set-other, set-out}
 use lib.IntN.{ℤ, _+ℤ_, _-ℤ_}
 use Rattle.ledger_spec.specs.Bench.{Handle, State, rate, Node, Interface, Bench, fresh, withSlots, withSpeed}
 use Rattle.ledger_spec.specs.Look.{interface, slotOf, top}
-use Rattle.ledger_spec.specs.Change.{share, withInterface, faster, place, push, restate, mark, markAll}
+use Rattle.ledger_spec.specs.Change.{share, withInterface, faster, place, put, push, restate, mark, markAll}
 use Rattle.ledger_spec.specs.Knit.{In, here, there}
 use Rattle.ledger_spec.proofs.Interfaces.{put-here, put-else, put-kept}
+use Rattle.ledger_spec.proofs.Slots.{put-at, put-off, put-count}
 
 -- no interface, no node
 pub slot-out : (b : Bench) (u s : ℕ) → length (b .interfaces) ≤ u → slotOf b u s ≡ none
@@ -191,59 +192,57 @@ module _ (s : State) (p : Option Handle) where
   markAll-next b [] = refl
   markAll-next b (g ∷ hs) = markAll-next (mark b g s p) hs ∙ mark-next b g s p
 
--- ---- a slot added
-module _ (b : Bench) (u : ℕ) (n : Node) where
+  -- a slot that holds nothing holds nothing still
+  pub markAll-none : (b : Bench) (hs : List Handle) (u t : ℕ) → slotOf b u t ≡ none → slotOf (markAll b hs s p) u t ≡ none
+  markAll-none b hs u t e = markAll-fix b hs u t none e
+
+-- ---- a node put at a free slot
+module _ (b : Bench) (u t : ℕ) (n : Node) where
   abbrev more : Bench
-  more = withInterface b u (withSlots (interface b u) (interface b u .slots ++ (some n ∷ [])))
+  more = withInterface b u (withSlots (interface b u) (put (interface b u .slots) t n))
 
   pub push-field : {X : Type 0} (φ : Interface → X) → ((f : Interface) (l : List (Option Node)) → φ (withSlots f l) ≡ φ f) → ((f : Interface) (x : ℤ) → φ (withSpeed f x) ≡ φ f)
-      → (w : ℕ) → φ (interface (push b u n) w) ≡ φ (interface b w)
+      → (w : ℕ) → φ (interface (push b u t n) w) ≡ φ (interface b w)
   unfolding push faster
   push-field φ p q w = put-kept φ more u _ (q _ _) w ∙ put-kept φ b u _ (p _ _) w
 
   -- any other interface, whole
-  pub push-aside : (w : ℕ) → w ≢ u → interface (push b u n) w ≡ interface b w
+  pub push-aside : (w : ℕ) → w ≢ u → interface (push b u t n) w ≡ interface b w
   unfolding push faster
   push-aside w q = put-else (λ f. f) more u _ w q ∙ put-else (λ f. f) b u _ w q
 
-  pub push-else : (w : ℕ) → w ≢ u → interface (push b u n) w .slots ≡ interface b w .slots
+  pub push-else : (w : ℕ) → w ≢ u → interface (push b u t n) w .slots ≡ interface b w .slots
   push-else w q = ap (λ (f : Interface). f .slots) (push-aside w q)
 
-  pub push-here : u < length (b .interfaces) → interface (push b u n) u .slots ≡ interface b u .slots ++ (some n ∷ [])
+  pub push-here : u < length (b .interfaces) → interface (push b u t n) u .slots ≡ put (interface b u .slots) t n
   unfolding push faster
   push-here h = put-kept (λ f. f .slots) more u _ refl u ∙ put-here (λ f. f .slots) b u _ h
 
-  pub push-slow : (w : ℕ) → w ≢ u → interface (push b u n) w .speed ≡ interface b w .speed
+  pub push-slow : (w : ℕ) → w ≢ u → interface (push b u t n) w .speed ≡ interface b w .speed
   push-slow w q = ap (λ (f : Interface). f .speed) (push-aside w q)
 
-  pub push-fast : u < length (b .interfaces) → interface (push b u n) u .speed ≡ interface b u .speed +ℤ rate (n .state)
+  pub push-fast : u < length (b .interfaces) → interface (push b u t n) u .speed ≡ interface b u .speed +ℤ rate (n .state)
   unfolding push faster
   push-fast h = put-here (λ f. f .speed) more u _ (subst (λ (m : ℕ). u < m) (sym (length-set (b .interfaces) u _)) h)
       ∙ ap (λ (x : ℤ). x +ℤ rate (n .state)) (put-kept (λ f. f .speed) b u _ refl u)
 
-  pub push-length : length (push b u n .interfaces) ≡ length (b .interfaces)
+  pub push-length : length (push b u t n .interfaces) ≡ length (b .interfaces)
   unfolding push faster
   push-length = simp length-set
 
-  pub push-next : push b u n .next ≡ suc (b .next)
+  pub push-next : push b u t n .next ≡ suc (b .next)
   unfolding push faster
   push-next = refl
 
-  pub push-count : u < length (b .interfaces) → length (interface (push b u n) u .slots) ≡ suc (length (interface b u .slots))
-  push-count h = ap length (push-here h) ∙ length-append (interface b u .slots) (some n ∷ []) ∙ omega arith
+  pub push-count : u < length (b .interfaces) → t ≤ length (interface b u .slots) → length (interface (push b u t n) u .slots) ≡ max (length (interface b u .slots)) (suc t)
+  push-count h x = ap length (push-here h) ∙ put-count (interface b u .slots) t n x
 
-  pub push-at : u < length (b .interfaces) → slotOf (push b u n) u (length (interface b u .slots)) ≡ some n
-  push-at h = ap (λ (l : List (Option Node)). getD l (length (interface b u .slots)) none) (push-here h) ∙ getD-append-seam (interface b u .slots) (some n) [] none
+  pub push-at : u < length (b .interfaces) → t ≤ length (interface b u .slots) → slotOf (push b u t n) u t ≡ some n
+  push-at h x = ap (λ (l : List (Option Node)). getD l t none) (push-here h) ∙ put-at (interface b u .slots) t n x
 
-  pub push-off : u < length (b .interfaces) → (w t : ℕ) → (w ≡ u → t ≡ length (interface b u .slots) → ⊥) → slotOf (push b u n) w t ≡ slotOf b w t
-  push-off h w t off = go (ℕ-discrete w u)
+  pub push-off : u < length (b .interfaces) → t ≤ length (interface b u .slots) → (w v : ℕ) → (w ≡ u → v ≡ t → ⊥) → slotOf (push b u t n) w v ≡ slotOf b w v
+  push-off h x w v off = go (ℕ-discrete w u)
     where
-      past : (l : List (Option Node)) (t : ℕ) → t ≢ length l → getD (l ++ (some n ∷ [])) t none ≡ getD l t none
-      past [] zero q = absurd (q refl)
-      past [] (suc t) q = refl
-      past (x ∷ xs) zero q = refl
-      past (x ∷ xs) (suc t) q = past xs t (λ e. q (ap suc e))
-
-      go : Dec (w ≡ u) → slotOf (push b u n) w t ≡ slotOf b w t
-      go (yes e) = subst (λ (z : ℕ). slotOf (push b u n) z t ≡ slotOf b z t) (sym e) (ap (λ (l : List (Option Node)). getD l t none) (push-here h) ∙ past (interface b u .slots) t (λ z. off e z))
-      go (no e) = ap (λ (l : List (Option Node)). getD l t none) (push-else w e)
+      go : Dec (w ≡ u) → slotOf (push b u t n) w v ≡ slotOf b w v
+      go (yes e) = subst (λ (z : ℕ). slotOf (push b u t n) z v ≡ slotOf b z v) (sym e) (ap (λ (l : List (Option Node)). getD l v none) (push-here h) ∙ put-off (interface b u .slots) t n x v (λ z. off e z))
+      go (no e) = ap (λ (l : List (Option Node)). getD l v none) (push-else w e)

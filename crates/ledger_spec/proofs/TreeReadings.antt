@@ -12,10 +12,10 @@ use lib.Dec.{eqb}
 use borrow.Author.Tests.{eqb-true, eqb-false}
 use lib.ListN.{getD, length, set, length-set, length-map, List·getD-eq-default, List·getD-map}
 use lib.IntN.{ℤ, _+ℤ_, _*ℤ_}
-use Rattle.ledger_spec.specs.Bench.{rate, Node, Interface, Bench, fresh, withSlots, withParent}
+use Rattle.ledger_spec.specs.Bench.{rate, Node, Marks, Marking, withMark, Interface, Bench, fresh, withSlots, withParent, withMarks}
 use Rattle.ledger_spec.specs.Look.{interface, slotOf, top}
 use Rattle.ledger_spec.specs.Change.{withInterface}
-use Rattle.ledger_spec.specs.Deeds.{growSlot, across, booked, growBy, fusedParent, join, wipe}
+use Rattle.ledger_spec.specs.Deeds.{growSlot, across, booked, growBy, fusedParent, join, wipe, choose}
 use Rattle.ledger_spec.specs.Frame.{Frame}
 use Rattle.ledger_spec.proofs.Interfaces.{nil-of, put-here, put-else, put-kept, across-yes, across-no, across-kept, across-length}
 use Rattle.ledger_spec.proofs.Tops.{climb-same, fused-l, fused-r, fused-else, cleared-under, cleared-else}
@@ -54,6 +54,9 @@ module _ (b : Bench) (u : ℕ) (l : ℤ) where
 
   pub grow-halves : (w : ℕ) → interface (growBy b u l) w .halves ≡ interface b w .halves
   grow-halves = grow-field (λ f. f .halves) (λ f s. refl) (λ f. refl)
+
+  pub grow-marks : (w : ℕ) → interface (growBy b u l) w .marks ≡ interface b w .marks
+  grow-marks = grow-field (λ f. f .marks) (λ f s. refl) (λ f. refl)
 
   pub grow-speed : (w : ℕ) → interface (growBy b u l) w .speed ≡ interface b w .speed
   grow-speed = grow-field (λ f. f .speed) (λ f s. refl) (λ f. refl)
@@ -273,3 +276,26 @@ module _ (b : Bench) (u : ℕ) where
 
   pub wipe-top-else : Frame b → (w : ℕ) → top b w ≢ u → top (wipe b u) w ≡ top b w
   wipe-top-else F = cleared-else b (wipe b u) F u (λ w e. ap (λ (f : Interface). f .parent) (wipe-under w e)) (λ w e. ap (λ (f : Interface). f .parent) (wipe-else w e))
+
+-- ---- marking
+module _ (b : Bench) (u : ℕ) (k : Marking) where
+  -- any field but the marks
+  pub choose-field : {X : Type 0} (φ : Interface → X) → ((f : Interface) (m : Marks) → φ (withMarks f m) ≡ φ f) → (w : ℕ) → φ (interface (choose b u k) w) ≡ φ (interface b w)
+  unfolding choose
+  choose-field φ p w = put-kept φ b u _ (p _ _) w
+
+  pub choose-here : u < length (b .interfaces) → interface (choose b u k) u .marks ≡ withMark k (interface b u .marks)
+  unfolding choose
+  choose-here h = put-here (λ f. f .marks) b u _ h
+
+  pub choose-else : (w : ℕ) → w ≢ u → interface (choose b u k) w ≡ interface b w
+  unfolding choose
+  choose-else w q = put-else (λ f. f) b u _ w q
+
+  pub choose-length : length (choose b u k .interfaces) ≡ length (b .interfaces)
+  unfolding choose
+  choose-length = simp length-set
+
+  pub choose-next : choose b u k .next ≡ b .next
+  unfolding choose
+  choose-next = refl

@@ -46,11 +46,12 @@ pub record Right (k : Book) (i : ℕ) : Type 0 where
   pub sum : interface (k .bench) i .sum ≡ treeSum (top (k .bench)) (valuesAt k) i
   pub speed : interface (k .bench) i .speed ≡ treeSum (top (k .bench)) (ratesAt k) i
 
--- Two benches with the same nodes, links and serials, and for each interface without a parent the same sum and speed
+-- Two benches with the same nodes, links, marks and serials, and for each interface without a parent the same sum and speed
 pub record Alike (b c : Bench) : Type 0 where
   pub next : b .next ≡ c .next
   pub slots : (w : ℕ) → w < 8 → interface b w .slots ≡ interface c w .slots
   pub parent : (w : ℕ) → interface b w .parent ≡ interface c w .parent
   pub halves : (w : ℕ) → interface b w .halves ≡ interface c w .halves
+  pub marks : (w : ℕ) → interface b w .marks ≡ interface c w .marks
   pub sum : (w : ℕ) → interface b w .parent ≡ none → interface b w .sum ≡ interface c w .sum
   pub speed : (w : ℕ) → interface b w .parent ≡ none → interface b w .speed ≡ interface c w .speed

@@ -1,6 +1,7 @@
 -- The bench of docs/MANUAL.md, Words, held plainly: what a node, an interface and a bench are, and the bench that set-up makes.
 -- A weight is the ℤ that a contract has for an `i64`; serials, slots and vertices are ℕ. Assumes nothing.
 use Prim.Native.Nat.{ℕ}
+use mathlib.Core.Bool.{Bool, true, false}
 use mathlib.Core.Option.{Option, none}
 use mathlib.Core.List.{List, []}
 use lib.IntN.{ℤ, pos, negsuc}
@@ -37,6 +38,20 @@ pub record Node : Type 0 where
   pub value : ℤ
   pub size : ℕ
 
+-- what an interface is marked with since its last clear: whether a new node takes its lowest empty slot
+pub record Marks : Type 0 where
+  pub fills : Bool
+
+abbrev pub noMarks : Marks
+noMarks = record { fills = false }
+
+-- a mark that a call gives, and the marks with it
+pub data Marking : Type 0 where
+  filling : Marking
+
+abbrev pub withMark : Marking → Marks → Marks
+withMark filling m = record { fills = true }
+
 -- An interface. Its slots are those used since its last clear; one emptied by expansion is `none`.
 pub record Interface : Type 0 where
   pub slots : List (Option Node)
@@ -45,33 +60,37 @@ pub record Interface : Type 0 where
   pub speed : ℤ
   pub parent : Option ℕ
   pub halves : Option (ℕ × ℕ)
+  pub marks : Marks
 
 pub record Bench : Type 0 where
   pub next : ℕ
   pub interfaces : List Interface
 
 abbrev pub fresh : Interface
-fresh = record { slots = []; progress = pos 0; sum = pos 0; speed = pos 0; parent = none; halves = none }
+fresh = record { slots = []; progress = pos 0; sum = pos 0; speed = pos 0; parent = none; halves = none; marks = noMarks }
 
 -- ---- an interface with one field changed: what every other definition makes one by, so that a new field is said in this file alone
 
 abbrev pub withSlots : Interface → List (Option Node) → Interface
-withSlots f x = record { slots = x; progress = f .progress; sum = f .sum; speed = f .speed; parent = f .parent; halves = f .halves }
+withSlots f x = record { slots = x; progress = f .progress; sum = f .sum; speed = f .speed; parent = f .parent; halves = f .halves; marks = f .marks }
 
 abbrev pub withProgress : Interface → ℤ → Interface
-withProgress f x = record { slots = f .slots; progress = x; sum = f .sum; speed = f .speed; parent = f .parent; halves = f .halves }
+withProgress f x = record { slots = f .slots; progress = x; sum = f .sum; speed = f .speed; parent = f .parent; halves = f .halves; marks = f .marks }
 
 abbrev pub withSum : Interface → ℤ → Interface
-withSum f x = record { slots = f .slots; progress = f .progress; sum = x; speed = f .speed; parent = f .parent; halves = f .halves }
+withSum f x = record { slots = f .slots; progress = f .progress; sum = x; speed = f .speed; parent = f .parent; halves = f .halves; marks = f .marks }
 
 abbrev pub withSpeed : Interface → ℤ → Interface
-withSpeed f x = record { slots = f .slots; progress = f .progress; sum = f .sum; speed = x; parent = f .parent; halves = f .halves }
+withSpeed f x = record { slots = f .slots; progress = f .progress; sum = f .sum; speed = x; parent = f .parent; halves = f .halves; marks = f .marks }
 
 abbrev pub withParent : Interface → Option ℕ → Interface
-withParent f x = record { slots = f .slots; progress = f .progress; sum = f .sum; speed = f .speed; parent = x; halves = f .halves }
+withParent f x = record { slots = f .slots; progress = f .progress; sum = f .sum; speed = f .speed; parent = x; halves = f .halves; marks = f .marks }
 
 abbrev pub withHalves : Interface → Option (ℕ × ℕ) → Interface
-withHalves f x = record { slots = f .slots; progress = f .progress; sum = f .sum; speed = f .speed; parent = f .parent; halves = x }
+withHalves f x = record { slots = f .slots; progress = f .progress; sum = f .sum; speed = f .speed; parent = f .parent; halves = x; marks = f .marks }
+
+abbrev pub withMarks : Interface → Marks → Interface
+withMarks f x = record { slots = f .slots; progress = f .progress; sum = f .sum; speed = f .speed; parent = f .parent; halves = f .halves; marks = x }
 
 abbrev pub setUp : ℕ → Bench
 setUp first = record { next = first; interfaces = replicate 8 fresh }

@@ -1,8 +1,8 @@
 -- The four ways in which a call changes a bench: a node put where there was one (or taken away), a node added, an interface replaced,
 -- and the speed that follows. Every call that touches nodes is made of these. Assumes nothing.
-use Prim.Native.Nat.{ℕ, suc}
+use Prim.Native.Nat.{ℕ, zero, suc}
 use mathlib.Core.Option.{Option, none, some}
-use mathlib.Core.List.{List, [], _∷_, _++_}
+use mathlib.Core.List.{List, [], _∷_}
 use lib.ListN.{set}
 use lib.IntN.{ℤ, pos, _+ℤ_, _-ℤ_}
 use Rattle.ledger_spec.specs.Bench.{Handle, State, rate, Node, Interface, Bench, withSlots, withSpeed}
@@ -32,9 +32,15 @@ faster b u v = withInterface b u (withSpeed (interface b u) (interface b u .spee
 unfoldable pub place : Bench → ℕ → ℕ → Option Node → Bench
 place b u s y = faster (withInterface b u (withSlots (interface b u) (set (interface b u .slots) s y))) (top b u) (share y -ℤ share (slotOf b u s))
 
--- interface u has one slot more, which holds n, and its speed follows
-unfoldable pub push : Bench → ℕ → Node → Bench
-push b u n = faster (record { next = suc (b .next); interfaces = set (b .interfaces) u (withSlots (interface b u) (interface b u .slots ++ (some n ∷ []))) }) u (rate (n .state))
+-- n put at slot s: in the place of what it held, or at the end
+unfoldable pub put : List (Option Node) → ℕ → Node → List (Option Node)
+put [] s n = some n ∷ []
+put (x ∷ xs) zero n = some n ∷ xs
+put (x ∷ xs) (suc s) n = x ∷ put xs s n
+
+-- the free slot s of interface u now holds n, which takes the next serial, and the speed of u follows
+unfoldable pub push : Bench → ℕ → ℕ → Node → Bench
+push b u s n = faster (record { next = suc (b .next); interfaces = set (b .interfaces) u (withSlots (interface b u) (put (interface b u .slots) s n)) }) u (rate (n .state))
 
 -- the node of a slot gets a state and a parent
 abbrev pub restate : Option Node → State → Option Handle → Option Node

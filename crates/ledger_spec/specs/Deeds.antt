@@ -5,7 +5,7 @@ use mathlib.Core.Option.{Option, none, some}
 use mathlib.Core.List.{List, [], _∷_, map}
 use lib.Dec.{eqb}
 use lib.IntN.{ℤ, pos, _+ℤ_, _*ℤ_}
-use Rattle.ledger_spec.specs.Bench.{Handle, grows, stays, rate, Member, defect, blossom, Node, Interface, Bench, fresh, withSlots, withProgress, withSum, withSpeed, withParent, withHalves}
+use Rattle.ledger_spec.specs.Bench.{Handle, grows, stays, rate, Member, defect, blossom, Node, Marking, withMark, Interface, Bench, fresh, withSlots, withProgress, withSum, withSpeed, withParent, withHalves, withMarks}
 use Rattle.ledger_spec.specs.Look.{interface, freeSlot, nodeNamed, top}
 use Rattle.ledger_spec.specs.Change.{withInterface, place, push, markAll}
 
@@ -13,7 +13,7 @@ abbrev pub newHandle : Bench → ℕ → Handle
 newHandle b u = record { unit = u; slot = freeSlot b u; serial = b .next }
 
 unfoldable pub addDefect : Bench → ℕ → ℕ → Bench
-addDefect b u v = push b u (record { serial = b .next; class = defect v; state = grows; parent = none; value = pos 0; size = 1 })
+addDefect b u v = push b u (freeSlot b u) (record { serial = b .next; class = defect v; state = grows; parent = none; value = pos 0; size = 1 })
 
 -- a blossom's circle: an empty touching list means each member twice
 unfoldable pub circle : List Handle → List (Handle × Handle) → List Member
@@ -30,7 +30,7 @@ sizes b [] = 0
 sizes b (h ∷ hs) = sizeOf (nodeNamed b h) + sizes b hs
 
 unfoldable pub addBlossom : Bench → ℕ → List Handle → List (Handle × Handle) → Bench
-addBlossom b u hs ts = push (markAll b hs stays (some (newHandle b u))) u
+addBlossom b u hs ts = push (markAll b hs stays (some (newHandle b u))) u (freeSlot b u)
     (record { serial = b .next; class = blossom (circle hs ts); state = grows; parent = none; value = pos 0; size = sizes b hs })
 
 abbrev pub members : Option Node → List Handle
@@ -68,6 +68,10 @@ fusedParent b p l r =
 unfoldable pub join : Bench → ℕ → ℕ → ℕ → Bench
 join b p l r =
     withInterface (withInterface (withInterface b l (withParent (interface b l) (some p))) r (withParent (interface b r) (some p))) p (fusedParent b p l r)
+
+-- interface u gets a mark
+unfoldable pub choose : Bench → ℕ → Marking → Bench
+choose b u k = withInterface b u (withMarks (interface b u) (withMark k (interface b u .marks)))
 
 unfoldable pub wipe : Bench → ℕ → Bench
 wipe b u = record { next = b .next; interfaces = across (λ f. fresh) b u 0 (b .interfaces) }

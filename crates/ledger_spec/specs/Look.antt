@@ -13,9 +13,15 @@ interface b u = getD (b .interfaces) u fresh
 abbrev pub slotOf : Bench → ℕ → ℕ → Option Node
 slotOf b u s = getD (interface b u .slots) s none
 
--- the slot that the next node of an interface takes: the one after the used ones
-abbrev pub freeSlot : Bench → ℕ → ℕ
-freeSlot b u = length (interface b u .slots)
+-- the lowest empty slot of a list, or the one after its end
+unfoldable pub gap : List (Option Node) → ℕ
+gap [] = 0
+gap (none ∷ xs) = 0
+gap (some n ∷ xs) = suc (gap xs)
+
+-- the slot that a new node takes: the lowest empty one if the interface fills, else the first that was not used yet
+unfoldable pub freeSlot : Bench → ℕ → ℕ
+freeSlot b u = elim (interface b u .marks .fills) [ true ↦ gap (interface b u .slots) | false ↦ length (interface b u .slots) ]
 
 -- what a slot holds, if it has that serial
 unfoldable pub ifSerial : ℕ → Option Node → Option Node

@@ -5,14 +5,14 @@ use mathlib.Core.Option.{Option}
 use mathlib.Core.List.{List, [], _∷_}
 use Rattle.kinds.specs.declared.Obstacle.{Obstacle}
 use Rattle.ledger_spec.specs.Bench.{Bench}
-use Rattle.ledger_spec.specs.Look.{nodeNamed, ifSerial, climb, tree}
-use Rattle.ledger_spec.specs.Change.{push, place, mark, markAll, faster}
+use Rattle.ledger_spec.specs.Look.{gap, freeSlot, nodeNamed, ifSerial, climb, tree}
+use Rattle.ledger_spec.specs.Change.{put, push, place, mark, markAll, faster}
 use Rattle.ledger_spec.specs.Tests.{first, any, twice, both}
-use Rattle.ledger_spec.specs.Refuse.{unitTests, defectTests, blossomTests, expandTests, stateTests, growTests, fuseTests}
-use Rattle.ledger_spec.specs.Deeds.{addDefect, addBlossom, removeBlossom, growBy, join, wipe, circle, sizes, growSlot, across}
-use Rattle.ledger_spec.specs.Calls.{settle, setUpCall, defectCall, blossomCall, expandCall, stateCall, growCall, fuseCall, clearCall, perform}
+use Rattle.ledger_spec.specs.Refuse.{unitTests, defectTests, blossomTests, expandTests, stateTests, growTests, fuseTests, markTests}
+use Rattle.ledger_spec.specs.Deeds.{addDefect, addBlossom, removeBlossom, growBy, join, wipe, choose, circle, sizes, growSlot, across}
+use Rattle.ledger_spec.specs.Calls.{settle, setUpCall, defectCall, blossomCall, expandCall, stateCall, growCall, fuseCall, clearCall, markCall, perform}
 use Rattle.ledger_spec.specs.Notices.{tells}
-use Rattle.ledger_spec.specs.Reads.{said, slotsFrom, gather, sumOf, speedOf, countOf, indexTests, handleAtIndex, nodeTests, valueOf, belongs}
+use Rattle.ledger_spec.specs.Reads.{said, slotsFrom, gather, sumOf, speedOf, countOf, fillsOf, indexTests, handleAtIndex, nodeTests, valueOf, belongs}
 use Rattle.ledger_spec.specs.Walk.{outerFrom, linksFrom, belowFrom, each, verticesFrom, outerOf, belowTests, belowOf, firstVertex, sizeTests, verticesInto}
 use Rattle.ledger_spec.specs.Check.{indexIn, memberVerdict, circleVerdict, finding, totalOf, verdict, arrives, isUnder, strictMember, strictCircle, strictFinding, strictVerdict, checkOf, strictOf}
 use Rattle.ledger_spec.specs.SoundTree.{all, tally, linksUp, linksDown, soundInterface, reach}
@@ -30,7 +30,7 @@ use Rattle.ledger_spec.specs.Bytes.{bytes}
 
 -- the bytes that lines answer, from a bench
 unfoldable pub run : Bench → String → List ℕ
-unfolding nodeNamed ifSerial climb tree push place mark markAll faster first any twice both unitTests defectTests blossomTests expandTests stateTests growTests fuseTests addDefect addBlossom removeBlossom growBy join wipe circle sizes growSlot across settle setUpCall defectCall blossomCall expandCall stateCall growCall fuseCall clearCall perform tells said slotsFrom gather sumOf speedOf countOf indexTests handleAtIndex nodeTests valueOf belongs outerFrom linksFrom belowFrom each verticesFrom outerOf belowTests belowOf firstVertex sizeTests verticesInto indexIn memberVerdict circleVerdict finding totalOf verdict arrives isUnder strictMember strictCircle strictFinding strictVerdict checkOf strictOf all tally linksUp linksDown soundInterface reach sound soundClass soundParent soundSlot rates soundTop serials different told whole broken answer ask allListable risingFrom soundGroup roomFor frontOf backOf meet placed addStop addToGrowth addToConflicts added smallerPair addStops extended lastOf allButLast groupTests takeTests isEmpty isActive growthOf peek pop handlesOf listHandles stopHandles add extend digits decimal signed afterDigits natural between integer upto partsAfter step allSerials rest lineOf seek named shown calls checks says ended linesOf answers afterLines textOf texts program wrote writes turn turns bytes
+unfolding gap freeSlot nodeNamed ifSerial climb tree put push place mark markAll faster first any twice both unitTests defectTests blossomTests expandTests stateTests growTests fuseTests markTests addDefect addBlossom removeBlossom growBy join wipe choose circle sizes growSlot across settle setUpCall defectCall blossomCall expandCall stateCall growCall fuseCall clearCall markCall perform tells said slotsFrom gather sumOf speedOf countOf fillsOf indexTests handleAtIndex nodeTests valueOf belongs outerFrom linksFrom belowFrom each verticesFrom outerOf belowTests belowOf firstVertex sizeTests verticesInto indexIn memberVerdict circleVerdict finding totalOf verdict arrives isUnder strictMember strictCircle strictFinding strictVerdict checkOf strictOf all tally linksUp linksDown soundInterface reach sound soundClass soundParent soundSlot rates soundTop serials different told whole broken answer ask allListable risingFrom soundGroup roomFor frontOf backOf meet placed addStop addToGrowth addToConflicts added smallerPair addStops extended lastOf allButLast groupTests takeTests isEmpty isActive growthOf peek pop handlesOf listHandles stopHandles add extend digits decimal signed afterDigits natural between integer upto partsAfter step allSerials rest lineOf seek named shown calls checks says ended linesOf answers afterLines textOf texts program wrote writes turn turns bytes
 run b s = texts (answers b (linesOf (bytes s)))
 
 -- the bench after lines

@@ -45,6 +45,10 @@ speedOf b u = said (first (unitTests b u)) (interface b u .speed) (pos 0)
 unfoldable pub countOf : Bench → ℕ → ℕ × ℕ
 countOf b u = said (first (unitTests b u)) (length (slotsOf b u)) 0
 
+-- whether an interface gives a new node its lowest empty slot
+unfoldable pub fillsOf : Bench → ℕ → ℕ × Bool
+fillsOf b u = said (first (unitTests b u)) (interface b u .marks .fills) false
+
 unfoldable pub indexTests : Bench → ℕ → ℕ → List (Bool × ℕ)
 indexTests b u k = (outside u, UNIT) ∷ (child b u, CHILD) ∷ (leb (length (slotsOf b u)) k, RANGE) ∷ []
 

@@ -7,10 +7,10 @@ use lib.ListN.{length}
 use lib.Dec.{eqb, leb, ltb}
 use lib.IntN.{ℤ, pos, _+ℤ_}
 use lib.Signed.{ltZ}
-use Rattle.ledger_spec.specs.Numbers.{progressLimit, circleLimit, UNIT, CHILD, LENGTH, CIRCLE, TOUCH, STALE, FOREIGN, KIND, INSIDE, TWICE, FULL, WORN, PAIR, USED}
+use Rattle.ledger_spec.specs.Numbers.{progressLimit, circleLimit, UNIT, CHILD, LENGTH, CIRCLE, TOUCH, STALE, FOREIGN, KIND, INSIDE, TWICE, FULL, WORN, PAIR, USED, MARK}
 use Rattle.ledger_spec.specs.Bench.{Handle, Bench}
 use Rattle.ledger_spec.specs.Look.{interface, nodeNamed}
-use Rattle.ledger_spec.specs.Tests.{first, any, empty, outside, child, stale, foreign, isDefect, hasParent, twice, full, worn, used, both}
+use Rattle.ledger_spec.specs.Tests.{first, any, empty, outside, child, stale, foreign, isDefect, hasParent, twice, full, worn, used, late, both}
 
 abbrev pub setUpNo : ℕ → ℕ
 setUpNo n = first ((eqb n 0, WORN) ∷ [])
@@ -45,6 +45,9 @@ stateTests b u h = (outside u, UNIT) ∷ (child b u, CHILD) ∷ (stale b h, STAL
 
 unfoldable pub growTests : Bench → ℕ → ℤ → List (Bool × ℕ)
 growTests b u l = (outside u, UNIT) ∷ (child b u, CHILD) ∷ (ltZ l (pos 0) || ltZ (pos progressLimit) (interface b u .progress +ℤ l), LENGTH) ∷ []
+
+unfoldable pub markTests : Bench → ℕ → List (Bool × ℕ)
+markTests b u = (outside u, UNIT) ∷ (child b u, CHILD) ∷ (late (interface b u), MARK) ∷ []
 
 unfoldable pub fuseTests : Bench → ℕ → ℕ → ℕ → List (Bool × ℕ)
 fuseTests b p l r =

@@ -61,6 +61,10 @@ worn b = leb serialLimit (b .next)
 abbrev pub used : Interface → Bool
 used f = not (empty (f .slots)) || (not (eqb (natAbs (f .progress)) 0) || isSome (f .halves))
 
+-- MARK: too late for a mark
+abbrev pub late : Interface → Bool
+late f = not (empty (f .slots)) || isSome (f .halves)
+
 -- the two handles of each touching pair
 unfoldable pub both : List (Handle × Handle) → List Handle
 both [] = []
