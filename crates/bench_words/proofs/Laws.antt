@@ -10,7 +10,7 @@ use lib.Seq.{getD-set-same, getD-set-other}
 use lib.Arith.{digits-div, digits-mod}
 use native.Mathlib.Nat.{mod-eq-of-lt}
 use borrow.Author.Tests.{ne-eqb}
-use Rattle.bench_words.specs.Codec.{stateOf, stateWord, handleOf, handleWord, classOf, classWord, parentOf, parentWord, upOf, upWord, pick}
+use Rattle.bench_words.specs.Codec.{stateOf, stateWord, handleOf, handleWord, classOf, classWord, parentOf, parentWord, upOf, upWord, marksOf, marksWord, pick}
 use Rattle.bench_words.specs.Store.{base, nodeAt, storeNode, writes, nodeWords, ibase, interfaceAt, storeInterface, interfaceWords}
 use Rattle.kinds.specs.declared.GrowState.{GrowState}
 use Rattle.kinds.specs.declared.GrowState.the-variants.{Grow, Stay, Shrink}
@@ -21,6 +21,7 @@ use Rattle.kinds.specs.declared.Parent.{Parent}
 use Rattle.kinds.specs.declared.Parent.the-variants.{Outermost, Inside}
 use Rattle.bench_words.specs.declared.Node.{Node}
 use Rattle.bench_words.specs.declared.Interface.{Interface}
+use Rattle.bench_words.specs.declared.Marks.{Marks}
 use Rattle.bench_words.specs.declared.Up.{Up}
 use Rattle.bench_words.specs.declared.Up.the-variants.{Top, Under}
 
@@ -152,9 +153,9 @@ module _ (b : List ℕ) (k : ℕ) (n : Node) (len : length b ≡ 6273) (lk : k <
   pub store-node-interface : (u : ℕ) → u < 8 → interfaceAt (storeNode b k n) u ≡ interfaceAt b u
   unfolding interfaceAt
   store-node-interface u lu =
-      let o : (f : ℕ) → f < 8 → getD (storeNode b k n) (ibase u + f) 0 ≡ getD b (ibase u + f) 0 = λ f l. store-out (ibase u + f) (λ g l2 e. omega arith) in
+      let o : (f : ℕ) → f < 10 → getD (storeNode b k n) (ibase u + f) 0 ≡ getD b (ibase u + f) 0 = λ f l. store-out (ibase u + f) (λ g l2 e. omega arith) in
       simp
-      (o 1 (omega arith), o 2 (omega arith), o 3 (omega arith), o 4 (omega arith), o 5 (omega arith), o 6 (omega arith), o 7 (omega arith))
+      (o 1 (omega arith), o 2 (omega arith), o 3 (omega arith), o 4 (omega arith), o 5 (omega arith), o 6 (omega arith), o 7 (omega arith), o 9 (omega arith))
 
 -- what is loaded is good
 pub good-handle : (w : ℕ) → GoodHandle (handleOf w)
@@ -192,6 +193,13 @@ up-back (Under p) g =
     let a : (p + 1 - 1) % 8 ≡ p = omega arith in
     simp (ne-eqb (p + 1) 0 (λ e. omega arith), a)
 
+pub marks-back : (m : Marks) → marksOf (marksWord m) ≡ m
+marks-back m = fills-back (m .fills)
+  where
+    fills-back : (p : Bool) → marksOf (pick p 1 0) ≡ record { fills = p }
+    fills-back true = refl
+    fills-back false = refl
+
 good-up : (p : Bool) (w : ℕ) → w < 8 → GoodUp (pick p Top (Under w))
 good-up true w l = tt
 good-up false w l = l
@@ -201,17 +209,33 @@ unfolding interfaceAt
 good-interface b u = good-up (eqb (getD b (ibase u + 5) 0) 0) ((getD b (ibase u + 5) 0 - 1) % 8) (omega arith)
 
 module _ (b : List ℕ) (u : ℕ) (n : Interface) (len : length b ≡ 6273) (lu : u < 8) where
+  abbrev low : List ℕ
+  low = writes b (ibase u) 1 (interfaceWords n)
+
+  length-low : length low ≡ 6273
+  length-low = length-writes (interfaceWords n) b (ibase u) 1 ∙ len
+
+  past : (m : ℕ) → (m ≡ ibase u + 9 → ⊥) → getD (storeInterface b u n) m 0 ≡ getD low m 0
+  unfolding storeInterface
+  past m ne = getD-set-other low (ibase u + 9) m (marksWord (n .marks)) 0 ne
+
   pub length-store-interface : length (storeInterface b u n) ≡ 6273
   unfolding storeInterface
-  length-store-interface = length-writes (interfaceWords n) b (ibase u) 1 ∙ len
+  length-store-interface = length-set low (ibase u + 9) (marksWord (n .marks)) ∙ length-low
 
   pub inside-interface : (j : ℕ) → j < 7 → getD (storeInterface b u n) (ibase u + (1 + j)) 0 ≡ getD (interfaceWords n) j 0
-  unfolding storeInterface
-  inside-interface j l = writes-in (interfaceWords n) b (ibase u) 1 j (ibase u + (1 + j)) refl l (omega arith)
+  inside-interface j l = past (ibase u + (1 + j)) (λ e. omega arith) ∙ writes-in (interfaceWords n) b (ibase u) 1 j (ibase u + (1 + j)) refl l (omega arith)
 
-  pub store-interface-out : (m : ℕ) → ((g : ℕ) → g < 7 → m ≡ ibase u + (1 + g) → ⊥) → getD (storeInterface b u n) m 0 ≡ getD b m 0
+  pub inside-marks : getD (storeInterface b u n) (ibase u + 9) 0 ≡ marksWord (n .marks)
   unfolding storeInterface
-  store-interface-out m h = writes-out (interfaceWords n) b (ibase u) 1 m h
+  inside-marks = getD-set-same low (ibase u + 9) (marksWord (n .marks)) 0 (omega (arith, length-low))
+
+  -- every other word stays; word 8 is the map's
+  pub store-interface-out : (m : ℕ) → ((g : ℕ) → g < 9 → m ≡ ibase u + (1 + g) → ⊥) → getD (storeInterface b u n) m 0 ≡ getD b m 0
+  store-interface-out m h = past m (h 8 (omega arith)) ∙ writes-out (interfaceWords n) b (ibase u) 1 m (λ g l. h g (omega arith))
+
+  pub store-interface-eighth : (v : ℕ) → getD (storeInterface b u n) (ibase v + 8) 0 ≡ getD b (ibase v + 8) 0
+  store-interface-eighth v = past (ibase v + 8) (λ e. omega arith) ∙ writes-out (interfaceWords n) b (ibase u) 1 (ibase v + 8) (λ g l e. omega arith)
 
   pub interface-same : GoodUp (n .parent) → interfaceAt (storeInterface b u n) u ≡ n
   unfolding interfaceAt
@@ -224,15 +248,17 @@ module _ (b : List ℕ) (u : ℕ) (n : Interface) (len : length b ≡ 6273) (lu 
         inside-interface 4 (omega arith),
         inside-interface 5 (omega arith),
         inside-interface 6 (omega arith),
+        inside-marks,
         up-back (n .parent) g,
+        marks-back (n .marks),
       )
 
   pub interface-other : (j : ℕ) → (j ≡ u → ⊥) → interfaceAt (storeInterface b u n) j ≡ interfaceAt b j
   unfolding interfaceAt
   interface-other j ne =
-      let o : (f : ℕ) → f < 8 → getD (storeInterface b u n) (ibase j + f) 0 ≡ getD b (ibase j + f) 0 = λ f l. store-interface-out (ibase j + f) (λ g l2 e. omega arith) in
+      let o : (f : ℕ) → 0 < f → f < 10 → getD (storeInterface b u n) (ibase j + f) 0 ≡ getD b (ibase j + f) 0 = λ f z l. store-interface-out (ibase j + f) (λ g l2 e. omega arith) in
       simp
-      (o 1 (omega arith), o 2 (omega arith), o 3 (omega arith), o 4 (omega arith), o 5 (omega arith), o 6 (omega arith), o 7 (omega arith))
+      (o 1 (omega arith) (omega arith), o 2 (omega arith) (omega arith), o 3 (omega arith) (omega arith), o 4 (omega arith) (omega arith), o 5 (omega arith) (omega arith), o 6 (omega arith) (omega arith), o 7 (omega arith) (omega arith), o 9 (omega arith) (omega arith))
 
   pub store-interface-node : (k : ℕ) → nodeAt (storeInterface b u n) k ≡ nodeAt b k
   unfolding nodeAt
@@ -259,7 +285,7 @@ unfolding interfaceAt
 interface-first b x u =
     let o : (f : ℕ) → 0 < f → getD (set b 0 x) (ibase u + f) 0 ≡ getD b (ibase u + f) 0 = λ f z. getD-set-other b 0 (ibase u + f) x 0 (λ e. omega arith) in
     simp
-    (o 1 (omega arith), o 2 (omega arith), o 3 (omega arith), o 4 (omega arith), o 5 (omega arith), o 6 (omega arith), o 7 (omega arith))
+    (o 1 (omega arith), o 2 (omega arith), o 3 (omega arith), o 4 (omega arith), o 5 (omega arith), o 6 (omega arith), o 7 (omega arith), o 9 (omega arith))
 
 pub node-first : (b : List ℕ) (x k : ℕ) → nodeAt (set b 0 x) k ≡ nodeAt b k
 unfolding nodeAt

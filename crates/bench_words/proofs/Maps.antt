@@ -8,7 +8,7 @@ use lib.Seq.{getD-set-same, getD-set-other}
 use Rattle.bench_words.specs.Store.{base, ibase, nodeAt, storeNode, interfaceAt, storeInterface, mapAt, storeMap}
 use Rattle.bench_words.specs.declared.Node.{Node}
 use Rattle.bench_words.specs.declared.Interface.{Interface}
-use Rattle.bench_words.proofs.Laws.{store-out, store-interface-out}
+use Rattle.bench_words.proofs.Laws.{store-out, store-interface-eighth}
 
 -- ---- a map stored
 module _ (b : List ℕ) (u w : ℕ) (len : length b ≡ 6273) (lu : u < 8) where
@@ -31,9 +31,9 @@ module _ (b : List ℕ) (u w : ℕ) (len : length b ≡ 6273) (lu : u < 8) where
   pub store-map-interface : (v : ℕ) → interfaceAt (storeMap b u w) v ≡ interfaceAt b v
   unfolding interfaceAt
   store-map-interface v =
-      let o : (f : ℕ) → f < 8 → getD (storeMap b u w) (ibase v + f) 0 ≡ getD b (ibase v + f) 0 = λ f l. store-map-out (ibase v + f) (λ e. omega arith) in
+      let o : (f : ℕ) → f < 10 → (f ≡ 8 → ⊥) → getD (storeMap b u w) (ibase v + f) 0 ≡ getD b (ibase v + f) 0 = λ f l ne. store-map-out (ibase v + f) (λ e. ne (omega arith)) in
       simp
-      (o 1 (omega arith), o 2 (omega arith), o 3 (omega arith), o 4 (omega arith), o 5 (omega arith), o 6 (omega arith), o 7 (omega arith))
+      (o 1 (omega arith) (λ e. omega arith), o 2 (omega arith) (λ e. omega arith), o 3 (omega arith) (λ e. omega arith), o 4 (omega arith) (λ e. omega arith), o 5 (omega arith) (λ e. omega arith), o 6 (omega arith) (λ e. omega arith), o 7 (omega arith) (λ e. omega arith), o 9 (omega arith) (λ e. omega arith))
 
   pub store-map-node : (k : ℕ) → nodeAt (storeMap b u w) k ≡ nodeAt b k
   unfolding nodeAt
@@ -48,7 +48,7 @@ store-node-map b k n len lk u lu = store-out b k n len lk (ibase u + 8) (λ g l 
 
 pub store-interface-map : (b : List ℕ) (v : ℕ) (n : Interface) → length b ≡ 6273 → v < 8 → (u : ℕ) → mapAt (storeInterface b v n) u ≡ mapAt b u
 unfolding mapAt
-store-interface-map b v n len lv u = store-interface-out b v n len lv (ibase u + 8) (λ g l e. omega arith)
+store-interface-map b v n len lv u = store-interface-eighth b v n len lv u
 
 pub map-first : (b : List ℕ) (x u : ℕ) → mapAt (set b 0 x) u ≡ mapAt b u
 unfolding mapAt

@@ -11,6 +11,7 @@ use Rattle.kinds.specs.declared.Parent.{Parent}
 use Rattle.kinds.specs.declared.Parent.the-variants.{Outermost, Inside}
 use Rattle.bench_words.specs.declared.Up.{Up}
 use Rattle.bench_words.specs.declared.Up.the-variants.{Top, Under}
+use Rattle.bench_words.specs.declared.Marks.{Marks}
 
 -- ---- limits by name: the first word that is no handle's; how much higher than they are a value, a sum and a speed stand in the words
 
@@ -75,3 +76,10 @@ upOf w = pick (eqb w 0) Top (Under ((w - 1) % 8))
 abbrev pub upWord : Up → ℕ
 upWord Top = 0
 upWord (Under p) = p + 1
+
+-- the marks of an interface, a bit each: 1 fills
+abbrev pub marksOf : ℕ → Marks
+marksOf w = record { fills = eqb (w % 2) 1 }
+
+abbrev pub marksWord : Marks → ℕ
+marksWord m = pick (m .fills) 1 0

@@ -33,11 +33,14 @@ codedAt b k =
 -- the words of interface u that have no meaning yet
 unfoldable pub spareAt : List ℕ → ℕ → Bool
 spareAt b u =
-    zeroAt b (ibase u + 9)
-    && (zeroAt b (ibase u + 10)
+    zeroAt b (ibase u + 10)
     && (zeroAt b (ibase u + 11)
-    && (zeroAt b (ibase u + 12) && (zeroAt b (ibase u + 13) && (zeroAt b (ibase u + 14) && (zeroAt b (ibase u + 15) && zeroAt b (ibase u + 16)))))))
+    && (zeroAt b (ibase u + 12) && (zeroAt b (ibase u + 13) && (zeroAt b (ibase u + 14) && (zeroAt b (ibase u + 15) && zeroAt b (ibase u + 16))))))
 
 -- the word of its parent: 0, or the parent's number and one
 unfoldable pub linkAt : List ℕ → ℕ → Bool
 linkAt b u = leb (getD b (ibase u + 5) 0) 8
+
+-- the word of its marks: no bit that is no mark's
+unfoldable pub flagsAt : List ℕ → ℕ → Bool
+flagsAt b u = leb (getD b (ibase u + 9) 0) 1

@@ -1,10 +1,12 @@
 -- Where a node and an interface lie in the bench's words, and what a load and a store of one is. Assumes nothing.
 use Prim.Native.Nat.{ℕ, suc, _+_, _*_, _%_}
+use mathlib.Core.Bool.{false}
 use mathlib.Core.List.{List, [], _∷_}
 use lib.ListN.{getD, set}
-use Rattle.bench_words.specs.Codec.{sumOffset, speedOffset, stateOf, stateWord, handleOf, handleWord, classOf, classWord, parentOf, parentWord, upOf, upWord}
+use Rattle.bench_words.specs.Codec.{sumOffset, speedOffset, stateOf, stateWord, handleOf, handleWord, classOf, classWord, parentOf, parentWord, upOf, upWord, marksOf, marksWord}
 use Rattle.bench_words.specs.declared.Node.{Node}
 use Rattle.bench_words.specs.declared.Interface.{Interface}
+use Rattle.bench_words.specs.declared.Marks.{Marks}
 use Rattle.bench_words.specs.declared.Up.{Up}
 use Rattle.bench_words.specs.declared.Up.the-variants.{Top}
 
@@ -72,9 +74,9 @@ nodeWords n =
 unfoldable pub storeNode : List ℕ → ℕ → Node → List ℕ
 storeNode b k n = writes b (base k) 1 (nodeWords n)
 
-abbrev pub interfaceOf : (used progress sum speed parent left right : ℕ) → Interface
-interfaceOf used progress sum speed parent left right =
-    record { used = used; progress = progress; sum = sum; speed = speed; parent = upOf parent; left = left; right = right }
+abbrev pub interfaceOf : (used progress sum speed parent left right marks : ℕ) → Interface
+interfaceOf used progress sum speed parent left right marks =
+    record { used = used; progress = progress; sum = sum; speed = speed; parent = upOf parent; left = left; right = right; marks = marksOf marks }
 
 unfoldable pub interfaceAt : List ℕ → ℕ → Interface
 interfaceAt b u =
@@ -86,35 +88,44 @@ interfaceAt b u =
     (getD b (ibase u + 5) 0)
     (getD b (ibase u + 6) 0)
     (getD b (ibase u + 7) 0)
+    (getD b (ibase u + 9) 0)
 
+-- the words before the map; the marks stand past it
 abbrev pub interfaceWords : Interface → List ℕ
 interfaceWords n = n .used ∷ n .progress ∷ n .sum ∷ n .speed ∷ upWord (n .parent) ∷ n .left ∷ n .right ∷ []
 
 -- ---- an interface with one field changed, and one as set-up leaves it: what every other definition makes one by, so that a new field is said in this file alone
 
 abbrev pub setUsed : Interface → ℕ → Interface
-setUsed f x = record { used = x; progress = f .progress; sum = f .sum; speed = f .speed; parent = f .parent; left = f .left; right = f .right }
+setUsed f x = record { used = x; progress = f .progress; sum = f .sum; speed = f .speed; parent = f .parent; left = f .left; right = f .right; marks = f .marks }
 
 abbrev pub setProgress : Interface → ℕ → Interface
-setProgress f x = record { used = f .used; progress = x; sum = f .sum; speed = f .speed; parent = f .parent; left = f .left; right = f .right }
+setProgress f x = record { used = f .used; progress = x; sum = f .sum; speed = f .speed; parent = f .parent; left = f .left; right = f .right; marks = f .marks }
 
 abbrev pub setSum : Interface → ℕ → Interface
-setSum f x = record { used = f .used; progress = f .progress; sum = x; speed = f .speed; parent = f .parent; left = f .left; right = f .right }
+setSum f x = record { used = f .used; progress = f .progress; sum = x; speed = f .speed; parent = f .parent; left = f .left; right = f .right; marks = f .marks }
 
 abbrev pub setSpeed : Interface → ℕ → Interface
-setSpeed f x = record { used = f .used; progress = f .progress; sum = f .sum; speed = x; parent = f .parent; left = f .left; right = f .right }
+setSpeed f x = record { used = f .used; progress = f .progress; sum = f .sum; speed = x; parent = f .parent; left = f .left; right = f .right; marks = f .marks }
 
 abbrev pub setParent : Interface → Up → Interface
-setParent f x = record { used = f .used; progress = f .progress; sum = f .sum; speed = f .speed; parent = x; left = f .left; right = f .right }
+setParent f x = record { used = f .used; progress = f .progress; sum = f .sum; speed = f .speed; parent = x; left = f .left; right = f .right; marks = f .marks }
 
 abbrev pub setHalves : Interface → ℕ → ℕ → Interface
-setHalves f x y = record { used = f .used; progress = f .progress; sum = f .sum; speed = f .speed; parent = f .parent; left = x; right = y }
+setHalves f x y = record { used = f .used; progress = f .progress; sum = f .sum; speed = f .speed; parent = f .parent; left = x; right = y; marks = f .marks }
+
+abbrev pub setMarks : Interface → Marks → Interface
+setMarks f x = record { used = f .used; progress = f .progress; sum = f .sum; speed = f .speed; parent = f .parent; left = f .left; right = f .right; marks = x }
+
+-- an interface that has no mark
+abbrev pub noMarks : Marks
+noMarks = record { fills = false }
 
 abbrev pub noInterface : Interface
-noInterface = record { used = 0; progress = 0; sum = sumOffset; speed = speedOffset; parent = Top; left = 0; right = 0 }
+noInterface = record { used = 0; progress = 0; sum = sumOffset; speed = speedOffset; parent = Top; left = 0; right = 0; marks = noMarks }
 
 unfoldable pub storeInterface : List ℕ → ℕ → Interface → List ℕ
-storeInterface b u n = writes b (ibase u) 1 (interfaceWords n)
+storeInterface b u n = set (writes b (ibase u) 1 (interfaceWords n)) (ibase u + 9) (marksWord (n .marks))
 
 -- ---- the map of an interface's slots, beside its record
 

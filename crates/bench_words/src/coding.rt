@@ -3,7 +3,7 @@ use crate::PAST_HANDLES;
 use crate::WORDS;
 ghost use mathlib.Core.Path.{_≡_};
 ghost use Prim.Native.Nat.{_<_};
-ghost use Rattle.bench_words.specs.Coding.{blankAt, codedAt, spareAt, linkAt};
+ghost use Rattle.bench_words.specs.Coding.{blankAt, codedAt, spareAt, linkAt, flagsAt};
 
 // The slot holds nothing at all.
 pub fn is_blank(b: &[u64; WORDS], k: usize) -> bool
@@ -43,12 +43,11 @@ pub fn is_spare(b: &[u64; WORDS], u: usize) -> bool
     ensures { λ r. ⌜ r ≡ spareAt (now (b .entry)) u ⌝ }
 {
     let at = u * 16;
-    (b[at + 9] == 0)
-        & ((b[at + 10] == 0)
-            & ((b[at + 11] == 0)
-                & ((b[at + 12] == 0)
-                    & ((b[at + 13] == 0)
-                        & ((b[at + 14] == 0) & ((b[at + 15] == 0) & (b[at + 16] == 0)))))))
+    (b[at + 10] == 0)
+        & ((b[at + 11] == 0)
+            & ((b[at + 12] == 0)
+                & ((b[at + 13] == 0)
+                    & ((b[at + 14] == 0) & ((b[at + 15] == 0) & (b[at + 16] == 0))))))
 }
 
 // The word of an interface's parent names one of eight.
@@ -58,4 +57,13 @@ pub fn is_link(b: &[u64; WORDS], u: usize) -> bool
 {
     let at = u * 16;
     b[at + 5] <= 8
+}
+
+// The word of an interface's marks has no stray bit.
+pub fn is_flags(b: &[u64; WORDS], u: usize) -> bool
+    requires { ⌜ u < 8 ⌝ }
+    ensures { λ r. ⌜ r ≡ flagsAt (now (b .entry)) u ⌝ }
+{
+    let at = u * 16;
+    b[at + 9] <= 1
 }

@@ -4,7 +4,8 @@
 //   word 0                    the next serial
 //   words 16 u + 1 .. + 7     interface u: used slots, progress, sum + 2^62, speed + 1024, parent, left half, right half
 //   word 16 u + 8             the map of interface u: bit s is 1 where slot s holds a node
-//   words 16 u + 9 .. + 16    zero: room for later fields of interface u
+//   word 16 u + 9             the marks of interface u: 1 where a new node takes the lowest empty slot
+//   words 16 u + 10 .. + 16   zero: room for later fields of interface u
 //   words 128 + 12 k + 1 ..   node k = 64 * interface + slot: serial, class, state, parent, place, next, two touching handles,
 //                    .. + 12  bias + 2^60, size, first member, members
 pub mod coding; // whether words are the code of what is loaded from them
@@ -18,7 +19,7 @@ use kinds::Vertex;
 ghost use mathlib.Core.Path.{_≡_};
 ghost use lib.ListN.{length, getD, set};
 ghost use Prim.Native.Nat.{_+_, _*_, _<_};
-ghost use Rattle.bench_words.specs.Codec.{stateOf, stateWord, handleOf, handOf, handleWord, classOf, classWord, parentOf, parentWord, upOf, upWord};
+ghost use Rattle.bench_words.specs.Codec.{stateOf, stateWord, handleOf, handOf, handleWord, classOf, classWord, parentOf, parentWord, upOf, upWord, marksOf, marksWord};
 ghost use Rattle.bench_words.specs.Store.{nodeAt, storeNode, interfaceAt, storeInterface, mapAt, storeMap};
 
 pub const WORDS: usize = 6273;
@@ -53,6 +54,11 @@ pub enum Up {
     Under(u8),
 }
 
+// What an interface was marked with while it was empty. One that `fills` gives a new node its lowest empty slot.
+pub struct Marks {
+    pub fills: bool,
+}
+
 // `left` and `right` are a half's number and one more, or 0 without halves.
 pub struct Interface {
     pub used: u64,
@@ -62,6 +68,7 @@ pub struct Interface {
     pub parent: Up,
     pub left: u64,
     pub right: u64,
+    pub marks: Marks,
 }
 
 impl Interface {
@@ -188,6 +195,22 @@ pub fn up_word(u: Up) -> u64
     }
 }
 
+// A bit for each mark.
+pub fn marks_of(w: u64) -> Marks
+    ensures { λ r. ⌜ r ≡ marksOf w ⌝ }
+{
+    Marks { fills: w % 2 == 1 }
+}
+
+pub fn marks_word(m: Marks) -> u64
+    ensures { λ r. ⌜ r ≡ marksWord m ⌝ }
+{
+    if m.fills {
+        return 1;
+    }
+    0
+}
+
 pub fn load_next(b: &[u64; WORDS]) -> u64
     ensures { λ r. ⌜ r ≡ getD (now (b .entry)) 0 0 ⌝ }
 {
@@ -206,6 +229,7 @@ pub fn load_interface(b: &[u64; WORDS], u: usize) -> Interface
 {
     let at = u * 16;
     let parent = up_of(b[at + 5]);
+    let marks = marks_of(b[at + 9]);
     Interface {
         used: b[at + 1],
         progress: b[at + 2],
@@ -214,6 +238,7 @@ pub fn load_interface(b: &[u64; WORDS], u: usize) -> Interface
         parent,
         left: b[at + 6],
         right: b[at + 7],
+        marks,
     }
 }
 
@@ -223,6 +248,7 @@ pub fn store_interface(b: &mut [u64; WORDS], u: usize, n: Interface)
 {
     let at = u * 16;
     let parent = n.parent;
+    let marks = n.marks;
     b[at + 1] = n.used;
     b[at + 2] = n.progress;
     b[at + 3] = n.sum;
@@ -230,6 +256,7 @@ pub fn store_interface(b: &mut [u64; WORDS], u: usize, n: Interface)
     b[at + 5] = up_word(parent);
     b[at + 6] = n.left;
     b[at + 7] = n.right;
+    b[at + 9] = marks_word(marks);
 }
 
 // The map of an interface's present slots stands beside its record: most calls change the record and leave the map.

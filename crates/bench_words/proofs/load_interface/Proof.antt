@@ -19,63 +19,75 @@ element-copy-out-up-of c = search needs
 up-of-requires : tie.Need-up-of-requires
 up-of-requires c κs = search needs
 
-add-t5 : tie.Need-add-t5
-add-t5 c = search needs
+add-marks-of : tie.Need-add-marks-of
+add-marks-of c = search needs
 
-mul-t6 : tie.Need-mul-t6
-mul-t6 c = search needs
+mul-marks-of : tie.Need-mul-marks-of
+mul-marks-of c = search needs
 
-element-copy-out-t9 : tie.Need-element-copy-out-t9
-element-copy-out-t9 c = search needs
+element-copy-out-marks-of : tie.Need-element-copy-out-marks-of
+element-copy-out-marks-of c = search needs
 
-add-t12 : tie.Need-add-t12
-add-t12 c = search needs
+marks-of-requires : tie.Need-marks-of-requires
+marks-of-requires c κs = search needs
 
-mul-t13 : tie.Need-mul-t13
-mul-t13 c = search needs
+add-t6 : tie.Need-add-t6
+add-t6 c = search needs
 
-element-copy-out-t16 : tie.Need-element-copy-out-t16
-element-copy-out-t16 c = search needs
+mul-t7 : tie.Need-mul-t7
+mul-t7 c = search needs
 
-add-t17 : tie.Need-add-t17
-add-t17 c = search needs
+element-copy-out-t10 : tie.Need-element-copy-out-t10
+element-copy-out-t10 c = search needs
 
-mul-t18 : tie.Need-mul-t18
-mul-t18 c = search needs
+add-t15 : tie.Need-add-t15
+add-t15 c = search needs
 
-element-copy-out-t21 : tie.Need-element-copy-out-t21
-element-copy-out-t21 c = search needs
+mul-t16 : tie.Need-mul-t16
+mul-t16 c = search needs
 
-add-t22 : tie.Need-add-t22
-add-t22 c = search needs
+element-copy-out-t19 : tie.Need-element-copy-out-t19
+element-copy-out-t19 c = search needs
 
-mul-t23 : tie.Need-mul-t23
-mul-t23 c = search needs
+add-t20 : tie.Need-add-t20
+add-t20 c = search needs
 
-element-copy-out-t26 : tie.Need-element-copy-out-t26
-element-copy-out-t26 c = search needs
+mul-t21 : tie.Need-mul-t21
+mul-t21 c = search needs
 
-add-t27 : tie.Need-add-t27
-add-t27 c = search needs
+element-copy-out-t24 : tie.Need-element-copy-out-t24
+element-copy-out-t24 c = search needs
 
-mul-t28 : tie.Need-mul-t28
-mul-t28 c = search needs
+add-t25 : tie.Need-add-t25
+add-t25 c = search needs
 
-element-copy-out-t31 : tie.Need-element-copy-out-t31
-element-copy-out-t31 c = search needs
+mul-t26 : tie.Need-mul-t26
+mul-t26 c = search needs
 
-add-t32 : tie.Need-add-t32
-add-t32 c = search needs
+element-copy-out-t29 : tie.Need-element-copy-out-t29
+element-copy-out-t29 c = search needs
 
-mul-t33 : tie.Need-mul-t33
-mul-t33 c = search needs
+add-t30 : tie.Need-add-t30
+add-t30 c = search needs
 
-element-copy-out-t36 : tie.Need-element-copy-out-t36
-element-copy-out-t36 c = search needs
+mul-t31 : tie.Need-mul-t31
+mul-t31 c = search needs
+
+element-copy-out-t34 : tie.Need-element-copy-out-t34
+element-copy-out-t34 c = search needs
+
+add-t35 : tie.Need-add-t35
+add-t35 c = search needs
+
+mul-t36 : tie.Need-mul-t36
+mul-t36 c = search needs
+
+element-copy-out-t39 : tie.Need-element-copy-out-t39
+element-copy-out-t39 c = search needs
 
 returns : tie.Need-returns
 unfolding interfaceAt
-returns c = simp (c .before .before .before .before .before .before .up-of .ensures)
+returns c = simp (c .before .before .before .before .before .before .before .before .up-of .ensures, c .before .before .before .before .before .before .marks-of .ensures)
 
 pub load-interface-spec : {M : Type 1} → statement M
 load-interface-spec =
@@ -86,22 +98,26 @@ load-interface-spec =
     mul-up-of
     element-copy-out-up-of
     up-of-requires
-    add-t5
-    mul-t6
-    element-copy-out-t9
-    add-t12
-    mul-t13
-    element-copy-out-t16
-    add-t17
-    mul-t18
-    element-copy-out-t21
-    add-t22
-    mul-t23
-    element-copy-out-t26
-    add-t27
-    mul-t28
-    element-copy-out-t31
-    add-t32
-    mul-t33
-    element-copy-out-t36
+    add-marks-of
+    mul-marks-of
+    element-copy-out-marks-of
+    marks-of-requires
+    add-t6
+    mul-t7
+    element-copy-out-t10
+    add-t15
+    mul-t16
+    element-copy-out-t19
+    add-t20
+    mul-t21
+    element-copy-out-t24
+    add-t25
+    mul-t26
+    element-copy-out-t29
+    add-t30
+    mul-t31
+    element-copy-out-t34
+    add-t35
+    mul-t36
+    element-copy-out-t39
     returns)

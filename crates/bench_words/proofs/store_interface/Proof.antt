@@ -73,6 +73,18 @@ mul-b-7 c = search needs
 element-write-b-7 : tie.Need-element-write-b-7
 element-write-b-7 c = search needs
 
+marks-word-requires : tie.Need-marks-word-requires
+marks-word-requires c κs = search needs
+
+add-b-8 : tie.Need-add-b-8
+add-b-8 c = search needs
+
+mul-b-8 : tie.Need-mul-b-8
+mul-b-8 c = search needs
+
+element-write-b-8 : tie.Need-element-write-b-8
+element-write-b-8 c = search needs
+
 returns : tie.Need-returns
 unfolding storeInterface
 returns c = cc
@@ -104,4 +116,8 @@ store-interface-spec =
     add-b-7
     mul-b-7
     element-write-b-7
+    marks-word-requires
+    add-b-8
+    mul-b-8
+    element-write-b-8
     returns)

@@ -70,15 +70,6 @@ mul-result-7 c = search needs
 element-copy-out-result-7 : tie.Need-element-copy-out-result-7
 element-copy-out-result-7 c = search needs
 
-add-result-8 : tie.Need-add-result-8
-add-result-8 c = search needs
-
-mul-result-8 : tie.Need-mul-result-8
-mul-result-8 c = search needs
-
-element-copy-out-result-8 : tie.Need-element-copy-out-result-8
-element-copy-out-result-8 c = search needs
-
 returns : tie.Need-returns
 unfolding spareAt
 returns c = search needs
@@ -109,7 +100,4 @@ is-spare-spec =
     add-result-7
     mul-result-7
     element-copy-out-result-7
-    add-result-8
-    mul-result-8
-    element-copy-out-result-8
     returns)
