@@ -9,8 +9,8 @@ use lib.Dec.{ltb}
 use borrow.Author.Tests.{ltb-true}
 use Rattle.ledger_spec.specs.Bench.{Bench, setUp}
 use Rattle.ledger_spec.specs.Tests.{first}
-use Rattle.ledger_spec.specs.Refuse.{setUpNo, unitTests, defectTests, blossomTests, expandTests, stateTests, growTests, fuseTests}
-use Rattle.ledger_spec.specs.Calls.{nobody, settle, setUpCall, Call, Defect, Blossom, Expand, SetState, Grow, Fuse, Clear, perform}
+use Rattle.ledger_spec.specs.Refuse.{setUpNo, unitTests, defectTests, blossomTests, expandTests, stateTests, growTests, fuseTests, markTests}
+use Rattle.ledger_spec.specs.Calls.{nobody, settle, setUpCall, Call, Defect, Blossom, Expand, SetState, Grow, Fuse, Clear, Mark, perform}
 use Rattle.ledger_spec.specs.Sound.{sound}
 use Rattle.ledger_spec.specs.Answers.{answer}
 use Rattle.ledger_spec.specs.Book.{Book, turn, turns, newBook}
@@ -20,7 +20,7 @@ use Rattle.ledger_spec.proofs.Passed.{fusable}
 use Rattle.ledger_spec.proofs.Accepted.{defect-passed, blossom-passed, expand-passed, state-passed, grow-passed}
 use Rattle.ledger_spec.proofs.Says.{says}
 use Rattle.ledger_spec.proofs.Holds.{holds}
-use Rattle.ledger_laws.proofs.SoundCalls.{defect-sound, blossom-sound, expand-sound, state-sound, grow-sound, fuse-sound, clear-sound, opened-sound}
+use Rattle.ledger_laws.proofs.SoundCalls.{defect-sound, blossom-sound, expand-sound, state-sound, grow-sound, fuse-sound, choose-sound, clear-sound, opened-sound}
 use Rattle.ledger_laws.proofs.Answered.{testsOf, deedOf, nodeOf, perform-is, answer-number, zero-tests, zero-bench, refused-bench}
 
 -- ---- an accepted call, any call, any answer
@@ -33,6 +33,7 @@ deed-sound b S (SetState u h s) e = state-sound b S u h s (state-passed b u h e)
 deed-sound b S (Grow u l) e = grow-sound b S u l (grow-passed b u l e)
 deed-sound b S (Fuse p l r) e = fuse-sound b S p l r (fusable b p l r e)
 deed-sound b S (Clear u) e = clear-sound b S u
+deed-sound b S (Mark u k) e = choose-sound b S u k
 
 settled-sound : (n : ℕ) (b b′ : Bench) (c : Call) → (n ≡ 0 → Sound b′) → Sound b → Sound (settle n b b′ (nodeOf b c) .bench)
 unfolding settle
@@ -102,7 +103,7 @@ not-two (t ∷ ts) h e = go (t .0) e (not-two ts (and-true (ltb 2 (t .1)) (high 
     go false e ih = ih e
 
 pub tests-above : (b : Bench) (c : Call) → first (testsOf b c) ≢ 2
-unfolding testsOf defectTests blossomTests expandTests stateTests growTests fuseTests unitTests
+unfolding testsOf defectTests blossomTests expandTests stateTests growTests fuseTests unitTests markTests
 tests-above b (Defect u v) = not-two (defectTests b u) refl
 tests-above b (Blossom u hs ts) = not-two (blossomTests b u hs ts) refl
 tests-above b (Expand u h) = not-two (expandTests b u h) refl
@@ -110,6 +111,7 @@ tests-above b (SetState u h s) = not-two (stateTests b u h) refl
 tests-above b (Grow u l) = not-two (growTests b u l) refl
 tests-above b (Fuse p l r) = not-two (fuseTests b p l r) refl
 tests-above b (Clear u) = not-two (unitTests b u) refl
+tests-above b (Mark u k) = not-two (markTests b u) refl
 
 -- so BROKEN comes exactly where the bench is not sound
 pub broken-only : (b : Bench) (c : Call) → answer b c .number ≡ 2 → sound b ≡ false

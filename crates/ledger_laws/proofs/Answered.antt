@@ -12,9 +12,9 @@ use Rattle.ledger_spec.specs.Bench.{Handle, stays, grows, Bench}
 use Rattle.ledger_spec.specs.Look.{nodeNamed}
 use Rattle.ledger_spec.specs.Change.{mark}
 use Rattle.ledger_spec.specs.Tests.{first}
-use Rattle.ledger_spec.specs.Refuse.{unitTests, defectTests, blossomTests, expandTests, stateTests, growTests, fuseTests}
-use Rattle.ledger_spec.specs.Deeds.{newHandle, members, addDefect, addBlossom, removeBlossom, growBy, join, wipe}
-use Rattle.ledger_spec.specs.Calls.{Reply, nobody, settle, defectCall, blossomCall, expandCall, stateCall, growCall, fuseCall, clearCall, Call, Defect, Blossom, Expand, SetState, Grow, Fuse, Clear, perform}
+use Rattle.ledger_spec.specs.Refuse.{unitTests, defectTests, blossomTests, expandTests, stateTests, growTests, fuseTests, markTests}
+use Rattle.ledger_spec.specs.Deeds.{newHandle, members, addDefect, addBlossom, removeBlossom, growBy, join, wipe, choose}
+use Rattle.ledger_spec.specs.Calls.{Reply, nobody, settle, defectCall, blossomCall, expandCall, stateCall, growCall, fuseCall, clearCall, markCall, Call, Defect, Blossom, Expand, SetState, Grow, Fuse, Clear, Mark, perform}
 use Rattle.ledger_spec.specs.Notices.{Notice, stateSet, shrinkPrepared, blossomAdded, tells}
 use Rattle.ledger_spec.specs.Sound.{sound}
 use Rattle.ledger_spec.specs.Answers.{Answer, told, whole, broken, answer}
@@ -31,6 +31,7 @@ testsOf b (SetState u h s) = stateTests b u h
 testsOf b (Grow u l) = growTests b u l
 testsOf b (Fuse p l r) = fuseTests b p l r
 testsOf b (Clear u) = unitTests b u
+testsOf b (Mark u k) = markTests b u
 
 unfoldable pub deedOf : Bench → Call → Bench
 deedOf b (Defect u v) = addDefect b u v
@@ -40,6 +41,7 @@ deedOf b (SetState u h s) = mark b h s none
 deedOf b (Grow u l) = growBy b u l
 deedOf b (Fuse p l r) = join b p l r
 deedOf b (Clear u) = wipe b u
+deedOf b (Mark u k) = choose b u k
 
 -- the new node of a defect and a blossom, the named one of an expansion and a state, else none
 unfoldable pub nodeOf : Bench → Call → Handle
@@ -50,9 +52,10 @@ nodeOf b (SetState u h s) = h
 nodeOf b (Grow u l) = nobody
 nodeOf b (Fuse p l r) = nobody
 nodeOf b (Clear u) = nobody
+nodeOf b (Mark u k) = nobody
 
 pub perform-is : (b : Bench) (c : Call) → perform b c ≡ settle (first (testsOf b c)) b (deedOf b c) (nodeOf b c)
-unfolding perform testsOf deedOf nodeOf defectCall blossomCall expandCall stateCall growCall fuseCall clearCall
+unfolding perform testsOf deedOf nodeOf defectCall blossomCall expandCall stateCall growCall fuseCall clearCall markCall
 perform-is b (Defect u v) = refl
 perform-is b (Blossom u hs ts) = refl
 perform-is b (Expand u h) = refl
@@ -60,6 +63,7 @@ perform-is b (SetState u h s) = refl
 perform-is b (Grow u l) = refl
 perform-is b (Fuse p l r) = refl
 perform-is b (Clear u) = refl
+perform-is b (Mark u k) = refl
 
 module _ (b : Bench) (c : Call) where
   pub answer-true : sound b ≡ true → answer b c ≡ whole (perform b c) (tells b c)
@@ -159,6 +163,7 @@ few-told b S (SetState u h s) e = omega arith
 few-told b S (Grow u l) e = omega arith
 few-told b S (Fuse p l r) e = omega arith
 few-told b S (Clear u) e = omega arith
+few-told b S (Mark u k) e = omega arith
 
 pub few-notices : (b : Bench) (c : Call) → length (answer b c .notices) ≤ 66
 few-notices b c = go (answer b c .number) refl

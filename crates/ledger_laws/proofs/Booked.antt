@@ -5,29 +5,30 @@ use mathlib.Core.Path.{_≡_, refl, sym, _∙_, ap, ap₂, subst, fun-ext}
 use mathlib.Core.Logic.{_≢_}
 use mathlib.Core.Bool.{Bool, true, false}
 use mathlib.Core.Option.{Option, none, some}
-use mathlib.Core.List.{List, [], _∷_, _++_, map}
+use mathlib.Core.List.{List, [], _∷_, map}
 use native.Mathlib.Omega.{arith}
 use native.Mathlib.Decide.{ℕ-discrete, decLt}
 use lib.Dec.{eqb}
 use borrow.Author.Tests.{eq-eqb, ne-eqb}
-use lib.ListN.{length, set, length-set, length-append, List·getD-eq-default}
+use lib.ListN.{length, set, length-set, List·getD-eq-default}
 use lib.IntN.{ℤ, pos, _+ℤ_, _-ℤ_, _*ℤ_, +ℤ-assoc, +ℤ-comm, +ℤ-idl, +ℤ-idr, +ℤ-invr, *ℤ-zero}
-use Rattle.ledger_spec.specs.Bench.{Handle, State, Node, Interface, Bench, setUp}
+use Rattle.ledger_spec.specs.Bench.{Handle, State, Node, Marking, Interface, Bench, setUp}
 use Rattle.ledger_spec.specs.Look.{interface, slotOf, top}
-use Rattle.ledger_spec.specs.Change.{share, worth, place, push, restate, mark, markAll}
-use Rattle.ledger_spec.specs.Deeds.{growSlot, growBy, join, wipe}
+use Rattle.ledger_spec.specs.Change.{share, worth, place, put, push, restate, mark, markAll}
+use Rattle.ledger_spec.specs.Deeds.{growSlot, growBy, join, wipe, choose}
 use Rattle.ledger_spec.specs.Book.{Gone, forgotten}
 use Rattle.ledger_spec.specs.Account.{slotSum, total, gate, ratesIn}
 use Rattle.ledger_spec.specs.Frame.{Frame}
 use Rattle.ledger_spec.proofs.Ints.{swap-mid, *ℤ-dist-l, traded}
 use Rattle.ledger_spec.proofs.Sums.{Σ-zero, zero-gate}
-use Rattle.ledger_spec.proofs.Interfaces.{nil-of, over-set, over-snoc}
+use Rattle.ledger_spec.proofs.Interfaces.{nil-of, over-set}
+use Rattle.ledger_spec.proofs.Slots.{Vacant, put-some, over-put}
 use Rattle.ledger_spec.proofs.Tops.{climb-none, tops, alone}
 use Rattle.ledger_spec.proofs.Passed.{Fusable}
 use Rattle.ledger_spec.proofs.Readings.{place-here, place-else, push-here, push-else}
-use Rattle.ledger_spec.proofs.TreeReadings.{joins, grow-under, grow-else, grow-bare, grow-sum, grow-sum-else, grow-top, join-slots, join-kept, join-p, join-top-l, join-top-r, join-top-else, wipe-under, wipe-else, wipe-top-else}
+use Rattle.ledger_spec.proofs.TreeReadings.{joins, grow-under, grow-else, grow-bare, grow-sum, grow-sum-else, grow-top, join-slots, join-kept, join-p, join-top-l, join-top-r, join-top-else, wipe-under, wipe-else, wipe-top-else, choose-field}
 use Rattle.ledger_laws.proofs.Balance.{Balanced, bal-change, bal-scale, bal-fuse, bal-clear}
-use Rattle.ledger_laws.proofs.Quiet.{Quiet, quiet-top, quiet-frame, place-quiet, mark-quiet, push-quiet}
+use Rattle.ledger_laws.proofs.Quiet.{Quiet, quiet-top, quiet-frame, place-quiet, mark-quiet, push-quiet, choose-quiet}
 use Rattle.ledger_laws.proofs.Linked.{all-fresh}
 use Rattle.ledger_laws.proofs.Paced.{Paced, tops-same, inside, mark-out}
 
@@ -95,20 +96,20 @@ markAll-booked b F [] s p g K = K
 markAll-booked b F (h ∷ hs) s p g K = markAll-booked (mark b h s p) (quiet-frame b (mark b h s p) (mark-quiet b h s p) F) hs s p g (mark-booked b F h s p g K)
 
 -- ---- a node of value 0 added
-pub push-booked : (b : Bench) → Frame b → (u : ℕ) (n : Node) (g : Gone) → u < 8 → n .value ≡ pos 0 → Booked b g → Booked (push b u n) g
-push-booked b F u n g u<8 nil K = record {
+pub push-booked : (b : Bench) → Frame b → (u t : ℕ) (n : Node) (g : Gone) → u < 8 → Vacant (interface b u .slots) t → n .value ≡ pos 0 → Booked b g → Booked (push b u t n) g
+push-booked b F u t n g u<8 free nil K = record {
   bare = bare-now;
   sums = tops-same _ _ (quiet-top b b′ Q) (bal-change (top b) (valuesIn b g) (valuesIn b′ g) u (pos 0) u<8
-      (ap (λ (z : ℤ). z +ℤ total (g u)) (ap (slotSum worth) (push-here b u n u<n) ∙ over-snoc worth (interface b u .slots) (some n) ∙ ap (λ (z : ℤ). slotSum worth (interface b u .slots) +ℤ z) nil ∙ +ℤ-idr (slotSum worth (interface b u .slots))) ∙ sym (+ℤ-idr (valuesIn b g u)))
-      (λ w q. ap (λ (l : List (Option Node)). slotSum worth l +ℤ total (g w)) (push-else b u n w q))
+      (ap (λ (z : ℤ). z +ℤ total (g u)) (ap (slotSum worth) (push-here b u t n u<n) ∙ over-put worth refl (interface b u .slots) t n free ∙ ap (λ (z : ℤ). slotSum worth (interface b u .slots) +ℤ z) nil ∙ +ℤ-idr (slotSum worth (interface b u .slots))) ∙ sym (+ℤ-idr (valuesIn b g u)))
+      (λ w q. ap (λ (l : List (Option Node)). slotSum worth l +ℤ total (g w)) (push-else b u t n w q))
       (λ i. interface b i .sum) (λ i. interface b′ i .sum) (Q .sum (top b u) ∙ sym (+ℤ-idr _)) (λ i q. Q .sum i) (K .sums));
 }
   where
     b′ : Bench
-    b′ = push b u n
+    b′ = push b u t n
 
     Q : Quiet b b′
-    Q = push-quiet b u n
+    Q = push-quiet b u t n
 
     u<n : u < length (b .interfaces)
     u<n = inside b F u<8
@@ -116,12 +117,12 @@ push-booked b F u n g u<8 nil K = record {
     bare-now : (w : ℕ) → interface b′ w .slots ≡ [] → g w ≡ []
     bare-now w e = go (ℕ-discrete w u)
       where
-        filled : (l : List (Option Node)) → l ++ (some n ∷ []) ≡ [] → ⊥
-        filled l f = omega (arith, ap length f, length-append l (some n ∷ []))
+        filled : (l : List (Option Node)) → put l t n ≡ [] → ⊥
+        filled l f = omega (arith, ap length f, put-some l t n)
 
         go : Dec (w ≡ u) → g w ≡ []
-        go (yes p) = absurd (filled (interface b u .slots) (sym (push-here b u n u<n) ∙ ap (λ (z : ℕ). interface b′ z .slots) (sym p) ∙ e))
-        go (no q) = K .bare w (sym (push-else b u n w q) ∙ e)
+        go (yes p) = absurd (filled (interface b u .slots) (sym (push-here b u t n u<n) ∙ ap (λ (z : ℕ). interface b′ z .slots) (sym p) ∙ e))
+        go (no q) = K .bare w (sym (push-else b u t n w q) ∙ e)
 
 -- ---- growing: values move by their rates, the sum by the speed
 grown-worth : (l : ℤ) (o : Option Node) → worth (growSlot l o) ≡ worth o +ℤ l *ℤ share o
@@ -166,6 +167,20 @@ fuse-booked b F p l r g f K = record {
 
     slots : (w : ℕ) → interface b′ w .slots ≡ interface b w .slots
     slots = join-slots b p l r (joins F f)
+
+-- ---- marking
+pub choose-booked : (b : Bench) (u : ℕ) (k : Marking) (g : Gone) → Booked b g → Booked (choose b u k) g
+choose-booked b u k g K = record {
+  bare = λ w e. K .bare w (sym (slots w) ∙ e);
+  sums = tops-same _ _ (quiet-top b (choose b u k) Q) (subst (λ (s : ℕ → ℤ). Balanced (top b) s (valuesIn (choose b u k) g)) (sym (fun-ext (Q .sum)))
+      (subst (Balanced (top b) (λ i. interface b i .sum)) (sym (fun-ext (λ w. ap (λ (l : List (Option Node)). slotSum worth l +ℤ total (g w)) (slots w)))) (K .sums)));
+}
+  where
+    Q : Quiet b (choose b u k)
+    Q = choose-quiet b u k
+
+    slots : (w : ℕ) → interface (choose b u k) w .slots ≡ interface b w .slots
+    slots = choose-field b u k (λ f. f .slots) (λ f m. refl)
 
 -- ---- clearing: the book of the tree is forgotten too
 forgot : (g : Gone) (w : ℕ) → Bool → List ℤ

@@ -11,11 +11,11 @@ use lib.Dec.{eqb}
 use borrow.Author.Tests.{eq-eqb, ne-eqb}
 use lib.ListN.{getD, length}
 use lib.IntN.{ℤ, natAbs, _*ℤ_}
-use Rattle.ledger_spec.specs.Bench.{Handle, State, rate, stays, grows, Member, defect, Node, Interface, Bench}
-use Rattle.ledger_spec.specs.Look.{interface, slotOf, nodeNamed, top}
+use Rattle.ledger_spec.specs.Bench.{Handle, State, rate, stays, grows, Member, defect, Node, Marking, Interface, Bench}
+use Rattle.ledger_spec.specs.Look.{freeSlot, slotOf, nodeNamed, top}
 use Rattle.ledger_spec.specs.Change.{mark, restate, withNode}
 use Rattle.ledger_spec.specs.Tests.{both}
-use Rattle.ledger_spec.specs.Deeds.{newHandle, addDefect, circle, sizeOf, sizes, addBlossom, members, removeBlossom, growSlot, growBy, join, wipe}
+use Rattle.ledger_spec.specs.Deeds.{newHandle, addDefect, circle, sizeOf, sizes, addBlossom, members, removeBlossom, growSlot, growBy, join, wipe, choose}
 use Rattle.ledger_spec.specs.Frame.{Frame}
 use Rattle.ledger_spec.specs.Knit.{In, here, there, Has, Sewn}
 use Rattle.ledger_spec.specs.Facts.{Touching, Circle, Ring, Sound}
@@ -29,7 +29,7 @@ use Rattle.ledger_spec.proofs.Readings.{mark-at, mark-off}
 use Rattle.ledger_spec.proofs.DeedReadings.{bare, defectNode, defect-at, defect-off, blossomNode, blossom-at, blossom-member, blossom-off, blossom-next, expand-at, expand-member, expand-off}
 use Rattle.ledger_spec.proofs.TreeReadings.{joins, grow-at, grow-off, join-slots, wipe-under, wipe-else}
 use Rattle.ledger_laws.proofs.Paced.{inside}
-use Rattle.ledger_laws.proofs.Sewn.{circle-nodes, away, far}
+use Rattle.ledger_laws.proofs.Sewn.{circle-nodes, away, far, choose-slot}
 use Rattle.ledger_laws.proofs.Stems.{Stem, New, Came, stem-same, stem-restated, sizes-same}
 
 -- nothing moves
@@ -41,15 +41,15 @@ defect-ring : (b : Bench) (n : Node) (v : ℕ) → n .class ≡ defect v → n .
 defect-ring b n v c z = record { single = λ w r. z; circle = λ ms r. absurd (class-apart c r) }
 
 pub defect-came : (b : Bench) → Frame b → (u v : ℕ) → DefectPassed b u → Came b (addDefect b u v) still
-defect-came b F u v P w s x e = go (ℕ-discrete w u) (ℕ-discrete s (length (interface b u .slots)))
+defect-came b F u v P w s x e = go (ℕ-discrete w u) (ℕ-discrete s (freeSlot b u))
   where
     low : u < length (b .interfaces)
     low = inside b F (P .here .low)
 
-    kept : (w ≡ u → s ≡ length (interface b u .slots) → ⊥) → Stem b 0 w s x ⊎ New b (addDefect b u v) w s x
+    kept : (w ≡ u → s ≡ freeSlot b u → ⊥) → Stem b 0 w s x ⊎ New b (addDefect b u v) w s x
     kept off = inl (stem-same b (addDefect b u v) w s x (defect-off b u v low w s off) e)
 
-    go : Dec (w ≡ u) → Dec (s ≡ length (interface b u .slots)) → Stem b 0 w s x ⊎ New b (addDefect b u v) w s x
+    go : Dec (w ≡ u) → Dec (s ≡ freeSlot b u) → Stem b 0 w s x ⊎ New b (addDefect b u v) w s x
     go (yes p) (yes q) = inr (record {
       bare = ap₂ (slotOf b) p q ∙ bare b u;
       serial = ap (λ (n : Node). n .serial) x-is;
@@ -121,12 +121,12 @@ module _ (b : Bench) (S : Sound b) (u : ℕ) (hs : List Handle) (ts : List (Hand
   new-ring = record { single = λ v r. absurd (class-apart r refl); circle = λ ms r. subst (Circle b′ (blossomNode b hs ts)) (blossom-eq refl r) new-circle }
 
   pub blossom-came : Came b b′ still
-  blossom-came w s x e = go (place-in hs w s) (ℕ-discrete w u) (ℕ-discrete s (length (interface b u .slots)))
+  blossom-came w s x e = go (place-in hs w s) (ℕ-discrete w u) (ℕ-discrete s (freeSlot b u))
     where
-      kept : ((h : Handle) → In h hs → h .unit ≡ w → h .slot ≡ s → ⊥) → (w ≡ u → s ≡ length (interface b u .slots) → ⊥) → Stem b 0 w s x ⊎ New b b′ w s x
+      kept : ((h : Handle) → In h hs → h .unit ≡ w → h .slot ≡ s → ⊥) → (w ≡ u → s ≡ freeSlot b u → ⊥) → Stem b 0 w s x ⊎ New b b′ w s x
       kept m off = inl (stem-same b b′ w s x (blossom-off b u hs ts low w s m off) e)
 
-      go : Place hs w s → Dec (w ≡ u) → Dec (s ≡ length (interface b u .slots)) → Stem b 0 w s x ⊎ New b b′ w s x
+      go : Place hs w s → Dec (w ≡ u) → Dec (s ≡ freeSlot b u) → Stem b 0 w s x ⊎ New b b′ w s x
       go (hit h i f g) p q = inl (stem-restated b b′ w s x stays (some (newHandle b u))
           (ap₂ (slotOf b′) (sym f) (sym g) ∙ blossom-member b u hs ts low h i (away b u hs ts P h i) ∙ ap₂ (λ (y z : ℕ). restate (slotOf b y z) stays (some (newHandle b u))) f g) e)
       go (miss m) (yes p) (yes q) = inr (record {
@@ -203,9 +203,12 @@ grow-came b u l w s x e = go (ℕ-discrete (top b w) u)
     go (yes p) = inl (subst (λ (d : ℕ). Stem b d w s x) (sym (grown-here b u l w p)) (stem-grown b l w s x (sym (grow-at b u l w s p) ∙ e)))
     go (no p) = inl (subst (λ (d : ℕ). Stem b d w s x) (sym (grown-else b u l w p)) (stem-same b (growBy b u l) w s x (grow-off b u l w s p) e))
 
--- ---- fuse, clear
+-- ---- fuse, mark, clear
 pub fuse-came : (b : Bench) → Frame b → (p l r : ℕ) → Fusable b p l r → Came b (join b p l r) still
 fuse-came b F p l r f w s x e = inl (stem-same b (join b p l r) w s x (ap (λ (y : List (Option Node)). getD y s none) (join-slots b p l r (joins F f) w)) e)
+
+pub choose-came : (b : Bench) (u : ℕ) (k : Marking) → Came b (choose b u k) still
+choose-came b u k w s x e = inl (stem-same b (choose b u k) w s x (choose-slot b u k w s) e)
 
 pub clear-came : (b : Bench) (u : ℕ) → Came b (wipe b u) still
 clear-came b u w s x e = go (ℕ-discrete (top b w) u)

@@ -1,39 +1,56 @@
 -- What each accepted call leaves, as facts about its answer: the handle and where its node stands, and every slot and field, also those that it does
 -- not touch. Read off the deeds; no two of these need each other. Assumes nothing.
-use Prim.Native.Nat.{ℕ, suc, _<_}
-use mathlib.Core.Path.{_≡_, refl, sym, _∙_, ap, subst}
+use Prim.Native.Nat.{ℕ, suc, _<_, max}
+use mathlib.Core.Path.{_≡_, refl, sym, _∙_, ap, ap₂, subst}
 use mathlib.Core.Logic.{_≢_}
 use mathlib.Core.Option.{Option, none, some}
 use mathlib.Core.List.{List}
+use native.Mathlib.Omega.{arith}
+use native.Mathlib.Decide.{ℕ-discrete}
 use lib.ListN.{length}
 use lib.IntN.{ℤ, pos, _+ℤ_, _-ℤ_, _*ℤ_}
-use Rattle.ledger_spec.specs.Bench.{Handle, State, rate, stays, grows, Node, Bench, fresh}
-use Rattle.ledger_spec.specs.Look.{interface, slotOf, nodeNamed, top}
+use Rattle.ledger_spec.specs.Bench.{Handle, State, rate, stays, grows, Node, Marking, withMark, Bench, fresh}
+use Rattle.ledger_spec.specs.Look.{interface, freeSlot, slotOf, ifSerial, nodeNamed, top}
 use Rattle.ledger_spec.specs.Change.{share, restate, withNode, mark}
 use Rattle.ledger_spec.specs.Deeds.{newHandle, members, addDefect, addBlossom, removeBlossom, growSlot, growBy, fusedParent}
-use Rattle.ledger_spec.specs.Calls.{nobody, Defect, Blossom, Expand, SetState, Grow, Fuse, Clear}
+use Rattle.ledger_spec.specs.Calls.{nobody, Defect, Blossom, Expand, SetState, Grow, Fuse, Clear, Mark}
 use Rattle.ledger_spec.specs.Answers.{answer}
 use Rattle.ledger_spec.specs.Knit.{In}
 use Rattle.ledger_spec.specs.Facts.{Sound}
-use Rattle.ledger_spec.proofs.Passed.{Fusable, fusable, node-has, has-node}
-use Rattle.ledger_spec.proofs.Accepted.{defect-passed, BlossomPassed, blossom-passed, ExpandPassed, expand-passed, StatePassed, state-passed, grow-passed}
+use Rattle.ledger_spec.proofs.Passed.{Fusable, fusable, serial-none, serial-other, node-has, has-node}
+use Rattle.ledger_spec.proofs.Accepted.{defect-passed, BlossomPassed, blossom-passed, ExpandPassed, expand-passed, StatePassed, state-passed, grow-passed, mark-passed}
 use Rattle.ledger_spec.proofs.Says.{says}
-use Rattle.ledger_spec.proofs.Readings.{mark-at, mark-off, mark-next, mark-count, mark-slow, mark-fast, push-fast}
-use Rattle.ledger_spec.proofs.DeedReadings.{defectNode, defect-is, defect-at, defect-off, defect-next, blossomNode, blossom-at, blossom-member, blossom-off, blossom-next, expand-at, expand-member, expand-off, expand-next, expand-count}
-use Rattle.ledger_spec.proofs.TreeReadings.{Joins, joins, grownNode, grow-node, grow-parent, grow-halves, grow-speed, grow-at, grow-off, grow-next, grow-count, grow-sum, grow-sum-else, grow-progress, grow-progress-else, join-slots, join-kept, join-l, join-r, join-p, join-rest, join-next, wipe-next, wipe-under, wipe-else}
-use Rattle.ledger_laws.proofs.Quiet.{Quiet, defect-quiet, blossom-quiet, expand-quiet, mark-quiet}
+use Rattle.ledger_spec.proofs.Readings.{mark-field, mark-at, mark-off, mark-next, mark-count, mark-slow, mark-fast, push-fast}
+use Rattle.ledger_spec.proofs.DeedReadings.{bare, defectNode, defect-is, defect-count, defect-count-else, blossom-count, blossom-count-else, defect-field, defect-at, defect-off, defect-next, blossomNode, blossom-field, blossom-at, blossom-member, blossom-off, blossom-next, expand-field, expand-at, expand-member, expand-off, expand-next, expand-count}
+use Rattle.ledger_spec.proofs.TreeReadings.{Joins, joins, grownNode, grow-node, grow-parent, grow-halves, grow-marks, grow-speed, grow-at, grow-off, grow-next, grow-count, grow-sum, grow-sum-else, grow-progress, grow-progress-else, join-slots, join-kept, join-l, join-r, join-p, join-rest, join-next, wipe-next, wipe-under, wipe-else, choose-field, choose-here, choose-else, choose-next}
+use Rattle.ledger_laws.proofs.Quiet.{Quiet, defect-quiet, blossom-quiet, expand-quiet, mark-quiet, choose-quiet}
 use Rattle.ledger_laws.proofs.Paced.{inside}
 use Rattle.ledger_laws.proofs.Sewn.{away, far}
 use Rattle.ledger_laws.proofs.Answered.{testsOf, deedOf, nodeOf, zero-sound, zero-tests, zero-bench, zero-node}
+
+-- a handle of an older serial names what it named, also one of the slot that is filled
+older-names : (b b′ : Bench) (u : ℕ) (n : Node) → n .serial ≡ b .next → slotOf b u (freeSlot b u) ≡ none → slotOf b′ u (freeSlot b u) ≡ some n
+    → ((w s : ℕ) → (w ≡ u → s ≡ freeSlot b u → ⊥) → slotOf b′ w s ≡ slotOf b w s) → (g : Handle) → g .serial < b .next → nodeNamed b′ g ≡ nodeNamed b g
+unfolding nodeNamed
+older-names b b′ u n k none-was new off g h = go (ℕ-discrete (g .unit) u) (ℕ-discrete (g .slot) (freeSlot b u))
+  where
+    go : Dec (g .unit ≡ u) → Dec (g .slot ≡ freeSlot b u) → ifSerial (g .serial) (slotOf b′ (g .unit) (g .slot)) ≡ ifSerial (g .serial) (slotOf b (g .unit) (g .slot))
+    go (yes x) (yes y) = ap (ifSerial (g .serial)) (ap₂ (slotOf b′) x y ∙ new) ∙ serial-other (g .serial) n (λ e. omega (arith, e, k, h)) ∙ sym (ap (ifSerial (g .serial)) (ap₂ (slotOf b) x y ∙ none-was) ∙ serial-none (g .serial))
+    go (yes x) (no y) = ap (ifSerial (g .serial)) (off (g .unit) (g .slot) (λ a c. y c))
+    go (no x) y = ap (ifSerial (g .serial)) (off (g .unit) (g .slot) (λ a c. x a))
 
 -- ---- defect: one slot more, which holds the new node; links, progress and sums as they were; the speed up 1
 pub record DefectLeaves (b : Bench) (u v : ℕ) (h : Handle) (b′ : Bench) : Type 0 where
   pub handle : h ≡ newHandle b u
   pub new : nodeNamed b′ (newHandle b u) ≡ some (defectNode b v)
-  pub others : (w s : ℕ) → (w ≡ u → s ≡ length (interface b u .slots) → ⊥) → slotOf b′ w s ≡ slotOf b w s
+  pub others : (w s : ℕ) → (w ≡ u → s ≡ freeSlot b u → ⊥) → slotOf b′ w s ≡ slotOf b w s
   pub quiet : Quiet b b′
+  pub marks : (w : ℕ) → interface b′ w .marks ≡ interface b w .marks
   pub speed : interface b′ u .speed ≡ interface b u .speed +ℤ pos 1
   pub next : b′ .next ≡ suc (b .next)
+  pub count : length (interface b′ u .slots) ≡ max (length (interface b u .slots)) (suc (freeSlot b u))
+  pub count-else : (w : ℕ) → w ≢ u → length (interface b′ w .slots) ≡ length (interface b w .slots)
+  pub older : (g : Handle) → g .serial < b .next → nodeNamed b′ g ≡ nodeNamed b g
 
 pub defect-leaves : (b : Bench) (u v : ℕ) → answer b (Defect u v) .number ≡ 0 → DefectLeaves b u v (answer b (Defect u v) .node) (answer b (Defect u v) .bench)
 unfolding testsOf deedOf nodeOf
@@ -42,8 +59,12 @@ defect-leaves b u v z = subst (DefectLeaves b u v (answer b (Defect u v) .node))
   new = has-node (addDefect b u v) (newHandle b u) (defectNode b v) (record { stands = defect-at b u v low; serial = refl });
   others = defect-off b u v low;
   quiet = defect-quiet b u v;
-  speed = ap (λ (c : Bench). interface c u .speed) (defect-is b u v) ∙ push-fast b u (defectNode b v) low;
+  marks = defect-field b u v (λ f. f .marks) (λ f l. refl) (λ f x. refl);
+  speed = ap (λ (c : Bench). interface c u .speed) (defect-is b u v) ∙ push-fast b u (freeSlot b u) (defectNode b v) low;
   next = defect-next b u v;
+  count = defect-count b u v low;
+  count-else = defect-count-else b u v;
+  older = older-names b (addDefect b u v) u (defectNode b v) refl (bare b u) (defect-at b u v low) (defect-off b u v low);
 })
   where
     low : u < length (b .interfaces)
@@ -54,9 +75,12 @@ pub record BlossomLeaves (b : Bench) (u : ℕ) (hs : List Handle) (ts : List (Ha
   pub handle : h ≡ newHandle b u
   pub new : nodeNamed b′ (newHandle b u) ≡ some (blossomNode b hs ts)
   pub members : (g : Handle) (n : Node) → In g hs → nodeNamed b g ≡ some n → nodeNamed b′ g ≡ some (withNode n stays (some (newHandle b u)))
-  pub others : (w s : ℕ) → ((g : Handle) → In g hs → g .unit ≡ w → g .slot ≡ s → ⊥) → (w ≡ u → s ≡ length (interface b u .slots) → ⊥) → slotOf b′ w s ≡ slotOf b w s
+  pub others : (w s : ℕ) → ((g : Handle) → In g hs → g .unit ≡ w → g .slot ≡ s → ⊥) → (w ≡ u → s ≡ freeSlot b u → ⊥) → slotOf b′ w s ≡ slotOf b w s
   pub quiet : Quiet b b′
+  pub marks : (w : ℕ) → interface b′ w .marks ≡ interface b w .marks
   pub next : b′ .next ≡ suc (b .next)
+  pub count : length (interface b′ u .slots) ≡ max (length (interface b u .slots)) (suc (freeSlot b u))
+  pub count-else : (w : ℕ) → w ≢ u → length (interface b′ w .slots) ≡ length (interface b w .slots)
 
 pub blossom-leaves : (b : Bench) (u : ℕ) (hs : List Handle) (ts : List (Handle × Handle)) → answer b (Blossom u hs ts) .number ≡ 0 → BlossomLeaves b u hs ts (answer b (Blossom u hs ts) .node) (answer b (Blossom u hs ts) .bench)
 unfolding testsOf deedOf nodeOf
@@ -66,7 +90,10 @@ blossom-leaves b u hs ts z = subst (BlossomLeaves b u hs ts (answer b (Blossom u
   members = taken;
   others = blossom-off b u hs ts low;
   quiet = blossom-quiet b u hs ts;
+  marks = blossom-field b u hs ts (λ f. f .marks) (λ f l. refl) (λ f x. refl);
   next = blossom-next b u hs ts;
+  count = blossom-count b u hs ts low;
+  count-else = blossom-count-else b u hs ts;
 })
   where
     P : BlossomPassed b u hs ts
@@ -86,6 +113,7 @@ pub record ExpandLeaves (b : Bench) (h g : Handle) (b′ : Bench) : Type 0 where
   pub freed : (k : Handle) (n : Node) → In k (members (nodeNamed b h)) → nodeNamed b k ≡ some n → nodeNamed b′ k ≡ some (withNode n grows none)
   pub others : (w s : ℕ) → ((k : Handle) → In k (members (nodeNamed b h)) → k .unit ≡ w → k .slot ≡ s → ⊥) → (h .unit ≡ w → h .slot ≡ s → ⊥) → slotOf b′ w s ≡ slotOf b w s
   pub quiet : Quiet b b′
+  pub marks : (w : ℕ) → interface b′ w .marks ≡ interface b w .marks
   pub next : b′ .next ≡ b .next
   pub count : (w : ℕ) → length (interface b′ w .slots) ≡ length (interface b w .slots)
 
@@ -97,6 +125,7 @@ expand-leaves b u h z = subst (ExpandLeaves b h (answer b (Expand u h) .node)) (
   freed = free;
   others = expand-off b h;
   quiet = expand-quiet b h;
+  marks = expand-field b h (λ f. f .marks) (λ f l. refl) (λ f x. refl);
   next = expand-next b h;
   count = expand-count b h;
 })
@@ -119,6 +148,7 @@ pub record StateLeaves (b : Bench) (u : ℕ) (h : Handle) (s : State) (g : Handl
   pub now : nodeNamed b′ h ≡ some (withNode node s (node .parent))
   pub others : (w t : ℕ) → (h .unit ≡ w → h .slot ≡ t → ⊥) → slotOf b′ w t ≡ slotOf b w t
   pub quiet : Quiet b b′
+  pub marks : (w : ℕ) → interface b′ w .marks ≡ interface b w .marks
   pub speed : interface b′ u .speed ≡ interface b u .speed +ℤ (rate s -ℤ rate (node .state))
   pub speed-else : (w : ℕ) → w ≢ u → interface b′ w .speed ≡ interface b w .speed
   pub next : b′ .next ≡ b .next
@@ -133,6 +163,7 @@ state-leaves b u h s z = subst (StateLeaves b u h s (answer b (SetState u h s) .
   now = has-node (mark b h s none) h (withNode n s (n .parent)) (record { stands = mark-at b h s none ∙ ap (λ (o : Option Node). restate o s none) (P .named .has .stands) ∙ ap (λ (q : Option Handle). some (withNode n s q)) (sym (P .orphan)); serial = P .named .has .serial });
   others = mark-off b h s none;
   quiet = mark-quiet b h s none;
+  marks = mark-field b h s none (λ f. f .marks) (λ f l. refl) (λ f x. refl);
   speed = subst (λ (t : ℕ). interface (mark b h s none) t .speed ≡ interface b t .speed +ℤ (rate s -ℤ rate (n .state))) (P .named .near)
       (mark-fast b h s none (subst (λ (t : ℕ). t < length (b .interfaces)) (sym (P .named .near)) (inside b (S .frame) (P .here .low)))
       ∙ ap (λ (o : Option Node). interface b (top b (h .unit)) .speed +ℤ (share (restate o s none) -ℤ share o)) (P .named .has .stands));
@@ -163,6 +194,7 @@ pub record GrowLeaves (b : Bench) (u : ℕ) (l : ℤ) (h : Handle) (b′ : Bench
   pub speed : (w : ℕ) → interface b′ w .speed ≡ interface b w .speed
   pub parent : (w : ℕ) → interface b′ w .parent ≡ interface b w .parent
   pub halves : (w : ℕ) → interface b′ w .halves ≡ interface b w .halves
+  pub marks : (w : ℕ) → interface b′ w .marks ≡ interface b w .marks
   pub next : b′ .next ≡ b .next
   pub count : (w : ℕ) → length (interface b′ w .slots) ≡ length (interface b w .slots)
 
@@ -180,6 +212,7 @@ grow-leaves b u l z = subst (GrowLeaves b u l (answer b (Grow u l) .node)) (sym 
   speed = grow-speed b u l;
   parent = grow-parent b u l;
   halves = grow-halves b u l;
+  marks = grow-marks b u l;
   next = grow-next b u l;
   count = grow-count b u l;
 })
@@ -199,6 +232,7 @@ pub record FuseLeaves (b : Bench) (p l r : ℕ) (h : Handle) (b′ : Bench) : Ty
   pub speed : (w : ℕ) → w ≢ p → interface b′ w .speed ≡ interface b w .speed
   pub progress : (w : ℕ) → w ≢ p → interface b′ w .progress ≡ interface b w .progress
   pub halves : (w : ℕ) → w ≢ p → interface b′ w .halves ≡ interface b w .halves
+  pub marks : (w : ℕ) → w ≢ p → interface b′ w .marks ≡ interface b w .marks
   pub next : b′ .next ≡ b .next
 
 pub fuse-leaves : (b : Bench) (p l r : ℕ) → answer b (Fuse p l r) .number ≡ 0 → FuseLeaves b p l r (answer b (Fuse p l r) .node) (answer b (Fuse p l r) .bench)
@@ -214,6 +248,7 @@ fuse-leaves b p l r z = subst (FuseLeaves b p l r (answer b (Fuse p l r) .node))
   speed = join-kept b p l r j (λ g. g .speed) (λ g q. refl);
   progress = join-kept b p l r j (λ g. g .progress) (λ g q. refl);
   halves = join-kept b p l r j (λ g. g .halves) (λ g q. refl);
+  marks = join-kept b p l r j (λ g. g .marks) (λ g q. refl);
   next = join-next b p l r j;
 })
   where
@@ -237,4 +272,26 @@ clear-leaves b u z = subst (ClearLeaves b u (answer b (Clear u) .node)) (sym (ze
   inside = wipe-under b u;
   outside = wipe-else b u;
   next = wipe-next b u;
+})
+
+-- ---- mark: the marks of one interface; all else as it was
+pub record MarkLeaves (b : Bench) (u : ℕ) (k : Marking) (h : Handle) (b′ : Bench) : Type 0 where
+  pub handle : h ≡ nobody
+  pub marked : interface b′ u .marks ≡ withMark k (interface b u .marks)
+  pub others : (w : ℕ) → w ≢ u → interface b′ w ≡ interface b w
+  pub slots : (w : ℕ) → interface b′ w .slots ≡ interface b w .slots
+  pub quiet : Quiet b b′
+  pub speed : (w : ℕ) → interface b′ w .speed ≡ interface b w .speed
+  pub next : b′ .next ≡ b .next
+
+pub mark-leaves : (b : Bench) (u : ℕ) (k : Marking) → answer b (Mark u k) .number ≡ 0 → MarkLeaves b u k (answer b (Mark u k) .node) (answer b (Mark u k) .bench)
+unfolding testsOf deedOf nodeOf
+mark-leaves b u k z = subst (MarkLeaves b u k (answer b (Mark u k) .node)) (sym (zero-bench b (Mark u k) z)) (record {
+  handle = zero-node b (Mark u k) z;
+  marked = choose-here b u k (inside b (says b (zero-sound b (Mark u k) z) .frame) (mark-passed b u (zero-tests b (Mark u k) z) .here .low));
+  others = choose-else b u k;
+  slots = choose-field b u k (λ f. f .slots) (λ f m. refl);
+  quiet = choose-quiet b u k;
+  speed = choose-field b u k (λ f. f .speed) (λ f m. refl);
+  next = choose-next b u k;
 })

@@ -20,7 +20,7 @@ use Rattle.ledger_spec.proofs.Ints.{*ℤ-dist-r, *ℤ-dist-l, swap-mid}
 use Rattle.ledger_spec.proofs.Knit.{none-some}
 use Rattle.ledger_spec.proofs.Tops.{alone}
 use Rattle.ledger_spec.proofs.Passed.{Fusable}
-use Rattle.ledger_spec.proofs.TreeReadings.{inTree, atTop, grow-interface, grow-parent, grow-halves, grow-speed, grow-top, grow-length, grow-next, grow-under, grow-else, grow-sum, grow-sum-else, Joins, joins, join-slots, join-else, join-kept, join-l, join-r, join-p, join-length, join-next, join-top-l, join-top-r, join-top-else}
+use Rattle.ledger_spec.proofs.TreeReadings.{inTree, atTop, grow-interface, grow-parent, grow-halves, grow-marks, grow-speed, grow-top, grow-length, grow-next, grow-under, grow-else, grow-sum, grow-sum-else, Joins, joins, join-slots, join-else, join-kept, join-l, join-r, join-p, join-length, join-next, join-top-l, join-top-r, join-top-else}
 use Rattle.ledger_laws.proofs.Paced.{inside}
 
 -- ---- growing twice
@@ -146,6 +146,16 @@ module _ (b : Bench) (F : Frame b) (p l r : ℕ) (a : ℤ) (f : Fusable b p l r)
       go (no x) (no y) (yes z) = plain x y ∙ sym (grown-nil a (interface b w .slots) (ap (λ (m : ℕ). interface b m .slots) (alone b F p (f .no-halves) w z) ∙ f .no-slots)) ∙ sym (in-j (join-top-else b F p l r f w x y ∙ z))
       go (no x) (no y) (no z) = plain x y ∙ sym (grow-else j p a w (wide-j w h) (λ e. z (sym (join-top-else b F p l r f w x y) ∙ e)) ∙ keep-j)
 
+  join-marks : (w : ℕ) → interface (join b₂ p l r) w .marks ≡ interface j w .marks
+  join-marks w = go (ℕ-discrete w p)
+    where
+      marks : (w : ℕ) → interface b₂ w .marks ≡ interface b w .marks
+      marks w = grow-marks b₁ r a w ∙ grow-marks b l a w
+
+      go : Dec (w ≡ p) → interface (join b₂ p l r) w .marks ≡ interface j w .marks
+      go (yes x) = subst (λ (m : ℕ). interface (join b₂ p l r) m .marks ≡ interface j m .marks) (sym x) (ap (λ (f : Interface). f .marks) (join-p b₂ p l r J₂) ∙ marks p ∙ sym (ap (λ (f : Interface). f .marks) (join-p b p l r J)))
+      go (no x) = join-kept b₂ p l r J₂ (λ f. f .marks) (λ f q. refl) w x ∙ marks w ∙ sym (join-kept b p l r J (λ f. f .marks) (λ f q. refl) w x)
+
   speeds : (w : ℕ) → interface b₂ w .speed ≡ interface b w .speed
   speeds w = grow-speed b₁ r a w ∙ grow-speed b l a w
 
@@ -177,6 +187,7 @@ module _ (b : Bench) (F : Frame b) (p l r : ℕ) (a : ℤ) (f : Fusable b p l r)
     slots = λ w h. join-slots b₂ p l r J₂ w ∙ grown-slots w h;
     parent = λ w. join-parent w ∙ sym (grow-parent j p a w);
     halves = λ w. join-halves w ∙ sym (grow-halves j p a w);
+    marks = λ w. join-marks w ∙ sym (grow-marks j p a w);
     sum = join-sum;
     speed = λ w free. join-speed w ∙ sym (grow-speed j p a w);
   }

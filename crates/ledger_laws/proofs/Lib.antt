@@ -29,4 +29,5 @@ pub mod Clean
 pub mod Made
 pub mod Never
 pub mod Stale
+pub mod Filled
 pub mod Strict

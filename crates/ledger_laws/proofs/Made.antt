@@ -8,7 +8,7 @@ use mathlib.Core.List.{List, [], _∷_, _++_}
 use lib.Dec.{eqb}
 use Rattle.ledger_spec.specs.Bench.{Handle, Bench}
 use Rattle.ledger_spec.specs.Tests.{both}
-use Rattle.ledger_spec.specs.Calls.{Call, Defect, Blossom, Expand, SetState, Grow, Fuse, Clear}
+use Rattle.ledger_spec.specs.Calls.{Call, Defect, Blossom, Expand, SetState, Grow, Fuse, Clear, Mark}
 use Rattle.ledger_spec.specs.Answers.{answer}
 use Rattle.ledger_spec.specs.Book.{Book, turn}
 use Rattle.ledger_spec.specs.Knit.{In}
@@ -21,6 +21,7 @@ makes (SetState u h s) = false
 makes (Grow u l) = false
 makes (Fuse p l r) = false
 makes (Clear u) = false
+makes (Mark u k) = false
 
 -- of a call with the number n and the node h
 unfoldable pub madeOf : Call → ℕ → Handle → List Handle
@@ -43,3 +44,4 @@ names (SetState u h s) = h ∷ []
 names (Grow u l) = []
 names (Fuse p l r) = []
 names (Clear u) = []
+names (Mark u k) = []

@@ -13,7 +13,7 @@ use Rattle.ledger_spec.specs.Bench.{Handle, Node, Bench}
 use Rattle.ledger_spec.specs.Look.{slotOf, nodeNamed}
 use Rattle.ledger_spec.specs.Tests.{first}
 use Rattle.ledger_spec.specs.Deeds.{newHandle}
-use Rattle.ledger_spec.specs.Calls.{Call, Defect, Blossom, Expand, SetState, Grow, Fuse, Clear}
+use Rattle.ledger_spec.specs.Calls.{Call, Defect, Blossom, Expand, SetState, Grow, Fuse, Clear, Mark}
 use Rattle.ledger_spec.specs.Answers.{answer}
 use Rattle.ledger_spec.specs.Book.{Book, turn, turns}
 use Rattle.ledger_spec.specs.Knit.{In, Has}
@@ -25,9 +25,9 @@ use Rattle.ledger_spec.proofs.Passed.{node-has, has-node, fusable}
 use Rattle.ledger_spec.proofs.Accepted.{defect-passed, blossom-passed, expand-passed}
 use Rattle.ledger_spec.proofs.Readings.{mark-next}
 use Rattle.ledger_spec.proofs.DeedReadings.{defect-next, blossom-next, expand-next}
-use Rattle.ledger_spec.proofs.TreeReadings.{joins, grow-next, join-next, wipe-next}
+use Rattle.ledger_spec.proofs.TreeReadings.{joins, grow-next, join-next, wipe-next, choose-next}
 use Rattle.ledger_laws.proofs.Stems.{Stem, New, Came}
-use Rattle.ledger_laws.proofs.CameCalls.{still, grown, defect-came, blossom-came, expand-came, state-came, grow-came, fuse-came, clear-came}
+use Rattle.ledger_laws.proofs.CameCalls.{still, grown, defect-came, blossom-came, expand-came, state-came, grow-came, fuse-came, choose-came, clear-came}
 use Rattle.ledger_laws.proofs.Answered.{testsOf, deedOf, nodeOf, zero-sound, zero-tests, zero-bench, zero-node, refused-bench}
 use Rattle.ledger_laws.proofs.Always.{turns-sound}
 use Rattle.ledger_laws.proofs.Made.{makes, madeOf, made, Different}
@@ -42,6 +42,7 @@ next-deed b S (SetState u h t) e = omega (arith, mark-next b h t none)
 next-deed b S (Grow u l) e = omega (arith, grow-next b u l)
 next-deed b S (Fuse q l r) e = omega (arith, join-next b q l r (joins (S .frame) (fusable b q l r e)))
 next-deed b S (Clear u) e = omega (arith, wipe-next b u)
+next-deed b S (Mark u k) e = omega (arith, choose-next b u k)
 
 -- what holds of the bench as it was and of what an accepted call does, holds of the bench after any call
 after : (P : Bench → Type 0) (b : Bench) (c : Call) → P b → (Sound b → first (testsOf b c) ≡ 0 → P (deedOf b c)) → P (answer b c .bench)
@@ -79,6 +80,7 @@ deed-born b S (SetState u h t) e = from-came b (deedOf b (SetState u h t)) still
 deed-born b S (Grow u l) e = from-came b (deedOf b (Grow u l)) (grown b u l) (grow-came b u l)
 deed-born b S (Fuse p l r) e = from-came b (deedOf b (Fuse p l r)) still (fuse-came b (S .frame) p l r (fusable b p l r e))
 deed-born b S (Clear u) e = from-came b (deedOf b (Clear u)) still (clear-came b u)
+deed-born b S (Mark u k) e = from-came b (deedOf b (Mark u k)) still (choose-came b u k)
 
 -- ---- a handle that names no node any more
 still-none : (b b′ : Bench) → Born b b′ → (h : Handle) → h .serial < b .next → nodeNamed b h ≡ none → nodeNamed b′ h ≡ none
@@ -95,7 +97,7 @@ still-none b b′ B h l e = go (nodeNamed b′ h) refl
         was (inl p) = omega (arith, p, l, H .serial)
         was (inr r) = none-some e (has-node b h (r .0) (record { stands = r .1; serial = r .2 ∙ H .serial }))
 
-never-once : (b : Bench) (c : Call) (h : Handle) → h .serial < b .next → nodeNamed b h ≡ none → nodeNamed (answer b c .bench) h ≡ none
+pub never-once : (b : Bench) (c : Call) (h : Handle) → h .serial < b .next → nodeNamed b h ≡ none → nodeNamed (answer b c .bench) h ≡ none
 never-once b c h l e = after (λ (d : Bench). nodeNamed d h ≡ none) b c e (λ S z. still-none b (deedOf b c) (deed-born b S c z) h l e)
 
 -- a handle of a serial that was given out, naming no present node, names none after any calls
@@ -129,6 +131,7 @@ new-made b (SetState u h t) m e = absurd (true≢false (sym m))
 new-made b (Grow u l) m e = absurd (true≢false (sym m))
 new-made b (Fuse p l r) m e = absurd (true≢false (sym m))
 new-made b (Clear u) m e = absurd (true≢false (sym m))
+new-made b (Mark u k) m e = absurd (true≢false (sym m))
 
 making : (b : Bench) (c : Call) → Making b c (madeOf c (answer b c .number) (answer b c .node))
 unfolding madeOf

@@ -8,20 +8,21 @@ use native.Mathlib.Decide.{ℕ-discrete, decLt}
 use lib.Dec.{eqb}
 use lib.ListN.{length, set, length-set, List·getD-eq-default}
 use lib.IntN.{ℤ, _+ℤ_, _-ℤ_}
-use Rattle.ledger_spec.specs.Bench.{Handle, State, rate, Node, Interface, Bench, fresh, setUp, withSlots}
+use Rattle.ledger_spec.specs.Bench.{Handle, State, rate, Node, Marking, Interface, Bench, fresh, setUp, withSlots}
 use Rattle.ledger_spec.specs.Look.{interface, slotOf, top}
 use Rattle.ledger_spec.specs.Change.{share, withInterface, faster, place, push, restate, mark, markAll}
-use Rattle.ledger_spec.specs.Deeds.{growSlot, growBy, join, wipe}
+use Rattle.ledger_spec.specs.Deeds.{growSlot, growBy, join, wipe, choose}
 use Rattle.ledger_spec.specs.Account.{slotSum, gate, ratesIn}
 use Rattle.ledger_spec.specs.Frame.{Frame}
 use Rattle.ledger_spec.proofs.Sums.{Σ-same, Σ-zero, zero-gate}
-use Rattle.ledger_spec.proofs.Interfaces.{over-set, over-snoc, put-out}
+use Rattle.ledger_spec.proofs.Interfaces.{over-set, put-out}
+use Rattle.ledger_spec.proofs.Slots.{Vacant, over-put}
 use Rattle.ledger_spec.proofs.Tops.{climb-none, below, tops, alone}
 use Rattle.ledger_spec.proofs.Passed.{Fusable}
 use Rattle.ledger_spec.proofs.Readings.{place-here, place-else, place-fast, place-slow, push-here, push-else, push-fast, push-slow}
-use Rattle.ledger_spec.proofs.TreeReadings.{joins, grow-under, grow-else, grow-speed, grow-top, join-slots, join-kept, join-p, join-top-l, join-top-r, join-top-else, wipe-under, wipe-else, wipe-top-else}
+use Rattle.ledger_spec.proofs.TreeReadings.{joins, grow-under, grow-else, grow-speed, grow-top, join-slots, join-kept, join-p, join-top-l, join-top-r, join-top-else, wipe-under, wipe-else, wipe-top-else, choose-field}
 use Rattle.ledger_laws.proofs.Balance.{Balanced, bal-change, bal-fuse, bal-clear}
-use Rattle.ledger_laws.proofs.Quiet.{quiet-top, quiet-frame, place-quiet, mark-quiet, push-quiet}
+use Rattle.ledger_laws.proofs.Quiet.{quiet-top, quiet-frame, place-quiet, mark-quiet, push-quiet, choose-quiet}
 use Rattle.ledger_laws.proofs.Linked.{all-fresh}
 
 abbrev pub Paced : Bench → Type 0
@@ -75,13 +76,13 @@ markAll-paced b F [] s p P = P
 markAll-paced b F (h ∷ hs) s p P = markAll-paced (mark b h s p) (quiet-frame b (mark b h s p) (mark-quiet b h s p) F) hs s p (mark-paced b F h s p P)
 
 -- ---- a slot added
-pub push-paced : (b : Bench) → Frame b → (u : ℕ) (n : Node) → u < 8 → interface b u .parent ≡ none → Paced b → Paced (push b u n)
-push-paced b F u n u<8 root P = tops-same _ _ (quiet-top b (push b u n) (push-quiet b u n))
-    (bal-change (top b) (ratesIn b) (ratesIn (push b u n)) u (rate (n .state)) u<8
-    (ap (slotSum share) (push-here b u n (inside b F u<8)) ∙ over-snoc share (interface b u .slots) (some n))
-    (λ w q. ap (slotSum share) (push-else b u n w q)) (λ i. interface b i .speed) (λ i. interface (push b u n) i .speed)
-    (subst (λ (t : ℕ). interface (push b u n) t .speed ≡ interface b t .speed +ℤ rate (n .state)) (sym self) (push-fast b u n (inside b F u<8)))
-    (λ i q. push-slow b u n i (λ e. q (e ∙ sym self))) P)
+pub push-paced : (b : Bench) → Frame b → (u t : ℕ) (n : Node) → u < 8 → interface b u .parent ≡ none → Vacant (interface b u .slots) t → Paced b → Paced (push b u t n)
+push-paced b F u t n u<8 root free P = tops-same _ _ (quiet-top b (push b u t n) (push-quiet b u t n))
+    (bal-change (top b) (ratesIn b) (ratesIn (push b u t n)) u (rate (n .state)) u<8
+    (ap (slotSum share) (push-here b u t n (inside b F u<8)) ∙ over-put share refl (interface b u .slots) t n free)
+    (λ w q. ap (slotSum share) (push-else b u t n w q)) (λ i. interface b i .speed) (λ i. interface (push b u t n) i .speed)
+    (subst (λ (i : ℕ). interface (push b u t n) i .speed ≡ interface b i .speed +ℤ rate (n .state)) (sym self) (push-fast b u t n (inside b F u<8)))
+    (λ i q. push-slow b u t n i (λ e. q (e ∙ sym self))) P)
   where
     self : top b u ≡ u
     self = climb-none 8 b u root
@@ -117,6 +118,12 @@ fuse-paced b F p l r f P = subst (Balanced (top (join b p l r)) (λ i. interface
     (λ u e. ap (ratesIn b) (alone b F p (f .no-halves) u e) ∙ ap (slotSum share) (f .no-slots))
     (λ i. interface b i .speed) (λ i. interface (join b p l r) i .speed) (omega arith) (omega arith)
     (ap (λ (f : Interface). f .speed) (join-p b p l r (joins F f))) (join-kept b p l r (joins F f) (λ f. f .speed) (λ f q. refl)) P)
+
+-- ---- marking
+pub choose-paced : (b : Bench) (u : ℕ) (k : Marking) → Paced b → Paced (choose b u k)
+choose-paced b u k P = tops-same _ _ (quiet-top b (choose b u k) (choose-quiet b u k))
+    (subst (λ (s : ℕ → ℤ). Balanced (top b) s (ratesIn (choose b u k))) (sym (fun-ext (choose-field b u k (λ f. f .speed) (λ f m. refl))))
+    (subst (Balanced (top b) (λ i. interface b i .speed)) (sym (fun-ext (λ w. ap (slotSum share) (choose-field b u k (λ f. f .slots) (λ f m. refl) w)))) P))
 
 -- ---- clearing
 pub clear-paced : (b : Bench) → Frame b → (u : ℕ) → Paced b → Paced (wipe b u)

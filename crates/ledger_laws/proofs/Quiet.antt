@@ -5,16 +5,17 @@ use mathlib.Core.Option.{Option, none, some}
 use mathlib.Core.List.{List, [], _∷_, _++_}
 use lib.ListN.{length}
 use lib.IntN.{ℤ, natAbs}
-use Rattle.ledger_spec.specs.Bench.{Handle, State, grows, stays, Node, Bench}
+use Rattle.ledger_spec.specs.Bench.{Handle, State, grows, stays, Node, Marking, Bench}
 use Rattle.ledger_spec.specs.Look.{interface, nodeNamed, top, tree}
 use Rattle.ledger_spec.specs.Change.{place, push, mark, markAll}
 use Rattle.ledger_spec.specs.Tests.{isSome}
-use Rattle.ledger_spec.specs.Deeds.{newHandle, addDefect, addBlossom, removeBlossom, members}
+use Rattle.ledger_spec.specs.Deeds.{newHandle, addDefect, addBlossom, removeBlossom, members, choose}
 use Rattle.ledger_spec.specs.SoundTree.{reach}
 use Rattle.ledger_spec.specs.Frame.{Frame}
 use Rattle.ledger_spec.specs.Facts.{W}
 use Rattle.ledger_spec.proofs.Tops.{climb-same}
 use Rattle.ledger_spec.proofs.Trees.{tree-leaf, tree-fork}
+use Rattle.ledger_spec.proofs.TreeReadings.{choose-field, choose-length}
 use Rattle.ledger_spec.proofs.Readings.{place-field, place-length, mark-field, mark-length, markAll-field, markAll-length, push-field, push-length}
 
 -- links that are as they were
@@ -100,23 +101,32 @@ markAll-quiet b hs s p = record {
   sum = markAll-field s p (λ f. f .sum) (λ f l. refl) (λ f x. refl) b hs;
 }
 
-pub push-quiet : (b : Bench) (u : ℕ) (n : Node) → Quiet b (push b u n)
-push-quiet b u n = record {
-  long = push-length b u n;
-  parent = push-field b u n (λ f. f .parent) (λ f l. refl) (λ f x. refl);
-  halves = push-field b u n (λ f. f .halves) (λ f l. refl) (λ f x. refl);
-  progress = push-field b u n (λ f. f .progress) (λ f l. refl) (λ f x. refl);
-  sum = push-field b u n (λ f. f .sum) (λ f l. refl) (λ f x. refl);
+pub push-quiet : (b : Bench) (u t : ℕ) (n : Node) → Quiet b (push b u t n)
+push-quiet b u t n = record {
+  long = push-length b u t n;
+  parent = push-field b u t n (λ f. f .parent) (λ f l. refl) (λ f x. refl);
+  halves = push-field b u t n (λ f. f .halves) (λ f l. refl) (λ f x. refl);
+  progress = push-field b u t n (λ f. f .progress) (λ f l. refl) (λ f x. refl);
+  sum = push-field b u t n (λ f. f .sum) (λ f l. refl) (λ f x. refl);
 }
 
 pub defect-quiet : (b : Bench) (u v : ℕ) → Quiet b (addDefect b u v)
 unfolding addDefect
-defect-quiet b u v = push-quiet b u _
+defect-quiet b u v = push-quiet b u _ _
 
 pub blossom-quiet : (b : Bench) (u : ℕ) (hs : List Handle) (ts : List (Handle × Handle)) → Quiet b (addBlossom b u hs ts)
 unfolding addBlossom
-blossom-quiet b u hs ts = quiet-trans b (markAll b hs stays (some (newHandle b u))) _ (markAll-quiet b hs stays (some (newHandle b u))) (push-quiet (markAll b hs stays (some (newHandle b u))) u _)
+blossom-quiet b u hs ts = quiet-trans b (markAll b hs stays (some (newHandle b u))) _ (markAll-quiet b hs stays (some (newHandle b u))) (push-quiet (markAll b hs stays (some (newHandle b u))) u _ _)
 
 pub expand-quiet : (b : Bench) (h : Handle) → Quiet b (removeBlossom b h)
 unfolding removeBlossom
 expand-quiet b h = quiet-trans b (place b (h .unit) (h .slot) none) _ (place-quiet b (h .unit) (h .slot) none) (markAll-quiet (place b (h .unit) (h .slot) none) (members (nodeNamed b h)) grows none)
+
+pub choose-quiet : (b : Bench) (u : ℕ) (k : Marking) → Quiet b (choose b u k)
+choose-quiet b u k = record {
+  long = choose-length b u k;
+  parent = choose-field b u k (λ f. f .parent) (λ f m. refl);
+  halves = choose-field b u k (λ f. f .halves) (λ f m. refl);
+  progress = choose-field b u k (λ f. f .progress) (λ f m. refl);
+  sum = choose-field b u k (λ f. f .sum) (λ f m. refl);
+}

@@ -8,10 +8,10 @@ use native.Mathlib.Omega.{arith}
 use native.Mathlib.Decide.{ℕ-discrete}
 use lib.ListN.{getD, length}
 use lib.IntN.{ℤ}
-use Rattle.ledger_spec.specs.Bench.{Handle, State, Node, Interface, Bench, setUp}
-use Rattle.ledger_spec.specs.Look.{interface, slotOf, nodeNamed, top}
+use Rattle.ledger_spec.specs.Bench.{Handle, State, Node, Marking, Interface, Bench, setUp}
+use Rattle.ledger_spec.specs.Look.{freeSlot, slotOf, nodeNamed, top}
 use Rattle.ledger_spec.specs.Change.{mark, restate, withNode}
-use Rattle.ledger_spec.specs.Deeds.{addDefect, addBlossom, removeBlossom, circle, members, growBy, growSlot, join, wipe}
+use Rattle.ledger_spec.specs.Deeds.{addDefect, addBlossom, removeBlossom, circle, members, growBy, growSlot, join, wipe, choose}
 use Rattle.ledger_spec.specs.Frame.{Frame}
 use Rattle.ledger_spec.specs.Knit.{At, mk, nodes, In, Down, Knit, Sewn}
 use Rattle.ledger_spec.proofs.Lists.{not-in-nil}
@@ -21,10 +21,10 @@ use Rattle.ledger_spec.proofs.Passed.{Fusable}
 use Rattle.ledger_spec.proofs.Accepted.{DefectPassed, BlossomPassed, ExpandPassed, StatePassed}
 use Rattle.ledger_spec.proofs.Readings.{mark-at, mark-off, mark-next}
 use Rattle.ledger_spec.proofs.DeedReadings.{bare, defectNode, defect-at, defect-off, defect-next, blossomNode, blossom-at, blossom-member, blossom-off, blossom-next, expand-at, expand-member, expand-off, expand-next}
-use Rattle.ledger_spec.proofs.TreeReadings.{joins, grow-next, grow-top, grow-at, grow-off, join-slots, join-next, join-together, wipe-next, wipe-under, wipe-else, wipe-top-else}
+use Rattle.ledger_spec.proofs.TreeReadings.{joins, grow-next, grow-top, grow-at, grow-off, join-slots, join-next, join-together, wipe-next, wipe-under, wipe-else, wipe-top-else, choose-field, choose-next}
 use Rattle.ledger_laws.proofs.KnitAdd.{knit-add}
 use Rattle.ledger_laws.proofs.KnitOther.{knit-remove, Like, knit-like, knit-clear}
-use Rattle.ledger_laws.proofs.Quiet.{quiet-top, defect-quiet, blossom-quiet, expand-quiet, mark-quiet}
+use Rattle.ledger_laws.proofs.Quiet.{quiet-top, defect-quiet, blossom-quiet, expand-quiet, mark-quiet, choose-quiet}
 use Rattle.ledger_laws.proofs.Paced.{inside}
 use Rattle.ledger_laws.proofs.Linked.{all-fresh}
 
@@ -39,7 +39,7 @@ sewn-at b b′ n e h K = record { begun = omega (arith, e, h); knit = subst (λ 
 pub defect-sewn : (b : Bench) → Frame b → Sewn b → (u v : ℕ) → DefectPassed b u → Sewn (addDefect b u v)
 defect-sewn b F S u v P = sewn-at b b′ (suc (b .next)) (defect-next b u v) (omega arith)
     (re-top b b′ (quiet-top b b′ (defect-quiet b u v))
-    (knit-add (slotOf b) (slotOf b′) (b .next) (top b) u (length (interface b u .slots)) (defectNode b v) [] (S .knit) (S .begun) (bare b u)
+    (knit-add (slotOf b) (slotOf b′) (b .next) (top b) u (freeSlot b u) (defectNode b v) [] (S .knit) (S .begun) (bare b u)
     (defect-at b u v low) refl refl (λ ms r. absurd (class-apart refl r)) (λ h i. absurd (not-in-nil i)) (λ h i. absurd (not-in-nil i))
     (λ w t m off. defect-off b u v low w t off) (λ h i. absurd (not-in-nil i)) (λ h i. absurd (not-in-nil i))))
   where
@@ -56,13 +56,13 @@ circle-nodes (h ∷ hs) [] = ap {B = List Handle} (λ r. h ∷ r) (circle-nodes 
 circle-nodes (h ∷ hs) (t ∷ ts) = ap {B = List Handle} (λ r. h ∷ r) (circle-nodes hs ts)
 
 -- a member's place is not the new one
-pub away : (b : Bench) (u : ℕ) (hs : List Handle) (ts : List (Handle × Handle)) → BlossomPassed b u hs ts → (h : Handle) → In h hs → h .unit ≡ u → h .slot ≡ length (interface b u .slots) → ⊥
+pub away : (b : Bench) (u : ℕ) (hs : List Handle) (ts : List (Handle × Handle)) → BlossomPassed b u hs ts → (h : Handle) → In h hs → h .unit ≡ u → h .slot ≡ freeSlot b u → ⊥
 away b u hs ts P h i x y = none-some (bare b u) (ap₂ (slotOf b) (sym x) (sym y) ∙ P .member h i .has .stands)
 
 pub blossom-sewn : (b : Bench) → Frame b → Sewn b → (u : ℕ) (hs : List Handle) (ts : List (Handle × Handle)) → BlossomPassed b u hs ts → Sewn (addBlossom b u hs ts)
 blossom-sewn b F S u hs ts P = sewn-at b b′ (suc (b .next)) (blossom-next b u hs ts) (omega arith)
     (re-top b b′ (quiet-top b b′ (blossom-quiet b u hs ts))
-    (knit-add (slotOf b) (slotOf b′) (b .next) (top b) u (length (interface b u .slots)) (blossomNode b hs ts) hs (S .knit) (S .begun) (bare b u)
+    (knit-add (slotOf b) (slotOf b′) (b .next) (top b) u (freeSlot b u) (blossomNode b hs ts) hs (S .knit) (S .begun) (bare b u)
     (blossom-at b u hs ts low) refl refl (λ ms r. ap nodes (blossom-eq r refl) ∙ circle-nodes hs ts) (λ h i. (circle hs ts, refl))
     (λ h i. blossom-member b u hs ts low h i (away b u hs ts P h i)) (blossom-off b u hs ts low)
     (λ h i. record { node = P .member h i .node; has = P .member h i .has; free = P .orphan h i; near = P .member h i .near ∙ sym (climb-none 8 b u (P .here .free)) })
@@ -184,6 +184,20 @@ fuse-sewn b F S p l r f = sewn-at b j (b .next) (join-next b p l r (joins F f)) 
 
     slots : (w v : ℕ) → slotOf j w v ≡ slotOf b w v
     slots w v = ap (λ (s : List (Option Node)). getD s v none) (join-slots b p l r (joins F f) w)
+
+-- ---- mark
+pub choose-slot : (b : Bench) (u : ℕ) (k : Marking) (w v : ℕ) → slotOf (choose b u k) w v ≡ slotOf b w v
+choose-slot b u k w v = ap (λ (s : List (Option Node)). getD s v none) (choose-field b u k (λ f. f .slots) (λ f m. refl) w)
+
+pub choose-sewn : (b : Bench) → Sewn b → (u : ℕ) (k : Marking) → Sewn (choose b u k)
+choose-sewn b S u k = sewn-at b c (b .next) (choose-next b u k) (S .begun)
+    (knit-like (slotOf b) (slotOf c) (b .next) (top b) (top c) (S .knit) (λ w v x e. (x, sym (choose-slot b u k w v) ∙ e, self-like x)) (λ w v n e. (n, choose-slot b u k w v ∙ e, self-like n)) (λ x w z. tops x ∙ z ∙ sym (tops w)))
+  where
+    c : Bench
+    c = choose b u k
+
+    tops : (w : ℕ) → top c w ≡ top b w
+    tops = quiet-top b c (choose-quiet b u k)
 
 -- ---- clear
 pub clear-sewn : (b : Bench) → Frame b → Sewn b → (u : ℕ) → Sewn (wipe b u)

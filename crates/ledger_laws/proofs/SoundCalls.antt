@@ -11,10 +11,10 @@ use borrow.Author.Tests.{ltb-false}
 use lib.ListN.{getD, length}
 use lib.IntN.{ℤ, pos, natAbs, _+ℤ_}
 use lib.Signed.{ltZ}
-use Rattle.ledger_spec.specs.Bench.{Handle, State, stays, grows, Node, Interface, Bench, fresh, setUp}
-use Rattle.ledger_spec.specs.Look.{interface, slotOf, nodeNamed, top}
+use Rattle.ledger_spec.specs.Bench.{Handle, State, stays, grows, Node, Marking, Interface, Bench, fresh, setUp}
+use Rattle.ledger_spec.specs.Look.{interface, freeSlot, slotOf, nodeNamed, top}
 use Rattle.ledger_spec.specs.Change.{place, mark, markAll}
-use Rattle.ledger_spec.specs.Deeds.{newHandle, members, addDefect, addBlossom, removeBlossom, growBy, fusedParent, join, wipe}
+use Rattle.ledger_spec.specs.Deeds.{newHandle, members, addDefect, addBlossom, removeBlossom, growBy, fusedParent, join, wipe, choose}
 use Rattle.ledger_spec.specs.Frame.{Frame}
 use Rattle.ledger_spec.specs.Knit.{Sewn}
 use Rattle.ledger_spec.specs.Facts.{W, Sound}
@@ -23,17 +23,18 @@ use Rattle.ledger_spec.proofs.Tops.{climb-none, alone, root-parent, below, top-
 use Rattle.ledger_spec.proofs.Knit.{none-some}
 use Rattle.ledger_spec.proofs.Passed.{Fusable}
 use Rattle.ledger_spec.proofs.Accepted.{DefectPassed, BlossomPassed, ExpandPassed, StatePassed, GrowPassed}
+use Rattle.ledger_spec.proofs.Slots.{free-vacant}
 use Rattle.ledger_spec.proofs.Gathered.{held-unit}
 use Rattle.ledger_spec.proofs.Readings.{mark-count, mark-next}
-use Rattle.ledger_spec.proofs.DeedReadings.{blossomNode, defect-is, defect-count, defect-count-else, defect-next, blossom-is, blossom-count, blossom-count-else, blossom-next, expand-is, expand-count, expand-next}
-use Rattle.ledger_spec.proofs.TreeReadings.{joins, grow-parent, grow-top, grow-count, grow-next, grow-sum, grow-sum-else, grow-progress, grow-progress-else, join-slots, join-kept, join-p, join-next, join-rest, join-l, join-r, join-top-l, join-top-r, join-top-else, wipe-next, wipe-under, wipe-else, wipe-top-else}
+use Rattle.ledger_spec.proofs.DeedReadings.{blossomNode, defect-is, defect-count, defect-count-else, defect-next, blossom-is, blossom-count, blossom-vacant, blossom-count-else, blossom-next, expand-is, expand-count, expand-next}
+use Rattle.ledger_spec.proofs.TreeReadings.{joins, grow-parent, grow-top, grow-count, grow-next, grow-sum, grow-sum-else, grow-progress, grow-progress-else, join-slots, join-kept, join-p, join-next, join-rest, join-l, join-r, join-top-l, join-top-r, join-top-else, wipe-next, wipe-under, wipe-else, wipe-top-else, choose-field, choose-next}
 use Rattle.ledger_spec.proofs.Bounds.{grown-sum, speed-bound}
-use Rattle.ledger_laws.proofs.Quiet.{Quiet, quiet-frame, quiet-top, quiet-W, defect-quiet, blossom-quiet, expand-quiet, mark-quiet, place-quiet, markAll-quiet}
+use Rattle.ledger_laws.proofs.Quiet.{Quiet, quiet-frame, quiet-top, quiet-W, defect-quiet, blossom-quiet, expand-quiet, mark-quiet, place-quiet, markAll-quiet, choose-quiet}
 use Rattle.ledger_laws.proofs.Linked.{fuse-frame, clear-frame, opened-frame, all-fresh}
-use Rattle.ledger_laws.proofs.Paced.{Paced, inside, place-paced, mark-paced, markAll-paced, push-paced, grow-paced, fuse-paced, clear-paced, opened-paced}
-use Rattle.ledger_laws.proofs.Sewn.{defect-sewn, blossom-sewn, expand-sewn, state-sewn, grow-sewn, fuse-sewn, clear-sewn, opened-sewn, opened-empty}
+use Rattle.ledger_laws.proofs.Paced.{Paced, inside, place-paced, mark-paced, markAll-paced, push-paced, grow-paced, fuse-paced, choose-paced, clear-paced, opened-paced}
+use Rattle.ledger_laws.proofs.Sewn.{defect-sewn, blossom-sewn, expand-sewn, state-sewn, grow-sewn, fuse-sewn, choose-sewn, clear-sewn, opened-sewn, opened-empty}
 use Rattle.ledger_laws.proofs.Stems.{Came, rings-kept, values-kept}
-use Rattle.ledger_laws.proofs.CameCalls.{still, defect-came, blossom-came, expand-came, state-came, grown, grown-here, grown-else, grow-came, fuse-came, clear-came}
+use Rattle.ledger_laws.proofs.CameCalls.{still, defect-came, blossom-came, expand-came, state-came, grown, grown-here, grown-else, grow-came, fuse-came, clear-came, choose-came}
 use Rattle.ledger_laws.proofs.Reach.{not-negative, pos-sum, grow-frame, W-grow, W-grow-else, W-fuse, W-fuse-else, W-clear-else}
 
 pub paced-of : (b : Bench) → Sound b → Paced b
@@ -58,19 +59,19 @@ module _ (b b′ : Bench) (S : Sound b) (Q : Quiet b b′) (S′ : Sewn b′) (P
 
 pub defect-sound : (b : Bench) → Sound b → (u v : ℕ) → DefectPassed b u → Sound (addDefect b u v)
 defect-sound b S u v P = quiet-sound b (addDefect b u v) S (defect-quiet b u v) (defect-sewn b (S .frame) (S .sewn) u v P)
-    (subst Paced (sym (defect-is b u v)) (push-paced b (S .frame) u _ (P .here .low) (P .here .free) (paced-of b S)))
+    (subst Paced (sym (defect-is b u v)) (push-paced b (S .frame) u _ _ (P .here .low) (P .here .free) (free-vacant b u) (paced-of b S)))
     (defect-came b (S .frame) u v P) (omega (arith, defect-next b u v)) (omega (arith, defect-next b u v, P .unworn)) few
   where
     few : (w : ℕ) → length (interface (addDefect b u v) w .slots) ≤ 64
     few w = go (ℕ-discrete w u)
       where
         go : Dec (w ≡ u) → length (interface (addDefect b u v) w .slots) ≤ 64
-        go (yes e) = subst (λ (z : ℕ). length (interface (addDefect b u v) z .slots) ≤ 64) (sym e) (omega (arith, defect-count b u v (inside b (S .frame) (P .here .low)), P .room))
+        go (yes e) = subst (λ (z : ℕ). length (interface (addDefect b u v) z .slots) ≤ 64) (sym e) (omega (arith, defect-count b u v (inside b (S .frame) (P .here .low)), P .room, S .few u))
         go (no e) = omega (arith, defect-count-else b u v w e, S .few w)
 
 pub blossom-sound : (b : Bench) → Sound b → (u : ℕ) (hs : List Handle) (ts : List (Handle × Handle)) → BlossomPassed b u hs ts → Sound (addBlossom b u hs ts)
 blossom-sound b S u hs ts P = quiet-sound b (addBlossom b u hs ts) S (blossom-quiet b u hs ts) (blossom-sewn b (S .frame) (S .sewn) u hs ts P)
-    (subst Paced (sym (blossom-is b u hs ts)) (push-paced c (quiet-frame b c marks (S .frame)) u (blossomNode b hs ts) (P .here .low) (marks .parent u ∙ P .here .free) (markAll-paced b (S .frame) hs stays (some (newHandle b u)) (paced-of b S))))
+    (subst Paced (sym (blossom-is b u hs ts)) (push-paced c (quiet-frame b c marks (S .frame)) u (freeSlot b u) (blossomNode b hs ts) (P .here .low) (marks .parent u ∙ P .here .free) (blossom-vacant b u hs ts) (markAll-paced b (S .frame) hs stays (some (newHandle b u)) (paced-of b S))))
     (blossom-came b S u hs ts P) (omega (arith, blossom-next b u hs ts)) (omega (arith, blossom-next b u hs ts, P .unworn)) few
   where
     c : Bench
@@ -83,7 +84,7 @@ blossom-sound b S u hs ts P = quiet-sound b (addBlossom b u hs ts) S (blossom-qu
     few w = go (ℕ-discrete w u)
       where
         go : Dec (w ≡ u) → length (interface (addBlossom b u hs ts) w .slots) ≤ 64
-        go (yes e) = subst (λ (z : ℕ). length (interface (addBlossom b u hs ts) z .slots) ≤ 64) (sym e) (omega (arith, blossom-count b u hs ts (inside b (S .frame) (P .here .low)), P .room))
+        go (yes e) = subst (λ (z : ℕ). length (interface (addBlossom b u hs ts) z .slots) ≤ 64) (sym e) (omega (arith, blossom-count b u hs ts (inside b (S .frame) (P .here .low)), P .room, S .few u))
         go (no e) = omega (arith, blossom-count-else b u hs ts w e, S .few w)
 
 pub expand-sound : (b : Bench) → Sound b → (u : ℕ) (h : Handle) → ExpandPassed b u h → Sound (removeBlossom b h)
@@ -98,6 +99,10 @@ expand-sound b S u h P = quiet-sound b (removeBlossom b h) S (expand-quiet b h) 
 pub state-sound : (b : Bench) → Sound b → (u : ℕ) (h : Handle) (s : State) → StatePassed b u h → Sound (mark b h s none)
 state-sound b S u h s P = quiet-sound b (mark b h s none) S (mark-quiet b h s none) (state-sewn b (S .sewn) u h s P) (mark-paced b (S .frame) h s none (paced-of b S)) (state-came b h s none)
     (omega (arith, mark-next b h s none)) (omega (arith, mark-next b h s none, S .worn)) (λ w. omega (arith, mark-count b h s none w, S .few w))
+
+pub choose-sound : (b : Bench) → Sound b → (u : ℕ) (k : Marking) → Sound (choose b u k)
+choose-sound b S u k = quiet-sound b (choose b u k) S (choose-quiet b u k) (choose-sewn b (S .sewn) u k) (choose-paced b u k (paced-of b S)) (choose-came b u k)
+    (omega (arith, choose-next b u k)) (omega (arith, choose-next b u k, S .worn)) (λ w. omega (arith, ap length (choose-field b u k (λ f. f .slots) (λ f m. refl) w), S .few w))
 
 -- ---- grow
 not-past : (z : ℤ) (m : ℕ) → ltZ (pos m) z ≡ false → z ≡ pos (natAbs z) → natAbs z ≤ m

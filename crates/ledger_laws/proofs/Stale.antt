@@ -14,7 +14,7 @@ use Rattle.ledger_spec.specs.Bench.{Handle, Bench}
 use Rattle.ledger_spec.specs.Look.{nodeNamed}
 use Rattle.ledger_spec.specs.Tests.{first, any, isSome, empty, outside, child, stale, foreign, both}
 use Rattle.ledger_spec.specs.Refuse.{blossomTests, expandTests, stateTests}
-use Rattle.ledger_spec.specs.Calls.{nobody, Call, Defect, Blossom, Expand, SetState, Grow, Fuse, Clear}
+use Rattle.ledger_spec.specs.Calls.{nobody, Call, Defect, Blossom, Expand, SetState, Grow, Fuse, Clear, Mark}
 use Rattle.ledger_spec.specs.Reads.{said, nodeTests, valueOf, belongs}
 use Rattle.ledger_spec.specs.Walk.{outerOf, belowTests, belowOf, firstVertex, sizeTests, verticesInto}
 use Rattle.ledger_spec.specs.Sound.{sound}
@@ -107,6 +107,7 @@ module _ (b : Bench) (h : Handle) (e : nodeNamed b h ≡ none) where
   tests-refused (Grow u l) i = absurd (not-in-nil i)
   tests-refused (Fuse p l r) i = absurd (not-in-nil i)
   tests-refused (Clear u) i = absurd (not-in-nil i)
+  tests-refused (Mark u k) i = absurd (not-in-nil i)
 
   pub nameless : Nameless b h
   unfolding valueOf outerOf belowOf firstVertex verticesInto belongs belowTests sizeTests

@@ -11,12 +11,12 @@ use borrow.Author.Tests.{eq-eqb, ne-eqb}
 use lib.ListN.{getD}
 use lib.IntN.{ℤ, pos, _+ℤ_, _-ℤ_, +ℤ-comm, +ℤ-idr, +ℤ-invr, +ℤ-negℤ-cancel}
 use Rattle.ledger_spec.specs.Bench.{Handle, grows, stays, Node, Bench, setUp}
-use Rattle.ledger_spec.specs.Look.{interface, slotOf, nodeNamed, tree}
+use Rattle.ledger_spec.specs.Look.{interface, freeSlot, slotOf, nodeNamed, tree}
 use Rattle.ledger_spec.specs.Change.{worth, place, markAll}
 use Rattle.ledger_spec.specs.Tests.{first}
 use Rattle.ledger_spec.specs.Refuse.{setUpNo}
 use Rattle.ledger_spec.specs.Deeds.{newHandle, members, removeBlossom}
-use Rattle.ledger_spec.specs.Calls.{nobody, settle, setUpCall, Call, Defect, Blossom, Expand, SetState, Grow, Fuse, Clear}
+use Rattle.ledger_spec.specs.Calls.{nobody, settle, setUpCall, Call, Defect, Blossom, Expand, SetState, Grow, Fuse, Clear, Mark}
 use Rattle.ledger_spec.specs.Reads.{slotsOf}
 use Rattle.ledger_spec.specs.Check.{totalOf}
 use Rattle.ledger_spec.specs.Answers.{answer}
@@ -30,13 +30,14 @@ use Rattle.ledger_spec.proofs.Tops.{climb-none}
 use Rattle.ledger_spec.proofs.Trees.{along, along-add, gather-total, tree-sum}
 use Rattle.ledger_spec.proofs.Passed.{fusable}
 use Rattle.ledger_spec.proofs.Accepted.{defect-passed, BlossomPassed, blossom-passed, ExpandPassed, expand-passed, grow-passed}
+use Rattle.ledger_spec.proofs.Slots.{free-vacant}
 use Rattle.ledger_spec.proofs.Gathered.{held-unit}
-use Rattle.ledger_spec.proofs.DeedReadings.{defectNode, defect-is, blossomNode, blossom-is, expand-is}
+use Rattle.ledger_spec.proofs.DeedReadings.{defectNode, defect-is, blossomNode, blossom-vacant, blossom-is, expand-is}
 use Rattle.ledger_laws.proofs.Quiet.{quiet-frame, markAll-quiet, place-quiet}
 use Rattle.ledger_laws.proofs.Linked.{opened-frame}
 use Rattle.ledger_laws.proofs.Paced.{Paced, opened-paced}
 use Rattle.ledger_laws.proofs.SoundCalls.{paced-of}
-use Rattle.ledger_laws.proofs.Booked.{Booked, set-nil, place-booked, mark-booked, markAll-booked, push-booked, grow-booked, fuse-booked, clear-booked, opened-booked}
+use Rattle.ledger_laws.proofs.Booked.{Booked, set-nil, place-booked, mark-booked, markAll-booked, push-booked, grow-booked, fuse-booked, choose-booked, clear-booked, opened-booked}
 use Rattle.ledger_laws.proofs.Answered.{testsOf, deedOf, zero-sound, zero-tests, zero-bench, refused-bench}
 use Rattle.ledger_laws.proofs.Always.{deed-sound}
 
@@ -74,7 +75,7 @@ module _ (b : Bench) (S : Sound b) (u : ℕ) (h : Handle) (P : ExpandPassed b u 
 blossom-booked : (b : Bench) → Sound b → (u : ℕ) (hs : List Handle) (ts : List (Handle × Handle)) → BlossomPassed b u hs ts → (g : Gone) → Booked b g → Booked (deedOf b (Blossom u hs ts)) g
 unfolding deedOf
 blossom-booked b S u hs ts P g K = subst (λ (c : Bench). Booked c g) (sym (blossom-is b u hs ts))
-    (push-booked c (quiet-frame b c (markAll-quiet b hs stays (some (newHandle b u))) (S .frame)) u (blossomNode b hs ts) g (P .here .low) refl (markAll-booked b (S .frame) hs stays (some (newHandle b u)) g K))
+    (push-booked c (quiet-frame b c (markAll-quiet b hs stays (some (newHandle b u))) (S .frame)) u (freeSlot b u) (blossomNode b hs ts) g (P .here .low) (blossom-vacant b u hs ts) refl (markAll-booked b (S .frame) hs stays (some (newHandle b u)) g K))
   where
     c : Bench
     c = markAll b hs stays (some (newHandle b u))
@@ -82,13 +83,14 @@ blossom-booked b S u hs ts P g K = subst (λ (c : Bench). Booked c g) (sym (blos
 -- ---- each call
 pub deed-booked : (b : Bench) → Sound b → (c : Call) → first (testsOf b c) ≡ 0 → (g : Gone) → Booked b g → Booked (deedOf b c) (wrote g b c)
 unfolding testsOf deedOf wrote
-deed-booked b S (Defect u v) e g K = subst (λ (c : Bench). Booked c g) (sym (defect-is b u v)) (push-booked b (S .frame) u (defectNode b v) g (defect-passed b u e .here .low) refl K)
+deed-booked b S (Defect u v) e g K = subst (λ (c : Bench). Booked c g) (sym (defect-is b u v)) (push-booked b (S .frame) u (freeSlot b u) (defectNode b v) g (defect-passed b u e .here .low) (free-vacant b u) refl K)
 deed-booked b S (Blossom u hs ts) e g K = blossom-booked b S u hs ts (blossom-passed b u hs ts e) g K
 deed-booked b S (Expand u h) e g K = expand-booked b S u h (expand-passed b u h e) g K
 deed-booked b S (SetState u h s) e g K = mark-booked b (S .frame) h s none g K
 deed-booked b S (Grow u l) e g K = grow-booked b (S .frame) (paced-of b S) u l g (grow-passed b u l e .here .low) K
 deed-booked b S (Fuse p l r) e g K = fuse-booked b (S .frame) p l r g (fusable b p l r e) K
 deed-booked b S (Clear u) e g K = clear-booked b (S .frame) u g K
+deed-booked b S (Mark u m) e g K = choose-booked b u m g K
 
 -- ---- all calls: a call that is accepted finds the bench sound, whatever the first serial was
 pub record Kept (k : Book) : Type 0 where

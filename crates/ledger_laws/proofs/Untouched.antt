@@ -12,22 +12,22 @@ use borrow.Author.Tests.{ne-eqb}
 use lib.ListN.{length, List·getD-eq-default}
 use lib.IntN.{ℤ}
 use Rattle.ledger_spec.specs.Bench.{Handle, State, stays, grows, Interface, Bench, fresh}
-use Rattle.ledger_spec.specs.Look.{interface, slotOf, nodeNamed, climb, top}
+use Rattle.ledger_spec.specs.Look.{interface, freeSlot, slotOf, nodeNamed, climb, top}
 use Rattle.ledger_spec.specs.Change.{place, mark, markAll}
 use Rattle.ledger_spec.specs.Tests.{first}
 use Rattle.ledger_spec.specs.Deeds.{newHandle, members, addDefect, addBlossom, removeBlossom, growBy, join, wipe}
-use Rattle.ledger_spec.specs.Calls.{Call, Defect, Blossom, Expand, SetState, Grow, Fuse, Clear}
+use Rattle.ledger_spec.specs.Calls.{Call, Defect, Blossom, Expand, SetState, Grow, Fuse, Clear, Mark}
 use Rattle.ledger_spec.specs.Answers.{answer}
 use Rattle.ledger_spec.specs.Frame.{Frame}
 use Rattle.ledger_spec.specs.Knit.{mk, In, here, there, Down}
 use Rattle.ledger_spec.specs.Facts.{Sound}
 use Rattle.ledger_spec.proofs.Tops.{climb-none, climb-some, top-parent}
 use Rattle.ledger_spec.proofs.Passed.{Open, Fusable, fusable}
-use Rattle.ledger_spec.proofs.Accepted.{DefectPassed, defect-passed, BlossomPassed, blossom-passed, ExpandPassed, expand-passed, StatePassed, state-passed, grow-passed}
+use Rattle.ledger_spec.proofs.Accepted.{DefectPassed, defect-passed, BlossomPassed, blossom-passed, ExpandPassed, expand-passed, StatePassed, state-passed, grow-passed, mark-passed}
 use Rattle.ledger_spec.proofs.Says.{says}
 use Rattle.ledger_spec.proofs.Readings.{place-aside, mark-aside, push-aside}
 use Rattle.ledger_spec.proofs.DeedReadings.{defectNode, defect-is, blossomNode, blossom-is, expand-is}
-use Rattle.ledger_spec.proofs.TreeReadings.{joins, grow-length, grow-interface, join-else, wipe-else}
+use Rattle.ledger_spec.proofs.TreeReadings.{joins, grow-length, grow-interface, join-else, wipe-else, choose-else}
 use Rattle.ledger_laws.proofs.Quiet.{quiet-top, mark-quiet, place-quiet}
 use Rattle.ledger_laws.proofs.Answered.{testsOf, deedOf, zero-sound, zero-tests, zero-bench, refused-bench}
 
@@ -40,6 +40,7 @@ namedBy (SetState u h s) = u ∷ []
 namedBy (Grow u l) = u ∷ []
 namedBy (Fuse p l r) = p ∷ l ∷ r ∷ []
 namedBy (Clear u) = u ∷ []
+namedBy (Mark u k) = u ∷ []
 
 -- an interface of another tree is neither a slot's of this one nor its top
 apart : (b : Bench) (u v w : ℕ) → interface b u .parent ≡ none → top b v ≡ u → top b w ≢ u → (w ≢ v) × (w ≢ top b v)
@@ -56,11 +57,11 @@ module _ (b : Bench) (S : Sound b) (u w : ℕ) (other : top b w ≢ u) where
   own free e = other (ap (top b) e ∙ climb-none 8 b u free)
 
   pub defect-untouched : (v : ℕ) → DefectPassed b u → interface (addDefect b u v) w ≡ interface b w
-  defect-untouched v P = ap (λ (c : Bench). interface c w) (defect-is b u v) ∙ push-aside b u (defectNode b v) w (own (P .here .free))
+  defect-untouched v P = ap (λ (c : Bench). interface c w) (defect-is b u v) ∙ push-aside b u (freeSlot b u) (defectNode b v) w (own (P .here .free))
 
   pub blossom-untouched : (hs : List Handle) (ts : List (Handle × Handle)) → BlossomPassed b u hs ts → interface (addBlossom b u hs ts) w ≡ interface b w
   blossom-untouched hs ts P = ap (λ (c : Bench). interface c w) (blossom-is b u hs ts)
-      ∙ push-aside (markAll b hs stays (some (newHandle b u))) u (blossomNode b hs ts) w (own (P .here .free))
+      ∙ push-aside (markAll b hs stays (some (newHandle b u))) u (freeSlot b u) (blossomNode b hs ts) w (own (P .here .free))
       ∙ markAll-aside stays (some (newHandle b u)) b hs w (λ h i. apart b u (h .unit) w (P .here .free) (P .member h i .near) other)
 
   pub expand-untouched : (h : Handle) → ExpandPassed b u h → interface (removeBlossom b h) w ≡ interface b w
@@ -106,6 +107,7 @@ deed-untouched b S (SetState u h s) e w q = state-untouched b S u w (λ f. q (he
 deed-untouched b S (Grow u l) e w q = grow-untouched b S u w (λ f. q (here f)) l (grow-passed b u l e .here)
 deed-untouched b S (Fuse p l r) e w q = fuse-untouched b S p l r w (fusable b p l r e) (λ f. q (here f)) (λ f. q (there (here f))) (λ f. q (there (there (here f))))
 deed-untouched b S (Clear u) e w q = clear-untouched b S u w (λ f. q (here f))
+deed-untouched b S (Mark u k) e w q = choose-else b u k w (own b S u w (λ f. q (here f)) (mark-passed b u e .here .free))
 
 -- an interface whose tree the call does not name is as it was
 pub untouched : (b : Bench) (c : Call) (w : ℕ) → (In (top b w) (namedBy c) → ⊥) → interface (answer b c .bench) w ≡ interface b w
