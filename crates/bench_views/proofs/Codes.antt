@@ -7,8 +7,9 @@ use native.Mathlib.Decide.{ℕ-discrete}
 use native.Mathlib.Omega.{arith}
 use lib.ListN.{length, getD, set}
 use lib.Seq.{getD-set-other}
+use Rattle.bench_words.specs.Codec.{marksWord}
 use Rattle.bench_words.specs.Store.{nodeAt, interfaceAt, storeNode, storeInterface, storeMap, base, ibase, interfaceWords, nodeWords}
-use Rattle.bench_words.proofs.Laws.{Good, GoodUp, inside, inside-interface, store-out, store-interface-out, load-same, load-other, store-node-interface, interface-same, interface-other, store-interface-node, interface-first, node-first}
+use Rattle.bench_words.proofs.Laws.{Good, GoodUp, inside, inside-interface, inside-marks, store-out, store-interface-out, load-same, load-other, store-node-interface, interface-same, interface-other, store-interface-node, interface-first, node-first}
 use Rattle.bench_words.proofs.Maps.{store-map-out, store-map-interface, store-map-node}
 use Rattle.bench_words.specs.declared.Node.{Node}
 use Rattle.bench_words.specs.declared.Interface.{Interface}
@@ -21,6 +22,7 @@ coded-node b k n len lk g c =
       spare = λ m z l h. store-out b k n len lk m (λ i li e. omega arith) ∙ c .spare m z l h;
       units = λ u lu j lj.
           store-out b k n len lk (ibase u + (1 + j)) (λ i li e. omega arith) ∙ c .units u lu j lj ∙ ap (λ (x : Interface). getD (interfaceWords x) j 0) (sym (store-node-interface b k n len lk u lu));
+      marks = λ u lu. store-out b k n len lk (ibase u + 9) (λ i li e. omega arith) ∙ c .marks u lu ∙ ap (λ (x : Interface). marksWord (x .marks)) (sym (store-node-interface b k n len lk u lu));
       nodes = λ i li j lj. by-cases (ℕ-discrete i k)
           (λ (e : i ≡ k). subst (λ (x : ℕ). getD (storeNode b k n) (base x + (1 + j)) 0 ≡ getD (nodeWords (nodeAt (storeNode b k n) x)) j 0) (sym e) (inside b k n len lk j lj ∙ ap (λ (x : Node). getD (nodeWords x) j 0) (sym (load-same b k n len lk g))))
           (λ (ne : i ≡ k → ⊥). store-out b k n len lk (base i + (1 + j)) (λ f lf e. omega arith) ∙ c .nodes i li j lj ∙ ap (λ (x : Node). getD (nodeWords x) j 0) (sym (load-other b k n len lk i ne)));
@@ -33,10 +35,13 @@ coded-interface b u n len lu g c =
       units = λ v lv j lj. by-cases (ℕ-discrete v u)
           (λ (e : v ≡ u). subst (λ (x : ℕ). getD (storeInterface b u n) (ibase x + (1 + j)) 0 ≡ getD (interfaceWords (interfaceAt (storeInterface b u n) x)) j 0) (sym e) (inside-interface b u n len lu j lj ∙ ap (λ (x : Interface). getD (interfaceWords x) j 0) (sym (interface-same b u n len lu g))))
           (λ (ne : v ≡ u → ⊥). store-interface-out b u n len lu (ibase v + (1 + j)) (λ f lf e. omega arith) ∙ c .units v lv j lj ∙ ap (λ (x : Interface). getD (interfaceWords x) j 0) (sym (interface-other b u n len lu v ne)));
+      marks = λ v lv. by-cases (ℕ-discrete v u)
+          (λ (e : v ≡ u). subst (λ (x : ℕ). getD (storeInterface b u n) (ibase x + 9) 0 ≡ marksWord (interfaceAt (storeInterface b u n) x .marks)) (sym e) (inside-marks b u n len lu ∙ ap (λ (x : Interface). marksWord (x .marks)) (sym (interface-same b u n len lu g))))
+          (λ (ne : v ≡ u → ⊥). store-interface-out b u n len lu (ibase v + 9) (λ f lf e. omega arith) ∙ c .marks v lv ∙ ap (λ (x : Interface). marksWord (x .marks)) (sym (interface-other b u n len lu v ne)));
       nodes = λ i li j lj. store-interface-out b u n len lu (base i + (1 + j)) (λ f lf e. omega arith) ∙ c .nodes i li j lj ∙ ap (λ (x : Node). getD (nodeWords x) j 0) (sym (store-interface-node b u n len lu i));
     }
   where
-    far : (m : ℕ) → 0 < m → m ≤ 128 → 8 ≤ (m - 1) % 16 → (i : ℕ) → i < 7 → m ≡ ibase u + (1 + i) → ⊥
+    far : (m : ℕ) → 0 < m → m ≤ 128 → 9 ≤ (m - 1) % 16 → (i : ℕ) → i < 9 → m ≡ ibase u + (1 + i) → ⊥
     far m z l h i li e = omega arith
 
 pub coded-first : (b : List ℕ) (x : ℕ) → Coded b → Coded (set b 0 x)
@@ -44,6 +49,7 @@ coded-first b x c =
     record {
       spare = λ m z l h. getD-set-other b 0 m x 0 (λ e. omega arith) ∙ c .spare m z l h;
       units = λ u lu j lj. getD-set-other b 0 (ibase u + (1 + j)) x 0 (λ e. omega arith) ∙ c .units u lu j lj ∙ ap (λ (w : Interface). getD (interfaceWords w) j 0) (sym (interface-first b x u));
+      marks = λ u lu. getD-set-other b 0 (ibase u + 9) x 0 (λ e. omega arith) ∙ c .marks u lu ∙ ap (λ (w : Interface). marksWord (w .marks)) (sym (interface-first b x u));
       nodes = λ i li j lj. getD-set-other b 0 (base i + (1 + j)) x 0 (λ e. omega arith) ∙ c .nodes i li j lj ∙ ap (λ (w : Node). getD (nodeWords w) j 0) (sym (node-first b x i));
     }
 
@@ -52,5 +58,6 @@ coded-map b u w len lu c =
     record {
       spare = λ m z l h. store-map-out b u w len lu m (λ e. omega arith) ∙ c .spare m z l h;
       units = λ v lv j lj. store-map-out b u w len lu (ibase v + (1 + j)) (λ e. omega arith) ∙ c .units v lv j lj ∙ ap (λ (x : Interface). getD (interfaceWords x) j 0) (sym (store-map-interface b u w len lu v));
+      marks = λ v lv. store-map-out b u w len lu (ibase v + 9) (λ e. omega arith) ∙ c .marks v lv ∙ ap (λ (x : Interface). marksWord (x .marks)) (sym (store-map-interface b u w len lu v));
       nodes = λ i li j lj. store-map-out b u w len lu (base i + (1 + j)) (λ e. omega arith) ∙ c .nodes i li j lj ∙ ap (λ (x : Node). getD (nodeWords x) j 0) (sym (store-map-node b u w len lu i));
     }

@@ -10,6 +10,7 @@ use borrow.Author.Tests.{eq-eqb, ne-eqb}
 use lib.IntN.{ℤ, pos, _+ℤ_, -ℤ-+ℤ-cancel}
 use lib.ListN.{length, getD}
 use lib.Seq.{ext-getD}
+use Rattle.bench_words.specs.Codec.{marksWord}
 use Rattle.bench_words.specs.Store.{nodeAt, interfaceAt, mapAt, base, ibase, interfaceWords, nodeWords}
 use Rattle.kinds.specs.declared.GrowState.{GrowState}
 use Rattle.kinds.specs.declared.GrowState.the-variants.{Grow as Growing, Stay, Shrink}
@@ -217,7 +218,8 @@ module _ (b b' : List ℕ) (C : Canon b) (C' : Canon b') (near : Within (view b)
       let sp : interfaceAt b v .speed ≡ interfaceAt b' v .speed = off-inj 1024 _ _ (fields v lv (λ f. f .speed)) in
       let pa : interfaceAt b v .parent ≡ interfaceAt b' v .parent = up-inj _ _ (fields v lv (λ f. f .parent)) in
       let ha = left-inj (interfaceAt b v .left) (interfaceAt b v .right) (interfaceAt b' v .left) (interfaceAt b' v .right) (C .whole v lv) (C .both v lv) (C' .whole v lv) (C' .both v lv) (fields v lv (λ f. f .halves)) in
-      λ i. record { used = us i; progress = pr i; sum = su i; speed = sp i; parent = pa i; left = ha .0 i; right = ha .1 i }
+      let fi : interfaceAt b v .marks .fills ≡ interfaceAt b' v .marks .fills = fields v lv (λ f. f .marks .fills) in
+      λ i. record { used = us i; progress = pr i; sum = su i; speed = sp i; parent = pa i; left = ha .0 i; right = ha .1 i; marks = record { fills = fi i } }
 
   sum-same : (v : ℕ) → v < 8 → sumUp 8 (interfaceAt b) v ≡ sumUp 8 (interfaceAt b') v
   sum-same v lv = sumUp-same (interfaceAt b') (interfaceAt b) (λ w lw. good-interface b' w) (λ w lw. ap (λ (x : Interface). x .parent) (interface-same w lw)) (λ w lw. ap (λ (x : Interface). x .progress) (interface-same w lw)) 8 v lv
@@ -380,6 +382,13 @@ module _ (b b' : List ℕ) (C : Canon b) (C' : Canon b') (near : Within (view b)
       subst (λ (x : ℕ). getD b x 0 ≡ getD b' x 0) q
       (C .map u lu ∙ maps-same (nodeAt b) (nodeAt b') u (λ s ls. ap (λ (n : Node). n .class) (sym (slot-node u s lu ls))) ∙ sym (C' .map u lu))
 
+  marks-word : (m : ℕ) → 0 < m → m ≤ 128 → (m - 1) % 16 ≡ 8 → getD b m 0 ≡ getD b' m 0
+  marks-word m z l h =
+      let u = (m - 1) / 16 in
+      let lu : u < 8 = omega arith in
+      let q : ibase u + 9 ≡ m = omega arith in
+      subst (λ (x : ℕ). getD b x 0 ≡ getD b' x 0) q (C .coded .marks u lu ∙ ap (λ (x : Interface). marksWord (x .marks)) (interface-same u lu) ∙ sym (C' .coded .marks u lu))
+
   node-word : (m : ℕ) → 128 < m → m < 6273 → getD b m 0 ≡ getD b' m 0
   node-word m l h =
       let k = (m - 129) / 12 in
@@ -390,15 +399,16 @@ module _ (b b' : List ℕ) (C : Canon b) (C' : Canon b') (near : Within (view b)
       subst (λ (x : ℕ). getD b x 0 ≡ getD b' x 0) q
       (C .coded .nodes k lk j lj ∙ ap (λ (x : Node). getD (nodeWords x) j 0) (node-same k lk) ∙ sym (C' .coded .nodes k lk j lj))
 
-  low-word : (m : ℕ) → m ≤ 128 → Dec (m ≡ 0) → Dec ((m - 1) % 16 < 7) → Dec ((m - 1) % 16 ≡ 7) → getD b m 0 ≡ getD b' m 0
-  low-word m l (yes z) r s = rw z (sym (view-next (getD b 0 0) (interfaceAt b) (nodeAt b)) ∙ ap (λ (B : Bench). B .next) e ∙ view-next (getD b' 0 0) (interfaceAt b') (nodeAt b'))
-  low-word m l (no z) (yes r) s = interface-word m (omega (arith, z)) l r
-  low-word m l (no z) (no r) (yes s) = map-word m (omega (arith, z)) l s
-  low-word m l (no z) (no r) (no s) = C .coded .spare m (omega (arith, z)) l (omega (arith, r, s)) ∙ sym (C' .coded .spare m (omega (arith, z)) l (omega (arith, r, s)))
+  low-word : (m : ℕ) → m ≤ 128 → Dec (m ≡ 0) → Dec ((m - 1) % 16 < 7) → Dec ((m - 1) % 16 ≡ 7) → Dec ((m - 1) % 16 ≡ 8) → getD b m 0 ≡ getD b' m 0
+  low-word m l (yes z) r s t = rw z (sym (view-next (getD b 0 0) (interfaceAt b) (nodeAt b)) ∙ ap (λ (B : Bench). B .next) e ∙ view-next (getD b' 0 0) (interfaceAt b') (nodeAt b'))
+  low-word m l (no z) (yes r) s t = interface-word m (omega (arith, z)) l r
+  low-word m l (no z) (no r) (yes s) t = map-word m (omega (arith, z)) l s
+  low-word m l (no z) (no r) (no s) (yes t) = marks-word m (omega (arith, z)) l t
+  low-word m l (no z) (no r) (no s) (no t) = C .coded .spare m (omega (arith, z)) l (omega (arith, r, s, t)) ∙ sym (C' .coded .spare m (omega (arith, z)) l (omega (arith, r, s, t)))
 
   -- no second answer in words
   pub words-same : b ≡ b'
   words-same = ext-getD 0 b b' (C .steady .len ∙ sym (C' .steady .len))
       (λ m l. by-cases (decLt m 129)
-      (λ (h : m < 129). low-word m (omega arith) (ℕ-discrete m 0) (decLt ((m - 1) % 16) 7) (ℕ-discrete ((m - 1) % 16) 7))
+      (λ (h : m < 129). low-word m (omega arith) (ℕ-discrete m 0) (decLt ((m - 1) % 16) 7) (ℕ-discrete ((m - 1) % 16) 7) (ℕ-discrete ((m - 1) % 16) 8))
       (λ (h : m < 129 → ⊥). node-word m (omega arith) (omega (arith, C .steady .len))))

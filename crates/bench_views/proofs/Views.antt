@@ -1,5 +1,5 @@
 -- The view over units and nodes as functions: its parts, and what makes it the bench that a step of the ledger gives. Assumes nothing.
-use Prim.Native.Nat.{ℕ, zero, suc, _+_, _*_, _<_, _≤_}
+use Prim.Native.Nat.{ℕ, zero, suc, _+_, _*_, _<_, _≤_, max}
 use mathlib.Core.Path.{_≡_, refl, ap, ap₂, sym, _∙_}
 use mathlib.Core.Logic.{_≢_, by-cases}
 use mathlib.Core.Option.{Option, none, some}
@@ -18,22 +18,24 @@ use Rattle.kinds.specs.declared.Class.{Class}
 use Rattle.kinds.specs.declared.Class.the-variants.{Absent, Blossom, Defect}
 use Rattle.bench_words.specs.declared.Node.{Node}
 use Rattle.bench_words.specs.declared.Interface.{Interface}
+use Rattle.bench_words.specs.declared.Marks.{Marks}
 use Rattle.bench_words.specs.declared.Up.{Up}
 use Rattle.bench_words.specs.declared.Up.the-variants.{Top, Under}
 use Rattle.ledger_spec.specs.Bench.{rate, Member, Bench, fresh}
 use Rattle.ledger_spec.specs.Bench as plain
 use Rattle.ledger_spec.specs.Look.{interface, slotOf, top, climb}
-use Rattle.ledger_spec.specs.Change.{share, place, push, faster}
-use Rattle.ledger_spec.specs.Deeds.{growBy, growSlot}
+use Rattle.ledger_spec.specs.Change.{share, place, put, push, faster}
+use Rattle.ledger_spec.specs.Deeds.{growBy, growSlot, choose}
 use Rattle.ledger_spec.proofs.Tops.{climb-none, climb-some}
+use Rattle.ledger_spec.proofs.Slots.{put-at, put-off, put-count}
 use Rattle.ledger_spec.proofs.Readings.{place-field, place-else, place-here, place-slow, place-fast, place-length, push-field, push-else, push-here, push-slow, push-fast, push-length}
-use Rattle.ledger_spec.proofs.TreeReadings.{grow-field, grow-under, grow-else, grow-sum, grow-sum-else, grow-length, grow-progress, grow-progress-else}
+use Rattle.ledger_spec.proofs.TreeReadings.{grow-field, grow-under, grow-else, grow-sum, grow-sum-else, grow-length, grow-progress, grow-progress-else, choose-field, choose-here, choose-else, choose-length}
 use Rattle.bench_views.specs.Tab.{tab}
-use Rattle.bench_views.specs.View.{off, upSeen, halvesSeen, sumUp, over, slotSeen, slotIn, interfaceIn, viewIn, circleOf}
+use Rattle.bench_views.specs.View.{off, upSeen, halvesSeen, marksSeen, sumUp, over, slotSeen, slotIn, interfaceIn, viewIn, circleOf}
 use Rattle.bench_views.specs.Records.{withUsed, withGrowth}
-use Rattle.bench_views.proofs.Tabs.{length-tab, getD-tab, tab-same, tab-set, tab-snoc, tab-map}
+use Rattle.bench_views.proofs.Tabs.{length-tab, getD-tab, tab-same, tab-set, tab-map}
 use Rattle.bench_views.proofs.Offsets.{value-grown}
-use Rattle.bench_words.specs.Store.{setSpeed}
+use Rattle.bench_words.specs.Store.{setSpeed, setMarks}
 
 -- ---- the parts of a view
 module _ (n : ℕ) (U : ℕ → Interface) (A : ℕ → Node) where
@@ -77,8 +79,8 @@ module _ (n : ℕ) (U : ℕ → Interface) (A : ℕ → Node) where
       (λ v lv. let l8 : v < 8 = rw (length-tab (interfaceIn U A) 0 8) at lv in getD-tab (interfaceIn U A) 8 v fresh l8 ∙ h v l8) in
       λ i. record { next = sym e i; interfaces = fs i }
 
-pub interface-is : (f g : plain.Interface) → f .slots ≡ g .slots → f .progress ≡ g .progress → f .sum ≡ g .sum → f .speed ≡ g .speed → f .parent ≡ g .parent → f .halves ≡ g .halves → f ≡ g
-interface-is f g a b c d e h = λ i. record { slots = a i; progress = b i; sum = c i; speed = d i; parent = e i; halves = h i }
+pub interface-is : (f g : plain.Interface) → f .slots ≡ g .slots → f .progress ≡ g .progress → f .sum ≡ g .sum → f .speed ≡ g .speed → f .parent ≡ g .parent → f .halves ≡ g .halves → f .marks ≡ g .marks → f ≡ g
+interface-is f g a b c d e h m = λ i. record { slots = a i; progress = b i; sum = c i; speed = d i; parent = e i; halves = h i; marks = m i }
 
 -- ---- a slot changed
 module _ (n : ℕ) (U U' : ℕ → Interface) (A A' : ℕ → Node) (u s t sp : ℕ) (y : Option plain.Node)
@@ -124,50 +126,94 @@ module _ (n : ℕ) (U U' : ℕ → Interface) (A A' : ℕ → Node) (u s t sp : 
         (ap (off 4611686018427387904) (unit-kept (λ x. x .sum) (λ x z. refl) v lv) ∙ field (λ f. f .sum) v lv (λ f l. refl) (λ f x. refl))
         (speed-now v lv)
         (ap upSeen (unit-kept (λ x. x .parent) (λ x z. refl) v lv) ∙ field (λ f. f .parent) v lv (λ f l. refl) (λ f x. refl))
-        (ap₂ halvesSeen (unit-kept (λ x. x .left) (λ x z. refl) v lv) (unit-kept (λ x. x .right) (λ x z. refl) v lv) ∙ field (λ f. f .halves) v lv (λ f l. refl) (λ f x. refl)))
+        (ap₂ halvesSeen (unit-kept (λ x. x .left) (λ x z. refl) v lv) (unit-kept (λ x. x .right) (λ x z. refl) v lv) ∙ field (λ f. f .halves) v lv (λ f l. refl) (λ f x. refl))
+        (ap marksSeen (unit-kept (λ x. x .marks) (λ x z. refl) v lv) ∙ field (λ f. f .marks) v lv (λ f l. refl) (λ f x. refl)))
 
--- ---- a slot added
-module _ (n : ℕ) (U U' : ℕ → Interface) (A A' : ℕ → Node) (u sp : ℕ) (x : plain.Node) (lu : u < 8)
-    (here : U' u ≡ withUsed (U u) (suc (U u .used)) sp) (there : (v : ℕ) → v < 8 → v ≢ u → U' v ≡ U v) where
+-- ---- a slot filled: one of those used, or the next
+slots-put : (f g : ℕ → Option plain.Node) (m s : ℕ) (x : plain.Node) → s ≤ m → g s ≡ some x → ((r : ℕ) → r < m → r ≢ s → g r ≡ f r) → tab g 0 (max m (suc s)) ≡ put (tab f 0 m) s x
+slots-put f g m s x low here there =
+    ext-getD none (tab g 0 (max m (suc s))) (put (tab f 0 m) s x) (length-tab g 0 (max m (suc s)) ∙ sym (put-count (tab f 0 m) s x low' ∙ ap (λ (k : ℕ). max k (suc s)) (length-tab f 0 m)))
+    (λ r lr.
+    let l2 : r < max m (suc s) = rw (length-tab g 0 (max m (suc s))) at lr in
+    getD-tab g (max m (suc s)) r none l2
+    ∙ by-cases (ℕ-discrete r s)
+    (λ (e : r ≡ s). ap g e ∙ here ∙ sym (ap (λ (k : ℕ). getD (put (tab f 0 m) s x) k none) e ∙ put-at (tab f 0 m) s x low'))
+    (λ (ne : r ≡ s → ⊥). let l3 : r < m = omega (arith, l2, ne, low) in there r l3 ne ∙ sym (put-off (tab f 0 m) s x low' r ne ∙ getD-tab f m r none l3)))
+  where
+    low' : s ≤ length (tab f 0 m)
+    low' = rw (length-tab f 0 m) low
+
+module _ (n : ℕ) (U U' : ℕ → Interface) (A A' : ℕ → Node) (u s sp : ℕ) (x : plain.Node) (lu : u < 8)
+    (here : U' u ≡ withUsed (U u) (max (U u .used) (suc s)) sp) (there : (v : ℕ) → v < 8 → v ≢ u → U' v ≡ U v) where
   pub unit-held : {X : Type 0} (φ : Interface → X) → ((y : Interface) (m z : ℕ) → φ (withUsed y m z) ≡ φ y) → (v : ℕ) → v < 8 → φ (U' v) ≡ φ (U v)
-  unit-held φ e v lv = by-cases (ℕ-discrete v u) (λ (q : v ≡ u). rw (q, here) (e (U u) (suc (U u .used)) sp)) (λ (q : v ≡ u → ⊥). rw (there v lv q))
+  unit-held φ e v lv = by-cases (ℕ-discrete v u) (λ (q : v ≡ u). rw (q, here) (e (U u) (max (U u .used) (suc s)) sp)) (λ (q : v ≡ u → ⊥). rw (there v lv q))
 
-  module _ (fast : off 1024 sp ≡ off 1024 (U u .speed) +ℤ rate (x .state))
-      (slot-new : slotIn U' A' u (U u .used) ≡ some x)
-      (slot-old : (v r : ℕ) → v < 8 → r < U v .used → slotIn U' A' v r ≡ slotIn U A v r) where
+  module _ (low : s ≤ U u .used) (fast : off 1024 sp ≡ off 1024 (U u .speed) +ℤ rate (x .state))
+      (slot-new : slotIn U' A' u s ≡ some x)
+      (slot-old : (v r : ℕ) → v < 8 → r < U v .used → (v ≡ u → r ≡ s → ⊥) → slotIn U' A' v r ≡ slotIn U A v r) where
     abbrev W : Bench
     W = viewIn n U A
 
-    slots-more : (v : ℕ) → v < 8 → tab (slotIn U' A' v) 0 (U' v .used) ≡ interface (push W u x) v .slots
+    slots-more : (v : ℕ) → v < 8 → tab (slotIn U' A' v) 0 (U' v .used) ≡ interface (push W u s x) v .slots
     slots-more v lv = by-cases (ℕ-discrete v u)
         (λ (e : v ≡ u). rw (e, here)
-        (tab-snoc (slotIn U' A' u) (U u .used)
-        ∙ ap₂ (λ (l : List (Option plain.Node)) (o : Option plain.Node). l ++ (o ∷ [])) (tab-same (slotIn U' A' u) (slotIn U A u) (U u .used) none (λ r lr. slot-old u r lu lr)) slot-new
-        ∙ sym (push-here W u x (omega (arith, view-eight n U A)) ∙ ap (λ (f : plain.Interface). f .slots ++ (some x ∷ [])) (interface-in n U A u lu))))
+        (slots-put (slotIn U A u) (slotIn U' A' u) (U u .used) s x low slot-new (λ r lr ne. slot-old u r lu lr (λ a b. ne b))
+        ∙ sym (push-here W u s x (omega (arith, view-eight n U A)) ∙ ap (λ (f : plain.Interface). put (f .slots) s x) (interface-in n U A u lu))))
         (λ (ne : v ≡ u → ⊥). ap (λ (y : Interface). tab (slotIn U' A' v) 0 (y .used)) (there v lv ne)
-        ∙ tab-same (slotIn U' A' v) (slotIn U A v) (U v .used) none (λ r lr. slot-old v r lv lr)
-        ∙ sym (push-else W u x v ne ∙ ap (λ (f : plain.Interface). f .slots) (interface-in n U A v lv)))
+        ∙ tab-same (slotIn U' A' v) (slotIn U A v) (U v .used) none (λ r lr. slot-old v r lv lr (λ a b. ne a))
+        ∙ sym (push-else W u s x v ne ∙ ap (λ (f : plain.Interface). f .slots) (interface-in n U A v lv)))
 
-    speed-more : (v : ℕ) → v < 8 → off 1024 (U' v .speed) ≡ interface (push W u x) v .speed
+    speed-more : (v : ℕ) → v < 8 → off 1024 (U' v .speed) ≡ interface (push W u s x) v .speed
     speed-more v lv = by-cases (ℕ-discrete v u)
-        (λ (e : v ≡ u). rw (e, here) (fast ∙ sym (push-fast W u x (omega (arith, view-eight n U A)) ∙ ap (λ (f : plain.Interface). f .speed +ℤ rate (x .state)) (interface-in n U A u lu))))
-        (λ (ne : v ≡ u → ⊥). rw (there v lv ne) (sym (push-slow W u x v ne ∙ ap (λ (f : plain.Interface). f .speed) (interface-in n U A v lv))))
+        (λ (e : v ≡ u). rw (e, here) (fast ∙ sym (push-fast W u s x (omega (arith, view-eight n U A)) ∙ ap (λ (f : plain.Interface). f .speed +ℤ rate (x .state)) (interface-in n U A u lu))))
+        (λ (ne : v ≡ u → ⊥). rw (there v lv ne) (sym (push-slow W u s x v ne ∙ ap (λ (f : plain.Interface). f .speed) (interface-in n U A v lv))))
 
     held : {X : Type 0} (φ : plain.Interface → X) (v : ℕ) → v < 8 → ((f : plain.Interface) (l : List (Option plain.Node)) → φ (plain.withSlots f l) ≡ φ f)
         → ((f : plain.Interface) (x : ℤ) → φ (plain.withSpeed f x) ≡ φ f)
-        → φ (interfaceIn U A v) ≡ φ (interface (push W u x) v)
-    held φ v lv p q = sym (push-field W u x φ p q v ∙ ap φ (interface-in n U A v lv))
+        → φ (interfaceIn U A v) ≡ φ (interface (push W u s x) v)
+    held φ v lv p q = sym (push-field W u s x φ p q v ∙ ap φ (interface-in n U A v lv))
 
-    pub push-view : viewIn (suc n) U' A' ≡ push W u x
+    pub push-view : viewIn (suc n) U' A' ≡ push W u s x
     unfolding push faster
-    push-view = view-is (suc n) U' A' (push W u x) (ap suc (view-next n U A)) (push-length W u x ∙ view-eight n U A)
-        (λ v lv. interface-is (interfaceIn U' A' v) (interface (push W u x) v)
+    push-view = view-is (suc n) U' A' (push W u s x) (ap suc (view-next n U A)) (push-length W u s x ∙ view-eight n U A)
+        (λ v lv. interface-is (interfaceIn U' A' v) (interface (push W u s x) v)
         (slots-more v lv)
         (ap (λ (y : ℕ). pos y) (unit-held (λ y. y .progress) (λ y m z. refl) v lv) ∙ held (λ f. f .progress) v lv (λ f l. refl) (λ f y. refl))
         (ap (off 4611686018427387904) (unit-held (λ y. y .sum) (λ y m z. refl) v lv) ∙ held (λ f. f .sum) v lv (λ f l. refl) (λ f y. refl))
         (speed-more v lv)
         (ap upSeen (unit-held (λ y. y .parent) (λ y m z. refl) v lv) ∙ held (λ f. f .parent) v lv (λ f l. refl) (λ f y. refl))
-        (ap₂ halvesSeen (unit-held (λ y. y .left) (λ y m z. refl) v lv) (unit-held (λ y. y .right) (λ y m z. refl) v lv) ∙ held (λ f. f .halves) v lv (λ f l. refl) (λ f y. refl)))
+        (ap₂ halvesSeen (unit-held (λ y. y .left) (λ y m z. refl) v lv) (unit-held (λ y. y .right) (λ y m z. refl) v lv) ∙ held (λ f. f .halves) v lv (λ f l. refl) (λ f y. refl))
+        (ap marksSeen (unit-held (λ y. y .marks) (λ y m z. refl) v lv) ∙ held (λ f. f .marks) v lv (λ f l. refl) (λ f y. refl)))
+
+-- ---- an interface marked
+module _ (n : ℕ) (U U' : ℕ → Interface) (A : ℕ → Node) (u : ℕ) (k : plain.Marking) (m : Marks) (lu : u < 8) (with : marksSeen m ≡ plain.withMark k (marksSeen (U u .marks)))
+    (here : U' u ≡ setMarks (U u) m) (there : (v : ℕ) → v < 8 → v ≢ u → U' v ≡ U v)
+    (sums : (v : ℕ) → v < 8 → sumUp 8 U' v ≡ sumUp 8 U v) where
+  abbrev M₀ : Bench
+  M₀ = viewIn n U A
+
+  unit-marked : {X : Type 0} (φ : Interface → X) → ((y : Interface) (z : Marks) → φ (setMarks y z) ≡ φ y) → (v : ℕ) → v < 8 → φ (U' v) ≡ φ (U v)
+  unit-marked φ e v lv = by-cases (ℕ-discrete v u) (λ (q : v ≡ u). rw (q, here) (e (U u) m)) (λ (q : v ≡ u → ⊥). rw (there v lv q))
+
+  kept-by : {X : Type 0} (φ : plain.Interface → X) (v : ℕ) → v < 8 → ((f : plain.Interface) (z : plain.Marks) → φ (plain.withMarks f z) ≡ φ f) → φ (interfaceIn U A v) ≡ φ (interface (choose M₀ u k) v)
+  kept-by φ v lv p = sym (choose-field M₀ u k φ p v ∙ ap φ (interface-in n U A v lv))
+
+  marks-now : (v : ℕ) → v < 8 → marksSeen (U' v .marks) ≡ interface (choose M₀ u k) v .marks
+  marks-now v lv = by-cases (ℕ-discrete v u)
+      (λ (e : v ≡ u). rw (e, here) (with ∙ sym (choose-here M₀ u k (omega (arith, view-eight n U A)) ∙ ap (λ (f : plain.Interface). plain.withMark k (f .marks)) (interface-in n U A u lu))))
+      (λ (ne : v ≡ u → ⊥). rw (there v lv ne) (sym (ap (λ (f : plain.Interface). f .marks) (choose-else M₀ u k v ne ∙ interface-in n U A v lv))))
+
+  pub choose-view : viewIn n U' A ≡ choose M₀ u k
+  unfolding choose
+  choose-view = view-is n U' A (choose M₀ u k) (view-next n U A) (choose-length M₀ u k ∙ view-eight n U A)
+      (λ v lv. interface-is (interfaceIn U' A v) (interface (choose M₀ u k) v)
+      (ap₂ (λ (t j : ℕ). tab (λ r. slotSeen (A (v * 64 + r)) t (circleOf A (v * 64 + r))) 0 j) (sums v lv) (unit-marked (λ y. y .used) (λ y z. refl) v lv) ∙ kept-by (λ f. f .slots) v lv (λ f z. refl))
+      (ap (λ (y : ℕ). pos y) (unit-marked (λ y. y .progress) (λ y z. refl) v lv) ∙ kept-by (λ f. f .progress) v lv (λ f z. refl))
+      (ap (off 4611686018427387904) (unit-marked (λ y. y .sum) (λ y z. refl) v lv) ∙ kept-by (λ f. f .sum) v lv (λ f z. refl))
+      (ap (off 1024) (unit-marked (λ y. y .speed) (λ y z. refl) v lv) ∙ kept-by (λ f. f .speed) v lv (λ f z. refl))
+      (ap upSeen (unit-marked (λ y. y .parent) (λ y z. refl) v lv) ∙ kept-by (λ f. f .parent) v lv (λ f z. refl))
+      (ap₂ halvesSeen (unit-marked (λ y. y .left) (λ y z. refl) v lv) (unit-marked (λ y. y .right) (λ y z. refl) v lv) ∙ kept-by (λ f. f .halves) v lv (λ f z. refl))
+      (marks-now v lv))
 
 -- ---- growth
 pub slot-grown : (k : Node) (t l : ℕ) (ms : List Member) → ((k .class ≡ Absent → ⊥) → t + l ≤ k .bias) → slotSeen k (t + l) ms ≡ growSlot (pos l) (slotSeen k t ms)
@@ -247,4 +293,5 @@ module _ (n : ℕ) (U U' : ℕ → Interface) (A : ℕ → Node) (u l s' : ℕ) 
         (sum-now v lv)
         (ap (off 1024) (unit-grown (λ x. x .speed) (λ x p z. refl) v lv) ∙ sym (grow-field G u (pos l) (λ f. f .speed) (λ f s. refl) (λ f. refl) v ∙ ap (λ (f : plain.Interface). f .speed) (interface-in n U A v lv)))
         (ap upSeen (unit-grown (λ x. x .parent) (λ x p z. refl) v lv) ∙ sym (grow-field G u (pos l) (λ f. f .parent) (λ f s. refl) (λ f. refl) v ∙ ap (λ (f : plain.Interface). f .parent) (interface-in n U A v lv)))
-        (ap₂ halvesSeen (unit-grown (λ x. x .left) (λ x p z. refl) v lv) (unit-grown (λ x. x .right) (λ x p z. refl) v lv) ∙ sym (grow-field G u (pos l) (λ f. f .halves) (λ f s. refl) (λ f. refl) v ∙ ap (λ (f : plain.Interface). f .halves) (interface-in n U A v lv))))
+        (ap₂ halvesSeen (unit-grown (λ x. x .left) (λ x p z. refl) v lv) (unit-grown (λ x. x .right) (λ x p z. refl) v lv) ∙ sym (grow-field G u (pos l) (λ f. f .halves) (λ f s. refl) (λ f. refl) v ∙ ap (λ (f : plain.Interface). f .halves) (interface-in n U A v lv)))
+        (ap marksSeen (unit-grown (λ x. x .marks) (λ x p z. refl) v lv) ∙ sym (grow-field G u (pos l) (λ f. f .marks) (λ f s. refl) (λ f. refl) v ∙ ap (λ (f : plain.Interface). f .marks) (interface-in n U A v lv))))

@@ -4,6 +4,7 @@ use mathlib.Core.Path.{_≡_}
 use mathlib.Core.Bool.{Bool, true, false}
 use mathlib.Core.List.{List}
 use lib.ListN.{getD}
+use Rattle.bench_words.specs.Codec.{marksWord}
 use Rattle.bench_words.specs.Store.{nodeAt, interfaceAt, mapAt, base, ibase, interfaceWords, nodeWords}
 use Rattle.slot_map.specs.Slots.{mapOf}
 use Rattle.kinds.specs.declared.Class.{Class}
@@ -54,8 +55,9 @@ heldIn A u s = isHeld (A (u * 64 + s) .class)
 
 -- every word is the code of what is loaded from it, and those of no record and no map are zero
 pub record Coded (b : List ℕ) : Type 0 where
-  pub spare : (m : ℕ) → 0 < m → m ≤ 128 → 8 ≤ (m - 1) % 16 → getD b m 0 ≡ 0
+  pub spare : (m : ℕ) → 0 < m → m ≤ 128 → 9 ≤ (m - 1) % 16 → getD b m 0 ≡ 0
   pub units : (u : ℕ) → u < 8 → (j : ℕ) → j < 7 → getD b (ibase u + (1 + j)) 0 ≡ getD (interfaceWords (interfaceAt b u)) j 0
+  pub marks : (u : ℕ) → u < 8 → getD b (ibase u + 9) 0 ≡ marksWord (interfaceAt b u .marks)
   pub nodes : (k : ℕ) → k < 512 → (j : ℕ) → j < 12 → getD b (base k + (1 + j)) 0 ≡ getD (nodeWords (nodeAt b k)) j 0
 
 pub record Canon (b : List ℕ) : Type 0 where

@@ -14,6 +14,7 @@ use Rattle.kinds.specs.declared.Class.the-variants.{Absent, Blossom, Defect}
 use Rattle.kinds.specs.declared.Vertex.{Vertex}
 use Rattle.bench_words.specs.declared.Node.{Node}
 use Rattle.bench_words.specs.declared.Interface.{Interface}
+use Rattle.bench_words.specs.declared.Marks.{Marks}
 use Rattle.bench_words.specs.declared.Up.{Up}
 use Rattle.bench_words.specs.declared.Up.the-variants.{Top, Under}
 use Rattle.ledger_spec.specs.Bench.{Handle, Member, defect, blossom, Bench}
@@ -31,6 +32,9 @@ upSeen (Under p) = some p
 
 abbrev pub halvesSeen : ℕ → ℕ → Option (ℕ × ℕ)
 halvesSeen l r = pick (eqb l 0) none (some (l - 1, r - 1))
+
+abbrev pub marksSeen : Marks → plain.Marks
+marksSeen m = record { fills = m .fills }
 
 -- ---- values
 abbrev pub valueBy : GrowState → ℕ → ℕ → ℕ
@@ -91,6 +95,7 @@ interfaceIn U A u =
       speed = off speedOffset (U u .speed);
       parent = upSeen (U u .parent);
       halves = halvesSeen (U u .left) (U u .right);
+      marks = marksSeen (U u .marks);
     }
 
 unfoldable pub viewIn : ℕ → (ℕ → Interface) → (ℕ → Node) → Bench
