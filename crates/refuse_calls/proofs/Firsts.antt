@@ -31,7 +31,13 @@ module _ (ts rest : List (Bool × ℕ)) where
   pub decided-by : Failed ts → (n : ℕ) → n ≡ first rest → n ≡ first (ts ++ rest)
   decided-by f n e = e ∙ sym (passed-on ts rest f)
 
--- ---- one of three
+-- ---- one of two, one of three
+pub or-first : (a b : Bool) → a ≡ true → true ≡ (a || b)
+or-first a b e = rw e
+
+pub or-second : (a b : Bool) → a ≡ false → b ≡ (a || b)
+or-second a b e = rw e
+
 pub or-one : (a b c : Bool) → a ≡ true → true ≡ (a || (b || c))
 or-one a b c e = rw e
 

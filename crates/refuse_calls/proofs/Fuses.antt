@@ -13,7 +13,7 @@ use Rattle.bench_words.specs.declared.Interface.{Interface}
 use Rattle.ledger_spec.specs.Bench.{Bench}
 use Rattle.ledger_spec.specs.Bench as plain
 use Rattle.ledger_spec.specs.Look.{interface}
-use Rattle.ledger_spec.specs.Tests.{first, isSome, empty, outside, child, used}
+use Rattle.ledger_spec.specs.Tests.{first, isSome, empty, outside, child, used, late}
 use Rattle.ledger_spec.specs.Refuse.{fuseTests}
 use Rattle.ledger_spec.proofs.Lists.{or-false}
 use Rattle.bench_views.specs.View.{view, upSeen, halvesSeen, interfaceIn}
@@ -41,11 +41,20 @@ module _ (b : List ℕ) (u : ℕ) (low : u < 8) (f : Interface) (i : f ≡ inter
   pub child-is : child (view b) u ≡ isSome (upSeen (f .parent))
   child-is = seen (λ (x : plain.Interface). isSome (x .parent)) ∙ ap (λ (x : Interface). isSome (upSeen (x .parent))) (sym i)
 
+  slots-are : not (empty (interface (view b) u .slots)) ≡ not (eqb (f .used) 0)
+  slots-are = ap not (empty-counts (interface (view b) u .slots) ∙ ap (λ (k : ℕ). eqb k 0) (view-count (getD b 0 0) (interfaceAt b) (nodeAt b) u low ∙ ap (λ (x : Interface). x .used) (sym i)))
+
+  fused-is : isSome (interface (view b) u .halves) ≡ not (eqb (f .left) 0)
+  fused-is = seen (λ (x : plain.Interface). isSome (x .halves)) ∙ halves-given (interfaceAt b u .left) (interfaceAt b u .right) ∙ ap (λ (x : Interface). not (eqb (x .left) 0)) (sym i)
+
   pub used-is : used (interface (view b) u) ≡ (not (eqb (f .used) 0) || (not (eqb (f .progress) 0) || not (eqb (f .left) 0)))
   used-is =
-      ap₂ _||_ (ap not (empty-counts (interface (view b) u .slots) ∙ ap (λ (k : ℕ). eqb k 0) (view-count (getD b 0 0) (interfaceAt b) (nodeAt b) u low ∙ ap (λ (x : Interface). x .used) (sym i))))
+      ap₂ _||_ slots-are
       (ap₂ _||_ (seen (λ (x : plain.Interface). not (eqb (natAbs (x .progress)) 0)) ∙ ap (λ (x : Interface). not (eqb (x .progress) 0)) (sym i))
-      (seen (λ (x : plain.Interface). isSome (x .halves)) ∙ halves-given (interfaceAt b u .left) (interfaceAt b u .right) ∙ ap (λ (x : Interface). not (eqb (x .left) 0)) (sym i)))
+      fused-is)
+
+  pub late-is : late (interface (view b) u) ≡ (not (eqb (f .used) 0) || not (eqb (f .left) 0))
+  late-is = ap₂ _||_ slots-are fused-is
 
 -- ---- the four tests
 module _ (B : Bench) (p l r : ℕ) where

@@ -1,4 +1,4 @@
--- The numbers of add defect and grow: the interface's own tests, then room or the length. Assumes nothing.
+-- The numbers of add defect, mark and grow: the interface's own tests, then room, what was used, or the length. Assumes nothing.
 use Prim.Native.Nat.{ℕ, _+_, _<_, _≤_}
 use mathlib.Core.Path.{_≡_, ap, ap₂, sym, _∙_}
 use mathlib.Core.Logic.{_≢_}
@@ -14,8 +14,8 @@ use Rattle.bench_words.specs.Store.{nodeAt, interfaceAt}
 use Rattle.bench_words.specs.declared.Interface.{Interface}
 use Rattle.ledger_spec.specs.Bench as plain
 use Rattle.ledger_spec.specs.Look.{interface}
-use Rattle.ledger_spec.specs.Tests.{first}
-use Rattle.ledger_spec.specs.Refuse.{unitTests, defectTests, growTests}
+use Rattle.ledger_spec.specs.Tests.{first, late}
+use Rattle.ledger_spec.specs.Refuse.{unitTests, defectTests, growTests, markTests}
 use Rattle.ledger_spec.proofs.Passed.{Failed, passed}
 use Rattle.ledger_spec.proofs.Accepted.{clear-passed}
 use Rattle.bench_views.specs.View.{view}
@@ -43,6 +43,22 @@ module _ (b : List ℕ) (u n : ℕ) (e : n ≡ first (unitTests (view b) u)) whe
   pub defect-rest : n ≡ 0 → (k : ℕ) → k ≡ first (roomTests (view b) u) → k ≡ first (defectTests (view b) u)
   unfolding unitTests defectTests
   defect-rest z k r = decided-by (unitTests (view b) u) (roomTests (view b) u) (unit-failed z) k r
+
+  -- ---- mark
+  pub mark-no : n ≢ 0 → n ≡ first (markTests (view b) u)
+  unfolding unitTests markTests
+  mark-no q = refused-by (unitTests (view b) u) ((late (interface (view b) u), 26) ∷ []) n e q
+
+  module _ (z : n ≡ 0) (w : Bool) (r : w ≡ late (interface (view b) u)) where
+    mark-rest : (k : ℕ) → k ≡ first ((late (interface (view b) u), 26) ∷ []) → k ≡ first (markTests (view b) u)
+    unfolding unitTests markTests
+    mark-rest k g = decided-by (unitTests (view b) u) ((late (interface (view b) u), 26) ∷ []) (unit-failed z) k g
+
+    pub mark-late : w ≡ true → 26 ≡ first (markTests (view b) u)
+    mark-late t = mark-rest 26 (sym (first-yes (late (interface (view b) u)) 26 [] (sym r ∙ t)))
+
+    pub mark-fine : w ≡ false → 0 ≡ first (markTests (view b) u)
+    mark-fine t = mark-rest 0 (sym (first-no (late (interface (view b) u)) 26 [] (sym r ∙ t) ∙ first-none))
 
   -- ---- grow
   module _ (z : n ≡ 0) where

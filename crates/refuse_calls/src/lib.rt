@@ -14,21 +14,22 @@ ghost use Prim.Native.Nat.{_<_};
 ghost use lib.Dec.{eqb, leb};
 ghost use Rattle.ledger_spec.specs.Look.{interface};
 ghost use Rattle.ledger_spec.specs.Named.{handleNamed};
-ghost use Rattle.ledger_spec.specs.Tests.{first, outside, child, used};
-ghost use Rattle.ledger_spec.specs.Refuse.{defectTests, stateTests, expandTests, growTests, fuseTests};
+ghost use Rattle.ledger_spec.specs.Tests.{first, outside, child, used, late};
+ghost use Rattle.ledger_spec.specs.Refuse.{defectTests, stateTests, expandTests, growTests, fuseTests, markTests};
 ghost use Rattle.bench_views.specs.Records.{Steady};
 ghost use Rattle.bench_views.specs.Canon.{Canon};
 ghost use Rattle.bench_views.specs.View.{view};
 ghost use Rattle.refuse_calls.specs.Named.{namedTests};
 ghost use Rattle.refuse_calls.specs.Room.{roomTests};
 
-// No room for one more node: every slot used (14), no serial left (15), or 0.
+// No room for one more node: no free slot (14), no serial left (15), or 0.
 pub fn room_number(b: &[u64; WORDS], unit: u8) -> u8
+    requires { ⌜ Canon (now b) ⌝ }
     requires { ⌜ unit < 8 ⌝ }
     ensures { λ r. ⌜ r ≡ first (roomTests (view (now (b .entry))) unit) ⌝ }
 {
-    let f = bench_words::load_interface(b, unit as usize);
-    if (Handle::SLOTS as u64) <= f.used {
+    let slot = bench_slots::free_slot(b, unit as usize);
+    if Handle::SLOTS <= slot {
         return numbers::FULL;
     }
     let next = bench_words::load_next(b);
@@ -40,6 +41,7 @@ pub fn room_number(b: &[u64; WORDS], unit: u8) -> u8
 
 // UNIT, CHILD, FULL (14), WORN (15).
 pub fn defect_number(b: &[u64; WORDS], unit: u8) -> u8
+    requires { ⌜ Canon (now b) ⌝ }
     ensures { λ r. ⌜ r ≡ first (defectTests (view (now (b .entry))) unit) ⌝ }
 {
     let number = read_sound::unit_number(b, unit);
@@ -207,6 +209,32 @@ pub fn fuse_number(b: &[u64; WORDS], parent: u8, left: u8, right: u8) -> u8
     }
     if is_used(b, parent) {
         return numbers::USED;
+    }
+    0
+}
+
+// Has used a slot, or has been fused: too late for a mark. Progress does not hinder.
+fn is_late(b: &[u64; WORDS], unit: u8) -> bool
+    requires { ⌜ unit < 8 ⌝ }
+    ensures { λ a. ⌜ a ≡ late (interface (view (now (b .entry))) unit) ⌝ }
+{
+    let f = bench_words::load_interface(b, unit as usize);
+    if f.used != 0 {
+        return true;
+    }
+    f.left != 0
+}
+
+// UNIT, CHILD, MARK (26).
+pub fn mark_number(b: &[u64; WORDS], unit: u8) -> u8
+    ensures { λ r. ⌜ r ≡ first (markTests (view (now (b .entry))) unit) ⌝ }
+{
+    let number = read_sound::unit_number(b, unit);
+    if number != 0 {
+        return number;
+    }
+    if is_late(b, unit) {
+        return numbers::MARK;
     }
     0
 }

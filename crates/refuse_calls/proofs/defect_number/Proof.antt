@@ -11,7 +11,7 @@ returns : tie.Need-returns
 returns c = let a = c .before .before .args in defect-no (a .b .now) (a .unit) (c .before .unit-number .result) (c .before .unit-number .ensures) (c .if1 .taken)
 
 room-number-requires : tie.Need-room-number-requires
-room-number-requires c κs = let a = c .before .before .args in unit-low (a .b .now) (a .unit) (c .before .unit-number .result) (c .before .unit-number .ensures) (c .if1 .left)
+room-number-requires c κs = let a = c .before .before .args in (c .before .before .pre, unit-low (a .b .now) (a .unit) (c .before .unit-number .result) (c .before .unit-number .ensures) (c .if1 .left))
 
 returns-2 : tie.Need-returns-2
 returns-2 c = let a = c .before .before .before .args in defect-rest (a .b .now) (a .unit) (c .before .before .unit-number .result) (c .before .before .unit-number .ensures) (c .before .if1 .left) (c .room-number .result) (c .room-number .ensures)

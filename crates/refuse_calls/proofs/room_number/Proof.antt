@@ -4,26 +4,23 @@ use Rattle.refuse_calls.proofs.Rooms.{room-full, room-worn, room-some}
 use Rattle.refuse_calls.proofs.room_number.Statement.{statement}
 use Rattle.refuse_calls.proofs.room_number.Tie as tie
 
-load-interface-requires : tie.Need-load-interface-requires
-load-interface-requires c κs = search needs
-
-cast-if1 : tie.Need-cast-if1
-cast-if1 c = search needs
+free-slot-requires : tie.Need-free-slot-requires
+free-slot-requires c κs = c .pre
 
 returns : tie.Need-returns
-returns c = let s = c .before .before .before in room-full (s .args .b .now) (s .args .unit) (s .pre) (c .before .before .load-interface .result) (c .before .before .load-interface .ensures) (c .if1 .taken)
+returns c = let s = c .before .before in room-full (s .args .b .now) (s .args .unit) (c .before .free-slot .result) (c .before .free-slot .ensures) (c .if1 .taken)
 
 load-next-requires : tie.Need-load-next-requires
 load-next-requires c κs = search needs
 
 returns-2 : tie.Need-returns-2
-returns-2 c = let s = c .before .before .before .before .before in
-    room-worn (s .args .b .now) (s .args .unit) (s .pre) (c .before .before .before .before .load-interface .result) (c .before .before .before .before .load-interface .ensures) (c .before .before .if1 .left) (c .before .load-next .result) (c .before .load-next .ensures) (c .if2 .taken)
+returns-2 c = let s = c .before .before .before .before in
+    room-worn (s .args .b .now) (s .args .unit) (c .before .before .before .free-slot .result) (c .before .before .before .free-slot .ensures) (c .before .before .if1 .left) (c .before .load-next .result) (c .before .load-next .ensures) (c .if2 .taken)
 
 returns-3 : tie.Need-returns-3
-returns-3 c = let s = c .before .before .before .before .before in
-    room-some (s .args .b .now) (s .args .unit) (s .pre) (c .before .before .before .before .load-interface .result) (c .before .before .before .before .load-interface .ensures) (c .before .before .if1 .left) (c .before .load-next .result) (c .before .load-next .ensures) (c .if2 .left)
+returns-3 c = let s = c .before .before .before .before in
+    room-some (s .args .b .now) (s .args .unit) (c .before .before .before .free-slot .result) (c .before .before .before .free-slot .ensures) (c .before .before .if1 .left) (c .before .load-next .result) (c .before .load-next .ensures) (c .if2 .left)
 
 pub room-number-spec : {M : Type 1} → statement M
 room-number-spec =
-    tie.close (tie.spec load-interface-requires cast-if1 returns load-next-requires returns-2 returns-3)
+    tie.close (tie.spec free-slot-requires returns load-next-requires returns-2 returns-3)

@@ -1,0 +1,31 @@
+// The reads of an interface's marks, on words that hold a sound bench. None changes the bench. Assumes nothing.
+use bench_words::WORDS;
+ghost use mathlib.Core.Path.{_≡_};
+ghost use Rattle.ledger_spec.specs.Reads.{fillsOf};
+ghost use Rattle.bench_views.specs.View.{view};
+ghost use Rattle.read_marks.specs.Shown.{shownMark};
+
+// A number, and whether the interface bears the mark.
+pub struct Marked {
+    pub number: u8,
+    pub marked: bool,
+}
+
+// Whether the interface gives a new node its lowest empty slot: UNIT, CHILD, or the answer.
+pub fn is_filling(b: &[u64; WORDS], unit: u8) -> Marked
+    ensures { λ r. ⌜ shownMark r ≡ fillsOf (view (now (b .entry))) unit ⌝ }
+{
+    let number = read_sound::unit_number(b, unit);
+    if number != 0 {
+        return Marked {
+            number,
+            marked: false,
+        };
+    }
+    let f = bench_words::load_interface(b, unit as usize);
+    let marks = f.marks;
+    Marked {
+        number: 0,
+        marked: marks.fills,
+    }
+}
