@@ -1,5 +1,5 @@
 -- What the calls of a function's body come to, over plain variables: each follows by putting the callees' results in. Assumes nothing.
-use Prim.Native.Nat.{ℕ, _+_, _-_, _*_, _<_, _≤_}
+use Prim.Native.Nat.{ℕ, suc, max, _+_, _-_, _*_, _<_, _≤_}
 use mathlib.Core.Path.{_≡_, refl}
 use mathlib.Core.Bool.{true}
 use mathlib.Core.Option.{none}
@@ -18,6 +18,7 @@ use Rattle.slot_map.specs.Slots.{put}
 use Rattle.bench_words.specs.Store.{nodeAt, interfaceAt, storeNode, storeInterface, mapAt, storeMap, setSpeed}
 use Rattle.bench_words.specs.declared.Node.{Node}
 use Rattle.bench_words.specs.declared.Interface.{Interface}
+use Rattle.ledger_spec.specs.Look.{freeSlot}
 use Rattle.ledger_spec.specs.Change.{mark}
 use Rattle.ledger_spec.specs.Deeds.{newHandle, addDefect}
 use Rattle.ledger_spec.specs.Named.{stateNamed, handleNamed}
@@ -25,6 +26,7 @@ use Rattle.ledger_spec.specs.Tests.{first}
 use Rattle.ledger_spec.specs.Refuse.{defectTests, stateTests}
 use Rattle.bench_views.specs.Records.{withUsed, rateOf, Steady, Ranged}
 use Rattle.bench_views.specs.View.{sumUp, view}
+use Rattle.bench_views.specs.Canon.{Canon}
 use Rattle.bench_views.specs.Fit.{Fit, Done}
 use Rattle.bench_trees.specs.Climb.{Climbs}
 use Rattle.deed_nodes.specs.Steps.{noSeat, remarked, defectNode, paced, pushed}
@@ -38,10 +40,10 @@ pub pace-by : (b : List ℕ) (u s : ℕ) (U : Interface) {b' : List ℕ} → U �
 unfolding paced
 pace-by b u s U e e' = simp (e', e)
 
-pub push-by : (b : List ℕ) (u : ℕ) (n : Node) (s : ℕ) (U : Interface) {x m w : ℕ} {b₁ b₂ b₃ b₄ : List ℕ} → U ≡ interfaceAt b u → x ≡ getD b 0 0 → m ≡ mapAt b u → b₁ ≡ storeNode b (u * 64 + U .used) n
-    → b₂ ≡ storeInterface b₁ u (withUsed U (U .used + 1) s) → w ≡ put m (U .used) true → b₃ ≡ storeMap b₂ u w → b₄ ≡ set b₃ 0 (x + 1) → b₄ ≡ pushed b u n s
+pub push-by : (b : List ℕ) (u k : ℕ) (n : Node) (s : ℕ) (U : Interface) {x m w y : ℕ} {b₁ b₂ b₃ b₄ : List ℕ} → U ≡ interfaceAt b u → x ≡ getD b 0 0 → m ≡ mapAt b u → y ≡ max (U .used) (suc k) → b₁ ≡ storeNode b (u * 64 + k) n
+    → b₂ ≡ storeInterface b₁ u (withUsed U y s) → w ≡ put m k true → b₃ ≡ storeMap b₂ u w → b₄ ≡ set b₃ 0 (x + 1) → b₄ ≡ pushed b u k n s
 unfolding pushed
-push-by b u n s U eU ex em e₁ e₂ ew e₃ e₄ = simp (e₄, e₃, e₂, e₁, ew, em, ex, eU, add-one)
+push-by b u k n s U eU ex em ey e₁ e₂ ew e₃ e₄ = simp (e₄, e₃, e₂, e₁, ew, em, ex, ey, eU, add-one)
 
 pub ranged-of : {n m : Node} → n ≡ m → Ranged m → Ranged n
 ranged-of e r = rw e r
@@ -87,7 +89,8 @@ module _ (b : List ℕ) (u : ℕ) (h : Packed) (g : GrowState) (F : Fit b) (t : 
 module _ (b : List ℕ) (u : ℕ) (v : Vertex) (F : Fit b) (t : first (defectTests (view b) u) ≡ 0) where
   pub record Space : Type 0 where
     pub top : u < 8
-    pub room : interfaceAt b u .used < 64
+    pub canon : Canon b
+    pub room : freeSlot (view b) u < 64
     pub next : getD b 0 0 < 4294967296
     pub short : interfaceAt b u .progress ≤ 1099511627776
     pub fast : interfaceAt b u .speed ≤ 1536
@@ -95,12 +98,12 @@ module _ (b : List ℕ) (u : ℕ) (v : Vertex) (F : Fit b) (t : first (defectTes
   pub defect-space : Space
   defect-space =
       let P = pushable b u F t in
-      record { top = P .root .low; room = P .room; next = P .next; short = F .canon .steady .progress u (P .root .low); fast = open-paced b F u (P .root) .fast }
+      record { top = P .root .low; canon = F .canon; room = P .slot .room; next = P .next; short = F .canon .steady .progress u (P .root .low); fast = open-paced b F u (P .root) .fast }
 
-  pub defect-by : (U : Interface) {x : ℕ} {none : Packed} {b' : List ℕ} → v .0 < 4294967296 → U ≡ interfaceAt b u → x ≡ getD b 0 0 → none ≡ noCode
-      → b' ≡ pushed b u (record { serial = record { 0 = x }; class = Defect v; state = Growing; parent = Outermost; place = 0; next = 0; left = none; right = none; bias = 1152921504606846976 - U .progress; size = 1; first = 0; count = 0 }) (U .speed + 1)
-      → Done b' (addDefect (view b) u (v .0)) × (handleNamed (record { unit = u; slot = U .used; serial = record { 0 = x } }) ≡ newHandle (view b) u)
-  defect-by U {x} {b' = b'} fits eU ex en e' =
+  pub defect-by : (U : Interface) {k x : ℕ} {none : Packed} {b' : List ℕ} → v .0 < 4294967296 → U ≡ interfaceAt b u → k ≡ freeSlot (view b) u → x ≡ getD b 0 0 → none ≡ noCode
+      → b' ≡ pushed b u k (record { serial = record { 0 = x }; class = Defect v; state = Growing; parent = Outermost; place = 0; next = 0; left = none; right = none; bias = 1152921504606846976 - U .progress; size = 1; first = 0; count = 0 }) (U .speed + 1)
+      → Done b' (addDefect (view b) u (v .0)) × (handleNamed (record { unit = u; slot = k; serial = record { 0 = x } }) ≡ newHandle (view b) u)
+  defect-by U {k} {x} {b' = b'} fits eU ek ex en e' =
       let P = pushable b u F t in
-      let q : b' ≡ pushed b u (defectNode (getD b 0 0) v (interfaceAt b u .progress)) (interfaceAt b u .speed + 1) = simp (e', ex, en, eU) in
-      (rw q (defect-added b u v F P fits), new-handle b u (record { unit = u; slot = U .used; serial = record { 0 = x } }) U (P .root .low) eU refl refl ex)
+      let q : b' ≡ pushed b u (freeSlot (view b) u) (defectNode (getD b 0 0) v (interfaceAt b u .progress)) (interfaceAt b u .speed + 1) = simp (e', ek, ex, en, eU) in
+      (rw q (defect-added b u v F P fits), new-handle b u (record { unit = u; slot = k; serial = record { 0 = x } }) refl ek ex)

@@ -9,7 +9,7 @@ use native.Mathlib.Decide.{decLt}
 use native.Mathlib.Omega.{arith}
 use lib.IntN.{pos, natAbs, _+ℤ_}
 use lib.Signed.{ltZ}
-use lib.ListN.{length, getD}
+use lib.ListN.{getD}
 use borrow.Author.Tests.{ltb-false}
 use Rattle.bench_words.specs.Store.{nodeAt, interfaceAt}
 use Rattle.kinds.specs.declared.Class.{Class}
@@ -22,7 +22,7 @@ use Rattle.bench_words.specs.declared.Up.{Up}
 use Rattle.bench_words.specs.declared.Up.the-variants.{Top, Under}
 use Rattle.ledger_spec.specs.Bench.{Handle, Member, defect, blossom}
 use Rattle.ledger_spec.specs.Bench as plain
-use Rattle.ledger_spec.specs.Look.{interface, climb}
+use Rattle.ledger_spec.specs.Look.{interface, climb, freeSlot}
 use Rattle.ledger_spec.specs.Look as look
 use Rattle.ledger_spec.specs.Tests.{first}
 use Rattle.ledger_spec.specs.Refuse.{defectTests, stateTests, growTests}
@@ -34,9 +34,10 @@ use Rattle.bench_views.specs.View.{view, upSeen, slotIn, slotSeen, sumUp, circl
 use Rattle.bench_views.specs.Records.{Ranged}
 use Rattle.bench_views.specs.Fit.{Fit}
 use Rattle.bench_views.proofs.Sums.{sumUp-step}
-use Rattle.bench_views.proofs.Views.{interface-in, view-slot, view-past, view-out, view-parent, view-count, view-next}
+use Rattle.bench_views.proofs.Views.{interface-in, view-slot, view-past, view-out, view-parent, view-next}
 use Rattle.bench_views.proofs.Rings.{Shows, slot-shows}
 use Rattle.bench_views.proofs.Ranges.{off-range, ranged}
+use Rattle.bench_slots.proofs.Free.{free-low, free-bare}
 
 -- ---- an interface that may be named
 pub record Paced (f : Interface) : Type 0 where
@@ -44,6 +45,12 @@ pub record Paced (f : Interface) : Type 0 where
   pub fast : f .speed ≤ 1536
   pub low : 4607182418800017408 ≤ f .sum
   pub high : f .sum ≤ 4616189618054758400
+
+-- a slot that a new node can take
+pub record Vacant (b : List ℕ) (u s : ℕ) : Type 0 where
+  pub room : s < 64
+  pub low : s ≤ interfaceAt b u .used
+  pub bare : nodeAt b (u * 64 + s) .class ≡ Absent
 
 up-none : (p : Up) → upSeen p ≡ none → p ≡ Top
 up-none Top e = refl
@@ -66,9 +73,9 @@ module _ (b : List ℕ) (F : Fit b) (u : ℕ) (o : Open (view b) u) where
       let s = off-range 4611686018427387903 (interfaceAt b u .sum) 4503599627370496 (subst (λ (f : plain.Interface). natAbs (f .sum) ≤ 4503599627370496) seen (F .sum u (o .low) (o .free))) in
       record { slow = omega arith; fast = omega arith; low = omega arith; high = omega arith }
 
-  -- room for one more node, and a serial for it
-  pub open-room : length (interface (view b) u .slots) < 64 → interfaceAt b u .used < 64
-  open-room l = omega (arith, l, view-count (getD b 0 0) (interfaceAt b) (nodeAt b) u (o .low))
+  -- the slot for one more node, and a serial for it
+  pub open-slot : freeSlot (view b) u < 64 → Vacant b u (freeSlot (view b) u)
+  open-slot l = record { room = l; low = free-low b (F .canon) u (o .low); bare = free-bare b (F .canon) u (o .low) l }
 
   pub open-next : view b .next < 4294967296 → getD b 0 0 < 4294967296
   open-next l = omega (arith, l, view-next (getD b 0 0) (interfaceAt b) (nodeAt b))
@@ -165,10 +172,10 @@ settable b u h F e =
 
 pub record Pushable (b : List ℕ) (u : ℕ) : Type 0 where
   pub root : Open (view b) u
-  pub room : interfaceAt b u .used < 64
+  pub slot : Vacant b u (freeSlot (view b) u)
   pub next : getD b 0 0 < 4294967296
 
 pub pushable : (b : List ℕ) (u : ℕ) → Fit b → first (defectTests (view b) u) ≡ 0 → Pushable b u
 pushable b u F e =
     let P = defect-passed (view b) u e in
-    record { root = P .here; room = open-room b F u (P .here) (P .room); next = open-next b F u (P .here) (P .unworn) }
+    record { root = P .here; slot = open-slot b F u (P .here) (P .room); next = open-next b F u (P .here) (P .unworn) }

@@ -1,5 +1,5 @@
 -- What the words hold after a node is stored, an interface paced, a node pushed: the laws of stores, put together. Assumes nothing.
-use Prim.Native.Nat.{ℕ, suc, _+_, _*_, _<_, _≤_}
+use Prim.Native.Nat.{ℕ, suc, max, _+_, _*_, _<_, _≤_}
 use mathlib.Core.Path.{_≡_, refl, ap, sym, _∙_}
 use mathlib.Core.Logic.{_≢_, by-cases}
 use mathlib.Core.Bool.{true}
@@ -120,12 +120,12 @@ module _ (b : List ℕ) (k : ℕ) (n : Node) (t s : ℕ) (st : Steady b) (lk : k
   put-coded c = coded-interface B₁ t (setSpeed (interfaceAt B₁ t) s) len₁ lt (good-interface B₁ t) (coded-node b k n (st .len) lk good c)
 
 -- ---- a node pushed
-module _ (b : List ℕ) (u : ℕ) (n : Node) (s : ℕ) (st : Steady b) (lu : u < 8) (room : interfaceAt b u .used < 64) (good : Good n) where
+module _ (b : List ℕ) (u k : ℕ) (n : Node) (s : ℕ) (st : Steady b) (lu : u < 8) (room : k < 64) (good : Good n) where
   abbrev K₃ : ℕ
-  K₃ = u * 64 + interfaceAt b u .used
+  K₃ = u * 64 + k
 
   abbrev W₃ : Interface
-  W₃ = withUsed (interfaceAt b u) (suc (interfaceAt b u .used)) s
+  W₃ = withUsed (interfaceAt b u) (max (interfaceAt b u .used) (suc k)) s
 
   abbrev P₁ : List ℕ
   P₁ = storeNode b K₃ n
@@ -134,13 +134,13 @@ module _ (b : List ℕ) (u : ℕ) (n : Node) (s : ℕ) (st : Steady b) (lu : u <
   P₂ = storeInterface P₁ u W₃
 
   abbrev M₃ : ℕ
-  M₃ = put (mapAt b u) (interfaceAt b u .used) true
+  M₃ = put (mapAt b u) k true
 
   abbrev Q₂ : List ℕ
   Q₂ = storeMap P₂ u M₃
 
   abbrev pub P₃ : List ℕ
-  P₃ = pushed b u n s
+  P₃ = pushed b u k n s
 
   lk₃ : K₃ < 512
   lk₃ = omega arith
@@ -197,7 +197,7 @@ module _ (b : List ℕ) (u : ℕ) (n : Node) (s : ℕ) (st : Steady b) (lu : u <
   push-steady =
       record {
         len = pushed-length;
-        slots = λ v lv. by-cases (ℕ-discrete v u) (λ (q : v ≡ u). rw (q, push-unit-here) room) (λ (q : v ≡ u → ⊥). rw (push-unit-there v lv q) (st .slots v lv));
+        slots = λ v lv. by-cases (ℕ-discrete v u) (λ (q : v ≡ u). rw (q, push-unit-here) (omega (arith, room, st .slots u lu))) (λ (q : v ≡ u → ⊥). rw (push-unit-there v lv q) (st .slots v lv));
         progress = λ v lv. rw (push-unit (λ x. x .progress) (λ x m z. refl) v lv) (st .progress v lv);
         rising = λ v p lv e. st .rising v p lv (sym (push-unit (λ x. x .parent) (λ x m z. refl) v lv) ∙ e);
       }

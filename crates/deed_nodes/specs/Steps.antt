@@ -1,5 +1,5 @@
 -- What the calls' work does to a node and to the words. Assumes nothing.
-use Prim.Native.Nat.{ℕ, suc, _+_, _-_, _*_}
+use Prim.Native.Nat.{ℕ, suc, max, _+_, _-_, _*_}
 use mathlib.Core.Bool.{true}
 use mathlib.Core.List.{List}
 use lib.ListN.{getD, set}
@@ -61,13 +61,13 @@ defectNode serial v t =
 unfoldable pub paced : List ℕ → ℕ → ℕ → List ℕ
 paced b u s = storeInterface b u (setSpeed (interfaceAt b u) s)
 
--- node n in the next slot of interface u, whose speed then is s; its bit in the map; the next serial
-unfoldable pub pushed : List ℕ → ℕ → Node → ℕ → List ℕ
-pushed b u n s =
+-- node n in slot k of interface u, whose speed then is s and whose used slots go up to the highest that was filled; its bit in the map; the next serial
+unfoldable pub pushed : List ℕ → ℕ → ℕ → Node → ℕ → List ℕ
+pushed b u k n s =
     set
     (storeMap
-    (storeInterface (storeNode b (u * 64 + interfaceAt b u .used) n) u (withUsed (interfaceAt b u) (suc (interfaceAt b u .used)) s))
+    (storeInterface (storeNode b (u * 64 + k) n) u (withUsed (interfaceAt b u) (max (interfaceAt b u .used) (suc k)) s))
     u
-    (put (mapAt b u) (interfaceAt b u .used) true))
+    (put (mapAt b u) k true))
     0
     (suc (getD b 0 0))

@@ -11,10 +11,9 @@ use kinds::Serial;
 use kinds::Vertex;
 ghost use mathlib.Core.Path.{_≡_};
 ghost use mathlib.Core.Option.{none};
-ghost use Prim.Native.Nat.{_+_, _-_, _*_, _<_, _≤_};
+ghost use Prim.Native.Nat.{suc, max, _+_, _-_, _*_, _<_, _≤_};
 ghost use lib.IntN.{pos};
 ghost use lib.ListN.{length, getD};
-ghost use Rattle.bench_words.specs.Store.{interfaceAt};
 ghost use Rattle.ledger_spec.specs.Tests.{first};
 ghost use Rattle.ledger_spec.specs.Refuse.{defectTests, stateTests, growTests};
 ghost use Rattle.ledger_spec.specs.Change.{mark};
@@ -105,6 +104,7 @@ pub fn pace(b: &mut [u64; WORDS], unit: usize, speed: u64)
 {
     let f = bench_words::load_interface(b, unit);
     let parent = f.parent;
+    let marks = f.marks;
     bench_words::store_interface(
         b,
         unit,
@@ -116,34 +116,48 @@ pub fn pace(b: &mut [u64; WORDS], unit: usize, speed: u64)
             parent,
             left: f.left,
             right: f.right,
+            marks,
         },
     );
 }
 
-// Puts a node into the next slot of an interface, whose speed then is `speed`, marks the slot in the map, and counts the serial.
-pub fn push(b: &mut [u64; WORDS], unit: usize, n: Node, speed: u64)
-    requires { ⌜ (unit < 8) × (interfaceAt (now b) unit .used < 64) × (getD (now b) 0 0 < 4294967296) ⌝ }
-    ensures { λ _. ⌜ now (b .exit) ≡ pushed (now (b .entry)) unit n speed ⌝ }
+// How many slots count as used once one more is filled: up to the highest that was.
+fn used_with(used: u64, slot: u8) -> u64
+    ensures { λ r. ⌜ r ≡ max used (suc slot) ⌝ }
+{
+    if used <= (slot as u64) {
+        return (slot as u64) + 1;
+    }
+    used
+}
+
+// Puts a node into a slot of an interface, whose speed then is `speed`, marks the slot in the map, and counts the serial.
+pub fn push(b: &mut [u64; WORDS], unit: usize, slot: u8, n: Node, speed: u64)
+    requires { ⌜ (unit < 8) × (slot < 64) × (getD (now b) 0 0 < 4294967296) ⌝ }
+    ensures { λ _. ⌜ now (b .exit) ≡ pushed (now (b .entry)) unit slot n speed ⌝ }
 {
     let old = bench_words::load_interface(b, unit);
     let next = bench_words::load_next(b);
     let map = bench_words::load_map(b, unit);
+    let used = used_with(old.used, slot);
     let parent = old.parent;
-    bench_words::store_node(b, unit * 64 + (old.used as usize), n);
+    let marks = old.marks;
+    bench_words::store_node(b, unit * 64 + (slot as usize), n);
     bench_words::store_interface(
         b,
         unit,
         Interface {
-            used: old.used + 1,
+            used,
             progress: old.progress,
             sum: old.sum,
             speed,
             parent,
             left: old.left,
             right: old.right,
+            marks,
         },
     );
-    bench_words::store_map(b, unit, slot_map::with(map, old.used as u8));
+    bench_words::store_map(b, unit, slot_map::with(map, slot));
     bench_words::store_next(b, next + 1);
 }
 
@@ -154,6 +168,7 @@ pub fn grow_by(b: &mut [u64; WORDS], unit: usize, length: u64)
 {
     let f = bench_words::load_interface(b, unit);
     let parent = f.parent;
+    let marks = f.marks;
     bench_words::store_interface(
         b,
         unit,
@@ -165,6 +180,7 @@ pub fn grow_by(b: &mut [u64; WORDS], unit: usize, length: u64)
             parent,
             left: f.left,
             right: f.right,
+            marks,
         },
     );
 }
@@ -194,12 +210,14 @@ pub fn add_defect(b: &mut [u64; WORDS], unit: usize, vertex: Vertex) -> Handle
 {
     let v = vertex.0 as u64;
     let f = bench_words::load_interface(b, unit);
+    let slot = bench_slots::free_slot(b, unit);
     let next = bench_words::load_next(b);
     let serial = Serial(next as u32);
     let nobody = Handle::nobody();
     push(
         b,
         unit,
+        slot,
         Node {
             serial,
             class: Class::Defect(Vertex(v as u32)),
@@ -218,7 +236,7 @@ pub fn add_defect(b: &mut [u64; WORDS], unit: usize, vertex: Vertex) -> Handle
     );
     Handle {
         unit: unit as u8,
-        slot: f.used as u8,
+        slot,
         serial,
     }
 }
