@@ -1,6 +1,6 @@
 -- Add blossom, done: the members are taken in and the blossom is pushed. Every node is the new one, a member, or as it was; the new circle is the one
 -- given, and every other circle is as it was. Assumes nothing.
-use Prim.Native.Nat.{ℕ, suc, _+_, _-_, _*_, _/_, _%_, _<_, _≤_}
+use Prim.Native.Nat.{ℕ, suc, max, _+_, _-_, _*_, _/_, _%_, _<_, _≤_}
 use mathlib.Core.Path.{_≡_, refl, ap, ap₂, sym, _∙_, subst}
 use mathlib.Core.Logic.{_≢_, by-cases}
 use mathlib.Core.Bool.{true}
@@ -24,6 +24,7 @@ use Rattle.bench_words.specs.declared.Node.{Node}
 use Rattle.bench_words.specs.declared.Interface.{Interface}
 use Rattle.ledger_spec.specs.Bench.{Handle, grows, stays, blossom, Member, Bench}
 use Rattle.ledger_spec.specs.Bench as plain
+use Rattle.ledger_spec.specs.Look.{freeSlot}
 use Rattle.ledger_spec.specs.Change.{push, markAll}
 use Rattle.ledger_spec.specs.Deeds.{newHandle, addBlossom, circle, sizes}
 use Rattle.ledger_spec.specs.Named.{handleNamed}
@@ -41,7 +42,7 @@ use Rattle.deed_nodes.specs.Steps.{remarked, pushed}
 use Rattle.deed_nodes.proofs.Needs.{open-total}
 use Rattle.deed_nodes.proofs.Stores.{push-next, push-unit, push-unit-here, push-unit-there, push-node-here, push-node-there, push-map-here, push-map-there, push-steady, push-coded}
 use Rattle.deed_nodes.proofs.Keeps.{not-blossom, ringed-walk, Intact, intact-chain, intact-seat, halves-kept}
-use Rattle.deed_nodes.proofs.Adds.{slot-old, ring-old, push-in}
+use Rattle.deed_nodes.proofs.Adds.{slot-old, ring-at, ring-old, push-in}
 use Rattle.deed_nodes.proofs.Adding.{new-handle}
 use Rattle.deed_circles.specs.Given.{handsGiven, pairsGiven, spotAt}
 use Rattle.deed_circles.specs.Members.{seatOf, blossomNode}
@@ -73,8 +74,14 @@ module _ (b : List ℕ) (u : ℕ) (ms ts : List ℕ) (F : Fit b) (R : Ringable b
   abbrev q₁ : Packed
   q₁ = q₀ b u ms ts F R
 
+  abbrev s₀ : ℕ
+  s₀ = freeSlot (view b) u
+
   abbrev K : ℕ
-  K = u * 64 + interfaceAt b u .used
+  K = u * 64 + s₀
+
+  bare : nodeAt b K .class ≡ Absent
+  bare = R .slot .bare
 
   abbrev sp : ℕ
   sp = speedTo b u ms ts q₁ (length ms)
@@ -83,7 +90,7 @@ module _ (b : List ℕ) (u : ℕ) (ms ts : List ℕ) (F : Fit b) (R : Ringable b
   n₁ = blossomNode (getD b 0 0) (spotAt ms 0) (length ms) (sizeTo b ms ts q₁ (length ms)) (interfaceAt b u .progress)
 
   abbrev b₂ : List ℕ
-  b₂ = pushed b₁ u n₁ (sp + 1)
+  b₂ = pushed b₁ u s₀ n₁ (sp + 1)
 
   abbrev A₂ : ℕ → Node
   A₂ = nodeAt b₂
@@ -91,24 +98,21 @@ module _ (b : List ℕ) (u : ℕ) (ms ts : List ℕ) (F : Fit b) (R : Ringable b
   lu : u < 8
   lu = R .root .low
 
-  used₁ : interfaceAt b₁ u .used ≡ interfaceAt b u .used
-  used₁ = ap (λ (f : Interface). f .used) (G .interfaces u lu)
-
-  room₁ : interfaceAt b₁ u .used < 64
-  room₁ = omega (arith, used₁, R .room)
+  room : s₀ < 64
+  room = R .slot .room
 
   good₁ : Good n₁
   good₁ = record { serial = R .next; class = tt; parent = tt; left = (omega arith, omega arith, omega arith); right = (omega arith, omega arith, omega arith) }
 
   -- ---- what stands where
   node-new : A₂ K ≡ n₁
-  node-new = ap (λ (x : ℕ). A₂ (u * 64 + x)) (sym used₁) ∙ push-node-here b₁ u n₁ (sp + 1) (G .steady) lu room₁ good₁
+  node-new = push-node-here b₁ u s₀ n₁ (sp + 1) (G .steady) lu room good₁
 
   node-off : (k : ℕ) → k ≢ K → A₂ k ≡ taking b ms ts q₁ (length ms) k
-  node-off k ne = push-node-there b₁ u n₁ (sp + 1) (G .steady) lu room₁ good₁ k (λ e. ne (e ∙ ap (λ (x : ℕ). u * 64 + x) used₁)) ∙ G .nodes k
+  node-off k ne = push-node-there b₁ u s₀ n₁ (sp + 1) (G .steady) lu room good₁ k ne ∙ G .nodes k
 
   away : (j : ℕ) → j < length ms → spotAt ms j ≢ K
-  away j l = slot-old (interfaceAt b) u (getD ms j 0 % 8) (getD ms j 0 / 8 % 64) (R .room) (F .canon .steady .slots (getD ms j 0 % 8) (R .stands j l .unit)) (R .stands j l .slot)
+  away j l = slot-old b K (spotAt ms j) bare (R .stands j l .shows .present)
 
   node-member : (j : ℕ) → j < length ms → A₂ (spotAt ms j) ≡ remarked (nodeAt b (spotAt ms j)) (sumUp 8 (interfaceAt b) (spotAt ms j / 64)) Stay (seatOf ms ts q₁ j)
   node-member j l = node-off (spotAt ms j) (away j l)
@@ -120,20 +124,20 @@ module _ (b : List ℕ) (u : ℕ) (ms ts : List ℕ) (F : Fit b) (R : Ringable b
   head : (k : ℕ) → k ≢ K → Head (A₂ k) (nodeAt b k)
   head k ne = subst (λ (n : Node). Head n (nodeAt b k)) (sym (node-off k ne)) (turn-head (spotAt ms) (λ i. sumUp 8 (interfaceAt b) (spotAt ms i / 64)) Stay (seatOf ms ts q₁) (nodeAt b) (length ms) k)
 
-  unit-here : interfaceAt b₂ u ≡ withUsed (interfaceAt b u) (suc (interfaceAt b u .used)) (sp + 1)
-  unit-here = push-unit-here b₁ u n₁ (sp + 1) (G .steady) lu room₁ good₁ ∙ ap (λ (f : Interface). withUsed f (suc (f .used)) (sp + 1)) (G .interfaces u lu)
+  unit-here : interfaceAt b₂ u ≡ withUsed (interfaceAt b u) (max (interfaceAt b u .used) (suc s₀)) (sp + 1)
+  unit-here = push-unit-here b₁ u s₀ n₁ (sp + 1) (G .steady) lu room good₁ ∙ ap (λ (f : Interface). withUsed f (max (f .used) (suc s₀)) (sp + 1)) (G .interfaces u lu)
 
   unit-there : (v : ℕ) → v < 8 → v ≢ u → interfaceAt b₂ v ≡ interfaceAt b v
-  unit-there v lv ne = push-unit-there b₁ u n₁ (sp + 1) (G .steady) lu room₁ good₁ v lv ne ∙ G .interfaces v lv
+  unit-there v lv ne = push-unit-there b₁ u s₀ n₁ (sp + 1) (G .steady) lu room good₁ v lv ne ∙ G .interfaces v lv
 
   part : {X : Type 0} (φ : Interface → X) → ((x : Interface) (m z : ℕ) → φ (withUsed x m z) ≡ φ x) → (v : ℕ) → v < 8 → φ (interfaceAt b₂ v) ≡ φ (interfaceAt b v)
-  part φ e v lv = push-unit b₁ u n₁ (sp + 1) (G .steady) lu room₁ good₁ φ e v lv ∙ ap φ (G .interfaces v lv)
+  part φ e v lv = push-unit b₁ u s₀ n₁ (sp + 1) (G .steady) lu room good₁ φ e v lv ∙ ap φ (G .interfaces v lv)
 
-  map-here : mapAt b₂ u ≡ put (mapAt b u) (interfaceAt b u .used) true
-  map-here = push-map-here b₁ u n₁ (sp + 1) (G .steady) lu room₁ good₁ ∙ ap₂ (λ (w x : ℕ). put w x true) (G .maps u lu) used₁
+  map-here : mapAt b₂ u ≡ put (mapAt b u) s₀ true
+  map-here = push-map-here b₁ u s₀ n₁ (sp + 1) (G .steady) lu room good₁ ∙ ap (λ (w : ℕ). put w s₀ true) (G .maps u lu)
 
   map-there : (v : ℕ) → v < 8 → v ≢ u → mapAt b₂ v ≡ mapAt b v
-  map-there v lv ne = push-map-there b₁ u n₁ (sp + 1) (G .steady) lu room₁ good₁ v lv ne ∙ G .maps v lv
+  map-there v lv ne = push-map-there b₁ u s₀ n₁ (sp + 1) (G .steady) lu room good₁ v lv ne ∙ G .maps v lv
 
   more : (v : ℕ) → v < 8 → interfaceAt b v .used ≤ interfaceAt b₂ v .used
   more v lv = by-cases (ℕ-discrete v u) (λ (e : v ≡ u). rw (e, unit-here) (omega arith)) (λ (ne : v ≡ u → ⊥). rw (unit-there v lv ne) (omega arith))
@@ -150,11 +154,11 @@ module _ (b : List ℕ) (u : ℕ) (ms ts : List ℕ) (F : Fit b) (R : Ringable b
 
   -- ---- the circles as they were
   kept : (v r p : ℕ) → Ringed b (F .sewn) v r p → A₂ p ≡ nodeAt b p
-  kept v r p g = node-old p (ring-old b (F .sewn) u v r p (F .canon .steady) (R .room) g) (λ j l. loose b u ms ts F R v r p j l g)
+  kept v r p g = node-old p (ring-old b (F .sewn) K v r p bare g) (λ j l. loose b u ms ts F R v r p j l g)
 
   circle-old : (v r : ℕ) → v < 8 → r < interfaceAt b v .used → nodeAt b (v * 64 + r) .class ≡ Blossom → circleOf A₂ (v * 64 + r) ≡ circleOf (nodeAt b) (v * 64 + r)
   circle-old v r lv lr e =
-      let h = head (v * 64 + r) (slot-old (interfaceAt b) u v r (R .room) (F .canon .steady .slots v lv) lr) in
+      let h = head (v * 64 + r) (ring-at b K (v * 64 + r) bare e) in
       circle-same (nodeAt b) A₂ (v * 64 + r) (h .count) (h .first) (λ p i. same-eq (kept v r p (ringed b (F .sewn) v r lv lr e p i)))
 
   -- ---- the view
@@ -186,21 +190,21 @@ module _ (b : List ℕ) (u : ℕ) (ms ts : List ℕ) (F : Fit b) (R : Ringable b
       circle-old v r lv l0 (sym (h .class) ∙ e) ∙ sym (circles b u ms ts F R (length ms) v r (omega arith) lv l0 e)
 
   new-is : handleNamed q₁ ≡ newHandle (view b) u
-  new-is = new-handle b u q₁ (interfaceAt b u) lu refl refl refl refl
+  new-is = new-handle b u q₁ refl refl refl
 
   seen : view b₂ ≡ addBlossom (view b) u (handsGiven ms) (pairsGiven ts)
   unfolding addBlossom
   seen =
-      ap (λ (m : ℕ). viewIn m (interfaceAt b₂) A₂) (push-next b₁ u n₁ (sp + 1) (G .steady) lu room₁ good₁ ∙ ap suc (G .next))
-      ∙ push-in (getD b 0 0) U₁ (interfaceAt b₂) (taking b ms ts q₁ (length ms)) A₂ u K x₁
-      (λ v lv. rw (parents v) (good-interface b v)) (λ v lv. rw (used v) (F .canon .steady .slots v lv)) lu (rw (used u) (R .room)) (ap (λ (x : ℕ). u * 64 + x) (sym (used u)))
-      (unit-here ∙ sym (ap (λ (f : Interface). withUsed f (suc (f .used)) (f .speed + 1)) (pacing-here (interfaceAt b) u sp)))
+      ap (λ (m : ℕ). viewIn m (interfaceAt b₂) A₂) (push-next b₁ u s₀ n₁ (sp + 1) (G .steady) lu room good₁ ∙ ap suc (G .next))
+      ∙ push-in (getD b 0 0) U₁ (interfaceAt b₂) (taking b ms ts q₁ (length ms)) A₂ u s₀ K x₁
+      (λ v lv. rw (parents v) (good-interface b v)) (λ v lv. rw (used v) (F .canon .steady .slots v lv)) lu room (rw (used u) (R .slot .low)) refl
+      (unit-here ∙ sym (ap (λ (f : Interface). withUsed f (max (f .used) (suc s₀)) (f .speed + 1)) (pacing-here (interfaceAt b) u sp)))
       (λ v lv ne. unit-there v lv ne ∙ sym (pacing-else (interfaceAt b) u sp v ne))
       node-off circles₂ refl
       (ap₂ (λ (n : Node) (t : ℕ). slotSeen n t (circleOf A₂ K)) node-new total
       ∙ blossom-seen (getD b 0 0) (spotAt ms 0) (length ms) (sizeTo b ms ts q₁ (length ms)) (interfaceAt b u .progress) (circleOf A₂ K) (omega (arith, F .canon .steady .progress u lu))
       ∙ ap (λ (ns : List Member). some (record { serial = getD b 0 0; class = blossom ns; state = grows; parent = none; value = pos 0; size = sizeTo b ms ts q₁ (length ms) })) circle-new)
-      ∙ ap₂ (λ (B : Bench) (x : plain.Node). push B u x)
+      ∙ ap₂ (λ (B : Bench) (x : plain.Node). push B u s₀ x)
       (taken-view b u ms ts F R ∙ ap (λ (h : Handle). markAll (view b) (handsGiven ms) stays (some h)) new-is) x-is
 
   -- ---- the words stay canonical
@@ -235,12 +239,12 @@ module _ (b : List ℕ) (u : ℕ) (ms ts : List ℕ) (F : Fit b) (R : Ringable b
   canon₂ : Canon b₂
   canon₂ =
       record {
-        steady = push-steady b₁ u n₁ (sp + 1) (G .steady) lu room₁ good₁;
-        coded = push-coded b₁ u n₁ (sp + 1) (G .steady) lu room₁ good₁ (G .coded);
+        steady = push-steady b₁ u s₀ n₁ (sp + 1) (G .steady) lu room good₁;
+        coded = push-coded b₁ u s₀ n₁ (sp + 1) (G .steady) lu room good₁ (G .coded);
         whole = hv .0;
         both = hv .1;
         past = λ v r lv l h. node-old (v * 64 + r) (far v r l h (ℕ-discrete v u)) (apart v r lv l h) ∙ C .past v r lv l (omega (arith, more v lv));
-        map = mapped-put b b₂ u (interfaceAt b u .used) true (C .map) lu (R .room) map-here map-there (held-present (A₂ K .class) (not-absent (ap (λ (n : Node). n .class) node-new))) (λ k lk q. head k q .class);
+        map = mapped-put b b₂ u s₀ true (C .map) lu room map-here map-there (held-present (A₂ K .class) (not-absent (ap (λ (n : Node). n .class) node-new))) (λ k lk q. head k q .class);
         empty = λ k lk e. by-cases (ℕ-discrete k K)
             (λ (q : k ≡ K). absurd (not-absent (ap (λ (j : ℕ). A₂ j .class) q ∙ ap (λ (n : Node). n .class) node-new) e))
             (λ (q : k ≡ K → ⊥). empty-old k lk q e (among (spotAt ms) k (length ms)));
@@ -269,7 +273,7 @@ module _ (b : List ℕ) (u : ℕ) (ms ts : List ℕ) (F : Fit b) (R : Ringable b
 
       far : (v r : ℕ) → r < 64 → interfaceAt b₂ v .used ≤ r → Dec (v ≡ u) → v * 64 + r ≢ K
       far v r l h (yes q) e = omega (arith, e, ap (λ (x : Interface). x .used) unit-here, h, q, ap (λ (z : ℕ). interfaceAt b₂ z .used) q)
-      far v r l h (no q) e = omega (arith, e, R .room)
+      far v r l h (no q) e = omega (arith, e, room)
 
       apart : (v r : ℕ) → v < 8 → r < 64 → interfaceAt b₂ v .used ≤ r → (j : ℕ) → j < length ms → v * 64 + r ≢ spotAt ms j
       apart v r lv l h j lj e =
@@ -295,7 +299,7 @@ module _ (b : List ℕ) (u : ℕ) (ms ts : List ℕ) (F : Fit b) (R : Ringable b
       inside-old k q lk z e (not-at f) =
           let st = C .steady in
           let s : Seated b k q = C .inside k q lk (ap (λ (n : Node). n .parent) (sym (node-old k z f)) ∙ e) in
-          let off = slot-old (interfaceAt b) u (q .unit) (q .slot) (R .room) (st .slots (q .unit) (s .unit)) (s .slot) in
+          let off = ring-at b K (q .unit * 64 + q .slot) bare (s .ring) in
           intact-seat b b₂ C k q s (intact (q .unit * 64 + q .slot) (omega (arith, s .unit, s .slot, st .slots (q .unit) (s .unit))) (s .ring) off) (node-old k z f) (more (q .unit) (s .unit))
 
   pub blossomed : Done b₂ (addBlossom (view b) u (handsGiven ms) (pairsGiven ts))

@@ -14,6 +14,7 @@ use Rattle.slot_map.specs.Slots.{put}
 use Rattle.bench_words.specs.Store.{nodeAt, interfaceAt, storeNode, mapAt, storeMap}
 use Rattle.bench_words.specs.declared.Node.{Node}
 use Rattle.bench_words.specs.declared.Interface.{Interface}
+use Rattle.ledger_spec.specs.Look.{freeSlot}
 use Rattle.ledger_spec.specs.Tests.{first}
 use Rattle.ledger_spec.specs.Refuse.{blossomTests, expandTests}
 use Rattle.ledger_spec.specs.Deeds.{newHandle, addBlossom, removeBlossom}
@@ -75,11 +76,11 @@ pub record Looping (b : List ℕ) (u : ℕ) (ms ts : List ℕ) (q : Packed) (b�
   pub mine : q ≡ q₀ b u ms ts fit ring
   pub taking : Taking b u ms ts (q₀ b u ms ts fit ring) b₁ size speed i
 
-pub loop-begins : (b : List ℕ) (u : ℕ) (ms ts : List ℕ) (f : Interface) {x : ℕ} → Fit b → first (blossomTests (view b) u (handsGiven ms) (pairsGiven ts)) ≡ 0 → f ≡ interfaceAt b u → x ≡ getD b 0 0
-    → Looping b u ms ts (record { unit = u; slot = f .used; serial = record { 0 = x } }) b 0 (f .speed) 0
-loop-begins b u ms ts f F t ef ex =
+pub loop-begins : (b : List ℕ) (u : ℕ) (ms ts : List ℕ) (f : Interface) {s x : ℕ} → Fit b → first (blossomTests (view b) u (handsGiven ms) (pairsGiven ts)) ≡ 0 → f ≡ interfaceAt b u → s ≡ freeSlot (view b) u → x ≡ getD b 0 0
+    → Looping b u ms ts (record { unit = u; slot = s; serial = record { 0 = x } }) b 0 (f .speed) 0
+loop-begins b u ms ts f F t ef es ex =
     let R = ringable b u ms ts F t in
-    record { fit = F; ring = R; mine = λ j. record { unit = u; slot = ef j .used; serial = record { 0 = ex j } }; taking = taking-begins b u ms ts (q₀ b u ms ts F R) f F ef }
+    record { fit = F; ring = R; mine = λ j. record { unit = u; slot = es j; serial = record { 0 = ex j } }; taking = taking-begins b u ms ts (q₀ b u ms ts F R) f F ef }
 
 module _ {b : List ℕ} {u : ℕ} {ms ts : List ℕ} {q : Packed} {b₁ : List ℕ} {size speed i : ℕ} (L : Looping b u ms ts q b₁ size speed i) where
   pub loop-range : (448 ≤ speed) × (speed ≤ 1600) × (size ≤ 32768)
@@ -107,12 +108,12 @@ module _ {b : List ℕ} {u : ℕ} {ms ts : List ℕ} {q : Packed} {b₁ : List �
             (e ∙ ap (λ (s : Seat). storeNode b₁ (spotAt ms i) (takenNode (interfaceAt b₁) (nodeAt b₁) (spotAt ms i) s)) (es ∙ ap (λ (x : Packed). seatOf ms ts x i) (L .mine))) ez er;
       })
 
-  pub loop-ready : (interfaceAt b₁ u .used < 64) × (getD b₁ 0 0 < 4294967296)
-  loop-ready = (rw (L .taking .interfaces u (L .ring .root .low)) (L .ring .room), rw (L .taking .next) (L .ring .next))
+  pub loop-ready : (s : ℕ) → s ≡ freeSlot (view b) u → (s < 64) × (getD b₁ 0 0 < 4294967296)
+  loop-ready s es = (rw es (L .ring .slot .room), rw (L .taking .next) (L .ring .next))
 
-  pub loop-ends : (f : Interface) {x k : ℕ} {n : Node} {b' : List ℕ} → length ms ≤ i → f ≡ interfaceAt b u → x ≡ getD b 0 0 → k ≡ spotOf (getD ms 0 0) → n ≡ blossomNode x k i size (f .progress)
-      → b' ≡ pushed b₁ u n (speed + 1) → Done b' (addBlossom (view b) u (handsGiven ms) (pairsGiven ts)) × (handleNamed q ≡ newHandle (view b) u)
-  loop-ends f {x} {k} {b' = b'} l ef ex ek en e' =
+  pub loop-ends : (f : Interface) {s x k : ℕ} {n : Node} {b' : List ℕ} → length ms ≤ i → f ≡ interfaceAt b u → s ≡ freeSlot (view b) u → x ≡ getD b 0 0 → k ≡ spotOf (getD ms 0 0) → n ≡ blossomNode x k i size (f .progress)
+      → b' ≡ pushed b₁ u s n (speed + 1) → Done b' (addBlossom (view b) u (handsGiven ms) (pairsGiven ts)) × (handleNamed q ≡ newHandle (view b) u)
+  loop-ends f {s} {x} {k} {b' = b'} l ef es ex ek en e' =
       let F = L .fit in
       let R = L .ring in
       let Q = q₀ b u ms ts F R in
@@ -121,9 +122,9 @@ module _ {b : List ℕ} {u : ℕ} {ms ts : List ℕ} {q : Packed} {b₁ : List �
       let all : i ≡ length ms = omega arith in
       let z : size ≡ sizeTo b ms ts Q (length ms) = G .sized ∙ ap (sizeTo b ms ts Q) all in
       let p : speed ≡ speedTo b u ms ts Q (length ms) = G .paced ∙ ap (speedTo b u ms ts Q) all in
-      let e : b' ≡ pushed b₁ u (blossomNode (getD b 0 0) (spotAt ms 0) (length ms) (sizeTo b ms ts Q (length ms)) (interfaceAt b u .progress)) (speedTo b u ms ts Q (length ms) + 1) = simp (e', en, ex, ek, ef, z, p, all) in
+      let e : b' ≡ pushed b₁ u (freeSlot (view b) u) (blossomNode (getD b 0 0) (spotAt ms 0) (length ms) (sizeTo b ms ts Q (length ms)) (interfaceAt b u .progress)) (speedTo b u ms ts Q (length ms) + 1) = simp (e', en, es, ex, ek, ef, z, p, all) in
       let G' : Taking b u ms ts Q b₁ (sizeTo b ms ts Q (length ms)) (speedTo b u ms ts Q (length ms)) (length ms) = taking-at G z p all in
-      (rw e (blossomed b u ms ts F R b₁ G'), ap handleNamed (L .mine) ∙ new-handle b u Q (interfaceAt b u) (R .root .low) refl refl refl refl)
+      (rw e (blossomed b u ms ts F R b₁ G'), ap handleNamed (L .mine) ∙ new-handle b u Q refl refl refl)
 
 -- ---- a member let out
 pub release-by : (b : List ℕ) (at : ℕ) (n m : Node) {top t : ℕ} {s : Seat} {b' : List ℕ} → Climbs b (at / 64) top t → n ≡ nodeAt b at → s ≡ noSeat → m ≡ remarked n t Growing s → b' ≡ storeNode b at m

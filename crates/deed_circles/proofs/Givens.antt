@@ -14,7 +14,7 @@ use Rattle.bench_words.specs.Codec.{handleOf}
 use Rattle.bench_words.specs.Store.{nodeAt, interfaceAt}
 use Rattle.kinds.specs.declared.Parent.the-variants.{Outermost}
 use Rattle.ledger_spec.specs.Bench.{Handle}
-use Rattle.ledger_spec.specs.Look.{sameHandle, climb}
+use Rattle.ledger_spec.specs.Look.{sameHandle, climb, freeSlot}
 use Rattle.ledger_spec.specs.Look as look
 use Rattle.ledger_spec.specs.Tests.{first, both}
 use Rattle.ledger_spec.specs.Refuse.{blossomTests}
@@ -28,7 +28,7 @@ use Rattle.ledger_spec.proofs.Passed.{Open}
 use Rattle.bench_views.specs.View.{view}
 use Rattle.bench_views.specs.Fit.{Fit}
 use Rattle.bench_views.proofs.Views.{view-out}
-use Rattle.deed_nodes.proofs.Needs.{open-room, open-next, Stands, stands, stands-free}
+use Rattle.deed_nodes.proofs.Needs.{Vacant, open-slot, open-next, Stands, stands, stands-free}
 use Rattle.bench_views.specs.Given.{nowhere, handGiven}
 use Rattle.deed_circles.specs.Given.{handsGiven, pairsGiven, spotAt, touchWord}
 
@@ -98,7 +98,7 @@ touch-even P (x ∷ (y ∷ ts)) all out =
 -- ---- all the tests
 pub record Ringable (b : List ℕ) (u : ℕ) (ms ts : List ℕ) : Type 0 where
   pub root : Open (view b) u
-  pub room : interfaceAt b u .used < 64
+  pub slot : Vacant b u (freeSlot (view b) u)
   pub next : getD b 0 0 < 4294967296
   pub some : 1 ≤ length ms
   pub many : length ms ≤ 64
@@ -163,7 +163,7 @@ module _ (b : List ℕ) (u : ℕ) (ms ts : List ℕ) (F : Fit b) (P : BlossomPas
   ring-of =
       record {
         root = P .here;
-        room = open-room b F u (P .here) (P .room);
+        slot = open-slot b F u (P .here) (P .room);
         next = open-next b F u (P .here) (P .unworn);
         some = omega (arith, P .least, length-map ms handGiven);
         many = omega (arith, P .most, length-map ms handGiven);

@@ -25,7 +25,7 @@ use Rattle.ledger_spec.specs.Named.{stateNamed, parentNamed}
 use Rattle.ledger_spec.proofs.Tops.{climb-same}
 use Rattle.bench_views.specs.Records.{rateOf}
 use Rattle.bench_views.specs.Tab.{tab}
-use Rattle.bench_views.specs.View.{off, upSeen, halvesSeen, sumUp, slotSeen, interfaceIn, viewIn, circleOf, valueBy}
+use Rattle.bench_views.specs.View.{off, upSeen, halvesSeen, marksSeen, sumUp, slotSeen, interfaceIn, viewIn, circleOf, valueBy}
 use Rattle.bench_views.proofs.Sums.{sumUp-same}
 use Rattle.bench_views.proofs.Views.{interface-in, view-next, view-parent, view-eight, view-is}
 use Rattle.deed_nodes.specs.Steps.{remarked}
@@ -95,6 +95,7 @@ view-interfaces n U U' A good same = view-is n U' A (viewIn n U A) (view-next n 
           speed = off 1024 (f .speed);
           parent = upSeen (f .parent);
           halves = halvesSeen (f .left) (f .right);
+          marks = marksSeen (f .marks);
         })
         (same v lv) (sums v lv)
 

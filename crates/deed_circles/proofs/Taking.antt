@@ -19,6 +19,7 @@ use Rattle.bench_words.specs.declared.Node.{Node}
 use Rattle.bench_words.specs.declared.Interface.{Interface}
 use Rattle.ledger_spec.specs.Bench.{Handle, stays}
 use Rattle.ledger_spec.specs.Look as look
+use Rattle.ledger_spec.specs.Look.{freeSlot}
 use Rattle.ledger_spec.specs.Change.{markAll}
 use Rattle.ledger_spec.specs.Deeds.{sizes, sizeOf}
 use Rattle.ledger_spec.specs.Named.{handleNamed, parentNamed}
@@ -83,7 +84,7 @@ taking-begins b u ms ts q U F e =
 module _ (b : List ℕ) (u : ℕ) (ms ts : List ℕ) (F : Fit b) (R : Ringable b u ms ts) where
   -- the new blossom's handle
   abbrev pub q₀ : Packed
-  q₀ = record { unit = u; slot = interfaceAt b u .used; serial = record { 0 = getD b 0 0 } }
+  q₀ = record { unit = u; slot = freeSlot (view b) u; serial = record { 0 = getD b 0 0 } }
 
   abbrev T₀ : ℕ → ℕ
   T₀ i = sumUp 8 (interfaceAt b) (spotAt ms i / 64)
@@ -92,7 +93,7 @@ module _ (b : List ℕ) (u : ℕ) (ms ts : List ℕ) (F : Fit b) (R : Ringable b
   to = taking b ms ts q₀
 
   good-q : GoodHandle q₀
-  good-q = (R .root .low, R .room, R .next)
+  good-q = (R .root .low, R .slot .room, R .next)
 
   home : (i : ℕ) → i < length ms → spotAt ms i / 64 ≡ getD ms i 0 % 8
   home i l = omega arith

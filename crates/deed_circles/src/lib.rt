@@ -120,11 +120,12 @@ pub fn add_blossom(b: &mut [u64; WORDS], unit: usize, members: &[u64], touching:
     ensures { λ r. ⌜ Done (now (b .exit)) (addBlossom (view (now (b .entry))) unit (handsGiven (now (members .entry))) (pairsGiven (now (touching .entry)))) × (handleNamed r ≡ newHandle (view (now (b .entry))) unit) ⌝ }
 {
     let f = bench_words::load_interface(b, unit);
+    let slot = bench_slots::free_slot(b, unit);
     let next = bench_words::load_next(b);
     let serial = Serial(next as u32);
     let q = Handle {
         unit: unit as u8,
-        slot: f.used as u8,
+        slot,
         serial,
     };
     let mut size: u64 = 0;
@@ -138,7 +139,7 @@ pub fn add_blossom(b: &mut [u64; WORDS], unit: usize, members: &[u64], touching:
     }
     let first = spot(members[0]) as u64;
     let n = new_blossom(serial, first, i as u64, size, f.progress);
-    deed_nodes::push(b, unit, n, speed + 1);
+    deed_nodes::push(b, unit, slot, n, speed + 1);
     q
 }
 

@@ -11,33 +11,30 @@ use Rattle.deed_circles.proofs.add_blossom.Statement.{statement}
 use Rattle.deed_circles.proofs.add_blossom.Tie as tie
 
 abbrev Inv-loop : tie.InvT-loop
-Inv-loop b₀ unit members touching f next serial q size₀ speed₀ i₀ b size speed i = Looping b₀ unit members touching q b size speed i
+Inv-loop b₀ unit members touching f slot next serial q size₀ speed₀ i₀ b size speed i = Looping b₀ unit members touching q b size speed i
 
 abbrev μ-loop : tie.MeasureT-loop
-μ-loop b₀ unit members touching f next serial q size₀ speed₀ i₀ b size speed i = length members - i
+μ-loop b₀ unit members touching f slot next serial q size₀ speed₀ i₀ b size speed i = length members - i
 
 load-interface-requires : tie.Need-load-interface-requires Inv-loop μ-loop
 load-interface-requires c κs = let a = c .before .before .before .args in ringable (a .b .now) (a .unit) (a .members .now) (a .touching .now) (c .before .before .before .pre .0) (c .before .before .before .pre .1) .root .low
 
+free-slot-requires : tie.Need-free-slot-requires Inv-loop μ-loop
+free-slot-requires c κs = let a = c .before .before .before .before .before .args in let r = ringable (a .b .now) (a .unit) (a .members .now) (a .touching .now) (c .before .before .before .before .before .pre .0) (c .before .before .before .before .before .pre .1) in (c .before .before .before .before .before .pre .0 .canon, r .root .low)
+
 load-next-requires : tie.Need-load-next-requires Inv-loop μ-loop
 load-next-requires c κs = search needs
 
-cast-t17 : tie.Need-cast-t17 Inv-loop μ-loop
-cast-t17 c = let a = c .before .before .before .before .before .before .args in let r = ringable (a .b .now) (a .unit) (a .members .now) (a .touching .now) (c .before .before .before .before .before .before .pre .0) (c .before .before .before .before .before .before .pre .1) in omega (arith, r .next, c .load-next .ensures)
-
-cast-t18 : tie.Need-cast-t18 Inv-loop μ-loop
-cast-t18 c = let a = c .before .before .before .before .before .before .args in let r = ringable (a .b .now) (a .unit) (a .members .now) (a .touching .now) (c .before .before .before .before .before .before .pre .0) (c .before .before .before .before .before .before .pre .1) in omega (arith, r .root .low)
-
 cast-t19 : tie.Need-cast-t19 Inv-loop μ-loop
-cast-t19 c =
-    let a = c .before .before .before .before .before .before .before .args in
-    let r = ringable (a .b .now) (a .unit) (a .members .now) (a .touching .now) (c .before .before .before .before .before .before .before .pre .0) (c .before .before .before .before .before .before .before .pre .1) in
-    omega (arith, r .room, ap (λ (x : Interface). x .used) (c .before .before .before .load-interface .ensures))
+cast-t19 c = let a = c .before .before .before .before .before .before .before .before .args in let r = ringable (a .b .now) (a .unit) (a .members .now) (a .touching .now) (c .before .before .before .before .before .before .before .before .pre .0) (c .before .before .before .before .before .before .before .before .pre .1) in omega (arith, r .next, c .load-next .ensures)
+
+cast-t20 : tie.Need-cast-t20 Inv-loop μ-loop
+cast-t20 c = let a = c .before .before .before .before .before .before .before .before .args in let r = ringable (a .b .now) (a .unit) (a .members .now) (a .touching .now) (c .before .before .before .before .before .before .before .before .pre .0) (c .before .before .before .before .before .before .before .before .pre .1) in omega (arith, r .root .low)
 
 loop-holds : tie.Need-loop-holds Inv-loop μ-loop
 loop-holds c =
-    let a = c .before .before .before .before .before .before .before .args in
-    loop-begins (a .b .now) (a .unit) (a .members .now) (a .touching .now) (c .before .before .before .load-interface .result) (c .before .before .before .before .before .before .before .pre .0) (c .before .before .before .before .before .before .before .pre .1) (c .before .before .before .load-interface .ensures) (c .before .load-next .ensures)
+    let a = c .before .before .before .before .before .before .before .before .args in
+    loop-begins (a .b .now) (a .unit) (a .members .now) (a .touching .now) (c .before .before .before .before .load-interface .result) (c .before .before .before .before .before .before .before .before .pre .0) (c .before .before .before .before .before .before .before .before .pre .1) (c .before .before .before .before .load-interface .ensures) (c .before .before .free-slot .ensures) (c .load-next .ensures)
 
 mul-take-in : tie.Need-mul-take-in Inv-loop μ-loop
 mul-take-in c = search needs
@@ -79,17 +76,17 @@ spot-requires c κs = search needs
 new-blossom-requires : tie.Need-new-blossom-requires Inv-loop μ-loop
 new-blossom-requires c κs =
     let l = c .before .before .before .loop .inv in
-    omega (arith, l .fit .canon .steady .progress _ (l .ring .root .low), ap (λ (x : Interface). x .progress) (c .before .before .before .before .before .before .before .load-interface .ensures))
+    omega (arith, l .fit .canon .steady .progress _ (l .ring .root .low), ap (λ (x : Interface). x .progress) (c .before .before .before .before .before .before .before .before .load-interface .ensures))
 
 add-push : tie.Need-add-push Inv-loop μ-loop
 add-push c = omega (arith, loop-range (c .before .before .before .before .before .loop .inv) .1)
 
 push-requires : tie.Need-push-requires Inv-loop μ-loop
-push-requires c κs = let l = c .before .before .before .before .before .loop .inv in (l .ring .root .low, loop-ready l .0, loop-ready l .1)
+push-requires c κs = let l = c .before .before .before .before .before .loop .inv in let y = loop-ready l _ (c .before .before .before .before .before .before .before .before .free-slot .ensures) in (l .ring .root .low, y .0, y .1)
 
 returns : tie.Need-returns Inv-loop μ-loop
 returns c =
-    loop-ends (c .before .before .before .before .before .before .loop .inv) (c .before .before .before .before .before .before .before .before .before .before .load-interface .result) (omega arith) (c .before .before .before .before .before .before .before .before .before .before .load-interface .ensures) (c .before .before .before .before .before .before .before .before .load-next .ensures) (c .before .before .before .spot .ensures .0) (c .before .before .new-blossom .ensures) (c .push .ensures)
+    loop-ends (c .before .before .before .before .before .before .loop .inv) (c .before .before .before .before .before .before .before .before .before .before .before .load-interface .result) (omega arith) (c .before .before .before .before .before .before .before .before .before .before .before .load-interface .ensures) (c .before .before .before .before .before .before .before .before .before .free-slot .ensures) (c .before .before .before .before .before .before .before .load-next .ensures) (c .before .before .before .spot .ensures .0) (c .before .before .new-blossom .ensures) (c .push .ensures)
 
 pub add-blossom-spec : {M : Type 1} → statement M
 add-blossom-spec =
@@ -98,10 +95,10 @@ add-blossom-spec =
     Inv-loop
     μ-loop
     load-interface-requires
+    free-slot-requires
     load-next-requires
-    cast-t17
-    cast-t18
     cast-t19
+    cast-t20
     loop-holds
     mul-take-in
     shared-slice-read-take-in
