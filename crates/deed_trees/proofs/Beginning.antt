@@ -9,6 +9,7 @@ use lib.IntN.{pos}
 use lib.ListN.{length, getD, set, length-set, replicate, length-replicate, getD-replicate, List·getD-eq-default}
 use lib.Seq.{getD-set-same, getD-set-other}
 use Rattle.kinds.specs.declared.Class.the-variants.{Absent}
+use Rattle.bench_words.specs.Codec.{marksWord}
 use Rattle.bench_words.specs.Store.{base, ibase, nodeAt, interfaceAt, storeInterface, mapAt, interfaceOf, interfaceWords, nodeWords, noInterface}
 use Rattle.bench_words.proofs.Laws.{interface-same, interface-other, store-interface-node, length-store-interface, interface-first, node-first}
 use Rattle.bench_words.proofs.Maps.{store-interface-map, map-first}
@@ -19,7 +20,7 @@ use Rattle.bench_words.specs.declared.Up.the-variants.{Top, Under}
 use Rattle.ledger_spec.specs.Bench.{fresh, setUp}
 use Rattle.bench_views.specs.Records.{noNode}
 use Rattle.bench_views.specs.Tab.{tab}
-use Rattle.bench_views.specs.View.{off, upSeen, halvesSeen, slotIn, interfaceIn}
+use Rattle.bench_views.specs.View.{off, upSeen, halvesSeen, marksSeen, slotIn, interfaceIn}
 use Rattle.bench_views.specs.Canon.{Coded}
 use Rattle.bench_views.specs.Fit.{Done}
 use Rattle.bench_views.proofs.Offsets.{off-zero}
@@ -59,7 +60,7 @@ blank zero j = refl
 blank (suc n) zero = refl
 blank (suc n) (suc j) = blank n j
 
-blank-interface : (j : ℕ) → getD (interfaceWords (interfaceOf 0 0 0 0 0 0 0)) j 0 ≡ 0
+blank-interface : (j : ℕ) → getD (interfaceWords (interfaceOf 0 0 0 0 0 0 0 0)) j 0 ≡ 0
 blank-interface j = blank 7 j
 
 blank-node : (j : ℕ) → getD (nodeWords noNode) j 0 ≡ 0
@@ -70,7 +71,7 @@ module _ (b : List ℕ) (zeros : (m : ℕ) → getD b m 0 ≡ 0) where
   unfolding nodeAt
   zero-node k = simp zeros
 
-  zero-interface : (u : ℕ) → interfaceAt b u ≡ interfaceOf 0 0 0 0 0 0 0
+  zero-interface : (u : ℕ) → interfaceAt b u ≡ interfaceOf 0 0 0 0 0 0 0 0
   unfolding interfaceAt
   zero-interface u = simp zeros
 
@@ -83,6 +84,7 @@ module _ (b : List ℕ) (zeros : (m : ℕ) → getD b m 0 ≡ 0) where
       record {
         spare = λ m z l h. zeros m;
         units = λ u lu j lj. zeros (ibase u + (1 + j)) ∙ sym (ap (λ (f : Interface). getD (interfaceWords f) j 0) (zero-interface u) ∙ blank-interface j);
+        marks = λ u lu. zeros (ibase u + 9) ∙ sym (ap (λ (f : Interface). marksWord (f .marks)) (zero-interface u));
         nodes = λ k lk j lj. zeros (base k + (1 + j)) ∙ sym (ap (λ (n : Node). getD (nodeWords n) j 0) (zero-node k) ∙ blank-node j);
       }
 
@@ -126,7 +128,7 @@ module _ (b : List ℕ) (first : ℕ) (next : getD b 0 0 ≡ first) (len : lengt
       interface-is (interfaceIn (interfaceAt b) (nodeAt b) v) fresh
       (ap (λ (f : Interface). tab (slotIn (interfaceAt b) (nodeAt b) v) 0 (f .used)) e)
       (ap (λ (f : Interface). pos (f .progress)) e) (ap (λ (f : Interface). off 4611686018427387904 (f .sum)) e ∙ off-zero 4611686018427387904) (ap (λ (f : Interface). off 1024 (f .speed)) e ∙ off-zero 1024)
-      (ap (λ (f : Interface). upSeen (f .parent)) e) (ap (λ (f : Interface). halvesSeen (f .left) (f .right)) e)
+      (ap (λ (f : Interface). upSeen (f .parent)) e) (ap (λ (f : Interface). halvesSeen (f .left) (f .right)) e) (ap (λ (f : Interface). marksSeen (f .marks)) e)
 
   class-none : (k : ℕ) → nodeAt b k .class ≡ Absent
   class-none k = ap (λ (n : Node). n .class) (bare k)

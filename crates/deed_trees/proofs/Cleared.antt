@@ -29,7 +29,7 @@ use Rattle.ledger_spec.proofs.Tops.{top-parent}
 use Rattle.ledger_spec.proofs.TreeReadings.{wipe-length, wipe-next, wipe-under, wipe-else}
 use Rattle.bench_views.specs.Records.{noNode}
 use Rattle.bench_views.specs.Tab.{tab}
-use Rattle.bench_views.specs.View.{off, upSeen, halvesSeen, sumUp, over, slotIn, slotSeen, circleOf, interfaceIn, viewIn, view}
+use Rattle.bench_views.specs.View.{off, upSeen, halvesSeen, marksSeen, sumUp, over, slotIn, slotSeen, circleOf, interfaceIn, viewIn, view}
 use Rattle.bench_views.specs.Canon.{walk, heldIn, Seated, Alone, Canon}
 use Rattle.bench_views.specs.Fit.{Fit, Done}
 use Rattle.bench_views.proofs.Offsets.{off-zero}
@@ -119,7 +119,7 @@ module _ (b : List ℕ) (u : ℕ) (F : Fit b) (b₁ : List ℕ) (w : ℕ) (G : W
       interface-is (interfaceIn U₁ A₁ v) (interfaceIn U A v)
       (ap (λ (f : Interface). tab (slotIn U₁ A₁ v) 0 (f .used)) e ∙ tab-same (slotIn U₁ A₁ v) (slotIn U A v) (U v .used) none (λ r lr. slot-kept v r lv lr ne))
       (ap (λ (f : Interface). pos (f .progress)) e) (ap (λ (f : Interface). off 4611686018427387904 (f .sum)) e) (ap (λ (f : Interface). off 1024 (f .speed)) e)
-      (ap (λ (f : Interface). upSeen (f .parent)) e) (ap (λ (f : Interface). halvesSeen (f .left) (f .right)) e)
+      (ap (λ (f : Interface). upSeen (f .parent)) e) (ap (λ (f : Interface). halvesSeen (f .left) (f .right)) e) (ap (λ (f : Interface). marksSeen (f .marks)) e)
 
   seen-gone : (v : ℕ) → v < 8 → top B v ≡ u → interfaceIn U₁ A₁ v ≡ fresh
   unfolding tab
@@ -128,7 +128,7 @@ module _ (b : List ℕ) (u : ℕ) (F : Fit b) (b₁ : List ℕ) (w : ℕ) (G : W
       interface-is (interfaceIn U₁ A₁ v) fresh
       (ap (λ (f : Interface). tab (slotIn U₁ A₁ v) 0 (f .used)) e)
       (ap (λ (f : Interface). pos (f .progress)) e) (ap (λ (f : Interface). off 4611686018427387904 (f .sum)) e ∙ off-zero 4611686018427387904) (ap (λ (f : Interface). off 1024 (f .speed)) e ∙ off-zero 1024)
-      (ap (λ (f : Interface). upSeen (f .parent)) e) (ap (λ (f : Interface). halvesSeen (f .left) (f .right)) e)
+      (ap (λ (f : Interface). upSeen (f .parent)) e) (ap (λ (f : Interface). halvesSeen (f .left) (f .right)) e) (ap (λ (f : Interface). marksSeen (f .marks)) e)
 
   seen : view b₁ ≡ wipe B u
   seen =

@@ -25,7 +25,7 @@ use Rattle.ledger_spec.proofs.Passed.{Open, Fusable, fusable}
 use Rattle.ledger_spec.proofs.TreeReadings.{Joins, joins, join-slots, join-else, join-kept, join-l, join-r, join-p, join-length, join-next}
 use Rattle.bench_views.specs.Records.{Steady}
 use Rattle.bench_views.specs.Tab.{tab}
-use Rattle.bench_views.specs.View.{off, upSeen, halvesSeen, sumUp, slotIn, slotSeen, circleOf, interfaceIn, viewIn, view}
+use Rattle.bench_views.specs.View.{off, upSeen, halvesSeen, marksSeen, sumUp, slotIn, slotSeen, circleOf, interfaceIn, viewIn, view}
 use Rattle.bench_views.specs.Canon.{Coded}
 use Rattle.bench_views.specs.Fit.{Fit, Done}
 use Rattle.bench_views.proofs.Views.{interface-in, interface-is, view-is, view-next, view-eight, view-count}
@@ -71,7 +71,7 @@ module _ (b : List ℕ) (p l r : ℕ) (F : Fit b) (T : first (fuseTests (view b)
   no-slots = sym (view-count (getD b 0 0) U (nodeAt b) p p<8) ∙ ap length (S .no-slots)
 
   abbrev f₀ : Interface
-  f₀ = fusedWords (U l) (U r) l r
+  f₀ = fusedWords (U p .marks) (U l) (U r) l r
 
   abbrev b₁ : List ℕ
   b₁ = storeInterface b l (withUp (U l) p)
@@ -192,6 +192,9 @@ module _ (b : List ℕ) (p l r : ℕ) (F : Fit b) (T : first (fuseTests (view b)
   halves-now = field (λ f. (f .left, f .right)) (λ (x : ℕ × ℕ). halvesSeen (x .0) (x .1)) (λ f. f .halves) (λ f q. refl) (λ f q. refl) (is (λ f. f .halves))
       (halves-new ∙ sym (ap (λ (f : plain.Interface). f .halves) (join-p B p l r joining)))
 
+  marks-now : (v : ℕ) → v < 8 → marksSeen (U₃ v .marks) ≡ interface J v .marks
+  marks-now = field (λ f. f .marks) marksSeen (λ f. f .marks) (λ f q. refl) (λ f q. refl) (is (λ f. f .marks)) (sym (ap (λ (f : plain.Interface). f .marks) (join-p B p l r joining) ∙ is (λ f. f .marks) p p<8))
+
   parent-now : (v : ℕ) → v < 8 → upSeen (U₃ v .parent) ≡ interface J v .parent
   parent-now v lv = by-cases (ℕ-discrete v p)
       (λ (q : v ≡ p). rw (q, here-p) (sym (ap (λ (f : plain.Interface). f .parent) (join-p B p l r joining))))
@@ -206,7 +209,7 @@ module _ (b : List ℕ) (p l r : ℕ) (F : Fit b) (T : first (fuseTests (view b)
       let same : nodeAt b₃ ≡ nodeAt b = fun-ext node₃ in
       ap₂ (λ (n : ℕ) (X : ℕ → Node). viewIn n U₃ X) next₃ same
       ∙ view-is (getD b 0 0) U₃ A J (join-next B p l r joining ∙ view-next (getD b 0 0) U A) (join-length B p l r joining ∙ view-eight (getD b 0 0) U A)
-      (λ v lv. interface-is (interfaceIn U₃ A v) (interface J v) (slots₃ v lv) (progress-now v lv) (sum-now v lv) (speed-now v lv) (parent-now v lv) (halves-now v lv))
+      (λ v lv. interface-is (interfaceIn U₃ A v) (interface J v) (slots₃ v lv) (progress-now v lv) (sum-now v lv) (speed-now v lv) (parent-now v lv) (halves-now v lv) (marks-now v lv))
 
   -- ---- the words stay canonical
   steady₃ : Steady b₃
@@ -264,8 +267,8 @@ module _ (b : List ℕ) (p l r : ℕ) (F : Fit b) (T : first (fuseTests (view b)
         speed-high = omega (arith, x .fast, y .fast);
       })
 
-  pub join-by : (L R : Interface) {c₁ c₂ c₃ : List ℕ} → L ≡ U l → R ≡ U r → c₁ ≡ storeInterface b l (withUp (U l) p) → c₂ ≡ storeInterface c₁ r (withUp (interfaceAt c₁ r) p)
-      → c₃ ≡ storeInterface c₂ p (fusedWords L R l r) → Done c₃ J
-  join-by L R {c₃ = c₃} eL eR e₁ e₂ e₃ =
-      let q : c₃ ≡ b₃ = simp (e₃, e₂, e₁, eL, eR) in
+  pub join-by : (L R P : Interface) {c₁ c₂ c₃ : List ℕ} → L ≡ U l → R ≡ U r → P ≡ U p → c₁ ≡ storeInterface b l (withUp (U l) p) → c₂ ≡ storeInterface c₁ r (withUp (interfaceAt c₁ r) p)
+      → c₃ ≡ storeInterface c₂ p (fusedWords (P .marks) L R l r) → Done c₃ J
+  join-by L R P {c₃ = c₃} eL eR eP e₁ e₂ e₃ =
+      let q : c₃ ≡ b₃ = simp (e₃, e₂, e₁, eL, eR, eP) in
       rw q fused

@@ -1,6 +1,7 @@
 // The work of fuse, clear and set-up, over the words that the caller lends, against the plain ledger's own definitions. A fuse touches no node; a
 // clear touches the slots used in its tree. No refusal is left: each asks that its tests pass on words that fit. Assumes nothing.
 use bench_words::Interface;
+use bench_words::Marks;
 use bench_words::Up;
 use bench_words::WORDS;
 ghost use mathlib.Core.Path.{_≡_};
@@ -29,6 +30,7 @@ fn no_interface() -> Interface
         parent: Up::Top,
         left: 0,
         right: 0,
+        marks: Marks { fills: false },
     }
 }
 
@@ -38,6 +40,7 @@ fn put_under(b: &mut [u64; WORDS], unit: usize, parent: usize)
     ensures { λ _. ⌜ now (b .exit) ≡ storeInterface (now (b .entry)) unit (withUp (interfaceAt (now (b .entry)) unit) parent) ⌝ }
 {
     let f = bench_words::load_interface(b, unit);
+    let marks = f.marks;
     bench_words::store_interface(
         b,
         unit,
@@ -49,17 +52,20 @@ fn put_under(b: &mut [u64; WORDS], unit: usize, parent: usize)
             parent: Up::Under(parent as u8),
             left: f.left,
             right: f.right,
+            marks,
         },
     );
 }
 
-// Fuses two interfaces under a parent, which gets both sums and both speeds.
+// Fuses two interfaces under a parent, which gets both sums and both speeds. Each of the three keeps its marks.
 pub fn join(b: &mut [u64; WORDS], parent: usize, left: usize, right: usize)
     requires { ⌜ Fit (now b) × (numberOf (fuseTests (view (now b)) parent left right) ≡ 0) ⌝ }
     ensures { λ _. ⌜ Done (now (b .exit)) (joined (view (now (b .entry))) parent left right) ⌝ }
 {
     let l = bench_words::load_interface(b, left);
     let r = bench_words::load_interface(b, right);
+    let p = bench_words::load_interface(b, parent);
+    let marks = p.marks;
     put_under(b, left, parent);
     put_under(b, right, parent);
     bench_words::store_interface(
@@ -73,6 +79,7 @@ pub fn join(b: &mut [u64; WORDS], parent: usize, left: usize, right: usize)
             parent: Up::Top,
             left: (left as u64) + 1,
             right: (right as u64) + 1,
+            marks,
         },
     );
 }
@@ -89,7 +96,7 @@ fn empty_slots(b: &mut [u64; WORDS], unit: usize, used: usize)
     }
 }
 
-// Empties an interface, its used slots and its map.
+// Empties an interface, its used slots, its map and its marks.
 fn reset(b: &mut [u64; WORDS], unit: usize)
     requires { ⌜ (unit < 8) × Steady (now b) × Coded (now b) ⌝ }
     ensures { λ _. ⌜ Reset (now (b .entry)) unit (now (b .exit)) ⌝ }

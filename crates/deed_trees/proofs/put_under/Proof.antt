@@ -6,14 +6,14 @@ use Rattle.deed_trees.proofs.put_under.Tie as tie
 load-interface-requires : tie.Need-load-interface-requires
 load-interface-requires c κs = search needs
 
-cast-t8 : tie.Need-cast-t8
-cast-t8 c = search needs
+cast-t9 : tie.Need-cast-t9
+cast-t9 c = search needs
 
 store-interface-requires : tie.Need-store-interface-requires
 store-interface-requires c κs = search needs
 
 returns : tie.Need-returns
-returns c = simp (c .store-interface .ensures, c .before .before .load-interface .ensures)
+returns c = simp (c .store-interface .ensures, c .before .before .before .load-interface .ensures)
 
 pub put-under-spec : {M : Type 1} → statement M
-put-under-spec = tie.close (tie.spec load-interface-requires cast-t8 store-interface-requires returns)
+put-under-spec = tie.close (tie.spec load-interface-requires cast-t9 store-interface-requires returns)
