@@ -11,7 +11,7 @@ use Rattle.ledger_spec.specs.Bench.{Handle, State, grows, stays, shrinks, Bench
 use Rattle.ledger_spec.specs.Named.{handleNamed, stateNamed}
 use Rattle.ledger_spec.specs.Look.{nodeNamed}
 use Rattle.ledger_spec.specs.Deeds.{newHandle, members}
-use Rattle.ledger_spec.specs.Calls.{Call, Defect, Blossom, Expand, SetState, Grow as Growing, Fuse, Clear}
+use Rattle.ledger_spec.specs.Calls.{Call, Defect, Blossom, Expand, SetState, Grow as Growing, Fuse, Clear, Mark}
 use Rattle.ledger_spec.specs.Notices.{Notice, stateSet, shrinkPrepared, blossomAdded, tells}
 use Rattle.outcome_notices.specs.Laid.{packed, stateCode, code, entry, blank, circleIn, laid, meant, circleOf, noticesOf}
 use Rattle.outcome_notices.specs.declared.Notices.{Notices}
@@ -74,6 +74,7 @@ tells-round b (SetState u h s) = (ap (stateSet h) (state-named s), tt)
 tells-round b (Growing u l) = (refl, tt)
 tells-round b (Fuse p l r) = tt
 tells-round b (Clear u) = tt
+tells-round b (Mark u k) = tt
 
 -- what a call tells, read back off its value
 pub told-back : (b : Bench) (c : Call) → noticesOf (laid (tells b c)) ≡ tells b c

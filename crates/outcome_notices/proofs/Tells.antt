@@ -3,9 +3,9 @@ use Prim.Native.Nat.{ℕ}
 use mathlib.Core.Path.{_≡_, refl, ap}
 use mathlib.Core.List.{List, [], _∷_}
 use lib.IntN.{ℤ}
-use Rattle.ledger_spec.specs.Bench.{Handle, State, Bench}
+use Rattle.ledger_spec.specs.Bench.{Handle, State, Marking, Bench}
 use Rattle.ledger_spec.specs.Deeds.{newHandle}
-use Rattle.ledger_spec.specs.Calls.{Defect, Blossom, Expand, SetState, Grow, Fuse, Clear}
+use Rattle.ledger_spec.specs.Calls.{Defect, Blossom, Expand, SetState, Grow, Fuse, Clear, Mark}
 use Rattle.ledger_spec.specs.Notices.{defectAdded, stateSet, grown, tells}
 use Rattle.outcome_notices.specs.Lists.{blossomMade, blossomGone}
 
@@ -33,6 +33,10 @@ module _ (b : Bench) (u : ℕ) where
   pub tells-clear : [] ≡ tells b (Clear u)
   unfolding tells
   tells-clear = refl
+
+  pub tells-mark : (k : Marking) → [] ≡ tells b (Mark u k)
+  unfolding tells
+  tells-mark k = refl
 
 pub tells-fuse : (b : Bench) (p l r : ℕ) → [] ≡ tells b (Fuse p l r)
 unfolding tells

@@ -42,8 +42,9 @@ returns-4 c = let a = c .before .before .before .before .before .before .before 
     (c .before .given-twice .result) (c .before .given-twice .ensures) (c .if4 .taken)
 
 room-number-requires : tie.Need-room-number-requires
-room-number-requires c κs = let a = c .before .before .before .before .before .before .before .before .before .before .args in
-    named (view (a .b .now)) (a .unit) (handsGiven (a .members .now)) (pairsGiven (a .touching .now)) (c .before .before .before .before .before .before .before .unit-number .result) (c .before .before .before .before .before .before .before .unit-number .ensures) (c .before .before .before .before .before .before .if1 .left) .low
+room-number-requires c κs = let s = c .before .before .before .before .before .before .before .before .before .before in
+    let a = s .args in
+    (s .pre, named (view (a .b .now)) (a .unit) (handsGiven (a .members .now)) (pairsGiven (a .touching .now)) (c .before .before .before .before .before .before .before .unit-number .result) (c .before .before .before .before .before .before .before .unit-number .ensures) (c .before .before .before .before .before .before .if1 .left) .low)
 
 returns-5 : tie.Need-returns-5
 returns-5 c = let a = c .before .before .before .before .before .before .before .before .before .before .before .args in
