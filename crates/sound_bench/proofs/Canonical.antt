@@ -22,7 +22,7 @@ use Rattle.bench_views.specs.Records.{Steady, noNode}
 use Rattle.bench_views.specs.View.{view}
 use Rattle.bench_views.specs.Canon.{walk, heldIn, Seated, Alone, Coded, Canon}
 use Rattle.bench_views.proofs.Maps.{held-absent, held-present}
-use Rattle.sound_trees.proofs.Codings.{Coding, blank-none, blank-coded, link-words, spare-words}
+use Rattle.sound_trees.proofs.Codings.{Coding, blank-none, blank-coded, link-words, flag-words, spare-words}
 use Rattle.sound_trees.proofs.Framing.{Linked, interface-says, interface-coded, linked-frame, linked-steady}
 use Rattle.sound_nodes.specs.Nodes.{handleIn}
 use Rattle.sound_bench.proofs.Seeing.{by-place}
@@ -147,6 +147,7 @@ module _ (b : List ℕ) (P : Parts b) (len : length b ≡ 6273) where
   coded = record {
     spare = spare-words b (λ u l. interface-coded b u (P .interface u l) .0);
     units = λ u l. link-words b u (interface-coded b u (P .interface u l) .1);
+    marks = λ u l. flag-words b u (interface-coded b u (P .interface u l) .2);
     nodes = by-place (λ k. (j : ℕ) → j < 12 → getD b (base k + (1 + j)) 0 ≡ getD (nodeWords (nodeAt b k)) j 0) coding;
   }
 

@@ -44,7 +44,7 @@ use Rattle.bench_views.proofs.Ranges.{off-range, ranged}
 use Rattle.bench_views.proofs.Fits.{fit-of}
 use Rattle.sound_trees.specs.Below.{allTo, between}
 use Rattle.sound_trees.proofs.Belows.{all-of}
-use Rattle.sound_trees.proofs.Codings.{none-blank, words-link, words-spare}
+use Rattle.sound_trees.proofs.Codings.{none-blank, words-link, words-flag, words-spare}
 use Rattle.sound_trees.specs.Width.{widthOf}
 use Rattle.sound_trees.proofs.Framing.{interface-holds, frame-linked}
 use Rattle.sound_trees.proofs.Widths.{width-is}
@@ -288,7 +288,7 @@ module _ (b : List ℕ) (Z : SoundWords b) where
   passing = record {
     some = λ e. omega (arith, e, F .begun);
     worn = F .next;
-    interface = λ u l. interface-holds b u (words-spare b (C .coded .spare) u l) (words-link b u (C .coded .units u l 4 (omega arith))) (frame-linked b (C .steady) (S .frame) (C .whole) (C .both) u l);
+    interface = λ u l. interface-holds b u (words-spare b (C .coded .spare) u l) (words-link b u (C .coded .units u l 4 (omega arith))) (words-flag b u (C .coded .marks u l)) (frame-linked b (C .steady) (S .frame) (C .whole) (C .both) u l);
     map = λ u l. subst (λ (w : ℕ). w < 18446744073709551616) (sym (C .map u l)) (map-lt (heldIn A u) 64);
     slot = slot;
     top = top;

@@ -1,7 +1,7 @@
 -- Words in range are the code of what is loaded from them, and a code is in range: by cases of what is coded. Assumes nothing.
 use Prim.Native.Nat.{ℕ, zero, suc, _+_, _-_, _/_, _%_, _<_, _≤_}
 use mathlib.Core.Path.{_≡_, refl, sym, _∙_, ap}
-use mathlib.Core.Bool.{true}
+use mathlib.Core.Bool.{Bool, true, false}
 use mathlib.Core.List.{List}
 use native.Mathlib.Omega.{arith}
 use native.Mathlib.Nat.{mod-eq-of-lt}
@@ -18,12 +18,12 @@ use Rattle.kinds.specs.declared.Parent.the-variants.{Outermost, Inside}
 use Rattle.bench_words.specs.declared.Node.{Node}
 use Rattle.bench_words.specs.declared.Up.{Up}
 use Rattle.bench_words.specs.declared.Up.the-variants.{Top, Under}
-use Rattle.bench_words.specs.Codec.{stateOf, stateWord, handleOf, handleWord, classOf, classWord, parentOf, parentWord, upOf, upWord}
+use Rattle.bench_words.specs.Codec.{stateOf, stateWord, handleOf, handleWord, classOf, classWord, parentOf, parentWord, upOf, upWord, marksOf, marksWord, pick}
 use Rattle.bench_words.specs.Store.{base, ibase, nodeAt, nodeWords, interfaceAt, interfaceWords}
 use Rattle.bench_words.proofs.Laws.{GoodHandle, GoodParent, GoodClass, GoodUp, good-node, good-interface}
 use Rattle.ledger_spec.proofs.Lists.{and-true, both-true}
 use Rattle.bench_views.specs.Records.{noNode}
-use Rattle.bench_words.specs.Coding.{zeroAt, blankAt, codedAt, spareAt, linkAt}
+use Rattle.bench_words.specs.Coding.{zeroAt, blankAt, codedAt, spareAt, linkAt, flagsAt}
 
 -- ---- a word in range is its own code
 state-code : (w : ℕ) → w ≤ 2 → w ≡ stateWord (stateOf w)
@@ -73,16 +73,15 @@ up-small Top g = omega arith
 up-small (Under p) g = omega arith
 
 -- ---- row by row
-eight : (P : ℕ → Type 0) → P 9 → P 10 → P 11 → P 12 → P 13 → P 14 → P 15 → P 16 → (j : ℕ) → j < 8 → P (9 + j)
-eight P a b c d e f g h zero l = a
-eight P a b c d e f g h (suc zero) l = b
-eight P a b c d e f g h (suc (suc zero)) l = c
-eight P a b c d e f g h (suc (suc (suc zero))) l = d
-eight P a b c d e f g h (suc (suc (suc (suc zero)))) l = e
-eight P a b c d e f g h (suc (suc (suc (suc (suc zero))))) l = f
-eight P a b c d e f g h (suc (suc (suc (suc (suc (suc zero)))))) l = g
-eight P a b c d e f g h (suc (suc (suc (suc (suc (suc (suc zero))))))) l = h
-eight P a b c d e f g h (suc (suc (suc (suc (suc (suc (suc (suc j)))))))) l = absurd (omega arith)
+seven : (P : ℕ → Type 0) → P 10 → P 11 → P 12 → P 13 → P 14 → P 15 → P 16 → (j : ℕ) → j < 7 → P (10 + j)
+seven P a b c d e f g zero l = a
+seven P a b c d e f g (suc zero) l = b
+seven P a b c d e f g (suc (suc zero)) l = c
+seven P a b c d e f g (suc (suc (suc zero))) l = d
+seven P a b c d e f g (suc (suc (suc (suc zero)))) l = e
+seven P a b c d e f g (suc (suc (suc (suc (suc zero))))) l = f
+seven P a b c d e f g (suc (suc (suc (suc (suc (suc zero)))))) l = g
+seven P a b c d e f g (suc (suc (suc (suc (suc (suc (suc j))))))) l = absurd (omega arith)
 
 twelve : (P : ℕ → Type 0) → P 0 → P 1 → P 2 → P 3 → P 4 → P 5 → P 6 → P 7 → P 8 → P 9 → P 10 → P 11 → (j : ℕ) → j < 12 → P j
 twelve P a b c d e f g h i k m n zero l = a
@@ -206,32 +205,49 @@ module _ (b : List ℕ) (u : ℕ) where
   unfolding linkAt
   words-link e = le-leb (getD b (ibase u + 5) 0) 8 (omega (arith, e, up-small (interfaceAt b u .parent) (good-interface b u)))
 
-  spare-zero : spareAt b u ≡ true → (j : ℕ) → j < 8 → getD b (ibase u + (9 + j)) 0 ≡ 0
+  -- the marks' word, which has one bit
+  marks-code : (w : ℕ) → w ≤ 1 → w ≡ marksWord (marksOf w)
+  marks-code zero l = refl
+  marks-code (suc zero) l = refl
+  marks-code (suc (suc w)) l = absurd (omega arith)
+
+  marks-small : (t : Bool) → pick t 1 0 ≤ 1
+  marks-small true = omega arith
+  marks-small false = omega arith
+
+  pub flag-words : flagsAt b u ≡ true → getD b (ibase u + 9) 0 ≡ marksWord (interfaceAt b u .marks)
+  unfolding flagsAt interfaceAt
+  flag-words e = marks-code (getD b (ibase u + 9) 0) (leb-true (getD b (ibase u + 9) 0) 1 e)
+
+  pub words-flag : getD b (ibase u + 9) 0 ≡ marksWord (interfaceAt b u .marks) → flagsAt b u ≡ true
+  unfolding flagsAt
+  words-flag e = le-leb (getD b (ibase u + 9) 0) 1 (omega (arith, e, marks-small (interfaceAt b u .marks .fills)))
+
+  spare-zero : spareAt b u ≡ true → (j : ℕ) → j < 7 → getD b (ibase u + (10 + j)) 0 ≡ 0
   unfolding spareAt
   spare-zero e =
-      let a1 = and-true (zeroAt b (ibase u + 9)) _ e in
-      let a2 = and-true (zeroAt b (ibase u + 10)) _ (a1 .1) in
-      let a3 = and-true (zeroAt b (ibase u + 11)) _ (a2 .1) in
-      let a4 = and-true (zeroAt b (ibase u + 12)) _ (a3 .1) in
-      let a5 = and-true (zeroAt b (ibase u + 13)) _ (a4 .1) in
-      let a6 = and-true (zeroAt b (ibase u + 14)) _ (a5 .1) in
-      let a7 = and-true (zeroAt b (ibase u + 15)) _ (a6 .1) in
-      eight (λ j. getD b (ibase u + j) 0 ≡ 0)
-      (eqb-true (getD b (ibase u + 9) 0) 0 (a1 .0)) (eqb-true (getD b (ibase u + 10) 0) 0 (a2 .0)) (eqb-true (getD b (ibase u + 11) 0) 0 (a3 .0)) (eqb-true (getD b (ibase u + 12) 0) 0 (a4 .0))
-      (eqb-true (getD b (ibase u + 13) 0) 0 (a5 .0)) (eqb-true (getD b (ibase u + 14) 0) 0 (a6 .0)) (eqb-true (getD b (ibase u + 15) 0) 0 (a7 .0)) (eqb-true (getD b (ibase u + 16) 0) 0 (a7 .1))
+      let a1 = and-true (zeroAt b (ibase u + 10)) _ e in
+      let a2 = and-true (zeroAt b (ibase u + 11)) _ (a1 .1) in
+      let a3 = and-true (zeroAt b (ibase u + 12)) _ (a2 .1) in
+      let a4 = and-true (zeroAt b (ibase u + 13)) _ (a3 .1) in
+      let a5 = and-true (zeroAt b (ibase u + 14)) _ (a4 .1) in
+      let a6 = and-true (zeroAt b (ibase u + 15)) _ (a5 .1) in
+      seven (λ j. getD b (ibase u + j) 0 ≡ 0)
+      (eqb-true (getD b (ibase u + 10) 0) 0 (a1 .0)) (eqb-true (getD b (ibase u + 11) 0) 0 (a2 .0)) (eqb-true (getD b (ibase u + 12) 0) 0 (a3 .0))
+      (eqb-true (getD b (ibase u + 13) 0) 0 (a4 .0)) (eqb-true (getD b (ibase u + 14) 0) 0 (a5 .0)) (eqb-true (getD b (ibase u + 15) 0) 0 (a6 .0)) (eqb-true (getD b (ibase u + 16) 0) 0 (a6 .1))
 
-pub spare-words : (b : List ℕ) → ((u : ℕ) → u < 8 → spareAt b u ≡ true) → (m : ℕ) → 0 < m → m ≤ 128 → 8 ≤ (m - 1) % 16 → getD b m 0 ≡ 0
+pub spare-words : (b : List ℕ) → ((u : ℕ) → u < 8 → spareAt b u ≡ true) → (m : ℕ) → 0 < m → m ≤ 128 → 9 ≤ (m - 1) % 16 → getD b m 0 ≡ 0
 spare-words b h m z l r =
     let u : ℕ = (m - 1) / 16 in
-    let j : ℕ = (m - 1) % 16 - 8 in
-    let e : m ≡ ibase u + (9 + j) = omega arith in
+    let j : ℕ = (m - 1) % 16 - 9 in
+    let e : m ≡ ibase u + (10 + j) = omega arith in
     ap (λ (x : ℕ). getD b x 0) e ∙ spare-zero b u (h u (omega arith)) j (omega arith)
 
-pub words-spare : (b : List ℕ) → ((m : ℕ) → 0 < m → m ≤ 128 → 8 ≤ (m - 1) % 16 → getD b m 0 ≡ 0) → (u : ℕ) → u < 8 → spareAt b u ≡ true
+pub words-spare : (b : List ℕ) → ((m : ℕ) → 0 < m → m ≤ 128 → 9 ≤ (m - 1) % 16 → getD b m 0 ≡ 0) → (u : ℕ) → u < 8 → spareAt b u ≡ true
 unfolding spareAt
 words-spare b h u lu =
-    both-true (z 9 (omega arith) (omega arith)) (both-true (z 10 (omega arith) (omega arith)) (both-true (z 11 (omega arith) (omega arith)) (both-true (z 12 (omega arith) (omega arith))
-    (both-true (z 13 (omega arith) (omega arith)) (both-true (z 14 (omega arith) (omega arith)) (both-true (z 15 (omega arith) (omega arith)) (z 16 (omega arith) (omega arith))))))))
+    both-true (z 10 (omega arith) (omega arith)) (both-true (z 11 (omega arith) (omega arith)) (both-true (z 12 (omega arith) (omega arith))
+    (both-true (z 13 (omega arith) (omega arith)) (both-true (z 14 (omega arith) (omega arith)) (both-true (z 15 (omega arith) (omega arith)) (z 16 (omega arith) (omega arith)))))))
   where
-    z : (j : ℕ) → 9 ≤ j → j ≤ 16 → zeroAt b (ibase u + j) ≡ true
+    z : (j : ℕ) → 10 ≤ j → j ≤ 16 → zeroAt b (ibase u + j) ≡ true
     z j lo hi = eq-eqb (getD b (ibase u + j) 0) 0 (h (ibase u + j) (omega arith) (omega arith) (omega arith))

@@ -27,7 +27,7 @@ use Rattle.ledger_spec.proofs.Knit.{some-eq, none-some}
 use Rattle.bench_views.specs.Records.{Steady}
 use Rattle.bench_views.specs.View.{upSeen, halvesSeen, view}
 use Rattle.bench_views.proofs.Views.{interface-in, view-eight, view-parent}
-use Rattle.bench_words.specs.Coding.{spareAt, linkAt}
+use Rattle.bench_words.specs.Coding.{spareAt, linkAt, flagsAt}
 use Rattle.sound_trees.specs.Links.{isUnder, upTest, downTest, interfaceTest}
 
 -- ---- the facts of one interface
@@ -123,7 +123,7 @@ module _ (b : List ℕ) (u : ℕ) where
   pub interface-says : interfaceTest b u ≡ true → Linked (interfaceAt b) u
   unfolding interfaceTest
   interface-says e =
-      let x = and-true (spareAt b u && linkAt b u) _ e in
+      let x = and-true (spareAt b u && (linkAt b u && flagsAt b u)) _ e in
       let y = and-true (leb (U u .used) 64 && leb (U u .progress) 1099511627776) _ (x .1) in
       let z = and-true (leb (U u .used) 64) (leb (U u .progress) 1099511627776) (y .0) in
       let w = and-true (upTest U (U u .parent) u) (downTest U (U u .left) (U u .right) u) (y .1) in
@@ -135,14 +135,17 @@ module _ (b : List ℕ) (u : ℕ) where
         both = both-says U u (w .1);
       }
 
-  pub interface-coded : interfaceTest b u ≡ true → (spareAt b u ≡ true) × (linkAt b u ≡ true)
+  pub interface-coded : interfaceTest b u ≡ true → (spareAt b u ≡ true) × (linkAt b u ≡ true) × (flagsAt b u ≡ true)
   unfolding interfaceTest
-  interface-coded e = and-true (spareAt b u) (linkAt b u) (and-true (spareAt b u && linkAt b u) _ e .0)
+  interface-coded e =
+      let x = and-true (spareAt b u) (linkAt b u && flagsAt b u) (and-true (spareAt b u && (linkAt b u && flagsAt b u)) _ e .0) in
+      let y = and-true (linkAt b u) (flagsAt b u) (x .1) in
+      (x .0, y .0, y .1)
 
-  pub interface-holds : spareAt b u ≡ true → linkAt b u ≡ true → Linked (interfaceAt b) u → interfaceTest b u ≡ true
+  pub interface-holds : spareAt b u ≡ true → linkAt b u ≡ true → flagsAt b u ≡ true → Linked (interfaceAt b) u → interfaceTest b u ≡ true
   unfolding interfaceTest
-  interface-holds s k L =
-      both-true (both-true s k) (both-true (both-true (le-leb (U u .used) 64 (L .used)) (le-leb (U u .progress) 1099511627776 (L .progress)))
+  interface-holds s k g L =
+      both-true (both-true s (both-true k g)) (both-true (both-true (le-leb (U u .used) 64 (L .used)) (le-leb (U u .progress) 1099511627776 (L .progress)))
       (both-true (above-holds U u (U u .parent) (L .above)) (down-holds U u (L .none) (L .both))))
 
 -- ---- the view's links are the words'

@@ -17,7 +17,7 @@ use Rattle.bench_views.specs.View.{view}
 use Rattle.bench_views.proofs.Sums.{bounded}
 use Rattle.bench_trees.specs.Climb.{Climbs}
 use Rattle.sound_trees.specs.Below.{sumTo}
-use Rattle.bench_words.specs.Coding.{spareAt, linkAt}
+use Rattle.bench_words.specs.Coding.{spareAt, linkAt, flagsAt}
 use Rattle.sound_trees.proofs.Belows.{sum-none, sum-more}
 use Rattle.sound_trees.specs.Links.{isUnder, upTest, downTest, interfaceTest}
 use Rattle.sound_trees.specs.Width.{progressUnder, widthOf}
@@ -56,10 +56,10 @@ module _ (U : ℕ → Interface) (l r u : ℕ) where
             rw (ne-eqb l 0 some, le-leb l u low, le-leb r u low-right, ne-eqb r 0 ne)
             (ap₂ (λ (x y : Bool). not (eqb l r) && (x && y)) (h ∙ ap (λ (x : Interface). isUnder (x .parent) u) e) (h' ∙ ap (λ (x : Interface). isUnder (x .parent) u) e'))
 
-pub interface-row : (b : List ℕ) (u : ℕ) (f : Interface) (s l h d : Bool) → f ≡ interfaceAt b u → s ≡ spareAt b u → l ≡ linkAt b u → h ≡ upTest (interfaceAt b) (f .parent) u → d ≡ downTest (interfaceAt b) (f .left) (f .right) u
-    → ((s && l) && ((leb (f .used) 64 && leb (f .progress) 1099511627776) && (h && d))) ≡ interfaceTest b u
+pub interface-row : (b : List ℕ) (u : ℕ) (f : Interface) (s l g h d : Bool) → f ≡ interfaceAt b u → s ≡ spareAt b u → l ≡ linkAt b u → g ≡ flagsAt b u → h ≡ upTest (interfaceAt b) (f .parent) u → d ≡ downTest (interfaceAt b) (f .left) (f .right) u
+    → ((s && (l && g)) && ((leb (f .used) 64 && leb (f .progress) 1099511627776) && (h && d))) ≡ interfaceTest b u
 unfolding interfaceTest
-interface-row b u f s l h d e p q x y = simp (p, q, x, y, e)
+interface-row b u f s l g h d e p q r x y = simp (p, q, r, x, y, e)
 
 -- ---- W
 module _ (b : List ℕ) (st : Steady b) (i u : ℕ) (lu : u < 8) (t s : ℕ) (C : Climbs b u t s) where

@@ -9,7 +9,7 @@ use Rattle.bench_words.specs.Store.{interfaceAt}
 use Rattle.bench_words.specs.declared.Interface.{Interface}
 use Rattle.bench_words.specs.declared.Up.{Up}
 use Rattle.bench_words.specs.declared.Up.the-variants.{Top, Under}
-use Rattle.bench_words.specs.Coding.{spareAt, linkAt}
+use Rattle.bench_words.specs.Coding.{spareAt, linkAt, flagsAt}
 
 abbrev pub isUnder : Up → ℕ → Bool
 isUnder Top u = false
@@ -25,6 +25,6 @@ abbrev pub downTest : (ℕ → Interface) → ℕ → ℕ → ℕ → Bool
 downTest U l r u = pick (eqb l 0) (eqb r 0) (leb l u && (leb r u && (not (eqb r 0) && (not (eqb l r) && (isUnder (U (l - 1) .parent) u && isUnder (U (r - 1) .parent) u)))))
 
 unfoldable pub interfaceTest : List ℕ → ℕ → Bool
-interfaceTest b u = (spareAt b u && linkAt b u)
+interfaceTest b u = (spareAt b u && (linkAt b u && flagsAt b u))
     && ((leb (interfaceAt b u .used) 64 && leb (interfaceAt b u .progress) progressLimit)
     && (upTest (interfaceAt b) (interfaceAt b u .parent) u && downTest (interfaceAt b) (interfaceAt b u .left) (interfaceAt b u .right) u))

@@ -68,7 +68,8 @@ fn is_interface(b: &[u64; WORDS], u: usize) -> bool
 {
     let f = bench_words::load_interface(b, u);
     let p = f.parent;
-    let coded = bench_words::coding::is_spare(b, u) & bench_words::coding::is_link(b, u);
+    let coded = bench_words::coding::is_spare(b, u)
+        & (bench_words::coding::is_link(b, u) & bench_words::coding::is_flags(b, u));
     let ranged = (f.used <= 64) & (f.progress <= Interface::PROGRESS);
     coded & (ranged & (is_half(b, p, u) & are_halves(b, f.left, f.right, u)))
 }

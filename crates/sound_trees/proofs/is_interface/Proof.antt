@@ -13,14 +13,17 @@ is-spare-requires c κs = search needs
 is-link-requires : tie.Need-is-link-requires
 is-link-requires c κs = search needs
 
+is-flags-requires : tie.Need-is-flags-requires
+is-flags-requires c κs = search needs
+
 is-half-requires : tie.Need-is-half-requires
-is-half-requires c κs = (good-loaded (c .before .before .before .before .before .args .b .now) (c .before .before .before .before .before .args .u) (c .before .before .before .before .load-interface .result) (c .before .before .before .before .load-interface .ensures), c .before .before .before .before .before .pre)
+is-half-requires c κs = (good-loaded (c .before .before .before .before .before .before .args .b .now) (c .before .before .before .before .before .before .args .u) (c .before .before .before .before .before .load-interface .result) (c .before .before .before .before .before .load-interface .ensures), c .before .before .before .before .before .before .pre)
 
 are-halves-requires : tie.Need-are-halves-requires
 are-halves-requires c κs = search needs
 
 returns : tie.Need-returns
-returns c = interface-row (c .before .before .before .before .before .before .before .args .b .now) (c .before .before .before .before .before .before .before .args .u) (c .before .before .before .before .before .before .load-interface .result) (c .before .before .before .before .before .is-spare .result) (c .before .before .before .before .is-link .result) (c .before .is-half .result) (c .are-halves .result) (c .before .before .before .before .before .before .load-interface .ensures) (c .before .before .before .before .before .is-spare .ensures) (c .before .before .before .before .is-link .ensures) (c .before .is-half .ensures) (c .are-halves .ensures)
+returns c = interface-row (c .before .before .before .before .before .before .before .before .args .b .now) (c .before .before .before .before .before .before .before .before .args .u) (c .before .before .before .before .before .before .before .load-interface .result) (c .before .before .before .before .before .before .is-spare .result) (c .before .before .before .before .before .is-link .result) (c .before .before .before .before .is-flags .result) (c .before .is-half .result) (c .are-halves .result) (c .before .before .before .before .before .before .before .load-interface .ensures) (c .before .before .before .before .before .before .is-spare .ensures) (c .before .before .before .before .before .is-link .ensures) (c .before .before .before .before .is-flags .ensures) (c .before .is-half .ensures) (c .are-halves .ensures)
 
 pub is-interface-spec : {M : Type 1} → statement M
 is-interface-spec =
@@ -29,6 +32,7 @@ is-interface-spec =
     load-interface-requires
     is-spare-requires
     is-link-requires
+    is-flags-requires
     is-half-requires
     are-halves-requires
     returns)
