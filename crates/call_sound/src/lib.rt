@@ -5,7 +5,8 @@ use kinds::GrowState;
 use kinds::Handle;
 use kinds::Vertex;
 use outcomes::Made;
-ghost use Rattle.ledger_spec.specs.Calls.{Defect, Expand, SetState, Grow, Fuse, Clear};
+ghost use Rattle.ledger_spec.specs.Bench.{filling};
+ghost use Rattle.ledger_spec.specs.Calls.{Defect, Expand, SetState, Grow, Fuse, Clear, Mark};
 ghost use Rattle.ledger_spec.specs.Named.{handleNamed, stateNamed};
 ghost use Rattle.bench_views.specs.Fit.{SoundWords};
 ghost use Rattle.outcomes.specs.Answered.{Answered};
@@ -81,4 +82,17 @@ pub fn expand_blossom(b: &mut [u64; WORDS], unit: u8, node: Handle) -> Made
     }
     deed_circles::remove_blossom(b, unit as usize, node);
     Made { number: 0, node }
+}
+
+// From now to its clear the interface gives a new node its lowest empty slot.
+pub fn mark_filling(b: &mut [u64; WORDS], unit: u8) -> Made
+    requires { ⌜ SoundWords (now b) ⌝ }
+    ensures { λ r. ⌜ Answered (now (b .entry)) (Mark unit filling) (r .number) (r .node) (now (b .exit)) ⌝ }
+{
+    let number = refuse_calls::mark_number(b, unit);
+    if number != 0 {
+        return Made::refused(number);
+    }
+    deed_marks::mark_filling(b, unit as usize);
+    Made::refused(0)
 }

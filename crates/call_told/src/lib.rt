@@ -6,7 +6,8 @@ use kinds::Handle;
 use kinds::Vertex;
 use outcome_notices::Notices;
 ghost use mathlib.Core.Path.{_≡_};
-ghost use Rattle.ledger_spec.specs.Calls.{Defect, Blossom, Expand, SetState, Grow, Fuse, Clear};
+ghost use Rattle.ledger_spec.specs.Bench.{filling};
+ghost use Rattle.ledger_spec.specs.Calls.{Defect, Blossom, Expand, SetState, Grow, Fuse, Clear, Mark};
 ghost use Rattle.ledger_spec.specs.Named.{handleNamed, stateNamed};
 ghost use Rattle.deed_circles.specs.Given.{handsGiven, pairsGiven};
 ghost use Rattle.bench_views.specs.Fit.{SoundWords};
@@ -122,7 +123,7 @@ pub fn grow(b: &mut [u64; WORDS], unit: u8, length: i64) -> Answer
     }
 }
 
-// Fuse and clear tell nothing.
+// Fuse, clear and a mark tell nothing.
 pub fn fuse(b: &mut [u64; WORDS], parent: u8, left: u8, right: u8) -> Answer
     requires { ⌜ SoundWords (now b) ⌝ }
     ensures { λ r. ⌜ Told (now (b .entry)) (Fuse parent left right) r (now (b .exit)) ⌝ }
@@ -136,5 +137,13 @@ pub fn clear(b: &mut [u64; WORDS], unit: u8) -> Answer
     ensures { λ r. ⌜ Told (now (b .entry)) (Clear unit) r (now (b .exit)) ⌝ }
 {
     let made = call_sound::clear(b, unit);
+    Answer::refused(made.number)
+}
+
+pub fn mark_filling(b: &mut [u64; WORDS], unit: u8) -> Answer
+    requires { ⌜ SoundWords (now b) ⌝ }
+    ensures { λ r. ⌜ Told (now (b .entry)) (Mark unit filling) r (now (b .exit)) ⌝ }
+{
+    let made = call_sound::mark_filling(b, unit);
     Answer::refused(made.number)
 }
