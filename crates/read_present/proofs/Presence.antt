@@ -13,41 +13,24 @@ use Rattle.slot_map.specs.declared.Found.the-variants.{At, Nothing}
 use Rattle.slot_map.specs.Slots.{digit, bitAt, countTo, firstFrom}
 use Rattle.slot_map.proofs.Counts.{count-same, count-map}
 use Rattle.slot_map.proofs.Firsts.{First, first-found, first-lacks, next-map}
-use Rattle.kinds.specs.declared.Class.{Class}
-use Rattle.kinds.specs.declared.Class.the-variants.{Absent, Blossom, Defect}
+use Rattle.kinds.specs.declared.Class.the-variants.{Absent}
 use Rattle.bench_words.specs.Store.{nodeAt, interfaceAt, mapAt}
 use Rattle.bench_words.specs.declared.Node.{Node}
-use Rattle.ledger_spec.specs.Bench.{Member}
 use Rattle.ledger_spec.specs.Bench as plain
 use Rattle.ledger_spec.specs.Look.{interface, slotOf}
 use Rattle.ledger_spec.specs.Tests.{isSome}
 use Rattle.ledger_spec.specs.Reads.{slotsFrom}
 use Rattle.bench_views.specs.View.{view, slotSeen, sumUp, circleOf}
-use Rattle.bench_views.specs.Canon.{isHeld, heldIn}
+use Rattle.bench_views.specs.Canon.{heldIn}
 use Rattle.bench_views.specs.Fit.{Fit}
 use Rattle.bench_views.proofs.Views.{view-slot, view-count}
 use Rattle.bench_views.proofs.Rings.{slot-held}
 use Rattle.bench_views.proofs.Slots.{slot-absent}
 use Rattle.bench_views.proofs.Maps.{held-absent}
+use Rattle.bench_slots.proofs.Free.{held-seen, not-held}
 use Rattle.read_present.specs.Present.{presentIn, nextFrom}
 use Rattle.read_present.specs.Shown.{handIn}
 use Rattle.read_present.proofs.Nexts.{present-slots, next-none, next-found}
-
--- ---- a slot holds a node exactly where one is seen
-held-seen : (n : Node) (t : ℕ) (ms : List Member) → isSome (slotSeen n t ms) ≡ isHeld (n .class)
-unfolding slotSeen isHeld
-held-seen n t ms = go (n .class) refl
-  where
-    go : (c : Class) → n .class ≡ c → isSome (slotSeen n t ms) ≡ isHeld (n .class)
-    go Absent e = rw e
-    go Blossom e = rw e
-    go (Defect v) e = rw e
-
-not-held : (c : Class) → isHeld c ≡ false → c ≡ Absent
-unfolding isHeld
-not-held Absent e = refl
-not-held Blossom e = absurd (true≢false e)
-not-held (Defect v) e = absurd (true≢false e)
 
 -- ---- p holds nowhere past n
 pub count-past : (p : ℕ → Bool) (n m : ℕ) → n ≤ m → ((s : ℕ) → n ≤ s → s < m → p s ≡ false) → countTo p m ≡ countTo p n
