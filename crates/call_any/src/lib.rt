@@ -6,7 +6,8 @@ use kinds::GrowState;
 use kinds::Handle;
 use kinds::Vertex;
 use kinds::numbers;
-ghost use Rattle.ledger_spec.specs.Calls.{Defect, Blossom, Expand, SetState, Grow, Fuse, Clear};
+ghost use Rattle.ledger_spec.specs.Bench.{filling};
+ghost use Rattle.ledger_spec.specs.Calls.{Defect, Blossom, Expand, SetState, Grow, Fuse, Clear, Mark};
 ghost use Rattle.ledger_spec.specs.Named.{handleNamed, stateNamed};
 ghost use Rattle.deed_circles.specs.Given.{handsGiven, pairsGiven};
 ghost use Rattle.sound_bench.specs.Sound.{soundWords};
@@ -74,4 +75,13 @@ pub fn clear(b: &mut [u64; WORDS], unit: u8) -> Answer
         return Answer::refused(numbers::BROKEN);
     }
     call_told::clear(b, unit)
+}
+
+pub fn mark_filling(b: &mut [u64; WORDS], unit: u8) -> Answer
+    ensures { λ r. ⌜ Called (soundWords (now (b .entry))) (now (b .entry)) (Mark unit filling) r (now (b .exit)) ⌝ }
+{
+    if !sound_lent::is_bench(b) {
+        return Answer::refused(numbers::BROKEN);
+    }
+    call_told::mark_filling(b, unit)
 }

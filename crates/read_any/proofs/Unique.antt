@@ -17,8 +17,10 @@ use Rattle.read_sound.specs.declared.Indexed.{Indexed}
 use Rattle.read_sound.specs.declared.Ancestor.{Ancestor}
 use Rattle.read_sound.specs.declared.Second.{Second}
 use Rattle.read_sound.specs.declared.Represented.{Represented}
+use Rattle.read_marks.specs.Shown.{shownMark}
+use Rattle.read_marks.specs.declared.Marked.{Marked}
 use Rattle.sound_lent.specs.Verdict.{readWords}
-use Rattle.ledger_spec.specs.Answers.{sumRead, speedRead, countRead, indexRead, belongsRead, valueRead, outerRead, belowRead, firstRead, verticesRead}
+use Rattle.ledger_spec.specs.Answers.{sumRead, speedRead, countRead, fillsRead, indexRead, belongsRead, valueRead, outerRead, belowRead, firstRead, verticesRead}
 
 -- ---- what is shown of an answer determines it
 abbrev packed : Handle → Packed
@@ -37,6 +39,9 @@ weight-same r s e = λ i. record { number = e i .0; weight = e i .1 }
 
 count-same : (r s : Counted) → shownCount r ≡ shownCount s → r ≡ s
 count-same r s e = λ i. record { number = e i .0; count = e i .1 }
+
+mark-same : (r s : Marked) → shownMark r ≡ shownMark s → r ≡ s
+mark-same r s e = λ i. record { number = e i .0; marked = e i .1 }
 
 belongs-same : (r s : Belongs) → shownBelongs r ≡ shownBelongs s → r ≡ s
 belongs-same r s e = λ i. record { number = e i .0; inside = e i .1 }
@@ -67,6 +72,9 @@ module _ (b : List ℕ) where
 
     pub only-nodes-count : (r s : Counted) → shownCount r ≡ readWords b (countRead (view b) u) → shownCount s ≡ readWords b (countRead (view b) u) → r ≡ s
     only-nodes-count r s p q = count-same r s (p ∙ sym q)
+
+    pub only-is-filling : (r s : Marked) → shownMark r ≡ readWords b (fillsRead (view b) u) → shownMark s ≡ readWords b (fillsRead (view b) u) → r ≡ s
+    only-is-filling r s p q = mark-same r s (p ∙ sym q)
 
     pub only-get-node : (k : ℕ) (r s : Indexed) → shownNode r ≡ readWords b (indexRead (view b) u k) → shownNode s ≡ readWords b (indexRead (view b) u k) → r ≡ s
     only-get-node k r s p q = index-same r s (p ∙ sym q)

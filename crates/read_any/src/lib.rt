@@ -6,6 +6,7 @@ use kinds::MaybeNode;
 use kinds::NodeIndex;
 use kinds::Vertex;
 use kinds::numbers;
+use read_marks::Marked;
 use read_sound::Ancestor;
 use read_sound::Belongs;
 use read_sound::Counted;
@@ -17,8 +18,9 @@ ghost use mathlib.Core.Path.{_≡_};
 ghost use Rattle.ledger_spec.specs.Named.{handleNamed};
 ghost use Rattle.bench_views.specs.View.{view};
 ghost use Rattle.read_sound.specs.Shown.{shownWeight, shownCount, shownBelongs, shownNode, shownAncestor, shownSecond, shownVertex, shownVertices};
+ghost use Rattle.read_marks.specs.Shown.{shownMark};
 ghost use Rattle.sound_lent.specs.Verdict.{readWords};
-ghost use Rattle.ledger_spec.specs.Answers.{sumRead, speedRead, countRead, indexRead, belongsRead, valueRead, outerRead, belowRead, firstRead, verticesRead};
+ghost use Rattle.ledger_spec.specs.Answers.{sumRead, speedRead, countRead, fillsRead, indexRead, belongsRead, valueRead, outerRead, belowRead, firstRead, verticesRead};
 
 pub fn sum_dual_variables(b: &[u64; WORDS], unit: u8) -> Weighed
     ensures { λ r. ⌜ shownWeight r ≡ readWords (now (b .entry)) (sumRead (view (now (b .entry))) unit) ⌝ }
@@ -55,6 +57,19 @@ pub fn nodes_count(b: &[u64; WORDS], unit: u8) -> Counted
         };
     }
     read_sound::nodes_count(b, unit)
+}
+
+// Whether the interface gives a new node its lowest empty slot.
+pub fn is_filling(b: &[u64; WORDS], unit: u8) -> Marked
+    ensures { λ r. ⌜ shownMark r ≡ readWords (now (b .entry)) (fillsRead (view (now (b .entry))) unit) ⌝ }
+{
+    if !sound_lent::is_bench(b) {
+        return Marked {
+            number: numbers::BROKEN,
+            marked: false,
+        };
+    }
+    read_marks::is_filling(b, unit)
 }
 
 // The handle at an index of the tree, nothing if its slot was emptied, RANGE (18) at or past the count.
