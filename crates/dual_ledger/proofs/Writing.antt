@@ -14,10 +14,10 @@ use lib.Signed.{ltZ}
 use mir.Syntax.{w64}
 use mir.Val.{SFits}
 use Rattle.ledger_spec.specs.Bench.{Handle, State, stays, grows, Node, Bench}
-use Rattle.ledger_spec.specs.Look.{interface, slotOf, nodeNamed}
+use Rattle.ledger_spec.specs.Look.{interface, freeSlot, slotOf, nodeNamed}
 use Rattle.ledger_spec.specs.Tests.{first}
 use Rattle.ledger_spec.specs.Deeds.{newHandle, members}
-use Rattle.ledger_spec.specs.Calls.{Call, Defect, Blossom, Expand, SetState, Grow, Fuse, Clear, nobody}
+use Rattle.ledger_spec.specs.Calls.{Call, Defect, Blossom, Expand, SetState, Grow, Fuse, Clear, Mark, nobody}
 use Rattle.ledger_spec.specs.Notices.{Notice, defectAdded, stateSet, shrinkPrepared, blossomAdded, blossomRemoved, grown, tells}
 use Rattle.ledger_spec.specs.Answers.{Answer as Plain, broken, answer}
 use Rattle.ledger_spec.specs.Knit.{mk, In, here, there, Has, Down}
@@ -81,7 +81,7 @@ module _ (b : Bench) (S : Sound b) where
   present : (h : Handle) (n : Node) → Has (slotOf b) h n → Good h
   present h n H = let T : Touching b h = named-touch b S h n H in (omega (arith, T .unit), omega (arith, T .slot), omega (arith, T .serial, S .worn))
 
-  new : (u : ℕ) → Open b u → length (interface b u .slots) < 64 → b .next < 2 ^ 32 → Good (newHandle b u)
+  new : (u : ℕ) → Open b u → freeSlot b u < 64 → b .next < 2 ^ 32 → Good (newHandle b u)
   new u O r w = (O .low, r, w)
 
   -- the members of a blossom
@@ -110,6 +110,7 @@ module _ (b : Bench) (S : Sound b) where
   good-tells (Grow u l) e = (short u l (grow-passed b u l e), tt)
   good-tells (Fuse p l r) e = tt
   good-tells (Clear u) e = tt
+  good-tells (Mark u k) e = tt
 
   good-node : (c : Call) → first (testsOf b c) ≡ 0 → Good (nodeOf b c)
   unfolding nodeOf testsOf
@@ -120,6 +121,7 @@ module _ (b : Bench) (S : Sound b) where
   good-node (Grow u l) e = (omega arith, omega arith, omega arith)
   good-node (Fuse p l r) e = (omega arith, omega arith, omega arith)
   good-node (Clear u) e = (omega arith, omega arith, omega arith)
+  good-node (Mark u k) e = (omega arith, omega arith, omega arith)
 
 -- ---- every answer, on any bench
 written-of : (a : Plain) → length (a .notices) ≤ 66 → Good (a .node) → AllGood (a .notices) → Written a

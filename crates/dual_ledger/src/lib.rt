@@ -1,5 +1,6 @@
 // What Rust and C link: every public call, read and check under its C name, over words, numbers and slices (include/dual_ledger.h). Each is one call of
 // the crate that does it, its answer written out as words. Assumes nothing.
+pub mod marks; // the marks of an interface
 pub mod obstacles; // groups of obstacles
 pub mod open_calls; // the calls on any words
 pub mod open_reads; // the reads and checks on any words
