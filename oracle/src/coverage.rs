@@ -46,7 +46,10 @@ impl Coverage {
     fn shape(&mut self, call: &Line, before: &Bench, after: &Model, answer: &[i64]) {
         match call {
             Line::SetUp(_) => self.cleared = [false; 8],
-            Line::Blossom(unit, members, touching) => self.blossom(*unit as usize, members, touching, &after.bench),
+            Line::Blossom(unit, members, touching) => {
+                self.blossom(*unit as usize, members, touching, &after.bench);
+                self.filled(*unit as usize, before);
+            }
             Line::Expand(unit, serial) => self.expansion(*unit as usize, before.named(*serial), before),
             Line::Fuse(parent, left, right) => {
                 let fused = |half: u32| before.faces[half as usize].children.is_some();
@@ -61,6 +64,7 @@ impl Coverage {
             Line::Defect(unit, _) => {
                 self.count("defect after a clear", self.cleared[*unit as usize]);
                 self.count("own node of a fused parent", before.faces[*unit as usize].children.is_some());
+                self.filled(*unit as usize, before);
             }
             Line::Grow(unit, _) => self.growth(&after.bench, *unit as usize),
             Line::HandleAt(..) => self.count("emptied slot read", answer[1] == 0),
@@ -74,11 +78,21 @@ impl Coverage {
         self.count("circle of 1", members.len() == 1);
         self.count("circle of 64", members.len() == 64);
         self.count("blossom across halves", homes.iter().any(|home| *home != homes[0]));
+        let place = |h: Handle| after.index(after.top(unit), h);
+        let made = place(after.at(after.named(members[0])).parent.expect("a member has its blossom"));
+        self.count("blossom before a member", members.iter().any(|s| made < place(after.named(*s))));
         self.count("touching node not the member", members.iter().zip(touching).any(|(m, (a, b))| a != m || b != m));
         let depth = members.iter().map(|s| after.vertex_depth(after.named(*s))).max().unwrap_or(0) + 1;
         self.count("nest of 10 or more", depth >= 10);
         self.deepest = self.deepest.max(depth);
         self.count("blossom in a tree of three or more", after.tree(unit).len() >= 3);
+    }
+
+    /// A node was made where one had gone; and what stands in which tree.
+    fn filled(&mut self, unit: usize, before: &Bench) {
+        let fills = |below: usize| before.faces[below].fills;
+        self.count("emptied slot filled", before.faces[unit].free_slot() < before.faces[unit].slots.len());
+        self.count("node made in a tree that fills in part", before.has_filling(unit) && !before.tree(unit).into_iter().all(fills));
     }
 
     fn expansion(&mut self, unit: usize, h: Handle, before: &Bench) {

@@ -12,11 +12,14 @@ pub enum Line {
     Grow(u32, i64),
     Fuse(u32, u32, u32),
     Clear(u32),
+    /// an interface without halves or used slots gets a mode
+    Mark(u32, Mode),
     Check(u32),
     Strict(u32),
     Sum(u32),
     Speed(u32),
     Count(u32),
+    Marked(u32, Mode),
     HandleAt(u32, u32),
     Belongs(u32, u32),
     Dump(u32),
@@ -32,6 +35,13 @@ pub enum Line {
     Pop(usize),
     Peek(usize),
     Content(usize),
+}
+
+/// What an interface can be marked as: calls of the library, which the original has not.
+#[derive(Clone, Copy, Debug, PartialEq, Eq)]
+pub enum Mode {
+    /// a new node gets the lowest empty slot
+    Filling,
 }
 
 /// What stands in the way, over any way of naming a node.
@@ -113,6 +123,13 @@ impl Fields {
         }
     }
 
+    fn mode(&self, at: usize) -> Result<Mode, String> {
+        match self.signed(at)? {
+            1 => Ok(Mode::Filling),
+            other => Err(format!("{other} is no mode")),
+        }
+    }
+
     fn words(&self, from: usize) -> Result<Vec<u32>, String> {
         (from..self.0.len()).map(|at| self.word(at)).collect()
     }
@@ -136,7 +153,7 @@ impl Fields {
 fn arity(letter: &str) -> Option<usize> {
     Some(match letter {
         "N" | "C" | "K" | "k" | "s" | "p" | "n" | "d" | "v" | "o" | "u" | "f" | "e" | "y" | "z" | "l" | "m" => 1,
-        "D" | "E" | "G" | "h" | "i" | "a" | "x" | "q" | "j" => 2,
+        "D" | "E" | "G" | "P" | "Q" | "h" | "i" | "a" | "x" | "q" | "j" => 2,
         "S" | "F" | "g" => 3,
         "r" => 4,
         "c" | "w" => 5,
@@ -191,6 +208,7 @@ fn call(letter: &str, f: &Fields) -> Result<Option<Line>, String> {
         "G" => Line::Grow(f.word(0)?, f.signed(1)?),
         "F" => Line::Fuse(f.word(0)?, f.word(1)?, f.word(2)?),
         "C" => Line::Clear(f.word(0)?),
+        "P" => Line::Mark(f.word(0)?, f.mode(1)?),
         _ => return Ok(None),
     }))
 }
@@ -203,6 +221,7 @@ fn look(letter: &str, f: &Fields) -> Result<Option<Line>, String> {
         "s" => Line::Sum(f.word(0)?),
         "p" => Line::Speed(f.word(0)?),
         "n" => Line::Count(f.word(0)?),
+        "Q" => Line::Marked(f.word(0)?, f.mode(1)?),
         "h" => Line::HandleAt(f.word(0)?, f.word(1)?),
         "i" => Line::Belongs(f.word(0)?, f.word(1)?),
         "d" => Line::Dump(f.word(0)?),

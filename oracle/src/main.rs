@@ -80,8 +80,8 @@ fn bare(path: &str) {
 
 fn record() {
     let here = std::path::Path::new(env!("CARGO_MANIFEST_DIR"));
-    let edges = read(&here.join("scenes/edges.txt").display().to_string());
-    print!("{}", recordings::write(&here.join("recordings"), &edges).unwrap_or_else(|why| fail(why)));
+    let scenes = |name: &str| read(&here.join("scenes").join(name).display().to_string());
+    print!("{}", recordings::write(&here.join("recordings"), &scenes("edges.txt"), &scenes("marks.txt")).unwrap_or_else(|why| fail(why)));
 }
 
 fn cover(path: &str) {

@@ -1,6 +1,6 @@
 //! Every number that a call can be refused by, alone and beside each other that can apply: which apply to a line, and a recording that has them all.
 use crate::line::{read, Line};
-use crate::model::bench::{Bench, Handle, MEMBERS, PROGRESS, SLOTS, WORN};
+use crate::model::bench::{Bench, Handle, MEMBERS, PROGRESS, WORN};
 use crate::model::groups::Group;
 use crate::model::refusals::*;
 use crate::model::Model;
@@ -41,7 +41,7 @@ impl Applying<'_> {
 
     fn place(&mut self, unit: u32) -> &mut Self {
         let bench = self.bench;
-        self.put(bench.faces.get(unit as usize).map_or(false, |f| f.slots.len() >= SLOTS), FULL).put(bench.next >= WORN, NO_SERIAL)
+        self.put(bench.faces.get(unit as usize).map_or(false, |f| f.is_full()), FULL).put(bench.next >= WORN, NO_SERIAL)
     }
 
     fn blossom(&mut self, unit: u32, members: &[u32], touching: &[(u32, u32)]) {
@@ -91,11 +91,22 @@ pub fn applying(model: &Model, line: &Line) -> Numbers {
             all.faces(&[*unit]).put(*length < 0 || *length > left, LENGTH);
         }
         Line::Fuse(parent, left, right) => all.fuse(*parent, *left, *right),
+        Line::Mark(unit, _) => {
+            let late = bench.faces.get(*unit as usize).map_or(false, |f| !f.slots.is_empty() || f.children.is_some());
+            all.faces(&[*unit]).put(late, MARK);
+        }
         Line::HandleAt(unit, index) => {
             let count = bench.faces.get(*unit as usize).map_or(0, |_| bench.slots(*unit as usize).len());
             all.faces(&[*unit]).put(*index as usize >= count, RANGE);
         }
-        Line::Clear(u) | Line::Check(u) | Line::Strict(u) | Line::Sum(u) | Line::Speed(u) | Line::Count(u) | Line::Belongs(u, _) => {
+        Line::Clear(u)
+        | Line::Check(u)
+        | Line::Strict(u)
+        | Line::Sum(u)
+        | Line::Speed(u)
+        | Line::Count(u)
+        | Line::Marked(u, _)
+        | Line::Belongs(u, _) => {
             all.faces(&[*u]);
         }
         Line::Value(s) | Line::Outer(s) | Line::Under(s) | Line::First(s) | Line::Vertices(s, _) => all.of_node(*s, line),

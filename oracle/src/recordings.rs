@@ -42,7 +42,7 @@ fn head(name: &str, about: &str) -> String {
 }
 
 /// Each recording's name and its calls with comments.
-pub fn all(edges: &str) -> Vec<(&'static str, String)> {
+pub fn all(edges: &str, marks: &str) -> Vec<(&'static str, String)> {
     let mut found = vec![("edges", head("edges", "the whole case of the manual, P1 to P9, and corners") + edges)];
     for (at, plan) in ALL.iter().enumerate() {
         let (_, answers, longest) = SIZES.iter().find(|(name, ..)| *name == plan.name).expect("each plan has a size");
@@ -50,6 +50,7 @@ pub fn all(edges: &str) -> Vec<(&'static str, String)> {
     }
     found.push(("pairs", head("pairs", "every number a call can be refused by, alone and beside each other that can apply") + &pairs::lines()));
     found.push(("limits", head("limits", "straight to the limits") + &scenes::limits()));
+    found.push(("marks", head("marks", plans::MARKS.about) + marks + &calls(plans::MARKS, 1_800, 180, 90_000)));
     found
 }
 
@@ -74,10 +75,10 @@ pub fn text_input(count: usize, seed: u64) -> Vec<u8> {
 }
 
 /// Writes them all; the coverage of what was written.
-pub fn write(folder: &Path, edges: &str) -> Result<Coverage, String> {
+pub fn write(folder: &Path, edges: &str, marks: &str) -> Result<Coverage, String> {
     let put = |path: &str, bytes: &[u8]| std::fs::write(folder.join(path), bytes).map_err(|why| format!("{path}: {why}"));
     let mut coverage = Coverage::default();
-    for (name, lines) in all(edges) {
+    for (name, lines) in all(edges, marks) {
         put(&format!("{name}.txt"), record(&lines).map_err(|wrong| format!("{name}: {wrong}"))?.as_bytes())?;
         cover(&lines, &mut coverage)?;
     }

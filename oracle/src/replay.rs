@@ -11,6 +11,8 @@ pub enum Mark {
     ClearedInGroup,
     /// a group holds an expanded node: the original's check finds it and says 3 in place of 4
     GoneInGroup,
+    /// an interface of the tree fills emptied slots: the original, which never does, has its nodes at other indices
+    Filling,
 }
 
 impl std::fmt::Display for Mark {
@@ -18,6 +20,7 @@ impl std::fmt::Display for Mark {
         f.write_str(match self {
             Mark::ClearedInGroup => "the manual's answer: cleared node in a group",
             Mark::GoneInGroup => "the manual's answer: a group holds the gone node",
+            Mark::Filling => "the manual's answer: emptied slots are filled",
         })
     }
 }
@@ -62,6 +65,9 @@ impl Replay {
         if answer[0] != 0 {
             return self.refused(line, answer);
         }
+        if let Line::Mark(..) | Line::Marked(..) = line {
+            return Turn { answer, original: None, mark: None };
+        }
         let original = self.driver.answer(line);
         let mark = if original.as_ref() == Ok(&answer) { None } else { self.excuse(line, &answer, &original) };
         Turn { answer, original: Some(original), mark }
@@ -98,6 +104,9 @@ impl Replay {
 
     fn excuse(&self, line: &Line, answer: &[i64], original: &Answer) -> Option<Mark> {
         match line {
+            Line::Count(u) | Line::HandleAt(u, _) | Line::Dump(u) => Some(Mark::Filling).filter(|_| self.is_filled(*u) && self.same_places(*u)),
+            Line::Check(u) if self.is_filled(*u) => self.same_findings(answer, original, 1, 2..4),
+            Line::Strict(u) if self.is_filled(*u) => self.same_findings(answer, original, 1, 0..0),
             Line::Add(g, _) | Line::Extend(g, _) | Line::Asked(g) | Line::Pop(g) | Line::Peek(g) | Line::Content(g) => {
                 Some(Mark::ClearedInGroup).filter(|_| self.cleared[*g])
             }
@@ -105,6 +114,34 @@ impl Replay {
             Line::Strict(_) => self.held(answer, original, 1, 2),
             _ => None,
         }
+    }
+
+    fn is_filled(&self, unit: u32) -> bool {
+        self.model.bench.has_filling(unit as usize)
+    }
+
+    /// Interfaces that fill no slots have the original's, one by one; the others the same present nodes.
+    fn same_places(&self, unit: u32) -> bool {
+        let present = |slots: Vec<Vec<i64>>| {
+            let mut nodes: Vec<_> = slots.into_iter().filter(|slot| slot[0] != 0).collect();
+            nodes.sort();
+            nodes
+        };
+        self.model.bench.tree(unit as usize).into_iter().all(|below| {
+            let (ours, theirs) = (self.model.own(below), self.driver.own(below));
+            if self.model.bench.faces[below].fills {
+                present(ours) == present(theirs)
+            } else {
+                ours == theirs
+            }
+        })
+    }
+
+    /// Both checks find something or neither does, and both the sum alone or neither: only which finding comes first goes by the index.
+    fn same_findings(&self, answer: &[i64], original: &Answer, verdict: usize, also: std::ops::Range<usize>) -> Option<Mark> {
+        let original = original.as_ref().ok()?;
+        let kind = |of: &[i64]| if (1..=4).contains(&of[verdict]) { 1 } else { of[verdict] };
+        Some(Mark::Filling).filter(|_| kind(answer) == kind(original) && answer[also.clone()] == original[also])
     }
 
     /// 4 by the manual and 3 by the original, same index, and a group that can hold a gone node.

@@ -55,20 +55,20 @@ pub fn notices(all: &[Notice]) -> Vec<i64> {
 
 pub fn slots(all: &[Option<Slot>]) -> Vec<i64> {
     let mut out = vec![0, all.len() as i64];
-    for slot in all {
-        match slot {
-            None => out.push(0),
-            Some(s) => {
-                let kind = if matches!(s.class, Class::Defect(_)) { 1 } else { 2 };
-                out.extend([kind, s.serial as i64, s.state, s.parent as i64, s.size, s.value]);
-                match &s.class {
-                    Class::Defect(vertex) => out.push(*vertex),
-                    Class::Blossom(circle) => {
-                        out.push(circle.len() as i64);
-                        out.extend(circle.iter().flatten().map(|s| *s as i64));
-                    }
-                }
-            }
+    out.extend(all.iter().flat_map(|one| slot(one.as_ref())));
+    out
+}
+
+/// One slot of a dump.
+pub fn slot(of: Option<&Slot>) -> Vec<i64> {
+    let Some(s) = of else { return vec![0] };
+    let kind = if matches!(s.class, Class::Defect(_)) { 1 } else { 2 };
+    let mut out = vec![kind, s.serial as i64, s.state, s.parent as i64, s.size, s.value];
+    match &s.class {
+        Class::Defect(vertex) => out.push(*vertex),
+        Class::Blossom(circle) => {
+            out.push(circle.len() as i64);
+            out.extend(circle.iter().flatten().map(|s| *s as i64));
         }
     }
     out

@@ -5,15 +5,17 @@ use oracle::text;
 
 #[test]
 fn a_wrong_line_gets_a_message_with_its_number() {
-    let wrong = record("N 1\n# fine\nD 0 3\nQ 0\n").unwrap_err();
-    assert_eq!(wrong.to_string(), "line 4: no call begins with `Q`");
+    let wrong = record("N 1\n# fine\nD 0 3\nA 0\n").unwrap_err();
+    assert_eq!(wrong.to_string(), "line 4: no call begins with `A`");
     assert_eq!(record("N 1\nD 0\n").unwrap_err().to_string(), "line 2: `D` takes 2 numbers");
     assert_eq!(record("m 4\n").unwrap_err().to_string(), "line 1: no group 4");
 }
 
 #[test]
 fn numbers_are_written_plainly() {
-    for line in ["D 0 03", "D 0 +3", "D  0 3", "D 0 3 ", "G 0 -0", "D 0 4294967296", "S 0 1 2", "g 0 1 2", "b 0 1 1", "t 0 1 1 1", ""] {
+    for line in
+        ["D 0 03", "D 0 +3", "D  0 3", "D 0 3 ", "G 0 -0", "D 0 4294967296", "S 0 1 2", "P 0 0", "Q 0 3", "g 0 1 2", "b 0 1 1", "t 0 1 1 1", ""]
+    {
         assert!(read(line).is_err(), "{line}");
     }
 }

@@ -1,5 +1,5 @@
 //! Runs of every plan, other than those recorded: the original and the model agree, and every bench and group is sound.
-use oracle::generator::plans::{ALL, MIXED, TEXT};
+use oracle::generator::plans::{ALL, MARKS, MIXED, TEXT};
 use oracle::generator::Player;
 use oracle::line::read;
 use oracle::replay::Replay;
@@ -7,7 +7,7 @@ use oracle::text;
 
 #[test]
 fn the_original_and_the_model_agree() {
-    for (at, plan) in ALL.into_iter().enumerate() {
+    for (at, plan) in ALL.into_iter().chain([MARKS]).enumerate() {
         for seed in 0..40 {
             let mut player = Player::new(plan, 1_000_000 * (at as u64 + 1) + seed);
             let mut both = Replay::default();

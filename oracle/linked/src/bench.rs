@@ -1,9 +1,9 @@
 //! The benchmark: the original's bare calls and the linked ledger's in one run, over the fixed list and call by call. Best of several passes, each side in turn, by
 //! processor time. Prints a table, and writes the same numbers as lines of tabs for the picture.
-use crate::{bench_groups, bench_present};
 use crate::ledger::state;
 use crate::nests::{self, BY_CALLS, BY_HAND};
 use crate::words::encode;
+use crate::{bench_groups, bench_present};
 use dual_ledger::{lent, Bench, DualModule, GrowState, Handle, Verdict};
 use oracle::line::{read, Line};
 use oracle::timing::{self, by_kind, keep, kind, least, processor, whole, Original, Timed, KINDS};
@@ -262,7 +262,8 @@ fn walk(links: usize) -> Row {
 /// Both checks of a tree, the strict one as a row of its own, which the original has not.
 fn checks(what: &str, nodes: usize, bench: &Bench, top: u8, original: Option<f64>) -> [Row; 2] {
     assert_eq!((bench.sanity_check(top), bench.strict_check(top)), (Ok(Verdict::Sound), Ok(Verdict::Sound)));
-    let row = |check: &str, original, trusted, public| Row { what: format!("{check}: {what}"), nodes, original, trusted, told: None, public: Some(public) };
+    let row =
+        |check: &str, original, trusted, public| Row { what: format!("{check}: {what}"), nodes, original, trusted, told: None, public: Some(public) };
     let words = bench.words();
     [
         row("check", original, once(|_| keep(bench.sanity_check(top))), once(|_| keep(lent::sanity_check(words, top)))),

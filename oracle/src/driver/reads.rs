@@ -74,6 +74,16 @@ impl Driver {
         Ok(show::slots(&slots))
     }
 
+    /// An interface's own slots, each as a dump shows it.
+    pub fn own(&self, unit: usize) -> Vec<Vec<i64>> {
+        let face = self.faces[unit].read_recursive();
+        let shown = |node: &Option<DualNodePtr>| {
+            let up_to_date = node.as_ref().map(|node| self.slot(node.update()));
+            show::slot(up_to_date.as_ref())
+        };
+        face.nodes[..face.nodes_length].iter().map(shown).collect()
+    }
+
     fn slot(&self, node: &DualNodePtr) -> Slot {
         let read = node.read_recursive();
         let serial = |weak: &DualNodeWeak| self.nodes.serial_of_weak(weak);

@@ -110,7 +110,7 @@ impl Player {
     }
 
     pub fn has_room(&self, unit: usize) -> bool {
-        self.model.bench.faces[unit].slots.len() < 64
+        !self.model.bench.faces[unit].is_full()
     }
 
     /// Any present node of the bench.

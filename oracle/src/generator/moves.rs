@@ -129,6 +129,15 @@ impl Player {
         }
     }
 
+    /// An interface that can still be given a mode, mostly one that has none.
+    pub fn mark(&mut self) -> Option<String> {
+        let is_new = |unit: &usize| self.model.bench.mode_number(*unit as u32) == 0;
+        let all: Vec<usize> = self.tops().into_iter().filter(is_new).collect();
+        let unmarked: Vec<usize> = all.iter().copied().filter(|unit| !self.model.bench.faces[*unit].fills).collect();
+        let from = if self.rng.chance(90) { unmarked } else { all };
+        Some(format!("P {} 1", self.rng.pick(&from)?))
+    }
+
     pub fn clear(&mut self) -> Option<String> {
         Some(format!("C {}", self.top()))
     }
@@ -136,7 +145,7 @@ impl Player {
     /// Clears a tree where an interface is nearly full, else nothing.
     pub fn make_room(&mut self) -> Option<String> {
         let unit = self.top();
-        let full = self.model.bench.tree(unit).into_iter().any(|below| self.model.bench.faces[below].slots.len() > 60);
+        let full = self.model.bench.tree(unit).into_iter().any(|below| self.model.bench.faces[below].free_slot() > 60);
         Some(format!("C {unit}")).filter(|_| full)
     }
 }

@@ -167,6 +167,35 @@ pub const VERDICTS: Plan = Plan {
     ],
 };
 
+/// Interfaces with modes, which the original has not, among others without.
+pub const MARKS: Plan = Plan {
+    name: "marks",
+    about: "interfaces that fill emptied slots, alone and in trees with others that do not",
+    units: 8,
+    vertices: 900,
+    circle: 3,
+    odd: 12,
+    moves: &[
+        (8, Player::mark),
+        (2, Player::wrong_mark),
+        (16, P.0),
+        (22, P.1),
+        (20, P.2),
+        (6, P.3),
+        (6, Player::grow),
+        (5, Player::fuse),
+        (1, Player::clear),
+        (2, Player::bereave),
+        (5, Player::check),
+        (3, Player::of_face),
+        (1, Player::of_mode),
+        (4, Player::handle_at),
+        (4, Player::of_node),
+        (2, Player::belongs),
+        (1, Player::wrong_call),
+    ],
+};
+
 /// What the text program can say, all accepted.
 pub const TEXT: Plan = Plan {
     name: "text",
@@ -209,5 +238,5 @@ pub const MIXED: Plan = Plan {
     ..TEXT
 };
 
-/// The plans that recordings are made by.
+/// The plans of calls that the original has.
 pub const ALL: [Plan; 7] = [CALLS, TREES, NESTS, GROUPS, REFUSALS, READS, VERDICTS];

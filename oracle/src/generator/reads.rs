@@ -16,6 +16,10 @@ impl Player {
         Some(format!("{letter} {}", self.top()))
     }
 
+    pub fn of_mode(&mut self) -> Option<String> {
+        Some(format!("Q {} 1", self.top()))
+    }
+
     pub fn handle_at(&mut self) -> Option<String> {
         let unit = self.top();
         let count = self.model.bench.slots(unit).len();

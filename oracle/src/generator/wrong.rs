@@ -117,6 +117,11 @@ impl Player {
         })
     }
 
+    pub fn wrong_mark(&mut self) -> Option<String> {
+        let letter = self.rng.pick(&["P", "P", "Q"])?;
+        Some(format!("{letter} {} 1", self.any_unit()))
+    }
+
     pub fn wrong_clear(&mut self) -> Option<String> {
         Some(format!("C {}", self.any_unit())).filter(|_| self.rng.chance(20))
     }

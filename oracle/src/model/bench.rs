@@ -49,6 +49,8 @@ pub struct Face {
     pub speed: i64,
     pub parent: Option<usize>,
     pub children: Option<(usize, usize)>,
+    /// a new node gets the lowest empty slot
+    pub fills: bool,
 }
 
 #[derive(Clone, Debug, PartialEq, Eq)]
@@ -67,6 +69,18 @@ impl Node {
 
     pub fn is_defect(&self) -> bool {
         matches!(self.class, Class::Defect(_))
+    }
+}
+
+impl Face {
+    /// Where the next node goes: after the used slots, or into the lowest empty one where that is chosen. 64 where there is no room.
+    pub fn free_slot(&self) -> usize {
+        let empty = self.slots.iter().position(|slot| slot.is_none()).filter(|_| self.fills);
+        empty.unwrap_or(self.slots.len())
+    }
+
+    pub fn is_full(&self) -> bool {
+        self.free_slot() >= SLOTS
     }
 }
 
@@ -115,6 +129,11 @@ impl Bench {
         }
         found.push(unit);
         found
+    }
+
+    /// Whether some interface of a tree fills emptied slots: indices of the tree are then not the original's.
+    pub fn has_filling(&self, unit: usize) -> bool {
+        self.tree(unit).into_iter().any(|below| self.faces[below].fills)
     }
 
     /// A tree's slots by index, each with its place.

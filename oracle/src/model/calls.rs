@@ -1,5 +1,6 @@
-//! The plain ledger's seven calls: the number, and where it is 0 the work and its notices.
+//! The plain ledger's eight calls: the number, and where it is 0 the work and its notices.
 use super::bench::{Bench, Class, Face, Handle, Member, Node, NOBODY};
+use crate::line::Mode;
 use crate::show::Notice;
 
 /// What a call answers: number, node made or named, notices.
@@ -105,14 +106,27 @@ impl Bench {
         done(NOBODY, vec![])
     }
 
-    /// A new node in the next slot, with the next serial: growing, value 0.
+    pub fn mark_as(&mut self, unit: u32, mode: Mode) -> Reply {
+        let number = self.mode_number(unit);
+        if number != 0 {
+            return refused(number);
+        }
+        match mode {
+            Mode::Filling => self.faces[unit as usize].fills = true,
+        }
+        done(NOBODY, vec![])
+    }
+
+    /// A new node in the free slot, with the next serial: growing, value 0.
     fn push(&mut self, unit: u32, class: Class, size: i64) -> Handle {
         let serial = self.next as u32;
         self.next += 1;
         let face = &mut self.faces[unit as usize];
-        face.slots.push(Some(Node { serial, class, state: 1, parent: None, value: 0, size }));
+        let slot = face.free_slot();
+        face.slots.resize(face.slots.len().max(slot + 1), None);
+        face.slots[slot] = Some(Node { serial, class, state: 1, parent: None, value: 0, size });
         face.speed += 1;
-        Handle { unit, slot: face.slots.len() as u32 - 1, serial }
+        Handle { unit, slot: slot as u32, serial }
     }
 
     /// Sets a state; the speed follows.

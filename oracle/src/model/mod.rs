@@ -6,7 +6,7 @@ pub mod groups;
 pub mod refusals;
 pub mod sound;
 
-use crate::line::{Line, Obstacle, FILLER, GROUPS};
+use crate::line::{Line, Mode, Obstacle, FILLER, GROUPS};
 use crate::show::{self, Class as Shown, Slot};
 use bench::{Bench, Class, Handle, Node, FACES};
 use calls::Reply;
@@ -42,6 +42,7 @@ impl Model {
             Line::Grow(unit, length) => (unit, self.bench.grow(*unit, *length)),
             Line::Fuse(parent, left, right) => (parent, self.bench.fuse(*parent, *left, *right)),
             Line::Clear(unit) => (unit, self.bench.clear(*unit)),
+            Line::Mark(unit, mode) => (unit, self.bench.mark_as(*unit, *mode)),
             Line::Add(..) | Line::Extend(..) | Line::NewGroup(_) | Line::Pop(_) => return self.regroup(line),
             other => return self.look(other),
         };
@@ -97,6 +98,7 @@ impl Model {
             Line::Strict(unit) => self.of_face(*unit, 2, |u| vec![b.strict(u).0, b.strict(u).1]),
             Line::Sum(unit) => self.of_face(*unit, 1, |u| vec![b.faces[u].sum]),
             Line::Speed(unit) => self.of_face(*unit, 1, |u| vec![b.faces[u].speed]),
+            Line::Marked(unit, Mode::Filling) => self.of_face(*unit, 1, |u| vec![b.faces[u].fills as i64]),
             Line::Count(unit) => self.of_face(*unit, 1, |u| vec![b.slots(u).len() as i64]),
             Line::HandleAt(unit, index) => self.handle_at(*unit, *index as usize),
             Line::Belongs(unit, serial) => {
@@ -166,6 +168,11 @@ impl Model {
     fn asked(&self, group: &Group) -> Vec<i64> {
         let (number, length) = group.growth();
         vec![0, group.is_empty() as i64, group.is_active() as i64, number, length.is_some() as i64, length.unwrap_or(0)]
+    }
+
+    /// An interface's own slots, each as a dump shows it.
+    pub fn own(&self, unit: usize) -> Vec<Vec<i64>> {
+        self.bench.faces[unit].slots.iter().map(|node| show::slot(node.as_ref().map(slot).as_ref())).collect()
     }
 
     /// Whether a unit is one of the bench's, without a parent.

@@ -1,5 +1,5 @@
 //! The manual's table of refusals: the tests of each call in rising order; the first that holds is the number given, 0 if none does.
-use super::bench::{Bench, Handle, FACES, MEMBERS, PROGRESS, SLOTS, WORN};
+use super::bench::{Bench, Handle, FACES, MEMBERS, PROGRESS, WORN};
 
 pub const LINE: i64 = 1;
 pub const BROKEN: i64 = 2;
@@ -22,6 +22,7 @@ pub const RANGE: i64 = 18;
 pub const SMALL: i64 = 19;
 pub const ROOM: i64 = 20;
 pub const NOTHING: i64 = 21;
+pub const MARK: i64 = 26;
 
 impl Bench {
     /// UNIT, then CHILD, of the interfaces a call names.
@@ -56,7 +57,7 @@ impl Bench {
 
     /// FULL, then no serial left.
     fn no_place(&self, unit: u32) -> i64 {
-        if self.faces[unit as usize].slots.len() >= SLOTS {
+        if self.faces[unit as usize].is_full() {
             FULL
         } else if self.next >= WORN {
             NO_SERIAL
@@ -100,6 +101,15 @@ impl Bench {
     pub fn grow_number(&self, unit: u32, length: i64) -> i64 {
         let too_far = || length < 0 || length > PROGRESS - self.faces[unit as usize].progress;
         first([&|| self.no_face(&[unit]), &|| given(too_far(), LENGTH)])
+    }
+
+    /// A mode is chosen before anything is there; progress does not hinder.
+    pub fn mode_number(&self, unit: u32) -> i64 {
+        let late = || {
+            let face = &self.faces[unit as usize];
+            !face.slots.is_empty() || face.children.is_some()
+        };
+        first([&|| self.no_face(&[unit]), &|| given(late(), MARK)])
     }
 
     pub fn fuse_number(&self, parent: u32, left: u32, right: u32) -> i64 {
