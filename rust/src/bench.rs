@@ -116,6 +116,31 @@ impl Bench {
     pub fn clear(&mut self, interface: u8) -> Result<(), Refusal> {
         settled(trusted::clear(&mut self.0, interface), ())
     }
+
+    /// Has an interface without halves or used slots fill emptied slots from now on: a new node gets the lowest empty slot, and [`Refusal::Full`] comes exactly
+    /// when 64 of its nodes are present. Clearing the interface ends it. For long shots, which make and expand more blossoms than an interface has slots.
+    ///
+    /// Serials go on as ever, so that a handle never comes to mean another node. The order of the index is then no longer the order of making, and a blossom
+    /// may stand before its members. Halves and parents are not touched by it: a tree may have both kinds. Marked twice is as once.
+    ///
+    /// ```
+    /// # fn main() -> Result<(), dual_ledger::Refusal> {
+    /// let mut bench = dual_ledger::Bench::default();
+    /// bench.mark_filling(0)?;
+    /// let node = bench.create_defect_node(0, 3)?;
+    /// for _ in 0..1000 {
+    ///     let blossom = bench.create_blossom(0, &[node], &[])?;
+    ///     assert_eq!(blossom.slot(), 1);
+    ///     bench.expand_blossom(0, blossom)?;
+    /// }
+    /// assert_eq!((bench.is_filling(0)?, bench.nodes_count(0)?), (true, 2));
+    /// # Ok(())
+    /// # }
+    /// ```
+    #[doc = errors!(mark_filling)]
+    pub fn mark_filling(&mut self, interface: u8) -> Result<(), Refusal> {
+        settled(trusted::mark_filling(&mut self.0, interface), ())
+    }
 }
 
 /// # Reads and checks
@@ -136,6 +161,12 @@ impl Bench {
     #[doc = errors!(nodes_count)]
     pub fn nodes_count(&self, interface: u8) -> Result<u32, Refusal> {
         asked::nodes_count(&self.0, interface)
+    }
+
+    /// Whether an interface without a parent fills emptied slots ([`mark_filling`](Bench::mark_filling)).
+    #[doc = errors!(is_filling)]
+    pub fn is_filling(&self, interface: u8) -> Result<bool, Refusal> {
+        asked::is_filling(&self.0, interface)
     }
 
     /// The node at an index of its tree: left half, right half, own. None for an emptied slot.

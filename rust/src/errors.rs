@@ -30,9 +30,11 @@ table! {
     grow: Unit Child Length;
     fuse: Unit Child Pair Used;
     clear: Unit Child;
+    mark_filling: Unit Child Mark;
     sum_dual_variables: Unit Child;
     sum_grow_speed: Unit Child;
     nodes_count: Unit Child;
+    is_filling: Unit Child;
     get_node: Unit Child Range;
     present_count: Unit Child;
     next_present: Unit Child Range;

@@ -91,6 +91,13 @@ pub fn clear(words: &mut Words, interface: u8) -> Result<(), Refusal> {
     settled(any::clear(words, interface), ())
 }
 
+/// Has an interface without halves or used slots fill emptied slots from now on, until it is cleared. Tells nothing.
+#[doc = errors!(mark_filling)]
+#[doc = " [`Broken`](Refusal::Broken)"]
+pub fn mark_filling(words: &mut Words, interface: u8) -> Result<(), Refusal> {
+    settled(any::mark_filling(words, interface), ())
+}
+
 /// Does what a line of a text record says (docs/MANUAL.md, Lines), its newline left out. Of words that hold no sound bench the reply is
 /// [`Broken`](Refusal::Broken), and every word is as it was.
 pub fn line(words: &mut Words, line: &[u8]) -> Reply {

@@ -34,6 +34,14 @@ macro_rules! reads {
             settled($form::nodes_count(words, interface, &mut count), count as u32)
         }
 
+        /// Whether the interface fills emptied slots ([`mark_filling`](crate::Bench::mark_filling)).
+        #[doc = errors!(is_filling)]
+        #[doc = $broken]
+        pub fn is_filling(words: &$words, interface: u8) -> Result<bool, Refusal> {
+            let mut yes = 0;
+            settled($form::is_filling(words, interface, &mut yes), yes == 1)
+        }
+
         /// The node at an index of its tree: left half, right half, own. None for an emptied slot.
         #[doc = errors!(get_node)]
         #[doc = $broken]

@@ -7,13 +7,14 @@ macro_rules! refusals {
         /// SMALL after UNSOUND, since only a picture that may be written has a length).
         #[derive(Clone, Copy, Debug, PartialEq, Eq, PartialOrd, Ord, Hash)]
         #[repr(u8)]
+        #[non_exhaustive]
         pub enum Refusal {
             $(#[doc = $about] $name = $number,)*
         }
 
         impl Refusal {
             /// All of them, in rising order.
-            pub const ALL: [Refusal; 22] = [$(Refusal::$name),*];
+            pub const ALL: [Refusal; 23] = [$(Refusal::$name),*];
 
             /// The name in the manual's table.
             pub fn name(self) -> &'static str {
@@ -46,7 +47,7 @@ refusals! {
     Inside = 11, "INSIDE", "the node has a parent";
     Top = 12, "TOP", "the node has no parent";
     Twice = 13, "TWICE", "a member twice";
-    Full = 14, "FULL", "all 64 slots of the interface are used";
+    Full = 14, "FULL", "all 64 slots of the interface are used; of one that fills emptied slots, 64 nodes are present";
     Worn = 15, "WORN", "no serial is left, or set-up from serial 0";
     Pair = 16, "PAIR", "the halves are one interface, or the parent's number is not above both";
     Used = 17, "USED", "the parent has slots used, progress or halves";
@@ -55,6 +56,7 @@ refusals! {
     Room = 20, "ROOM", "the list or the stops would pass 128";
     Nothing = 21, "NOTHING", "the group holds no growth to ask for";
     Unsound = 24, "UNSOUND", "the check of the interface finds something";
+    Mark = 26, "MARK", "the interface is marked too late: it has slots used, or halves";
 }
 
 impl Refusal {

@@ -123,6 +123,12 @@ impl<M: DualModule + ?Sized> Telling<'_, M> {
         self.bench.clear(interface)
     }
 
+    /// Has an interface fill emptied slots, as [`Bench::mark_filling`] does; nothing is told.
+    #[doc = errors!(mark_filling)]
+    pub fn mark_filling(&mut self, interface: u8) -> Result<(), Refusal> {
+        self.bench.mark_filling(interface)
+    }
+
     /// Makes the call, then tells its notices in their order; a refused call has none.
     fn told(&mut self, call: impl FnOnce(&mut Sound, &mut AnswerWords) -> u8) -> Result<Handle, Refusal> {
         let mut answer = Told::blank();

@@ -67,6 +67,23 @@ impl Session {
         Session::default()
     }
 
+    /// A record that goes on from a bench: one with interfaces that are [marked](Bench::mark_filling), or one that an earlier record left. No line marks an
+    /// interface.
+    ///
+    /// ```
+    /// use dual_ledger::{Bench, Session};
+    ///
+    /// let mut bench = Bench::default();
+    /// bench.mark_filling(0).unwrap();
+    /// let mut session = Session::on(bench);
+    /// let mut answers = vec![];
+    /// session.feed(b"D 0 3\nB 0 1\nE 0 2\nD 0 4\n", &mut answers);
+    /// assert_eq!(session.bench().nodes_count(0), Ok(2));
+    /// ```
+    pub fn on(bench: Bench) -> Session {
+        Session { bench, ..Session::default() }
+    }
+
     /// The bench as it stands after the lines that were answered.
     pub fn bench(&self) -> &Bench {
         &self.bench

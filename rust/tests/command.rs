@@ -197,6 +197,44 @@ fn called_wrongly() {
     assert_eq!(folder.run(&["--version"]).1, format!("dual-ledger {}\n", env!("CARGO_PKG_VERSION")));
 }
 
+/// A record that makes and expands more blossoms than an interface has slots: FULL without the mode, none with it.
+#[test]
+fn emptied_slots_filled() {
+    let mut record = "D 0 3\nD 1 4\n".to_string();
+    (0..100).for_each(|at| record += &format!("B 0 1\nG 0 1\nE 0 {}\n", at + 3));
+    let folder = Folder::new("fill").with("long.txt", &record);
+    let (status, shown, _) = folder.run(&["check", "long.txt"]);
+    assert!(status == 0 && shown.ends_with("long.txt: 302 lines, 74 refused\n"), "{shown}");
+    assert!(shown.contains("long.txt:192: 14 FULL: all 64 slots of interface 0 are used\n"), "{shown}");
+    assert_eq!(folder.run(&["check", "--fill", "0", "long.txt"]), (0, "long.txt: 302 lines, 0 refused\n".into(), "".into()));
+    assert_eq!(folder.run(&["check", "--fill", "7", "--fill", "0", "--fill", "0", "--quiet", "long.txt"]), (0, "".into(), "".into()));
+    assert_eq!(folder.run(&["check", "--fill", "1", "long.txt"]).1, shown);
+    let (status, ages, message) = folder.run(&["ages", "--csv", "--fill", "0", "long.txt"]);
+    assert_eq!((status, message.as_str()), (0, ""));
+    assert_eq!(ages.lines().nth(1), Some("node,1,0,3,,1,,,0,,,"));
+    assert_eq!(ages.lines().nth(102), Some("node,102,0,,1,300,302,expanded,1,,,"));
+    assert_eq!(ages.lines().nth(103), Some("interface,,0,,,,,,,100,0,100"));
+    // the slots that a picture shows
+    fs::write(folder.0.join("short.txt"), "D 0 3\nB 0 1\nE 0 2\nB 0 1\nE 0 3\n").unwrap();
+    assert!(folder.run(&["picture", "short.txt"]).1.ends_with("},null,null]}\n"));
+    assert!(folder.run(&["picture", "--fill", "0", "short.txt"]).1.ends_with("},null]}\n"));
+    // 64 present
+    let full: String = (0..65).map(|vertex| format!("D 2 {vertex}\n")).collect();
+    fs::write(folder.0.join("full.txt"), full).unwrap();
+    let shown = folder.run(&["check", "--fill", "2", "full.txt"]).1;
+    assert_eq!(shown, "full.txt:65: 14 FULL: 64 nodes of interface 2 are present\nfull.txt: 65 lines, 1 refused\n");
+    for words in [
+        &["check", "--fill", "8", "full.txt"][..],
+        &["ages", "--fill", "x", "full.txt"],
+        &["picture", "--fill", "-1", "full.txt"],
+        &["check", "full.txt", "--fill"],
+    ] {
+        let (status, shown, message) = folder.run(words);
+        assert_eq!((status, shown.as_str()), (2, ""), "{words:?}");
+        assert_eq!(message, "dual-ledger: --fill wants an interface, 0 to 7\nTry 'dual-ledger --help'.\n");
+    }
+}
+
 #[test]
 fn ages_in_three_forms() {
     let folder = Folder::new("ages").with("shot.txt", &format!("{RECORD}D 1 20\nG 1 6\nF 2 0 1\nG 2 5\nS 2 4 1\n"));

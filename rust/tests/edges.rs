@@ -1,5 +1,5 @@
 //! The manual's edges and worked case, by a bench's calls.
-use dual_ledger::{Bench, Group, GrowState, Obstacle, Refusal, Verdict};
+use dual_ledger::{lent, Bench, Group, GrowState, Obstacle, Refusal, Verdict};
 
 #[test]
 fn values_through_a_fuse() {
@@ -103,6 +103,67 @@ fn words_without_a_map_are_broken() {
         assert!(Bench::from_words(&words).is_err() && !dual_ledger::lent::is_sound(&words));
         assert_eq!(dual_ledger::lent::present_count(&words, 3), Err(Refusal::Broken));
         assert_eq!(dual_ledger::lent::next_present(&words, 3, 0), Err(Refusal::Broken));
+    }
+}
+
+/// The lowest empty slot, older handles, a blossom before its member, FULL at 64 present, a used count that does not fall.
+#[test]
+fn emptied_slots_are_filled() {
+    let mut bench = Bench::default();
+    bench.mark_filling(0).unwrap();
+    assert_eq!((bench.is_filling(0), bench.is_filling(1), bench.is_filling(8)), (Ok(true), Ok(false), Err(Refusal::Unit)));
+    let a = bench.create_defect_node(0, 1).unwrap();
+    let over = bench.create_blossom(0, &[a], &[]).unwrap();
+    let b = bench.create_defect_node(0, 2).unwrap();
+    bench.expand_blossom(0, over).unwrap();
+    assert_eq!((bench.nodes_count(0), bench.present_count(0), bench.get_node(0, 1)), (Ok(3), Ok(2), Ok(None)));
+    let mut around = bench.create_blossom(0, &[b], &[]).unwrap();
+    assert_eq!((around.slot(), around.serial(), bench.nodes_count(0), b.slot()), (1, 4, Ok(3), 2));
+    assert_eq!((bench.get_dual_variable(over), bench.check_ptr_belonging(0, over)), (Err(Refusal::Stale), Ok(false)));
+    assert_eq!((bench.get_node(0, 1), bench.get_all_vertices(around), bench.strict_check(0)), (Ok(Some(around)), Ok(vec![2]), Ok(Verdict::Sound)));
+    assert!((0..61).all(|vertex| bench.create_defect_node(0, 100 + vertex).is_ok()));
+    for turn in 0..300 {
+        assert_eq!((bench.create_defect_node(0, 9), bench.create_blossom(0, &[a], &[])), (Err(Refusal::Full), Err(Refusal::Full)), "{turn}");
+        bench.expand_blossom(0, around).unwrap();
+        let went = std::mem::replace(&mut around, bench.create_blossom(0, &[b], &[]).unwrap());
+        assert_eq!((around.slot(), around.serial(), bench.get_dual_variable(went)), (1, 66 + turn, Err(Refusal::Stale)));
+    }
+    assert_eq!((bench.present_count(0), bench.nodes_count(0)), (Ok(64), Ok(64)));
+    assert_eq!(Bench::from_words(bench.words()).unwrap(), bench);
+    bench.clear(0).unwrap();
+    assert_eq!((bench.is_filling(0), bench.words()[9]), (Ok(false), 0));
+}
+
+#[test]
+fn marked_late() {
+    let mut bench = Bench::default();
+    let a = bench.create_defect_node(0, 1).unwrap();
+    let before = bench.clone();
+    assert_eq!((bench.mark_filling(0), bench.mark_filling(8)), (Err(Refusal::Mark), Err(Refusal::Unit)));
+    assert_eq!(bench, before);
+    // progress does not hinder, twice is as once, a parent may be marked before its fuse, and the mode is each one's own
+    bench.grow(1, 5).unwrap();
+    bench.mark_filling(1).unwrap();
+    bench.mark_filling(2).unwrap();
+    let marked = bench.clone();
+    bench.mark_filling(2).unwrap();
+    assert_eq!(bench, marked);
+    bench.fuse(2, 0, 1).unwrap();
+    assert_eq!((bench.mark_filling(2), bench.mark_filling(1), bench.is_filling(1)), (Err(Refusal::Mark), Err(Refusal::Child), Err(Refusal::Child)));
+    assert_eq!((bench.is_filling(2), bench.words()[9], bench.words()[16 + 9]), (Ok(true), 0, 1));
+    let over = bench.create_blossom(2, &[a], &[]).unwrap();
+    bench.expand_blossom(2, over).unwrap();
+    assert_eq!(bench.create_defect_node(2, 2).map(|node| node.slot()), Ok(0));
+    bench.clear(2).unwrap();
+    assert!((0..3).all(|unit| bench.is_filling(unit) == Ok(false)));
+    // words from elsewhere
+    let mut words = *Bench::default().words();
+    lent::mark_filling(&mut words, 3).unwrap();
+    assert_eq!((lent::is_filling(&words, 3), words[16 * 3 + 9]), (Ok(true), 1));
+    for stray in [4, 1 << 63, 5, u64::MAX] {
+        words[16 * 3 + 9] = stray;
+        assert!(!lent::is_sound(&words));
+        assert_eq!((lent::is_filling(&words, 3), lent::mark_filling(&mut words, 3)), (Err(Refusal::Broken), Err(Refusal::Broken)));
     }
 }
 

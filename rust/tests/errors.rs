@@ -5,8 +5,10 @@ use std::collections::{BTreeMap, BTreeSet};
 use std::path::Path;
 
 /// The function that a letter of the recordings calls.
-fn function(letter: &str) -> Option<&'static str> {
+fn function(letter: &str, mode: Option<&str>) -> Option<&'static str> {
     Some(match letter {
+        "P" if mode == Some("1") => "mark_filling",
+        "Q" if mode == Some("1") => "is_filling",
         "N" => "set_up",
         "D" => "create_defect_node",
         "B" | "b" | "t" => "create_blossom",
@@ -42,14 +44,14 @@ fn as_recorded() {
     let mut answers = 0;
     for entry in std::fs::read_dir(folder).unwrap().flatten().filter(|entry| entry.path().is_file()) {
         let text = std::fs::read_to_string(entry.path()).unwrap();
-        let mut called = "";
+        let (mut called, mut mode) = ("", None);
         for line in text.lines() {
             if let Some(answer) = line.strip_prefix("= ") {
                 let numbers: Vec<u8> = answer.split(' ').map(|number| number.parse().unwrap_or(0)).collect();
                 // `y` answers 0, whether it is empty and active, and only then the growth's number
                 let (name, number) = match called {
                     "y" => (Some("get_none_zero_growth"), numbers[3]),
-                    _ => (function(called), numbers[0]),
+                    _ => (function(called, mode), numbers[0]),
                 };
                 if let (Some(name), Some(refusal)) = (name, Refusal::from_number(number)) {
                     seen.entry(name).or_default().insert(refusal);
@@ -57,6 +59,7 @@ fn as_recorded() {
                 answers += 1;
             } else if !line.starts_with('#') {
                 called = line.split(' ').next().unwrap_or("");
+                mode = line.split(' ').nth(2);
             }
         }
     }

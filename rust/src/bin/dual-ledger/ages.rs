@@ -5,7 +5,7 @@ use crate::explain::explain;
 use crate::input::{self, Progress};
 use crate::output::said;
 use crate::table;
-use dual_ledger::{Bench, Handle, Session};
+use dual_ledger::{Bench, Handle};
 use std::io::{self, BufWriter, Write};
 
 /// How a node went.
@@ -93,14 +93,21 @@ impl Book {
         }
     }
 
+    /// The node of the newest serial: the last of its interface, unless that fills emptied slots.
+    fn made(&self, bench: &Bench, interface: u8) -> Handle {
+        let is_it = |node: &Handle| node.serial() as usize == self.nodes.len() + 1;
+        let last = bench.nodes_count(interface).and_then(|count| bench.get_node(interface, count.saturating_sub(1)));
+        let last = last.ok().flatten().filter(is_it);
+        last.or_else(|| present(bench, interface).find(is_it)).expect("the node that was just made is present")
+    }
+
     /// An accepted line was done, and these nodes went by it.
     fn done(&mut self, bench: &Bench, line: &[u8], number: u64, going: Vec<(u32, i64)>) {
         let letter = line[0];
         let unit = fields(line).next().unwrap_or(0) as usize;
         match letter {
             b'D' | b'B' => {
-                let last = bench.nodes_count(unit as u8).and_then(|count| bench.get_node(unit as u8, count - 1));
-                let handle = last.ok().flatten().expect("the node that was just made stands last");
+                let handle = self.made(bench, unit as u8);
                 let of = match letter {
                     b'D' => Of::Vertex(bench.get_representative_vertex(handle).expect("it is present")),
                     _ => Of::Members(fields(line).skip(1).collect()),
@@ -147,7 +154,7 @@ pub fn run(args: &Args) -> Result<bool, String> {
     let path = &args.files[0];
     let name = path.display().to_string();
     let from = input::open(path).map_err(|trouble| said(&name, &trouble))?;
-    let (mut session, mut book, mut progress) = (Session::new(), Book::default(), Progress::new(!args.is_quiet));
+    let (mut session, mut book, mut progress) = (args.session(), Book::default(), Progress::new(!args.is_quiet));
     let mut over = false;
     let (lines, rest) = input::parts(from, |part| {
         let Some(line) = part.line else { return Ok(()) };

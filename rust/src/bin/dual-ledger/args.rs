@@ -1,29 +1,34 @@
 //! What the command was asked for.
+use dual_ledger::{Bench, Session};
 use std::ffi::OsString;
 use std::path::PathBuf;
 
 pub const HELP: &str = "\
 Runs text records of the dual ledger (docs/MANUAL.md) by its proved functions.
 
-dual-ledger check [--jobs N] [--quiet] [--answers OUT] FILE..
+dual-ledger check [--jobs N] [--quiet] [--answers OUT] [--fill U].. FILE..
     runs each file, a record of its own, and shows the refused lines: file, line, number, name, why.
     --jobs N       on so many cores; else on all
     --quiet        shows nothing but what failed
     --answers OUT  writes what `ledger` would write, all files in the order named; a file OUT is there
                    only when it is whole; - is standard output
 
-dual-ledger ages [--csv | --json] [--quiet] FILE
+dual-ledger ages [--csv | --json] [--quiet] [--fill U].. FILE
     runs a record and prints each node that ever was: serial, interface, vertex or members, the lines
     of making and going, its value then or now; at the end the sums, added up.
     --csv, --json  as one table, as one object
     --quiet        does not show refused lines
 
-dual-ledger picture [--unit U] [--full] [--at N] [--svg] FILE
+dual-ledger picture [--unit U] [--full] [--at N] [--svg] [--fill U].. FILE
     runs a record and prints the nodes of an interface as JSON for the viewer, if its check says 0.
     --unit U       of this interface; else of 0
     --full         with full names; else abbreviated
     --at N         as they stand after the first N lines
     --svg          the nest of blossoms drawn, as an SVG that any browser shows
+
+Each of them marks interfaces before a record runs, as many as are named:
+    --fill U       interface U fills the slots that expansions emptied, until it is cleared; it is full
+                   when 64 of its nodes are present
 
 A FILE named - is standard input. Status 0: all was read, answered and written. Status 1: it was not,
 and a message says why; a last line without newline counts as cut. Status 2: called wrongly.
@@ -47,6 +52,8 @@ pub struct Args {
     pub is_full: bool,
     pub is_drawn: bool,
     pub at: Option<u64>,
+    /// interfaces to be marked before a record runs
+    pub fills: Vec<u8>,
 }
 
 pub enum Asked {
@@ -77,8 +84,18 @@ impl Args {
             _ => return Err(format!("there is no subcommand {}", first.to_string_lossy())),
         };
         let jobs = std::thread::available_parallelism().map_or(1, usize::from);
-        let mut args =
-            Args { files: vec![], jobs, is_quiet: false, answers: None, form: Form::Text, unit: 0, is_full: false, is_drawn: false, at: None };
+        let mut args = Args {
+            files: vec![],
+            jobs,
+            is_quiet: false,
+            answers: None,
+            form: Form::Text,
+            unit: 0,
+            is_full: false,
+            is_drawn: false,
+            at: None,
+            fills: vec![],
+        };
         let mut no_more_options = false;
         while let Some(word) = words.next() {
             match word.to_str() {
@@ -95,6 +112,7 @@ impl Args {
                 Some("--svg") if work == Work::Picture && !no_more_options => args.is_drawn = true,
                 Some("--unit") if work == Work::Picture && !no_more_options => args.unit = number(words.next(), "--unit wants an interface, 0 to 7")?,
                 Some("--at") if work == Work::Picture && !no_more_options => args.at = Some(number(words.next(), "--at wants a number of lines")?),
+                Some("--fill") if !no_more_options => args.fills.push(interface(words.next(), "--fill")?),
                 Some(option) if !no_more_options && option.starts_with('-') && option != "-" => {
                     return Err(format!("there is no option {option} here"))
                 }
@@ -110,6 +128,18 @@ impl Args {
             (Work::Picture, _) => Err("picture takes one file".to_string()),
         }
     }
+
+    /// A record from its beginning, on a bench whose interfaces are marked as was asked.
+    pub fn session(&self) -> Session {
+        let mut bench = Bench::default();
+        self.fills.iter().for_each(|unit| bench.mark_filling(*unit).expect("an interface of a new bench can be marked"));
+        Session::on(bench)
+    }
+}
+
+fn interface(word: Option<OsString>, option: &str) -> Result<u8, String> {
+    let wanted = format!("{option} wants an interface, 0 to 7");
+    number(word, &wanted).and_then(|unit| Some(unit).filter(|unit| *unit < 8).ok_or(wanted))
 }
 
 fn number<T: std::str::FromStr>(word: Option<OsString>, wanted: &str) -> Result<T, String> {

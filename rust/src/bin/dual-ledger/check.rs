@@ -113,7 +113,7 @@ fn work(shared: &Shared, senders: &[SyncSender<News>]) {
     loop {
         let at = shared.next.fetch_add(1, Ordering::Relaxed);
         let (Some(path), Some(to)) = (shared.args.files.get(at), senders.get(at)) else { return };
-        let mut run = Run { session: Session::new(), name: path.display().to_string(), answers: vec![], refused: 0, shared, to: to.clone() };
+        let mut run = Run { session: shared.args.session(), name: path.display().to_string(), answers: vec![], refused: 0, shared, to: to.clone() };
         // whatever happens, the file's end is told: somebody waits for it
         let ended = catch_unwind(AssertUnwindSafe(|| run.file(path))).unwrap_or_else(|_| Err("this program is at fault".to_string()));
         let (lines, trouble) = match ended {

@@ -118,7 +118,10 @@ pub fn explain(bench: &Bench, refusal: Refusal, line: &[u8]) -> String {
             let all = serials(line, &fields);
             all.iter().enumerate().find(|(at, serial)| all[..*at].contains(serial)).map(|(_, serial)| format!("serial {serial} is named twice"))
         }
-        Refusal::Full => Some(format!("all 64 slots of interface {unit} are used")),
+        Refusal::Full => Some(match u8::try_from(unit).map(|unit| bench.is_filling(unit)) {
+            Ok(Ok(true)) => format!("64 nodes of interface {unit} are present"),
+            _ => format!("all 64 slots of interface {unit} are used"),
+        }),
         Refusal::Worn => Some("no serial is left".to_string()),
         Refusal::Pair => Some(match fields[..] {
             [_, left, right] if left == right => format!("interface {left} cannot be both halves"),

@@ -3,7 +3,7 @@ use crate::args::Args;
 use crate::input;
 use crate::output::{print, said};
 use crate::svg;
-use dual_ledger::{Bench, Session};
+use dual_ledger::Bench;
 
 /// The values of an interface's nodes by index; an emptied slot's is 0.
 fn values(bench: &Bench, interface: u8) -> Vec<i64> {
@@ -15,7 +15,7 @@ fn values(bench: &Bench, interface: u8) -> Vec<i64> {
 pub fn run(args: &Args) -> Result<bool, String> {
     let (path, name) = (&args.files[0], args.files[0].display().to_string());
     let from = input::open(path).map_err(|trouble| said(&name, &trouble))?;
-    let (mut session, mut answers) = (Session::new(), vec![]);
+    let (mut session, mut answers) = (args.session(), vec![]);
     let upto = args.at.unwrap_or(u64::MAX);
     let read = input::parts(from, |part| {
         if part.number <= upto {

@@ -64,7 +64,7 @@ impl Nest {
         (places, whole)
     }
 
-    /// A member is older than its blossom and so measured before it, from the roots down by recursion.
+    /// A blossom's members are measured before it, from the roots down by recursion.
     fn measure(&mut self, index: usize) {
         let members = self.nodes.get(index).and_then(Option::as_ref).map_or(vec![], |node| node.members.clone());
         members.iter().for_each(|member| self.measure(*member));
