@@ -88,7 +88,8 @@ extern "C" {
 uint8_t dual_ledger_set_up(uint64_t *bench, uint32_t first);
 
 /* 1 where the words are a sound bench, else 0. Any words may be lent. Word 16 u + 8 is the map of interface u, bit s for slot s: words stored before there was
- * one have 0 there, and are no sound bench if they hold a node (docs/MIGRATING.md says how to take them over). */
+ * one have 0 there, and are no sound bench if they hold a node (docs/MIGRATING.md says how to take them over). Word 16 u + 9 has its marks: 1 where it fills
+ * emptied slots, and no other bit. */
 uint8_t dual_ledger_is_sound(const uint64_t *bench);
 
 /* ---- calls, on any words */
@@ -109,6 +110,9 @@ uint8_t dual_ledger_grow(uint64_t *bench, uint8_t unit, int64_t length, uint64_t
 uint8_t dual_ledger_fuse(uint64_t *bench, uint8_t parent, uint8_t left, uint8_t right);
 /* Empties interface unit and what is fused into it; serials go on. Tells nothing. */
 uint8_t dual_ledger_clear(uint64_t *bench, uint8_t unit);
+/* Has interface unit, which has neither halves nor used slots, fill emptied slots until it is cleared: a new node gets its lowest empty slot, and FULL comes
+ * exactly when 64 of its nodes are present [Filling]. MARK where it is too late; progress does not hinder, and twice is as once. Tells nothing. */
+uint8_t dual_ledger_mark_filling(uint64_t *bench, uint8_t unit);
 
 /* ---- the same on sound words, with the notices */
 
@@ -129,6 +133,7 @@ uint8_t dual_ledger_trusted_set_grow_state(uint64_t *bench, uint8_t unit, uint64
 uint8_t dual_ledger_trusted_grow(uint64_t *bench, uint8_t unit, int64_t length);
 uint8_t dual_ledger_trusted_fuse(uint64_t *bench, uint8_t parent, uint8_t left, uint8_t right);
 uint8_t dual_ledger_trusted_clear(uint64_t *bench, uint8_t unit);
+uint8_t dual_ledger_trusted_mark_filling(uint64_t *bench, uint8_t unit);
 
 /* ---- reads, on any words; dual_ledger_trusted_NAME with the same arguments on sound words */
 
@@ -138,6 +143,8 @@ uint8_t dual_ledger_sum_dual_variables(const uint64_t *bench, uint8_t unit, int6
 uint8_t dual_ledger_sum_grow_speed(const uint64_t *bench, uint8_t unit, int64_t *speed);
 /* How many slots its tree has, used or emptied. */
 uint8_t dual_ledger_nodes_count(const uint64_t *bench, uint8_t unit, uint64_t *count);
+/* yes: 1 where the interface fills emptied slots, else 0. Of an interface without a parent, and of that one alone: its halves may differ. */
+uint8_t dual_ledger_is_filling(const uint64_t *bench, uint8_t unit, uint64_t *yes);
 /* The handle at an index of its tree, left half, right half, own; DUAL_LEDGER_NO_NODE for an emptied slot, 0 where refused. */
 uint8_t dual_ledger_get_node(const uint64_t *bench, uint8_t unit, uint32_t index, uint64_t *node);
 /* How many present nodes its tree has: the ones of its interfaces' maps, added. */
@@ -164,6 +171,7 @@ uint8_t dual_ledger_get_all_vertices(const uint64_t *bench, uint64_t node, uint3
 uint8_t dual_ledger_trusted_sum_dual_variables(const uint64_t *bench, uint8_t unit, int64_t *sum);
 uint8_t dual_ledger_trusted_sum_grow_speed(const uint64_t *bench, uint8_t unit, int64_t *speed);
 uint8_t dual_ledger_trusted_nodes_count(const uint64_t *bench, uint8_t unit, uint64_t *count);
+uint8_t dual_ledger_trusted_is_filling(const uint64_t *bench, uint8_t unit, uint64_t *yes);
 uint8_t dual_ledger_trusted_get_node(const uint64_t *bench, uint8_t unit, uint32_t index, uint64_t *node);
 uint8_t dual_ledger_trusted_present_count(const uint64_t *bench, uint8_t unit, uint64_t *count);
 uint8_t dual_ledger_trusted_next_present(const uint64_t *bench, uint8_t unit, uint32_t index, uint32_t *next, uint64_t *node);
@@ -270,7 +278,7 @@ uint8_t dual_ledger_text_end(size_t held, uint8_t *out, size_t out_len, size_t *
 #define DUAL_LEDGER_INSIDE 11 /* set state, expand, or circle member with a parent */
 #define DUAL_LEDGER_TOP 12 /* node below the outermost asked of a node without parent */
 #define DUAL_LEDGER_TWICE 13 /* a member twice */
-#define DUAL_LEDGER_FULL 14 /* all 64 slots of the interface used since its clear */
+#define DUAL_LEDGER_FULL 14 /* all 64 slots of the interface used since its clear; of one that fills emptied slots, 64 nodes present */
 #define DUAL_LEDGER_WORN 15 /* no serial left after 4,294,967,295; set-up from 0 */
 #define DUAL_LEDGER_PAIR 16 /* fuse: left is right, or parent's number not above both */
 #define DUAL_LEDGER_USED 17 /* fuse: parent has slots used, progress or children */
@@ -279,12 +287,14 @@ uint8_t dual_ledger_text_end(size_t held, uint8_t *out, size_t out_len, size_t *
 #define DUAL_LEDGER_ROOM 20 /* list or stops would pass 128 at any step */
 #define DUAL_LEDGER_NOTHING 21 /* growth asked of (largest weight, any flag) */
 #define DUAL_LEDGER_UNSOUND 24 /* the check of the interface says other than 0 */
+#define DUAL_LEDGER_MARK 26 /* an interface marked that has slots used, or halves */
 
 /* The name of a number: "STALE" for 8; "ACCEPTED" for 0; NULL for a number that no function answers. */
 static inline const char *dual_ledger_refusal_name(uint8_t number) {
     static const char *const names[22] = {"ACCEPTED", "LINE", "BROKEN", "UNIT", "CHILD", "LENGTH", "CIRCLE", "TOUCH", "STALE", "FOREIGN", "KIND", "INSIDE",
                                           "TOP",      "TWICE", "FULL",  "WORN", "PAIR",  "USED",   "RANGE",  "SMALL", "ROOM",  "NOTHING"};
     if (number == DUAL_LEDGER_UNSOUND) return "UNSOUND";
+    if (number == DUAL_LEDGER_MARK) return "MARK";
     return number < 22 ? names[number] : NULL;
 }
 

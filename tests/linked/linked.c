@@ -1,5 +1,5 @@
 /* The linked library from C, by its header alone: the manual's worked cases, a blossom with its notices word by word, every read and check in both forms,
- * text records in lines and in chunks of every size, groups of obstacles, and refusals with all that was lent compared before and after. Ends with 0 and one line, or names the first difference. */
+ * interfaces that fill emptied slots, text records in lines and in chunks of every size, groups of obstacles, and refusals with all that was lent compared before and after. Ends with 0 and one line, or names the first difference. */
 #include "dual_ledger.h"
 
 #include <inttypes.h>
@@ -353,6 +353,72 @@ static void reads(void) {
     check(0, 0, 5, 0), check_strictly(0, 0, 5, 0);
 }
 
+/* ---- interfaces that fill emptied slots */
+
+static void read_filling(uint8_t unit, int number, int64_t yes) {
+    uint64_t got = 77;
+    same("filling", dual_ledger_is_filling(bench, unit, &got), number), same("filling", (int64_t)got, yes);
+    got = 77;
+    same("filling", dual_ledger_trusted_is_filling(bench, unit, &got), number), same("filling", (int64_t)got, yes);
+}
+
+/* Marks by one form; refused, every word is as it was. */
+static void mark_filling(enum form form, uint8_t unit, int number) {
+    memcpy(kept, bench, sizeof bench);
+    same("mark", form == OPEN ? dual_ledger_mark_filling(bench, unit) : dual_ledger_trusted_mark_filling(bench, unit), number);
+    if (number == 0) kept[16 * unit + 9] |= 1;
+    same_words("mark", bench, kept, DUAL_LEDGER_WORDS), same("sound", dual_ledger_is_sound(bench), 1);
+}
+
+static uint64_t make(enum form form, uint8_t unit, uint64_t member, int number) {
+    uint8_t got;
+    if (form == OPEN) got = member ? dual_ledger_create_blossom(bench, unit, &member, 1, NULL, 0, answer) : dual_ledger_create_defect_node(bench, unit, 1, answer);
+    else if (form == TOLD) got = member ? dual_ledger_told_create_blossom(bench, unit, &member, 1, NULL, 0, answer) : dual_ledger_told_create_defect_node(bench, unit, 1, answer);
+    else got = member ? dual_ledger_trusted_create_blossom(bench, unit, &member, 1, NULL, 0, answer) : dual_ledger_trusted_create_defect_node(bench, unit, 1, answer);
+    same("a node made", got, number);
+    return answer[0];
+}
+
+static void expand(enum form form, uint8_t unit, uint64_t node) {
+    if (form == OPEN) same("expand", dual_ledger_expand_blossom(bench, unit, node, answer), 0);
+    else if (form == TOLD) same("expand", dual_ledger_told_expand_blossom(bench, unit, node, answer), 0);
+    else same("expand", dual_ledger_trusted_expand_blossom(bench, unit, node), 0);
+}
+
+/* A slot that is filled again and again, FULL at 64 present, what the clear ends; marks that come late; a tree of both kinds. */
+static void filling(enum form form) {
+    uint64_t a, b, node;
+    int64_t value = 77;
+    same("set-up", dual_ledger_set_up(bench, 1), 0);
+    read_filling(0, 0, 0), mark_filling(form, 0, 0), mark_filling(form, 0, 0), read_filling(0, 0, 1), read_filling(1, 0, 0);
+    mark_filling(form, 8, DUAL_LEDGER_UNIT), mark_filling(form, 255, DUAL_LEDGER_UNIT), read_filling(8, DUAL_LEDGER_UNIT, 0);
+    a = make(form, 0, 0, 0), mark_filling(form, 0, DUAL_LEDGER_MARK);
+    for (uint64_t i = 0; i < 300; i++) {
+        node = make(form, 0, a, 0), same("its handle", (int64_t)node, (int64_t)handle(2 + i, 1, 0)), expand(form, 0, node);
+        same("an old handle", dual_ledger_get_dual_variable(bench, node, &value), DUAL_LEDGER_STALE);
+    }
+    b = make(form, 0, 0, 0), same("the lowest", (int64_t)DUAL_LEDGER_HANDLE_SLOT(b), 1);
+    for (uint64_t i = 2; i < 64; i++) same("the next", (int64_t)DUAL_LEDGER_HANDLE_SLOT(make(form, 0, 0, 0)), (int64_t)i);
+    make(form, 0, 0, DUAL_LEDGER_FULL), make(form, 0, a, DUAL_LEDGER_FULL), read_present(0, 0, 64);
+    same("clear", form == OPEN ? dual_ledger_clear(bench, 0) : dual_ledger_trusted_clear(bench, 0), 0), read_filling(0, 0, 0);
+    /* the left half fills, the right does not, the parent does, being marked before its fuse; each by itself */
+    mark_filling(form, 0, 0), mark_filling(form, 2, 0), a = make(form, 0, 0, 0), b = make(form, 1, 0, 0);
+    node = make(form, 1, b, 0), expand(form, 1, node), same("grow", dual_ledger_trusted_grow(bench, 3, 5), 0), mark_filling(form, 3, 0);
+    same("unmarked", (int64_t)DUAL_LEDGER_HANDLE_SLOT(make(form, 1, 0, 0)), 2), mark_filling(form, 1, DUAL_LEDGER_MARK);
+    same("fuse", form == OPEN ? dual_ledger_fuse(bench, 2, 0, 1) : dual_ledger_trusted_fuse(bench, 2, 0, 1), 0);
+    mark_filling(form, 0, DUAL_LEDGER_CHILD), mark_filling(form, 2, DUAL_LEDGER_MARK), read_filling(0, DUAL_LEDGER_CHILD, 0), read_filling(2, 0, 1);
+    node = make(form, 2, a, 0), make(form, 2, 0, 0), expand(form, 2, node);
+    same("the parent's lowest", (int64_t)DUAL_LEDGER_HANDLE_SLOT(make(form, 2, b, 0)), 0), read_node(2, 4, 0, answer[0]);
+    same("clear", form == OPEN ? dual_ledger_clear(bench, 2) : dual_ledger_trusted_clear(bench, 2), 0);
+    read_filling(0, 0, 0), read_filling(2, 0, 0), read_filling(3, 0, 1);
+    /* bits that no mark has */
+    for (int bit = 2; bit < 64; bit++) {
+        bench[16 * 5 + 9] = (uint64_t)1 << bit, same("a stray bit", dual_ledger_is_sound(bench), 0), memcpy(kept, bench, sizeof bench);
+        same("a stray bit", dual_ledger_mark_filling(bench, 5), DUAL_LEDGER_BROKEN), same_words("a stray bit", bench, kept, DUAL_LEDGER_WORDS);
+        node = 77, same("a stray bit", dual_ledger_is_filling(bench, 5, &node), DUAL_LEDGER_BROKEN), same("a stray bit", (int64_t)node, 0);
+    }
+}
+
 /* ---- text records: lines, chunks cut anywhere, the end */
 
 static const char record[] = "D 0 3\nG 0 5\nB 0 1\nS 0 2 -1\nG 0 1\nE 0 1\nK 0\n\nC 0\nS 0 2 1";
@@ -435,6 +501,7 @@ static void names(void) {
     same("the name of 8", strcmp(dual_ledger_refusal_name(DUAL_LEDGER_STALE), "STALE"), 0);
     same("the name of 21", strcmp(dual_ledger_refusal_name(DUAL_LEDGER_NOTHING), "NOTHING"), 0);
     same("the name of 24", strcmp(dual_ledger_refusal_name(DUAL_LEDGER_UNSOUND), "UNSOUND"), 0);
+    same("the name of 26", strcmp(dual_ledger_refusal_name(DUAL_LEDGER_MARK), "MARK"), 0);
     same("the name of 22", dual_ledger_refusal_name(22) == NULL, 1), same("the name of 0", strcmp(dual_ledger_refusal_name(0), "ACCEPTED"), 0);
 }
 
@@ -656,6 +723,7 @@ int main(void) {
     reads();
     under();
     pictures();
+    for (int form = OPEN; form <= TRUSTED; form++) filling((enum form)form);
     text();
     names();
     refusals();

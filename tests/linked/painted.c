@@ -156,9 +156,11 @@ static void calls(uint64_t unit, uint64_t node, int levels) {
     CALL(grow, b, unit, 2, a);
     BOTH(fuse, b, 7, unit, 3);
     BOTH(clear, b, unit);
+    BOTH(mark_filling, b, 7);
     BOTH(sum_dual_variables, b, unit, a);
     BOTH(sum_grow_speed, b, unit, a);
     BOTH(nodes_count, b, unit, a);
+    BOTH(is_filling, b, unit, a);
     BOTH(get_node, b, unit, 0, a);
     BOTH(present_count, b, unit, a);
     BOTH(next_present, b, unit, 0, W(vertices), a);
