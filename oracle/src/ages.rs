@@ -1,8 +1,9 @@
 //! The ages of a record by the model, as `dual-ledger ages --csv` prints them, worked out another way: which nodes went by a line is seen from the bench before
-//! and after it, and what blossoms had when they went is kept by the interface whose slot they held.
+//! and after it, and what blossoms had when they went is kept by the interface whose slot they held. One record in three is run with interfaces that fill
+//! emptied slots (`--fill`).
 use crate::generator::plans::{MIXED, TEXT};
 use crate::generator::Player;
-use crate::line::Line;
+use crate::line::{read, Line};
 use crate::model::bench::{Bench, Class, FACES};
 use crate::model::Model;
 use crate::text;
@@ -33,8 +34,10 @@ fn present(bench: &Bench) -> BTreeMap<u32, (usize, String, i64)> {
     found
 }
 
-pub fn csv(input: &[u8]) -> String {
+/// The ages of a record on a bench that lines of the language were done on before.
+pub fn csv(before: &[String], input: &[u8]) -> String {
     let mut model = Model::new(1);
+    before.iter().for_each(|line| drop(model.answer(&read(line).expect("a line of the language"))));
     let mut ages: BTreeMap<u32, Aged> = BTreeMap::new();
     let mut expanded = [0; FACES];
     for (at, (bytes, can_be)) in text::lines(input).enumerate() {
@@ -85,11 +88,16 @@ pub fn compare(command: &str, count: u64) -> Result<String, String> {
     for seed in 0..count {
         let plan = if seed % 2 == 0 { TEXT } else { MIXED };
         let mut player = Player::new(plan, seed + 1);
+        let units: Vec<String> = (0..8).filter(|unit| seed % 3 == 0 && seed / 6 >> unit & 1 == 1).map(|unit| unit.to_string()).collect();
+        let marks: Vec<String> = units.iter().map(|unit| format!("P {unit} 1")).collect();
+        marks.iter().for_each(|line| drop(player.play(line)));
         let length = 20 + seed % 400;
         let record: String = (0..length).map(|_| if seed % 2 == 0 { player.accepted() } else { player.line() } + "\n").collect();
         std::fs::write(&path, &record).map_err(|why| why.to_string())?;
-        let output = Command::new(command).args(["ages", "--csv", "--quiet"]).arg(&path).output().map_err(|why| format!("{command}: {why}"))?;
-        let (theirs, ours) = (String::from_utf8_lossy(&output.stdout).into_owned(), csv(record.as_bytes()));
+        let options = units.iter().flat_map(|unit| ["--fill", unit]);
+        let output =
+            Command::new(command).args(["ages", "--csv", "--quiet"]).args(options).arg(&path).output().map_err(|why| format!("{command}: {why}"))?;
+        let (theirs, ours) = (String::from_utf8_lossy(&output.stdout).into_owned(), csv(&marks, record.as_bytes()));
         if theirs != ours || !output.status.success() {
             let line = theirs.lines().zip(ours.lines()).find(|(theirs, ours)| theirs != ours);
             return Err(format!("seed {seed}: {line:?}, status {}; the record is {}", output.status, path.display()));

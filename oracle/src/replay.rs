@@ -78,6 +78,12 @@ impl Replay {
         self.driver.snapshot(unit, abbrev).map_err(|trouble| trouble.to_string())
     }
 
+    /// The original's serials by index in a tree, 0 for an emptied slot.
+    pub fn serials(&self, unit: u32) -> Vec<u32> {
+        let slots = self.model.bench.tree(unit as usize).into_iter().flat_map(|below| self.driver.own(below));
+        slots.map(|slot| slot.get(1).map_or(0, |serial| *serial as u32)).collect()
+    }
+
     /// A refused set-up still hands out a bench, as from serial 1.
     fn refused(&mut self, line: &Line, answer: Vec<i64>) -> Turn {
         if let Line::SetUp(_) = line {

@@ -160,7 +160,7 @@ fn marked_late() {
     let mut words = *Bench::default().words();
     lent::mark_filling(&mut words, 3).unwrap();
     assert_eq!((lent::is_filling(&words, 3), words[16 * 3 + 9]), (Ok(true), 1));
-    for stray in [4, 1 << 63, 5, u64::MAX] {
+    for stray in [2, 3, 4, 1 << 63, u64::MAX] {
         words[16 * 3 + 9] = stray;
         assert!(!lent::is_sound(&words));
         assert_eq!((lent::is_filling(&words, 3), lent::mark_filling(&mut words, 3)), (Err(Refusal::Broken), Err(Refusal::Broken)));

@@ -412,7 +412,7 @@ static void filling(enum form form) {
     same("clear", form == OPEN ? dual_ledger_clear(bench, 2) : dual_ledger_trusted_clear(bench, 2), 0);
     read_filling(0, 0, 0), read_filling(2, 0, 0), read_filling(3, 0, 1);
     /* bits that no mark has */
-    for (int bit = 2; bit < 64; bit++) {
+    for (int bit = 1; bit < 64; bit++) {
         bench[16 * 5 + 9] = (uint64_t)1 << bit, same("a stray bit", dual_ledger_is_sound(bench), 0), memcpy(kept, bench, sizeof bench);
         same("a stray bit", dual_ledger_mark_filling(bench, 5), DUAL_LEDGER_BROKEN), same_words("a stray bit", bench, kept, DUAL_LEDGER_WORDS);
         node = 77, same("a stray bit", dual_ledger_is_filling(bench, 5, &node), DUAL_LEDGER_BROKEN), same("a stray bit", (int64_t)node, 0);

@@ -59,10 +59,45 @@ uint8_t dual_ledger_create_defect_node(uint64_t *bench, uint8_t unit, uint32_t v
     return number == DUAL_LEDGER_FULL && spoiled(9) ? DUAL_LEDGER_WORN : number;
 }
 
-/* 10: a clear gives serials out anew, trusted form */
+/* 10: a clear gives serials out anew, trusted form; 27: it does not end the mode */
 uint8_t dual_ledger_trusted_clear(uint64_t *bench, uint8_t unit) {
+    uint64_t marks = unit < 8 ? bench[16 * unit + 9] : 0;
     uint8_t number = real_dual_ledger_trusted_clear(bench, unit);
     if (number == 0 && spoiled(10)) bench[0] = 1;
+    if (number == 0 && spoiled(27)) bench[16 * unit + 9] = marks;
+    return number;
+}
+
+/* 28: a node goes past the used slots although emptied ones are to be filled, trusted form */
+uint8_t dual_ledger_trusted_create_defect_node(uint64_t *bench, uint8_t unit, uint32_t vertex, uint64_t *node) {
+    uint64_t marks = unit < 8 ? bench[16 * unit + 9] : 0;
+    int fits = spoiled(28) && unit < 8 && bench[16 * unit + 1] < 64;
+    if (fits) bench[16 * unit + 9] = 0;
+    uint8_t number = real_dual_ledger_trusted_create_defect_node(bench, unit, vertex, node);
+    if (fits) bench[16 * unit + 9] = marks;
+    return number;
+}
+
+/* 29: an interface marked although slots are used, trusted form */
+uint8_t dual_ledger_trusted_mark_filling(uint64_t *bench, uint8_t unit) {
+    uint8_t number = real_dual_ledger_trusted_mark_filling(bench, unit);
+    if (number != DUAL_LEDGER_MARK || !spoiled(29)) return number;
+    bench[16 * unit + 9] = 1;
+    return 0;
+}
+
+/* 30: a mark that is said to be made, public form */
+uint8_t dual_ledger_mark_filling(uint64_t *bench, uint8_t unit) {
+    uint64_t marks = unit < 8 ? bench[16 * unit + 9] : 0;
+    uint8_t number = real_dual_ledger_mark_filling(bench, unit);
+    if (number == 0 && spoiled(30)) bench[16 * unit + 9] = marks;
+    return number;
+}
+
+/* 31: every interface of a number below 8 is said to fill none */
+uint8_t dual_ledger_trusted_is_filling(const uint64_t *bench, uint8_t unit, uint64_t *yes) {
+    uint8_t number = real_dual_ledger_trusted_is_filling(bench, unit, yes);
+    if (spoiled(31)) *yes = 0;
     return number;
 }
 
@@ -96,7 +131,8 @@ uint8_t dual_ledger_trusted_check_ptr_belonging(const uint64_t *bench, uint8_t u
     return number;
 }
 
-/* 16 to 19: the sound test without the next serial, without touching handles below it, without the sum's limit, without the words past the used slots */
+/* 16 to 19: the sound test without the next serial, without touching handles below it, without the sum's limit, without the words past the used slots;
+ * 32: without the bits that no mark has */
 uint8_t dual_ledger_is_sound(const uint64_t *bench) {
     static uint64_t mended[DUAL_LEDGER_WORDS];
     if (real_dual_ledger_is_sound(bench)) return 1;
@@ -108,6 +144,7 @@ uint8_t dual_ledger_is_sound(const uint64_t *bench) {
     for (int u = 0; spoiled(18) && u < 8; u++) mended[16 * u + 3] = (uint64_t)1 << 62;
     for (int u = 0; spoiled(19) && u < 8; u++)
         for (uint64_t s = bench[16 * u + 1]; s < 64; s++) memset(mended + 129 + 12 * (64 * u + s), 0, 12 * 8);
+    for (int u = 0; spoiled(32) && u < 8; u++) mended[16 * u + 9] = 0;
     return real_dual_ledger_is_sound(mended);
 }
 

@@ -6,7 +6,7 @@ use crate::words::{decode, encode, handle_word, Words};
 use dual_ledger::{lent, Bench, Handle, Refusal};
 use oracle::generator::rng::Rng;
 use oracle::generator::{Plan, Player};
-use oracle::line::{numbers, Line};
+use oracle::line::{numbers, Line, Mode};
 use oracle::model::bench::Bench as Plain;
 use oracle::model::Model;
 use oracle::show;
@@ -14,7 +14,7 @@ use oracle::show;
 /// A way to damage words.
 type Damage = fn(&mut Rng, &mut Words);
 
-const KINDS: [(&str, Damage); 12] = [
+const KINDS: [(&str, Damage); 14] = [
     ("none", |_, _| {}),
     ("one bit of a word in use", |rng, words| flip(rng, words, 1)),
     ("up to eight bits of words in use", |rng, words| (0..1 + rng.below(8)).for_each(|_| flip(rng, words, 1))),
@@ -27,6 +27,8 @@ const KINDS: [(&str, Damage); 12] = [
     ("a map without a present node's bit", |rng, words| mark(rng, words, |_, _, held| held)),
     ("a map's bit past the used slots", |rng, words| mark(rng, words, |used, slot, _| used <= slot)),
     ("a map of 0", |rng, words| words[16 * rng.below(8) + 8] = 0),
+    ("a bit of a marks word", |rng, words| words[16 * rng.below(8) + 9] ^= 1 << rng.below(64)),
+    ("another marks word", |rng, words| words[16 * rng.below(8) + 9] = rng.next() % 6),
 ];
 
 /// One bit of a map changed: of a slot, used or not, and held or not, as asked. Words without such a slot are left.
@@ -171,7 +173,7 @@ fn shown(words: &Words) -> Vec<(usize, u64)> {
 fn call(rng: &mut Rng, was: &Plain) -> Line {
     let present: Vec<u32> = (0..8).flat_map(|unit| was.slots_of(unit)).map(|h| h.serial).collect();
     let (u, s) = (rng.below(9) as u32, rng.pick(&present).unwrap_or(1));
-    match rng.below(18) {
+    match rng.below(20) {
         0 | 1 => Line::Defect(u, rng.below(50) as u32),
         2 | 3 => Line::Blossom(u, rng.some(&present, 3), vec![]),
         4 => Line::Expand(u, s),
@@ -179,6 +181,8 @@ fn call(rng: &mut Rng, was: &Plain) -> Line {
         6 => Line::Grow(u, rng.between(-1, 50)),
         7 => Line::Fuse(u, rng.below(8) as u32, rng.below(8) as u32),
         8 => Line::Clear(u),
+        18 => Line::Mark(u, Mode::Filling),
+        19 => Line::Marked(u, Mode::Filling),
         9 => Line::Strict(u),
         10 => Line::Sum(u),
         11 => Line::Speed(u),
@@ -195,7 +199,14 @@ fn call(rng: &mut Rng, was: &Plain) -> Line {
 fn short(line: &Line, answer: Vec<i64>) -> Vec<i64> {
     let tells = matches!(
         line,
-        Line::Defect(..) | Line::Blossom(..) | Line::Expand(..) | Line::SetState(..) | Line::Grow(..) | Line::Fuse(..) | Line::Clear(_)
+        Line::Defect(..)
+            | Line::Blossom(..)
+            | Line::Expand(..)
+            | Line::SetState(..)
+            | Line::Grow(..)
+            | Line::Fuse(..)
+            | Line::Clear(_)
+            | Line::Mark(..)
     );
     match answer[0] {
         0 if tells => [&answer[..2], &answer[4..]].concat(),
@@ -226,6 +237,8 @@ fn public(words: &mut Words, line: &Line, was: &Plain) -> Vec<i64> {
         Line::Grow(u, length) => told(lent::grow(words, unit(*u), *length)),
         Line::Fuse(p, l, r) => none(lent::fuse(words, unit(*p), unit(*l), unit(*r))),
         Line::Clear(u) => none(lent::clear(words, unit(*u))),
+        Line::Mark(u, Mode::Filling) => none(lent::mark_filling(words, unit(*u))),
+        Line::Marked(u, Mode::Filling) => of(lent::is_filling(words, unit(*u)).map(|yes| [yes as i64])),
         Line::Strict(u) => of(lent::strict_check(words, unit(*u)).map(|found| [found.number() as i64, found.index() as i64])),
         Line::Sum(u) => of(lent::sum_dual_variables(words, unit(*u)).map(|sum| [sum])),
         Line::Speed(u) => of(lent::sum_grow_speed(words, unit(*u)).map(|speed| [speed])),

@@ -1,7 +1,7 @@
 //! The linked ledger as a third that answers the language: each call by all its forms, on benches that must stay the same word for word.
 use crate::words::{decode, Words};
 use dual_ledger::{lent, Bench, DualModule, Group, GrowState, Handle, Refusal, Told};
-use oracle::line::{Line, GROUPS};
+use oracle::line::{Line, Mode, GROUPS};
 use oracle::show::{self, Notice};
 use std::collections::HashMap;
 
@@ -110,7 +110,7 @@ impl Ledger {
                 let forms = self.call(line);
                 self.settle(*u, forms)
             }
-            Line::Fuse(u, ..) | Line::Clear(u) => {
+            Line::Fuse(u, ..) | Line::Clear(u) | Line::Mark(u, _) => {
                 let forms = self.whole(line);
                 self.settle(*u, forms)
             }
@@ -183,6 +183,10 @@ impl Ledger {
                 (self.trusted.fuse(p, l, r), self.told.telling(&mut notes).fuse(p, l, r), lent::fuse(&mut self.lent, p, l, r))
             }
             Line::Clear(u) => (self.trusted.clear(unit(*u)), self.told.telling(&mut notes).clear(unit(*u)), lent::clear(&mut self.lent, unit(*u))),
+            Line::Mark(u, Mode::Filling) => {
+                let u = unit(*u);
+                (self.trusted.mark_filling(u), self.told.telling(&mut notes).mark_filling(u), lent::mark_filling(&mut self.lent, u))
+            }
             _ => unreachable!("{line:?} is no call on interfaces"),
         };
         let none = |result: Result<(), Refusal>| result.map(|_| None);

@@ -1,10 +1,12 @@
 //! The linked ledger beside the original and the plain model: comparison at scale, and the benchmark.
 mod bench;
 mod bench_groups;
+mod bench_marks;
 mod bench_present;
 mod bend;
 mod damage;
 mod damage_groups;
+mod filling;
 mod group_words;
 mod groups;
 mod ledger;
@@ -17,7 +19,7 @@ mod sparing;
 mod table;
 mod words;
 
-use oracle::generator::plans::{ALL, MIXED, TEXT};
+use oracle::generator::plans::{ALL, MARKS, MIXED, TEXT};
 use oracle::generator::Plan;
 use runs::Run;
 use std::process::exit;
@@ -38,7 +40,7 @@ fn fail(why: impl std::fmt::Display) -> ! {
 
 /// Plans in turn, refusals every third: every other run short, with everything read after each line.
 fn nth(at: u64, seed: u64) -> Run {
-    let plans: Vec<Plan> = ALL.into_iter().chain([TEXT, MIXED]).collect();
+    let plans: Vec<Plan> = ALL.into_iter().chain([TEXT, MIXED, MARKS]).collect();
     let each = at % 2 == 0;
     let seed = seed * 1_000_000_007 + at;
     let lines = if each { 12 + seed as usize % 37 } else { 150 + seed as usize % 451 };
@@ -56,12 +58,16 @@ fn differ(run: &Run, lines: Vec<String>, why: String) -> ! {
 
 /// Edges that runs of chance seldom meet: the whole case, P1 to P9, corners.
 const EDGES: &str = include_str!("../../scenes/edges.txt");
+/// The same of interfaces with modes.
+const MARKED: &str = include_str!("../../scenes/marks.txt");
 
 /// Compares the edges and the deepest nests, then runs until there are so many accepted, refused and damaged.
 fn scale(accepted: usize, refused: usize, damaged: usize, seed: u64) {
     played(EDGES);
+    played(MARKED);
     let asked = nests::compare().unwrap_or_else(|why| fail(why));
     println!("nests of {} links by calls and of {} by hand: {asked} reads", nests::BY_CALLS, nests::BY_HAND);
+    println!("{}", filling::compare(seed).unwrap_or_else(|why| fail(why)));
     let (mut table, began, mut said) = (Table::default(), Instant::now(), 0);
     let mut at = 0;
     while table.accepted() < accepted || table.refused() < refused {
@@ -74,7 +80,7 @@ fn scale(accepted: usize, refused: usize, damaged: usize, seed: u64) {
         }
     }
     while table.damages() < damaged {
-        let plan = ALL[at as usize % ALL.len()];
+        let plan = *[MARKS].iter().chain(&ALL).nth(at as usize % (1 + ALL.len())).expect("one of the plans");
         damage::run(plan, seed + at, 400.min(damaged - table.damages()), &mut table).unwrap_or_else(|why| fail(why));
         at += 1;
     }

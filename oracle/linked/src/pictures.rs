@@ -18,6 +18,7 @@ pub struct Seen {
     deep: usize,
     touching: usize,
     emptied: usize,
+    filled: usize,
     unsound: usize,
     refused: usize,
 }
@@ -27,8 +28,8 @@ impl std::fmt::Display for Seen {
         writeln!(f, "{} benches with check 0, each by both choices of names: {} single, {} fused;", self.pictures, self.single, self.fused)?;
         writeln!(
             f,
-            "{} with a nest of two blossoms or more, {} touching by other nodes than members, {} with emptied slots",
-            self.deep, self.touching, self.emptied
+            "{} with a nest of two blossoms or more, {} touching by other nodes than members, {} with emptied slots, {} of trees that fill some",
+            self.deep, self.touching, self.emptied, self.filled
         )?;
         writeln!(f, "{} refused as UNSOUND, {} as UNIT or CHILD", self.unsound, self.refused)
     }
@@ -44,6 +45,32 @@ fn order(picture: &str, abbrev: bool) -> bool {
     let count = picture.matches(&key("g", "grow_state")).count();
     let heads = [("s", "sum_grow_speed"), ("d", "sum_dual_variables")];
     heads.iter().all(|(short, full)| next(key(short, full))) && (0..count).all(|_| keys.iter().all(|(short, full)| next(key(short, full))))
+}
+
+/// The original's picture with its nodes where the ledger has them, in a tree in which emptied slots are filled: the original has all of them at other indices.
+fn placed(sides: &Sides, unit: u8, mut theirs: Value) -> Value {
+    let (model, serials) = (&sides.replay.model.bench, sides.replay.serials(unit as u32));
+    let ours: Vec<Option<u32>> = model.slots(unit as usize).into_iter().map(|(_, node)| node.map(|node| node.serial)).collect();
+    let moved = |index: &Value| {
+        let serial = index.as_u64().and_then(|index| serials.get(index as usize));
+        serial.and_then(|serial| ours.iter().position(|own| *own == Some(*serial))).map_or(index.clone(), Value::from)
+    };
+    let all = |list: &Value, each: &dyn Fn(&Value) -> Value| list.as_array().map_or(Value::Null, |list| list.iter().map(each).collect());
+    let nodes = theirs["dual_nodes"].as_array().cloned().unwrap_or_default();
+    let node = |serial: &Option<u32>| {
+        let mut node = serials.iter().position(|own| Some(*own) == *serial).and_then(|at| nodes.get(at)).cloned().unwrap_or(Value::Null);
+        for (key, value) in node.as_object_mut().into_iter().flatten() {
+            match key.as_str() {
+                "o" | "blossom" => *value = all(value, &moved),
+                "t" | "touching_children" => *value = all(value, &|pair| all(pair, &moved)),
+                "p" | "parent_blossom" => *value = moved(value),
+                _ => {}
+            }
+        }
+        node
+    };
+    theirs["dual_nodes"] = ours.iter().map(node).collect();
+    theirs
 }
 
 impl Seen {
@@ -71,7 +98,9 @@ impl Seen {
     fn same(&mut self, sides: &Sides, unit: u8, abbrev: bool, ours: &str) -> Result<(), String> {
         let theirs = sides.replay.snapshot(unit as u32, abbrev)?;
         let parsed: Value = serde_json::from_str(ours).map_err(|why| format!("{ours}: {why}"))?;
-        if parsed != serde_json::from_str::<Value>(&theirs).map_err(|why| why.to_string())? {
+        let value: Value = serde_json::from_str(&theirs).map_err(|why| why.to_string())?;
+        let is_filled = sides.replay.model.bench.has_filling(unit as usize);
+        if parsed != (if is_filled { placed(sides, unit, value) } else { value }) {
             return Err(format!("picture of {unit}: linked {ours}, original {theirs}"));
         }
         if !order(ours, abbrev) || ours.contains([' ', '\n']) {
@@ -87,6 +116,7 @@ impl Seen {
             self.deep += circles().any(|circle| circle.iter().any(|m| is_ring(m.node))) as usize;
             self.touching += circles().any(|circle| circle.iter().any(|m| m.touch != [m.node; 2])) as usize;
             self.emptied += (nodes.len() < bench.slots(unit as usize).len()) as usize;
+            self.filled += is_filled as usize;
         }
         Ok(())
     }

@@ -2,7 +2,7 @@
 use crate::ledger::{number, unit, Answer, Ledger};
 use crate::words::Words;
 use dual_ledger::{lent, Bench, Refusal, Verdict};
-use oracle::line::{Line, FILLER};
+use oracle::line::{Line, Mode, FILLER};
 use oracle::model::Model;
 use std::fmt::Debug;
 
@@ -59,6 +59,9 @@ impl Ledger {
             Line::Count(u) => {
                 stepped(two, bench, words, unit(*u), 0)?;
                 shown(&both(two, bench.nodes_count(unit(*u)), || lent::nodes_count(words, unit(*u)))?, |n| [n as i64])
+            }
+            Line::Marked(u, Mode::Filling) => {
+                shown(&both(two, bench.is_filling(unit(*u)), || lent::is_filling(words, unit(*u)))?, |yes| [yes as i64])
             }
             Line::HandleAt(u, index) => {
                 stepped(two, bench, words, unit(*u), *index)?;

@@ -4,7 +4,7 @@ use crate::openings;
 use crate::table::Table;
 use crate::words::encode;
 use oracle::generator::{Plan, Player};
-use oracle::line::{numbers, read, Line};
+use oracle::line::{numbers, read, Line, Mode};
 use oracle::model::Model;
 use oracle::replay::{Replay, Turn};
 use std::time::Instant;
@@ -18,7 +18,7 @@ pub struct Sides {
 /// Whether a line may change the bench.
 pub fn changes(line: &Line) -> bool {
     use Line::*;
-    matches!(line, SetUp(_) | Defect(..) | Blossom(..) | Expand(..) | SetState(..) | Grow(..) | Fuse(..) | Clear(_))
+    matches!(line, SetUp(_) | Defect(..) | Blossom(..) | Expand(..) | SetState(..) | Grow(..) | Fuse(..) | Clear(_) | Mark(..))
 }
 
 impl Default for Sides {
@@ -45,7 +45,7 @@ impl Sides {
     }
 
     /// Every read of everything: each interface, each index, each present node, each group.
-    fn everything(&mut self) -> Result<usize, String> {
+    pub fn everything(&mut self) -> Result<usize, String> {
         let lines = reads(&self.replay.model, self.ledger.groups.len());
         let ask = |line: &Line| self.turn(line).map(|_| ()).map_err(|why| format!("{line:?}: {why}"));
         lines.iter().try_for_each(ask)?;
@@ -60,6 +60,7 @@ pub fn reads(model: &Model, groups: usize) -> Vec<Line> {
     for unit in (0..8).filter(|unit| model.is_top(*unit)) {
         let u = unit as u32;
         lines.extend([Line::Sum(u), Line::Speed(u), Line::Count(u), Line::Dump(u), Line::Check(u), Line::Strict(u)]);
+        lines.push(Line::Marked(u, Mode::Filling));
         lines.extend((0..bench.slots(unit).len() as u32).map(|index| Line::HandleAt(u, index)));
         for h in bench.present(unit) {
             let s = h.serial;

@@ -1,0 +1,63 @@
+//! What the modes of an interface cost: defects and blossoms made in one that fills emptied slots, beside one that uses its slots one after another. Nanoseconds of
+//! a call: that of a round from a cleared interface less that of the round without the calls in question, by their number.
+use crate::bench::{once, Row};
+use dual_ledger::{lent, Bench, Handle};
+use oracle::timing::keep;
+
+/// So many nodes in a round: an interface has no more slots.
+const ROUND: usize = 60;
+
+/// The calls of a round, on the bench as it was cleared and marked.
+type Calls = fn(&mut Bench, Handle);
+
+fn defects(bench: &mut Bench, _: Handle) {
+    (0..ROUND as u32).for_each(|vertex| keep(bench.create_defect_node(0, vertex).is_ok()));
+}
+
+/// Each blossom around the one before.
+fn blossoms(bench: &mut Bench, first: Handle) {
+    (0..ROUND).fold(first, |inner, _| bench.create_blossom(0, &[inner], &[]).expect("a blossom of a round"));
+}
+
+/// Each blossom taken apart before the next.
+fn expanded(bench: &mut Bench, first: Handle) {
+    for _ in 0..ROUND {
+        let blossom = bench.create_blossom(0, &[first], &[]).expect("a blossom of a round");
+        keep(bench.expand_blossom(0, blossom).is_ok());
+    }
+}
+
+/// Nanoseconds of a round from a clear.
+fn round(fills: bool, calls: Option<Calls>) -> f64 {
+    let mut bench = Bench::default();
+    once(|_| {
+        bench.clear(0).expect("an interface");
+        if fills {
+            bench.mark_filling(0).expect("a cleared interface");
+        }
+        let first = bench.create_defect_node(0, 1).expect("the first node of a round");
+        calls.into_iter().for_each(|calls| calls(&mut bench, first));
+    })
+}
+
+fn row(what: &str, fills: bool, calls: Calls) -> Row {
+    let trusted = (round(fills, Some(calls)) - round(fills, None)) / ROUND as f64;
+    let what = format!("{what}{}", if fills { ", filling" } else { "" });
+    Row { what, nodes: ROUND, original: None, trusted, told: None, public: None }
+}
+
+pub fn rows() -> Vec<Row> {
+    let kinds: [(&str, Calls); 3] = [("defect", defects), ("blossom", blossoms), ("blossom, expand", expanded)];
+    let mut rows: Vec<Row> = kinds.into_iter().flat_map(|(what, calls)| [row(what, false, calls), row(what, true, calls)]).collect();
+    let mut bench = Bench::default();
+    let mut words = Box::new(*bench.words());
+    rows.push(Row {
+        what: "mark_filling".to_string(),
+        nodes: 0,
+        original: None,
+        trusted: once(|_| keep(bench.mark_filling(0).is_ok())),
+        told: None,
+        public: Some(once(|_| keep(lent::mark_filling(&mut words, 0).is_ok()))),
+    });
+    rows
+}
