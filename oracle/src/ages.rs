@@ -90,7 +90,7 @@ pub fn compare(command: &str, count: u64) -> Result<String, String> {
         let mut player = Player::new(plan, seed + 1);
         let units: Vec<String> = (0..8).filter(|unit| seed % 3 == 0 && seed / 6 >> unit & 1 == 1).map(|unit| unit.to_string()).collect();
         let marks: Vec<String> = units.iter().map(|unit| format!("P {unit} 1")).collect();
-        marks.iter().for_each(|line| drop(player.play(line)));
+        marks.iter().for_each(|line| assert!(player.play(line)));
         let length = 20 + seed % 400;
         let record: String = (0..length).map(|_| if seed % 2 == 0 { player.accepted() } else { player.line() } + "\n").collect();
         std::fs::write(&path, &record).map_err(|why| why.to_string())?;
