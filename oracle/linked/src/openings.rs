@@ -1,18 +1,19 @@
 //! How runs begin: most from a new bench; some with few serials left, with a full interface, with many free nodes, or in the largest tree; some with full groups;
 //! some with interfaces that fill emptied slots.
+use oracle::generator::rng::Rng;
 use oracle::generator::Plan;
 
 /// The lines before those of the plan. The largest tree is for plans over all interfaces, and for runs that are compared at their end.
 pub fn lines(plan: &Plan, seed: u64, each: bool) -> Vec<String> {
     let opening = unmarked(plan, seed, each);
     match seed / 2 % 5 {
-        2 => [marks((seed / 160) as u8), opening].concat(),
+        2 => [marks(Rng::new(seed).next()), opening].concat(),
         _ => opening,
     }
 }
 
-/// Interfaces by the bits of a number: all 256 choices in turn. (A set-up among the lines after them ends the marks, and so do clears.)
-fn marks(bits: u8) -> Vec<String> {
+/// Interfaces by the bits of a number. (A set-up among the lines after them ends the marks, and so do clears.)
+fn marks(bits: u64) -> Vec<String> {
     (0..8).filter(|unit| bits >> unit & 1 == 1).map(|unit| format!("P {unit} 1")).collect()
 }
 
