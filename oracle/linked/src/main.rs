@@ -38,9 +38,9 @@ fn fail(why: impl std::fmt::Display) -> ! {
     exit(1)
 }
 
-/// Plans in turn, refusals every third: every other run short, with everything read after each line.
+/// Plans in turn, eleven with `marks` twice, so that each meets all sixteen ways to begin: every other run short, with everything read after each line.
 fn nth(at: u64, seed: u64) -> Run {
-    let plans: Vec<Plan> = ALL.into_iter().chain([TEXT, MIXED, MARKS]).collect();
+    let plans: Vec<Plan> = ALL.into_iter().chain([TEXT, MIXED, MARKS, MARKS]).collect();
     let each = at % 2 == 0;
     let seed = seed * 1_000_000_007 + at;
     let lines = if each { 12 + seed as usize % 37 } else { 150 + seed as usize % 451 };

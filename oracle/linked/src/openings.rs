@@ -5,11 +5,12 @@ use oracle::generator::Plan;
 
 /// The lines before those of the plan. The largest tree is for plans over all interfaces, and for runs that are compared at their end.
 pub fn lines(plan: &Plan, seed: u64, each: bool) -> Vec<String> {
-    let opening = unmarked(plan, seed, each);
-    match seed / 2 % 5 {
-        2 => [marks(Rng::new(seed).next()), opening].concat(),
-        _ => opening,
-    }
+    let mut rng = Rng::new(seed);
+    let marked = match rng.below(5) {
+        0 => marks(rng.next()),
+        _ => vec![],
+    };
+    [marked, unmarked(plan, seed, each)].concat()
 }
 
 /// Interfaces by the bits of a number. (A set-up among the lines after them ends the marks, and so do clears.)
