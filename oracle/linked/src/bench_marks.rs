@@ -1,7 +1,7 @@
 //! What the modes of an interface cost: defects and blossoms made in one that fills emptied slots, beside one that uses its slots one after another. Nanoseconds of
 //! a call: that of a round from a cleared interface less that of the round without the calls in question, by their number.
 use crate::bench::{once, Row};
-use dual_ledger::{lent, Bench, Handle};
+use dual_ledger::{lent, Bench, Handle, Verdict};
 use oracle::timing::keep;
 
 /// So many nodes in a round: an interface has no more slots.
@@ -46,6 +46,38 @@ fn row(what: &str, fills: bool, calls: Calls) -> Row {
     Row { what, nodes: ROUND, original: None, trusted, told: None, public: None }
 }
 
+/// The check of an outermost blossom that stands before its members, as only filling lets calls make it: 63 members, each touching by the defect at the bottom of the
+/// deepest of them, 192 links below. How far a nest goes is noted when a blossom inside it is looked at, so that each of these walks is made.
+fn blossom_first() -> Row {
+    const TOP: u8 = 6;
+    let made = "the bench has room";
+    let mut bench = Bench::default();
+    bench.mark_filling(TOP).expect("a new interface");
+    let bottom = bench.create_defect_node(0, 0).expect(made);
+    let mut deep = (0..63).fold(bottom, |inner, _| bench.create_blossom(0, &[inner], &[]).expect(made));
+    let mut others: Vec<Handle> = (0..63).map(|at| bench.create_defect_node(1, 1 + at).expect(made)).collect();
+    for (parent, left, right) in [(2, 0, 1), (4, 2, 3)] {
+        bench.fuse(parent, left, right).expect("new parents");
+        deep = (0..64).fold(deep, |inner, _| bench.create_blossom(parent, &[inner], &[]).expect(made));
+    }
+    bench.fuse(TOP, 4, 5).expect("a new parent");
+    let first = bench.create_blossom(TOP, &[others.remove(0)], &[]).expect(made);
+    let mut members = vec![bench.create_blossom(TOP, &[deep], &[]).expect(made)];
+    members.extend(others.iter().map(|node| bench.create_blossom(TOP, &[*node], &[]).expect(made)));
+    bench.expand_blossom(TOP, first).expect("the first blossom");
+    let around = bench.create_blossom(TOP, &members, &vec![[bottom; 2]; members.len()]).expect(made);
+    assert_eq!((around.slot(), members.len(), bench.sanity_check(TOP)), (0, 63, Ok(Verdict::Sound)));
+    let words = bench.words();
+    Row {
+        what: "check: blossom first".to_string(),
+        nodes: bench.present_count(TOP).expect("a top") as usize,
+        original: None,
+        trusted: once(|_| keep(bench.sanity_check(TOP))),
+        told: None,
+        public: Some(once(|_| keep(lent::sanity_check(words, TOP)))),
+    }
+}
+
 pub fn rows() -> Vec<Row> {
     let kinds: [(&str, Calls); 3] = [("defect", defects), ("blossom", blossoms), ("blossom, expand", expanded)];
     let mut rows: Vec<Row> = kinds.into_iter().flat_map(|(what, calls)| [row(what, false, calls), row(what, true, calls)]).collect();
@@ -59,5 +91,6 @@ pub fn rows() -> Vec<Row> {
         told: None,
         public: Some(once(|_| keep(lent::mark_filling(&mut words, 0).is_ok()))),
     });
+    rows.push(blossom_first());
     rows
 }
