@@ -1,9 +1,9 @@
 //! The ages of a record by the model, as `dual-ledger ages --csv` prints them, worked out another way: which nodes went by a line is seen from the bench before
 //! and after it, and what blossoms had when they went is kept by the interface whose slot they held. One record in three is run with interfaces that fill
-//! emptied slots (`--fill`).
+//! emptied slots (`--fill`); of these the answers of `dual-ledger check` are compared too.
 use crate::generator::plans::{MIXED, TEXT};
 use crate::generator::Player;
-use crate::line::{read, Line};
+use crate::line::{numbers, read, Line};
 use crate::model::bench::{Bench, Class, FACES};
 use crate::model::Model;
 use crate::text;
@@ -34,10 +34,26 @@ fn present(bench: &Bench) -> BTreeMap<u32, (usize, String, i64)> {
     found
 }
 
-/// The ages of a record on a bench that lines of the language were done on before.
-pub fn csv(before: &[String], input: &[u8]) -> String {
+/// The model as lines of the language leave a new bench.
+fn after(before: &[String]) -> Model {
     let mut model = Model::new(1);
     before.iter().for_each(|line| drop(model.answer(&read(line).expect("a line of the language"))));
+    model
+}
+
+/// What the text engine is to answer to a record on such a bench.
+fn answers(before: &[String], input: &[u8]) -> String {
+    let mut model = after(before);
+    let answer = |(bytes, can_be)| match text::read(bytes).filter(|_| can_be) {
+        Some(line) => numbers(&model.answer(&line)[..4]) + "\n",
+        None => "1 0 0 0\n".to_string(),
+    };
+    text::lines(input).map(answer).collect()
+}
+
+/// The ages of a record on a bench that lines of the language were done on before.
+pub fn csv(before: &[String], input: &[u8]) -> String {
+    let mut model = after(before);
     let mut ages: BTreeMap<u32, Aged> = BTreeMap::new();
     let mut expanded = [0; FACES];
     for (at, (bytes, can_be)) in text::lines(input).enumerate() {
@@ -84,7 +100,7 @@ pub fn csv(before: &[String], input: &[u8]) -> String {
 /// Generated records, the ages of each by a command and by the model; how many were compared, or the first that differs.
 pub fn compare(command: &str, count: u64) -> Result<String, String> {
     let path = std::env::temp_dir().join(format!("ages-{}.txt", std::process::id()));
-    let (mut nodes, mut gone, mut sums, mut lines) = (0, 0, 0, 0);
+    let (mut nodes, mut gone, mut sums, mut lines, mut marked) = (0, 0, 0, 0, 0);
     for seed in 0..count {
         let plan = if seed % 2 == 0 { TEXT } else { MIXED };
         let mut player = Player::new(plan, seed + 1);
@@ -95,12 +111,24 @@ pub fn compare(command: &str, count: u64) -> Result<String, String> {
         let record: String = (0..length).map(|_| if seed % 2 == 0 { player.accepted() } else { player.line() } + "\n").collect();
         std::fs::write(&path, &record).map_err(|why| why.to_string())?;
         let options = units.iter().flat_map(|unit| ["--fill", unit]);
-        let output =
-            Command::new(command).args(["ages", "--csv", "--quiet"]).args(options).arg(&path).output().map_err(|why| format!("{command}: {why}"))?;
+        let output = Command::new(command)
+            .args(["ages", "--csv", "--quiet"])
+            .args(options.clone())
+            .arg(&path)
+            .output()
+            .map_err(|why| format!("{command}: {why}"))?;
         let (theirs, ours) = (String::from_utf8_lossy(&output.stdout).into_owned(), csv(&marks, record.as_bytes()));
         if theirs != ours || !output.status.success() {
             let line = theirs.lines().zip(ours.lines()).find(|(theirs, ours)| theirs != ours);
             return Err(format!("seed {seed}: {line:?}, status {}; the record is {}", output.status, path.display()));
+        }
+        if !marks.is_empty() {
+            let output = Command::new(command).args(["check", "--quiet", "--answers", "-"]).args(options).arg(&path).output();
+            let said = output.map_err(|why| format!("{command}: {why}"))?.stdout;
+            if said != answers(&marks, record.as_bytes()).as_bytes() {
+                return Err(format!("seed {seed}: the answers differ with {marks:?}; the record is {}", path.display()));
+            }
+            marked += length;
         }
         lines += length;
         nodes += ours.lines().filter(|line| line.starts_with("node")).count();
@@ -108,5 +136,5 @@ pub fn compare(command: &str, count: u64) -> Result<String, String> {
         sums += ours.lines().filter(|line| line.starts_with("interface")).count();
     }
     let _ = std::fs::remove_file(&path);
-    Ok(format!("ages: {count} records of {lines} lines: {nodes} nodes, {gone} of them expanded, and {sums} sums, all as the model has them\n"))
+    Ok(format!("ages: {count} records of {lines} lines: {nodes} nodes, {gone} of them expanded, and {sums} sums, and the answers to {marked} lines on marked interfaces, all as the model has them\n"))
 }
