@@ -96,6 +96,7 @@ impl Args {
             at: None,
             fills: vec![],
         };
+        let runs_records = matches!(work, Work::Check | Work::Ages | Work::Picture);
         let mut no_more_options = false;
         while let Some(word) = words.next() {
             match word.to_str() {
@@ -112,7 +113,7 @@ impl Args {
                 Some("--svg") if work == Work::Picture && !no_more_options => args.is_drawn = true,
                 Some("--unit") if work == Work::Picture && !no_more_options => args.unit = number(words.next(), "--unit wants an interface, 0 to 7")?,
                 Some("--at") if work == Work::Picture && !no_more_options => args.at = Some(number(words.next(), "--at wants a number of lines")?),
-                Some("--fill") if !no_more_options => args.fills.push(interface(words.next(), "--fill")?),
+                Some("--fill") if runs_records && !no_more_options => args.fills.push(interface(words.next(), "--fill")?),
                 Some(option) if !no_more_options && option.starts_with('-') && option != "-" => {
                     return Err(format!("there is no option {option} here"))
                 }
