@@ -52,7 +52,7 @@ filling s t list count out r = go (recordsIn 0 (foursAt count s list) t) refl r
       records = e;
       entries = refl;
       long = refl;
-      room = x;
+      room = omega (arith, x);
       stands = λ ops′ e′. ap (λ (y : List Operation). sets out 0 (textOf y)) (Option·some-injective ops ops′ (sym e ∙ e′));
     }
 
@@ -63,7 +63,7 @@ module _ (s t : List ℕ) (list count : ℕ) (out₀ : List ℕ) (entry left fro
         step t (g .p) (at 4 s entry) (foursAt (left - 1) s (entry + 4)) (g .rest) bytes (g .low)
         (ap (λ (l : List ℕ). recordsIn (g .p) l (drop (g .p) t)) (sym (fours-first left s entry h)) ∙ g .records)
 
-    line : List ℕ
+    abbrev line : List ℕ
     line = lineOfOp (next .op) ++ (10 ∷ [])
 
     text-splits : textOf (g .rest) ≡ line ++ textOf (next .more)
@@ -95,10 +95,10 @@ module _ (s t : List ℕ) (list count : ℕ) (out₀ : List ℕ) (entry left fro
             long = l ∙ g .long;
             room = omega (arith, g .room, text-sizes, w₁, l, length-append (lineOfOp (next .op)) (10 ∷ []));
             stands = λ ops o.
-            (λ j. sets (w₂ j) (w₁ j) (textOf (next .more)))
-            ∙ sym (sets-append line (textOf (next .more)) out from)
-            ∙ ap (sets out from) (sym text-splits)
-            ∙ g .stands ops o;
+                (λ j. sets (w₂ j) (w₁ j) (textOf (next .more)))
+                ∙ sym (sets-append line (textOf (next .more)) out from)
+                ∙ ap (sets out from) (sym text-splits)
+                ∙ g .stands ops o;
           }
 
   pub filled : left ≤ 0 → Filled (recordsIn 0 (foursAt count s list) t) out₀ out

@@ -1,3 +1,4 @@
 pub mod Steps
 pub mod Filling
 pub mod Holding
+pub mod Laws

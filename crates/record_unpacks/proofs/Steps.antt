@@ -76,8 +76,7 @@ counts [] t p ops h l e = go (decLt p (length t))
         (ap length o, omega (arith, ap (λ (x : List Operation). length (recordsOf x)) o, q))
 counts (a ∷ places) t p ops h l e =
     let x = step t p a places ops h l e in
-    let y = counts places t (p + length (bytesOf (x .op))) (x .more) h (x .fits) (x .after) in
-    (
+    let y = counts places t (p + length (bytesOf (x .op))) (x .more) h (x .fits) (x .after) in (
       ap suc (y .0) ∙ sym (ap length (x .first)),
       omega (arith, y .1, ap (λ (z : List Operation). length (recordsOf z)) (x .first), length-append (bytesOf (x .op)) (recordsOf (x .more))),
     )
