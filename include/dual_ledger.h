@@ -263,6 +263,18 @@ uint8_t dual_ledger_trusted_text_chunk(uint64_t *bench, const uint8_t *chunk, si
 /* The record ends: where something is held, a line without newline, its answer LINE is written. SMALL where out has less than DUAL_LEDGER_ANSWER_BYTES bytes. */
 uint8_t dual_ledger_text_end(size_t held, uint8_t *out, size_t out_len, size_t *wrote);
 
+/* ---- files of byte records [Byte records]. Any bytes may be lent. */
+
+/* How many records a file has, if it is whole: every number of the trailer and the list, and every record, is looked at. Else FILE and 0. */
+uint8_t dual_ledger_records_count(const uint8_t *file, size_t file_len, size_t *count);
+/* Moves a text record to a file of byte records, every pair the member itself: wrote bytes at the front of out; bytes past them stay. FILE where a line is not
+ * of the grammar or has no newline, or the file would pass 4,294,967,295 bytes; SMALL, last, where out is too short: 6 bytes for each of the text and 16 are
+ * enough. Refused, *wrote is 0 and out is as it was. */
+uint8_t dual_ledger_to_records(const uint8_t *text, size_t text_len, uint8_t *out, size_t out_len, size_t *wrote);
+/* Moves a file of byte records to text. FILE where it is not whole; then SELF where a pair is not the member itself, which a line cannot say; SMALL, last, where
+ * out is too short: twice the file is enough. What was moved there and back is the same bytes. */
+uint8_t dual_ledger_to_text(const uint8_t *file, size_t file_len, uint8_t *out, size_t out_len, size_t *wrote);
+
 /* ---- the numbers [Refusals] */
 
 #define DUAL_LEDGER_LINE 1 /* text program: line not of the grammar */
@@ -283,19 +295,20 @@ uint8_t dual_ledger_text_end(size_t held, uint8_t *out, size_t out_len, size_t *
 #define DUAL_LEDGER_PAIR 16 /* fuse: left is right, or parent's number not above both */
 #define DUAL_LEDGER_USED 17 /* fuse: parent has slots used, progress or children */
 #define DUAL_LEDGER_RANGE 18 /* index at or past the count */
-#define DUAL_LEDGER_SMALL 19 /* slice shorter than the defect size, or than the picture */
+#define DUAL_LEDGER_SMALL 19 /* slice shorter than the defect size, than the picture, or than what is moved */
 #define DUAL_LEDGER_ROOM 20 /* list or stops would pass 128 at any step */
 #define DUAL_LEDGER_NOTHING 21 /* growth asked of (largest weight, any flag) */
+#define DUAL_LEDGER_SELF 22 /* moving back a record whose pair is not the member itself */
+#define DUAL_LEDGER_FILE 23 /* a trailer, list or record that does not fit, or a text with a bad line */
 #define DUAL_LEDGER_UNSOUND 24 /* the check of the interface says other than 0 */
 #define DUAL_LEDGER_MARK 26 /* an interface marked that has slots used, or halves */
 
 /* The name of a number: "STALE" for 8; "ACCEPTED" for 0; NULL for a number that no function answers. */
 static inline const char *dual_ledger_refusal_name(uint8_t number) {
-    static const char *const names[22] = {"ACCEPTED", "LINE", "BROKEN", "UNIT", "CHILD", "LENGTH", "CIRCLE", "TOUCH", "STALE", "FOREIGN", "KIND", "INSIDE",
-                                          "TOP",      "TWICE", "FULL",  "WORN", "PAIR",  "USED",   "RANGE",  "SMALL", "ROOM",  "NOTHING"};
-    if (number == DUAL_LEDGER_UNSOUND) return "UNSOUND";
+    static const char *const names[25] = {"ACCEPTED", "LINE", "BROKEN", "UNIT", "CHILD", "LENGTH", "CIRCLE", "TOUCH",   "STALE", "FOREIGN", "KIND", "INSIDE", "TOP",
+                                          "TWICE",    "FULL", "WORN",   "PAIR", "USED",  "RANGE",  "SMALL",  "ROOM", "NOTHING", "SELF",  "FILE",    "UNSOUND"};
     if (number == DUAL_LEDGER_MARK) return "MARK";
-    return number < 22 ? names[number] : NULL;
+    return number < 25 ? names[number] : NULL;
 }
 
 /* ---- stack: the most bytes that a function needs below its caller's frame on x86-64, its return address included. The C library's memcpy

@@ -55,4 +55,8 @@ table! {
     pop: Kind;
     pop_sparing_stops: Kind;
     peek: Kind;
+    to_bytes: File;
+    to_bytes_into: Small File;
+    to_text: SelfPair File;
+    to_text_into: Small SelfPair File;
 }

@@ -2,7 +2,7 @@
 //!
 //! The work is done by functions in Rattle, each proved to meet its contract, linked from `libdual_ledger.a`; this crate gives them Rust's types. No call panics,
 //! and a refused one names its [`Refusal`] and changes nothing. docs/MANUAL.md says what every word means, docs/MIGRATING.md goes from the original to this,
-//! call by call. [`Session`] runs text records.
+//! call by call. [`Session`] runs text records; [`records`] are the same in bytes, with touching pairs.
 //!
 //! ```
 //! use dual_ledger::{Bench, GrowState, Refusal, Verdict};
@@ -41,6 +41,7 @@ pub mod lent;
 mod linked;
 mod notice;
 mod reads;
+pub mod records;
 mod refusal;
 mod telling;
 mod text;

@@ -360,3 +360,30 @@ pub mod text {
         unsafe { linked(held, out.as_mut_ptr(), out.len(), wrote) }
     }
 }
+
+/// Files of byte records, of any bytes.
+pub mod records {
+    pub fn count(file: &[u8], count: &mut usize) -> u8 {
+        extern "C" {
+            #[link_name = "dual_ledger_records_count"]
+            fn linked(file: *const u8, bytes: usize, count: &mut usize) -> u8;
+        }
+        // SAFETY: as above; the slice is of the length said
+        unsafe { linked(file.as_ptr(), file.len(), count) }
+    }
+
+    macro_rules! link_move {
+        ($name:ident $link:literal) => {
+            pub fn $name(from: &[u8], out: &mut [u8], wrote: &mut usize) -> u8 {
+                extern "C" {
+                    #[link_name = $link]
+                    fn linked(from: *const u8, bytes: usize, out: *mut u8, room: usize, wrote: &mut usize) -> u8;
+                }
+                // SAFETY: as above; both slices are of the lengths said, and `out` is lent alone
+                unsafe { linked(from.as_ptr(), from.len(), out.as_mut_ptr(), out.len(), wrote) }
+            }
+        };
+    }
+    link_move!(to_records "dual_ledger_to_records");
+    link_move!(to_text "dual_ledger_to_text");
+}

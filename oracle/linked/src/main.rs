@@ -14,6 +14,7 @@ mod nests;
 mod openings;
 mod pictures;
 mod reads;
+mod records;
 mod runs;
 mod sparing;
 mod table;
@@ -30,6 +31,7 @@ const HELP: &str = "\
 linked small                              a part of a few seconds
 linked scale [ACCEPTED REFUSED DAMAGED [SEED]]   until so many of each were compared; by default 10000000 1000000 1000000 1
 linked pictures [COUNT [SEED]]            pictures beside the original's, until so many benches with check 0; by default 30000 1
+linked records [COUNT [SEED]]             files of byte records, whole and spoiled, beside the model's reader, until so many; by default 1000000 1
 linked play FILE                          lines of a file by all three: the first difference, if there is one
 bench LIST NUMBERS                        times of both sides in one run, over such a list; the same as numbers into a file";
 
@@ -106,6 +108,10 @@ fn pictured(least: usize, seed: u64) {
     print!("{}no difference\n", pictures::compare(least, seed, nth).unwrap_or_else(|why| fail(why)));
 }
 
+fn recorded(least: usize, seed: u64) {
+    print!("{}no difference\n", records::compare(least, seed).unwrap_or_else(|why| fail(why)));
+}
+
 fn play(path: &str) {
     let text = std::fs::read_to_string(path).unwrap_or_else(|why| fail(format!("{path}: {why}")));
     println!("{} lines, no difference", played(&text));
@@ -118,7 +124,8 @@ fn main() {
     match words[..] {
         ["small"] => {
             scale(60_000, 6_000, 10_000, 1);
-            pictured(2_000, 1)
+            pictured(2_000, 1);
+            recorded(20_000, 1)
         }
         ["scale"] => scale(10_000_000, 1_000_000, 1_000_000, 1),
         ["scale", accepted, refused, damaged] => scale(count(accepted) as usize, count(refused) as usize, count(damaged) as usize, 1),
@@ -126,6 +133,9 @@ fn main() {
         ["pictures"] => pictured(30_000, 1),
         ["pictures", least] => pictured(count(least) as usize, 1),
         ["pictures", least, seed] => pictured(count(least) as usize, count(seed)),
+        ["records"] => recorded(1_000_000, 1),
+        ["records", least] => recorded(count(least) as usize, 1),
+        ["records", least, seed] => recorded(count(least) as usize, count(seed)),
         ["play", path] => play(path),
         ["bench", list, numbers] => bench::run(list, numbers).unwrap_or_else(|why| fail(why)),
         _ => fail(HELP),

@@ -3,6 +3,7 @@ pub mod bench;
 mod calls;
 mod check;
 pub mod groups;
+pub mod records;
 pub mod refusals;
 pub mod sound;
 

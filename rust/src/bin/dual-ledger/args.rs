@@ -4,7 +4,7 @@ use std::ffi::OsString;
 use std::path::PathBuf;
 
 pub const HELP: &str = "\
-Runs text records of the dual ledger (docs/MANUAL.md) by its proved functions.
+Runs and moves records of the dual ledger (docs/MANUAL.md) by its proved functions.
 
 dual-ledger check [--jobs N] [--quiet] [--answers OUT] [--fill U].. FILE..
     runs each file, a record of its own, and shows the refused lines: file, line, number, name, why.
@@ -26,11 +26,19 @@ dual-ledger picture [--unit U] [--full] [--at N] [--svg] [--fill U].. FILE
     --at N         as they stand after the first N lines
     --svg          the nest of blossoms drawn, as an SVG that any browser shows
 
-Each of them marks interfaces before a record runs, as many as are named:
+Each of these marks interfaces before a record runs, as many as are named:
     --fill U       interface U fills the slots that expansions emptied, until it is cleared; it is full
                    when 64 of its nodes are present
 
-A FILE named - is standard input. Status 0: all was read, answered and written. Status 1: it was not,
+dual-ledger pack IN OUT
+    moves a text record to byte records, which have a pair of touching serials beside each member of a
+    blossom: every pair is the member itself.
+
+dual-ledger unpack IN OUT
+    moves byte records back to text, if every pair is the member itself. There and back are the same
+    bytes. A file OUT is there only when it is whole.
+
+A file named - is standard input, or output. Status 0: all was read, answered and written. Status 1: it was not,
 and a message says why; a last line without newline counts as cut. Status 2: called wrongly.
 
 dual-ledger --help, dual-ledger --version
@@ -62,6 +70,8 @@ pub enum Asked {
     Check(Args),
     Ages(Args),
     Picture(Args),
+    Pack(Args),
+    Unpack(Args),
 }
 
 #[derive(Clone, Copy, PartialEq, Eq)]
@@ -69,18 +79,22 @@ enum Work {
     Check,
     Ages,
     Picture,
+    Pack,
+    Unpack,
 }
 
 impl Args {
     /// The words after the program's name.
     pub fn read(mut words: impl Iterator<Item = OsString>) -> Result<Asked, String> {
-        let first = words.next().ok_or("what is to be done? check, ages or picture")?;
+        let first = words.next().ok_or("what is to be done? check, ages, picture, pack or unpack")?;
         let work = match first.to_str() {
             Some("--help" | "-h" | "help") => return Ok(Asked::Help),
             Some("--version" | "-V") => return Ok(Asked::Version),
             Some("check") => Work::Check,
             Some("ages") => Work::Ages,
             Some("picture") => Work::Picture,
+            Some("pack") => Work::Pack,
+            Some("unpack") => Work::Unpack,
             _ => return Err(format!("there is no subcommand {}", first.to_string_lossy())),
         };
         let jobs = std::thread::available_parallelism().map_or(1, usize::from);
@@ -102,7 +116,7 @@ impl Args {
             match word.to_str() {
                 Some("--") if !no_more_options => no_more_options = true,
                 Some("--help" | "-h") if !no_more_options => return Ok(Asked::Help),
-                Some("--quiet" | "-q") if work != Work::Picture && !no_more_options => args.is_quiet = true,
+                Some("--quiet" | "-q") if matches!(work, Work::Check | Work::Ages) && !no_more_options => args.is_quiet = true,
                 Some("--jobs" | "-j") if work == Work::Check && !no_more_options => args.jobs = count(words.next())?,
                 Some("--answers") if work == Work::Check && !no_more_options => {
                     args.answers = Some(words.next().ok_or("--answers wants a file")?.into())
@@ -127,6 +141,10 @@ impl Args {
             (Work::Ages, _) => Err("ages takes one file".to_string()),
             (Work::Picture, 1) => Ok(Asked::Picture(args)),
             (Work::Picture, _) => Err("picture takes one file".to_string()),
+            (Work::Pack, 2) => Ok(Asked::Pack(args)),
+            (Work::Unpack, 2) => Ok(Asked::Unpack(args)),
+            (Work::Pack, _) => Err("pack takes two files, from and to".to_string()),
+            (Work::Unpack, _) => Err("unpack takes two files, from and to".to_string()),
         }
     }
 

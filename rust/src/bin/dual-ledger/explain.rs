@@ -31,7 +31,7 @@ fn outermost(bench: &Bench, node: Handle) -> Option<Handle> {
 }
 
 /// What a line that is not of the grammar has that a line has not.
-fn line_words(line: &[u8]) -> String {
+pub fn line_words(line: &[u8]) -> String {
     if line.len() > 1023 {
         return "it is longer than 1,024 bytes with its newline".to_string();
     }

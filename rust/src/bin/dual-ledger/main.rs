@@ -1,4 +1,4 @@
-//! The command `dual-ledger`: text records run by the proved text engine, with a status that a script can go by.
+//! The command `dual-ledger`: records run and moved by the proved functions, with a status that a script can go by.
 //!
 //! Statuses: 0 if everything was read, answered and written; 1 if anything failed, with a message that names it; 2 if it was called wrongly.
 mod ages;
@@ -8,9 +8,11 @@ mod explain;
 mod input;
 mod json;
 mod output;
+mod pack;
 mod picture;
 mod svg;
 mod table;
+mod whole;
 
 use args::{Args, Asked};
 use std::process::ExitCode;
@@ -29,6 +31,8 @@ fn main() -> ExitCode {
         Asked::Check(args) => check::run(&args),
         Asked::Ages(args) => ages::run(&args),
         Asked::Picture(args) => picture::run(&args),
+        Asked::Pack(args) => pack::pack(&args),
+        Asked::Unpack(args) => pack::unpack(&args),
     };
     match done {
         Ok(true) => ExitCode::SUCCESS,
