@@ -248,3 +248,65 @@ fn ages_in_three_forms() {
     let (_, json, _) = folder.run(&["ages", "--quiet", "--json", "shot.txt"]);
     assert!(json.contains(r#"{"serial":4,"interface":0,"members":[1,2,3],"made":5,"gone":9,"how":"expanded","value":1}"#));
 }
+
+#[test]
+fn pack_and_unpack() {
+    let folder = Folder::new("pack").with("shot.txt", RECORD).with("none.txt", "");
+    for name in ["shot", "none"] {
+        let (text, bytes, back) = (format!("{name}.txt"), format!("{name}.dlg"), format!("{name}.back"));
+        assert_eq!(folder.run(&["pack", &text, &bytes]), (0, "".into(), "".into()));
+        assert_eq!(folder.run(&["unpack", &bytes, &back]), (0, "".into(), "".into()));
+        assert_eq!(fs::read(folder.0.join(&text)).unwrap(), fs::read(folder.0.join(&back)).unwrap());
+        assert!(!folder.0.join(format!("{name}.dlg.part")).exists());
+    }
+    // the standard streams
+    let mut child = folder.command(&["unpack", "-", "-"]).stdin(Stdio::piped()).stdout(Stdio::piped()).spawn().unwrap();
+    child.stdin.take().unwrap().write_all(&fs::read(folder.0.join("shot.dlg")).unwrap()).unwrap();
+    assert_eq!(said(child.wait_with_output().unwrap()), (0, RECORD.into(), "".into()));
+}
+
+#[test]
+fn what_does_not_move_has_a_message_and_leaves_nothing() {
+    let folder = Folder::new("unmoved").with("shot.txt", RECORD).with("cut.txt", "D 0 3\nG 0 1").with("bad.txt", "D 0 3\nE 0 0\n");
+    folder.run(&["pack", "shot.txt", "shot.dlg"]);
+    let whole = fs::read(folder.0.join("shot.dlg")).unwrap();
+    let spoil = |name: &str, change: &dyn Fn(&mut Vec<u8>)| {
+        let mut file = whole.clone();
+        change(&mut file);
+        fs::write(folder.0.join(name), file).unwrap();
+    };
+    let end = whole.len();
+    spoil("letters", &|file| file[end - 1] = b'1');
+    spoil("cut", &|file| drop(file.drain(..8)));
+    spoil("start", &|file| file[end - 16 - 4 * 9] += 1);
+    spoil("letter", &|file| file[0] = b'Q');
+    spoil("pair", &|file| file[28 + 8] = 3);
+    spoil("before", &|file| file[end - 8] += 1);
+    let fails = |words: &[&str], why: &str| {
+        let (status, shown, message) = folder.run(words);
+        assert_eq!((status, shown.as_str(), message.as_str()), (1, "", why), "{words:?}");
+        assert!(!folder.0.join("out").exists() && !folder.0.join("out.part").exists());
+    };
+    fails(&["pack", "cut.txt", "out"], "dual-ledger: cut.txt:2: 23 FILE: the last line has no newline, so the record may be cut\n");
+    fails(&["pack", "bad.txt", "out"], "dual-ledger: bad.txt:2: 23 FILE: the line is LINE: a number is out of its range\n");
+    fails(&["pack", "no.txt", "out"], "dual-ledger: no.txt: No such file or directory\n");
+    fails(&["unpack", ".", "out"], "dual-ledger: .: Is a directory\n");
+    fails(&["unpack", "cut.txt", "out"], "dual-ledger: cut.txt: 23 FILE: it has 11 bytes, and a trailer alone has 16\n");
+    fails(&["unpack", "letters", "out"], "dual-ledger: letters: 23 FILE: it does not end in the letters DLG2\n");
+    fails(
+        &["unpack", "cut", "out"],
+        &format!("dual-ledger: cut: 23 FILE: the trailer says {} bytes before it, and there are {}\n", end - 16, end - 24),
+    );
+    fails(&["unpack", "start", "out"], "dual-ledger: start: 23 FILE: record 2: the list says byte 7, and it starts at byte 6\n");
+    fails(&["unpack", "letter", "out"], "dual-ledger: letter: 23 FILE: record 1, at byte 0: no record begins with byte 81\n");
+    fails(
+        &["unpack", "before", "out"],
+        &format!("dual-ledger: before: 23 FILE: the trailer says {} bytes before it, and there are {}\n", end - 15, end - 16),
+    );
+    fails(&["unpack", "pair", "out"], "dual-ledger: pair: 22 SELF: record 5: member 1 touches at 3 and 1, which a line cannot say\n");
+    fails(&["pack", "shot.txt", "/dev/full"], "dual-ledger: /dev/full: No space left on device\n");
+    fails(&["unpack", "shot.dlg", "none/out"], "dual-ledger: none/out.part: No such file or directory\n");
+    for words in [&["pack", "shot.txt"][..], &["unpack", "a", "b", "c"], &["pack", "--quiet", "shot.txt", "out"]] {
+        assert_eq!(folder.run(words).0, 2, "{words:?}");
+    }
+}

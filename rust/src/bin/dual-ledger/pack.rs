@@ -29,7 +29,8 @@ fn bar(what: &str, done: usize, of: Option<usize>) -> String {
 
 fn read(path: &Path, name: &str) -> Result<Vec<u8>, String> {
     let mut from = input::open(path).map_err(|trouble| said(name, &trouble))?;
-    let size = if path.as_os_str() == "-" { None } else { std::fs::metadata(path).ok().filter(|found| found.is_file()).map(|found| found.len() as usize) };
+    let size =
+        if path.as_os_str() == "-" { None } else { std::fs::metadata(path).ok().filter(|found| found.is_file()).map(|found| found.len() as usize) };
     let mut progress = Progress::new(size.map_or(true, |size| size >= LARGE));
     let mut bytes = Vec::with_capacity(size.unwrap_or(0));
     loop {
