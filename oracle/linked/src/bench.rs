@@ -3,7 +3,7 @@
 use crate::ledger::state;
 use crate::nests::{self, BY_CALLS, BY_HAND};
 use crate::words::encode;
-use crate::{bench_groups, bench_marks, bench_present};
+use crate::{bench_groups, bench_marks, bench_present, bench_records};
 use dual_ledger::{lent, Bench, DualModule, GrowState, Handle, Verdict};
 use oracle::line::{read, Line};
 use oracle::timing::{self, by_kind, keep, kind, least, processor, whole, Original, Timed, KINDS};
@@ -345,5 +345,6 @@ pub fn run(list_file: &str, numbers: &str) -> Result<(), String> {
     println!("get_ancestor_blossom: links in place of nodes, {BY_CALLS} the most by calls, {BY_HAND} the most of a sound bench; a link takes {link:.2} ns, trusted.");
     println!("defect, blossom: one made in an interface that has used its slots one after another, and in one that fills emptied slots; expand: made and taken apart.");
     println!("check and strict: both checks. nest: each blossom in the next, touching by the defect at the bottom; one bucket: vertices that are multiples of 512.");
+    print!("{}", bench_records::table(text.as_bytes())?);
     Ok(())
 }

@@ -3,6 +3,7 @@ mod bench;
 mod bench_groups;
 mod bench_marks;
 mod bench_present;
+mod bench_records;
 mod bend;
 mod damage;
 mod damage_groups;
@@ -33,6 +34,7 @@ linked scale [ACCEPTED REFUSED DAMAGED [SEED]]   until so many of each were comp
 linked pictures [COUNT [SEED]]            pictures beside the original's, until so many benches with check 0; by default 30000 1
 linked records [COUNT [SEED]]             files of byte records, whole and spoiled, beside the model's reader, until so many; by default 1000000 1
 linked play FILE                          lines of a file by all three: the first difference, if there is one
+linked moves LIST                         times of moving such a list to byte records and back, beside its run
 bench LIST NUMBERS                        times of both sides in one run, over such a list; the same as numbers into a file";
 
 fn fail(why: impl std::fmt::Display) -> ! {
@@ -112,6 +114,11 @@ fn recorded(least: usize, seed: u64) {
     print!("{}no difference\n", records::compare(least, seed).unwrap_or_else(|why| fail(why)));
 }
 
+fn moved(path: &str) -> String {
+    let text = std::fs::read(path).unwrap_or_else(|why| fail(format!("{path}: {why}")));
+    bench_records::table(&text).unwrap_or_else(|why| fail(why))
+}
+
 fn play(path: &str) {
     let text = std::fs::read_to_string(path).unwrap_or_else(|why| fail(format!("{path}: {why}")));
     println!("{} lines, no difference", played(&text));
@@ -137,6 +144,7 @@ fn main() {
         ["records", least] => recorded(count(least) as usize, 1),
         ["records", least, seed] => recorded(count(least) as usize, count(seed)),
         ["play", path] => play(path),
+        ["moves", list] => print!("{}", moved(list)),
         ["bench", list, numbers] => bench::run(list, numbers).unwrap_or_else(|why| fail(why)),
         _ => fail(HELP),
     }

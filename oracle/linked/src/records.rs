@@ -21,7 +21,7 @@ impl std::fmt::Display for Seen {
     fn fmt(&self, f: &mut std::fmt::Formatter) -> std::fmt::Result {
         writeln!(f, "{} files of byte records, {} spoiled: {} whole, of which {} have another's pair", self.files, self.spoiled(), self.all_whole(), self.foreign)?;
         for (at, kind) in KINDS.iter().enumerate() {
-            writeln!(f, "  {kind:<32} {:>9}, {:>9} whole all the same", self.kinds[at], self.whole[at])?;
+            writeln!(f, "  {kind:<36} {:>9}, {:>9} whole all the same", self.kinds[at], self.whole[at])?;
         }
         writeln!(f, "{} texts, some with a bad line: {} moved there and back", self.texts, self.moved)
     }
@@ -67,7 +67,8 @@ fn serial(rng: &mut Rng) -> u32 {
 }
 
 fn line(rng: &mut Rng, own: bool) -> Line {
-    let unit = rng.below(if rng.chance(80) { 8 } else { 256 }) as u32;
+    let units = if rng.chance(80) { 8 } else { 256 };
+    let unit = rng.below(units) as u32;
     match rng.below(9) {
         0 => Line::Defect(unit, number(rng)),
         1 | 2 => {
