@@ -503,6 +503,9 @@ static void names(void) {
     same("the name of 24", strcmp(dual_ledger_refusal_name(DUAL_LEDGER_UNSOUND), "UNSOUND"), 0);
     same("the name of 26", strcmp(dual_ledger_refusal_name(DUAL_LEDGER_MARK), "MARK"), 0);
     same("the name of 22", dual_ledger_refusal_name(22) == NULL, 1), same("the name of 0", strcmp(dual_ledger_refusal_name(0), "ACCEPTED"), 0);
+    same("the name of 22", strcmp(dual_ledger_refusal_name(DUAL_LEDGER_SELF), "SELF"), 0);
+    same("the name of 23", strcmp(dual_ledger_refusal_name(DUAL_LEDGER_FILE), "FILE"), 0);
+    same("the name of 25", dual_ledger_refusal_name(25) == NULL, 1), same("the name of 0", strcmp(dual_ledger_refusal_name(0), "ACCEPTED"), 0);
 }
 
 /* ---- refusals: the number, no value, and every word as it was */
@@ -562,6 +565,45 @@ static void broken(void) {
     same("broken: vertex", dual_ledger_get_representative_vertex(bench, node, &vertex), DUAL_LEDGER_BROKEN), same("broken: vertex", vertex, 0);
     same("broken: check", dual_ledger_strict_check(bench, 0, &v, &w), DUAL_LEDGER_BROKEN), same("broken: check", (int64_t)(v + w), 0);
     same("broken: picture", dual_ledger_snapshot(bench, 0, 1, NULL, 0, &v), DUAL_LEDGER_BROKEN), same("broken: picture", (int64_t)v, 0);
+}
+
+/* ---- byte records */
+
+/* a move: its number, its bytes and none past them */
+static void moved(const char *what, int back, const void *from, size_t length, size_t room, int number, const void *expected, size_t size) {
+    uint8_t out[256];
+    size_t wrote = 77;
+    memset(out, 7, sizeof out);
+    same(what, (back ? dual_ledger_to_text : dual_ledger_to_records)(from, length, out, room, &wrote), number);
+    same(what, (int64_t)wrote, (int64_t)size), same(what, memcmp(out, expected, size), 0);
+    for (size_t i = size; i < sizeof out; i++) same("a byte past a move", out[i], 7);
+}
+
+static void counts(const char *what, const uint8_t *file, size_t length, int number, size_t count) {
+    size_t said = 77;
+    same(what, dual_ledger_records_count(file, length, &said), number), same(what, (int64_t)said, (int64_t)count);
+}
+
+/* the manual's example there and back; each refusal at its edge, FILE before SELF before SMALL */
+static void records(void) {
+    static const char text[] = "D 0 3\nB 0 1\nS 0 1 -1\nG 0 -2\n";
+    static const uint8_t whole[71] = {'D', 0, 3, 0, 0, 0, 'B', 0, 1, 0, 1, 0, 0, 0, 1, 0, 0, 0, 1, 0, 0, 0, 'S', 0, 1, 0, 0, 0, 255,
+                                      'G', 0, 254, 255, 255, 255, 255, 255, 255, 255, 0, 0, 0, 0, 6, 0, 0, 0, 22, 0, 0, 0, 29, 0, 0, 0,
+                                      39, 0, 0, 0, 4, 0, 0, 0, 55, 0, 0, 0, 'D', 'L', 'G', '2'};
+    static const uint8_t empty[16] = {0, 0, 0, 0, 0, 0, 0, 0, 0, 0, 0, 0, 'D', 'L', 'G', '2'};
+    uint8_t file[71];
+    size_t n = sizeof text - 1;
+    moved("to records", 0, text, n, 256, 0, whole, 71), moved("to records", 0, text, n, 71, 0, whole, 71), moved("to records", 0, text, n, 70, DUAL_LEDGER_SMALL, "", 0);
+    moved("to text", 1, whole, 71, 256, 0, text, n), moved("to text", 1, whole, 71, n, 0, text, n), moved("to text", 1, whole, 71, n - 1, DUAL_LEDGER_SMALL, "", 0);
+    moved("no text", 0, NULL, 0, 16, 0, empty, 16), moved("no records", 1, empty, 16, 0, 0, "", 0);
+    moved("a line without newline", 0, text, n - 1, 256, DUAL_LEDGER_FILE, "", 0), moved("a bad line", 0, "D 0\n", 4, 0, DUAL_LEDGER_FILE, "", 0);
+    counts("a file", whole, 71, 0, 4), counts("no records", empty, 16, 0, 0), counts("no bytes", NULL, 0, DUAL_LEDGER_FILE, 0);
+    counts("cut", whole, 70, DUAL_LEDGER_FILE, 0), counts("cut", whole + 1, 70, DUAL_LEDGER_FILE, 0);
+    memcpy(file, whole, 71), file[14] = 2;
+    counts("another's pair", file, 71, 0, 4), moved("another's pair", 1, file, 71, 0, DUAL_LEDGER_SELF, "", 0);
+    file[28] = 2, counts("a state", file, 71, DUAL_LEDGER_FILE, 0), moved("FILE before SELF", 1, file, 71, 0, DUAL_LEDGER_FILE, "", 0);
+    for (size_t at = 39; at < 71; at++) /* the list and the trailer: no byte can be another */
+        memcpy(file, whole, 71), file[at] ^= 1, counts("a number of the list or the trailer", file, 71, DUAL_LEDGER_FILE, 0);
 }
 
 /* ---- groups of obstacles */
@@ -724,6 +766,7 @@ int main(void) {
     under();
     pictures();
     for (int form = OPEN; form <= TRUSTED; form++) filling((enum form)form);
+    records();
     text();
     names();
     refusals();

@@ -207,6 +207,18 @@ static void lines(const char *text) {
     P(dual_ledger_text_end, 3, W(written), sizeof written, W(&wrote));
 }
 
+/* The functions on byte records: a text and a file of every letter, there and back. */
+static void records(void) {
+    static const char text[] = "D 0 4294967295\nB 255 1 22 333 4294967295\nE 0 3\nS 0 1 -1\nG 0 -9223372036854775808\nF 2 0 1\nC 0\nK 0\n";
+    static uint8_t file[512], back[512];
+    static size_t size, wrote;
+    int levels = 1;
+    must("the records do not move", dual_ledger_to_records((const uint8_t *)text, sizeof text - 1, file, sizeof file, &size) == 0);
+    P(dual_ledger_to_records, W(text), sizeof text - 1, W(back), sizeof back, W(&wrote));
+    P(dual_ledger_to_text, W(file), size, W(back), sizeof back, W(&wrote));
+    P(dual_ledger_records_count, W(file), size, W(&wrote));
+}
+
 /* A bench of a few nodes: accepted calls of each kind. */
 static void few(void) {
     uint64_t outer = handle(6, 5, 0);
@@ -285,6 +297,7 @@ int main(int words, char **word) {
     FILE *file;
     if (words != 2) return 2;
     few();
+    records();
     long_sum();
     spoiled();
     for (size_t i = 0; i < sizeof depths / sizeof *depths; i++) {
