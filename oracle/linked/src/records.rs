@@ -15,15 +15,23 @@ pub struct Seen {
     foreign: usize,
     texts: usize,
     moved: usize,
+    long: usize,
 }
 
 impl std::fmt::Display for Seen {
     fn fmt(&self, f: &mut std::fmt::Formatter) -> std::fmt::Result {
-        writeln!(f, "{} files of byte records, {} spoiled: {} whole, of which {} have another's pair", self.files, self.spoiled(), self.all_whole(), self.foreign)?;
+        writeln!(
+            f,
+            "{} files of byte records, {} spoiled: {} whole, of which {} have another's pair",
+            self.files,
+            self.spoiled(),
+            self.all_whole(),
+            self.foreign
+        )?;
         for (at, kind) in KINDS.iter().enumerate() {
             writeln!(f, "  {kind:<36} {:>9}, {:>9} whole all the same", self.kinds[at], self.whole[at])?;
         }
-        writeln!(f, "{} texts, some with a bad line: {} moved there and back", self.texts, self.moved)
+        writeln!(f, "{} texts, some with a bad line, {} with one too long: {} moved there and back", self.texts, self.long, self.moved)
     }
 }
 
@@ -66,18 +74,29 @@ fn serial(rng: &mut Rng) -> u32 {
     number(rng).max(1)
 }
 
+/// Members whose line is about as long as a line may be.
+fn long(rng: &mut Rng, unit: u32) -> Vec<u32> {
+    let mut members = vec![];
+    let mut left = 1017 + rng.below(12) - unit.to_string().len() - 2;
+    while left > 1 {
+        let digits = (left - 1).min(1 + rng.below(10)) as u32;
+        members.push(10u32.pow(digits - 1) + rng.below(9) as u32);
+        left -= digits as usize + 1;
+    }
+    members
+}
+
 fn line(rng: &mut Rng, own: bool) -> Line {
     let units = if rng.chance(80) { 8 } else { 256 };
     let unit = rng.below(units) as u32;
     match rng.below(9) {
         0 => Line::Defect(unit, number(rng)),
         1 | 2 => {
-            let count = match rng.below(12) {
-                0 => 65 + rng.below(60),
-                1 => 64,
-                _ => 1 + rng.below(9),
+            let members = match rng.below(16) {
+                0 => long(rng, unit),
+                1 => (0..64 + rng.below(60)).map(|_| 1 + rng.below(99) as u32).collect(),
+                _ => (0..1 + rng.below(9)).map(|_| serial(rng)).collect::<Vec<u32>>(),
             };
-            let members: Vec<u32> = (0..count).map(|_| if count > 64 { serial(rng) % 1_000_000_000 + 1 } else { serial(rng) }).collect();
             let pair = |serial: &u32| if own { (*serial, *serial) } else { (number(rng).max(1), number(rng).max(1)) };
             let pairs = members.iter().map(pair).collect();
             Line::Blossom(unit, members, pairs)
@@ -91,14 +110,14 @@ fn line(rng: &mut Rng, own: bool) -> Line {
     }
 }
 
-/// Lines whose text is of the grammar: a blossom's may be too long.
-fn lines(rng: &mut Rng, own: bool) -> Vec<Line> {
-    let count = if rng.chance(10) { 0 } else { 1 + rng.below(12) };
-    (0..count).map(|_| line(rng, own)).filter(|line| fits(line)).collect()
-}
-
 fn fits(line: &Line) -> bool {
     model::spelled(line).len() < 1024
+}
+
+/// Lines of a record. A blossom's may be too long for one, which both forms must find.
+fn lines(rng: &mut Rng, own: bool) -> Vec<Line> {
+    let count = if rng.chance(10) { 0 } else { 1 + rng.below(12) };
+    (0..count).map(|_| line(rng, own)).collect()
 }
 
 fn word(file: &[u8], at: usize) -> usize {
@@ -149,7 +168,11 @@ fn spoil(rng: &mut Rng, kind: usize, file: &mut Vec<u8>, other: &[u8]) {
         9 => {
             let at = end - 16 + 4 * rng.below(4);
             let old = word(file, at);
-            store(file, at, [old.wrapping_add(1), old.wrapping_sub(1), old.wrapping_add(4), old.wrapping_sub(4), old.swap_bytes() >> 32, 0][rng.below(6)]);
+            store(
+                file,
+                at,
+                [old.wrapping_add(1), old.wrapping_sub(1), old.wrapping_add(4), old.wrapping_sub(4), old.swap_bytes() >> 32, 0][rng.below(6)],
+            );
         }
         // the list and the trailer go with it: only the records can say that something is wrong
         10 => {
@@ -179,7 +202,11 @@ fn refusal(said: Result<usize, Refusal>) -> Result<usize, u8> {
 }
 
 /// A move into slices of several lengths: number, bytes written, and what stands past them.
-fn moves(what: &str, wanted: impl Fn(usize) -> Result<Vec<u8>, u8>, call: impl Fn(&mut [u8]) -> Result<usize, Refusal>) -> Result<Option<Vec<u8>>, String> {
+fn moves(
+    what: &str,
+    wanted: impl Fn(usize) -> Result<Vec<u8>, u8>,
+    call: impl Fn(&mut [u8]) -> Result<usize, Refusal>,
+) -> Result<Option<Vec<u8>>, String> {
     let whole = wanted(usize::MAX);
     let size = whole.as_ref().map_or(40, Vec::len);
     for room in [size.saturating_sub(1), size, size + 3, 0] {
@@ -228,7 +255,8 @@ fn shown(line: &Line) -> String {
     match line {
         Line::Defect(u, v) => format!("Defect {{ unit: {u}, vertex: {v} }}"),
         Line::Blossom(u, members, pairs) => {
-            let each = members.iter().zip(pairs).map(|(serial, (first, second))| format!("Member {{ serial: {serial}, first: {first}, second: {second} }}"));
+            let each =
+                members.iter().zip(pairs).map(|(serial, (first, second))| format!("Member {{ serial: {serial}, first: {first}, second: {second} }}"));
             format!("Blossom {{ unit: {u}, members: [{}] }}", each.collect::<Vec<_>>().join(", "))
         }
         Line::Expand(u, s) => format!("Expand {{ unit: {u}, serial: {s} }}"),
@@ -274,6 +302,7 @@ pub fn compare(least: usize, seed: u64) -> Result<Seen, String> {
         let rng = &mut Rng::new(seed);
         let own = rng.chance(50);
         let lines = lines(rng, own);
+        seen.long += usize::from(!lines.iter().all(fits));
         let whole = model::write(&lines);
         compare_text(rng, &lines, &mut seen).map_err(|why| format!("seed {seed}: {why}"))?;
         for kind in 0..KINDS.len() {
