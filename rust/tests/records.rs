@@ -150,3 +150,15 @@ fn what_has_no_record_is_not_written() {
     writer.push(&Operation::Blossom { unit: 0, members: many(92) }).unwrap();
     assert_eq!(to_text(writer.finish()).unwrap().len(), 4 + 92 * 11);
 }
+
+#[test]
+fn of_every_length() {
+    let letters = ["D 255 0\n", "E 0 4294967295\n", "S 1 2 0\n", "G 0 9223372036854775807\n", "F 255 254 253\n", "C 0\n", "K 0\n"];
+    let mut text = String::new();
+    for members in 1..130 {
+        text += &format!("B 0{}\n{}", " 7".repeat(members), letters[members % letters.len()]);
+        let file = to_bytes(&text).unwrap();
+        assert_eq!(Records::new(&file).map(|records| records.len()), Ok(2 * members));
+        assert_eq!(to_text(&file).as_deref(), Ok(&text[..]));
+    }
+}

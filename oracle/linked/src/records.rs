@@ -1,6 +1,6 @@
 //! Files of byte records beside the model's reader: made by chance, spoiled in many ways, and moved both ways into slices of every room that matters. Verdict,
 //! count, answers and every byte of the lent slice are compared.
-use dual_ledger::records::{to_bytes_into, to_text_into, Records};
+use dual_ledger::records::{to_bytes, to_bytes_into, to_text, to_text_into, Records, Writer};
 use dual_ledger::Refusal;
 use oracle::generator::rng::Rng;
 use oracle::line::Line;
@@ -234,10 +234,17 @@ fn compare_file(file: &[u8], seen: &mut Seen) -> Result<bool, String> {
             if !records.iter().map(|operation| format!("{operation:?}")).eq(lines.iter().map(shown)) {
                 return Err("records read as other than the model's".to_string());
             }
+            let mut writer = Writer::new();
+            if records.iter().any(|operation| writer.push(&operation).is_err()) || writer.finish() != file {
+                return Err("records written anew are another file".to_string());
+            }
         }
         (said, wanted) => return Err(format!("{:?} records, and the model {:?}", said.map(|records| records.len()), wanted.as_ref().map(Vec::len))),
     }
     let text = moves("to text", |room| model::to_text(file, room), |out| to_text_into(file, out))?;
+    if to_text(file).map(String::into_bytes).map_err(Refusal::number) != model::to_text(file, usize::MAX) {
+        return Err("to text into a buffer of its own: another than the model's".to_string());
+    }
     if let Some(text) = &text {
         let mut back = vec![0; file.len()];
         if to_bytes_into(text, &mut back) != Ok(file.len()) || back != file {
@@ -283,6 +290,9 @@ fn compare_text(rng: &mut Rng, lines: &[Line], seen: &mut Seen) -> Result<(), St
     }
     seen.texts += 1;
     let file = moves("to bytes", |room| model::to_bytes(&text, room), |out| to_bytes_into(&text, out))?;
+    if to_bytes(&text).map_err(Refusal::number) != model::to_bytes(&text, usize::MAX) {
+        return Err("to bytes into a buffer of its own: another than the model's".to_string());
+    }
     if let Some(file) = file {
         seen.moved += 1;
         let mut back = vec![0; text.len()];

@@ -56,6 +56,19 @@ fn moved(room: usize, call: impl FnOnce(&mut [u8], &mut usize) -> u8) -> Result<
     Ok(out)
 }
 
+/// How many bytes the file of a text has, if it moves; else FILE is found before SMALL, whatever the room.
+fn file_size(text: &[u8]) -> usize {
+    let size = |line: &[u8]| match line.first() {
+        Some(b'B') => 12 * line.iter().filter(|byte| **byte == b' ').count().max(1) - 8,
+        Some(b'G') => 10,
+        Some(b'S') => 7,
+        Some(b'D' | b'E') => 6,
+        Some(b'F') => 4,
+        _ => 2,
+    };
+    text.split_inclusive(|byte| *byte == b'\n').map(|line| size(line) + 4).sum::<usize>().saturating_add(TRAILER).min(LARGEST)
+}
+
 /// Moves a text record to a file of byte records, every pair the member itself. Lines that a run would refuse do move.
 ///
 /// ```
@@ -68,9 +81,7 @@ fn moved(room: usize, call: impl FnOnce(&mut [u8], &mut usize) -> u8) -> Result<
 #[doc = errors!(to_bytes)]
 pub fn to_bytes(text: impl AsRef<[u8]>) -> Result<Vec<u8>, Refusal> {
     let text = text.as_ref();
-    // a member of two bytes takes twelve; nothing takes more for each of its line
-    let room = text.len().saturating_mul(6).saturating_add(TRAILER).min(LARGEST);
-    moved(room, |out, wrote| linked::to_records(text, out, wrote))
+    moved(file_size(text), |out, wrote| linked::to_records(text, out, wrote))
 }
 
 /// The same into a lent slice; how many bytes were written. Bytes past them stay, and so do all where it is refused.
