@@ -20,7 +20,7 @@ use Rattle.bench_views.specs.Fit.{SoundWords}
 use Rattle.outcomes.specs.Answered.{Answered}
 use Rattle.text_numbers.specs.declared.Reply.{Reply}
 use Rattle.text_numbers.specs.Numbers.{numbersOf}
-use Rattle.text_calls.specs.Turned.{Turned}
+use Rattle.text_calls.specs.Turned.{Gave, Turned}
 
 -- what a line says, of a reply
 abbrev toldOf : ℕ → Done → LineAnswer
@@ -31,11 +31,11 @@ unfolding calls whole
 sound-calls b s u c = ap (λ (a : Answer). record { numbers = shown (a .number) (a .node .serial) (a .bench) u; bench = a .bench }) (answer-true b c s)
 
 module _ (b : List ℕ) (W : SoundWords b) where
-  -- a line that is a call, answered by the code's call of the same reply
-  pub turned : (l : Line) (u : ℕ) (c : Call) → says (view b) l ≡ calls (view b) u c → (d : Call) → perform (view b) d ≡ perform (view b) c
-      → (n : ℕ) (h : Handle) (b′ : List ℕ) → Answered b d n h b′ → (r : Reply) → numbersOf r ≡ shown n (h .serial .0) (view b′) u → Turned b l r b′
-  turned l u c e d q n h b′ A r t =
-      let p : says (view b) l ≡ toldOf u (perform (view b) d) = e ∙ sound-calls (view b) (W .sound) u c ∙ ap (toldOf u) (sym q) in
+  -- a call's answer, by the code's call of the same reply
+  pub gave : (a : LineAnswer) (u : ℕ) (c : Call) → a ≡ calls (view b) u c → (d : Call) → perform (view b) d ≡ perform (view b) c
+      → (n : ℕ) (h : Handle) (b′ : List ℕ) → Answered b d n h b′ → (r : Reply) → numbersOf r ≡ shown n (h .serial .0) (view b′) u → Gave a r b′
+  gave a u c e d q n h b′ A r t =
+      let p : a ≡ toldOf u (perform (view b) d) = e ∙ sound-calls (view b) (W .sound) u c ∙ ap (toldOf u) (sym q) in
       record {
         numbers = t
             ∙ (λ i. shown (A .number i) (A .node i .serial) (A .seen i) u)
@@ -43,6 +43,11 @@ module _ (b : List ℕ) (W : SoundWords b) where
         words = A .words;
         seen = A .seen ∙ sym (ap (λ (s : LineAnswer). s .bench) p);
       }
+
+  -- a line's
+  pub turned : (l : Line) (u : ℕ) (c : Call) → says (view b) l ≡ calls (view b) u c → (d : Call) → perform (view b) d ≡ perform (view b) c
+      → (n : ℕ) (h : Handle) (b′ : List ℕ) → Answered b d n h b′ → (r : Reply) → numbersOf r ≡ shown n (h .serial .0) (view b′) u → Turned b l r b′
+  turned l = gave (says (view b) l)
 
   -- a check
   pub turned-check : (u n v : ℕ) (i : ℕ) → (n, (v, i)) ≡ checkOf (view b) u → (r : Reply) → numbersOf r ≡ shown n v (view b) u → Turned b (K u) r b

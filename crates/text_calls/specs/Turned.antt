@@ -4,17 +4,21 @@ use mathlib.Core.Path.{_≡_}
 use mathlib.Core.List.{List}
 use lib.ListN.{length, take}
 use Rattle.ledger_spec.specs.Grammar.{Line, B}
-use Rattle.ledger_spec.specs.Lines.{says}
+use Rattle.ledger_spec.specs.Lines.{LineAnswer, says}
 use Rattle.bench_views.specs.View.{view}
 use Rattle.bench_views.specs.Fit.{SoundWords}
 use Rattle.text_numbers.specs.declared.Reply.{Reply}
 use Rattle.text_numbers.specs.Numbers.{numbersOf}
 
--- the four numbers and the bench after the line are those that the ledger says, and the words after it are sound
-pub record Turned (b : List ℕ) (l : Line) (r : Reply) (b′ : List ℕ) : Type 0 where
-  pub numbers : numbersOf r ≡ says (view b) l .numbers
+-- the four numbers and the bench after it are those of an answer of the ledger's, and the words after it are sound
+pub record Gave (a : LineAnswer) (r : Reply) (b′ : List ℕ) : Type 0 where
+  pub numbers : numbersOf r ≡ a .numbers
   pub words : SoundWords b′
-  pub seen : view b′ ≡ says (view b) l .bench
+  pub seen : view b′ ≡ a .bench
+
+-- what a line says
+abbrev pub Turned : List ℕ → Line → Reply → List ℕ → Type 0
+Turned b l r b′ = Gave (says (view b) l) r b′
 
 -- as many of them as there are, and 65 at most
 pub record Few (count n : ℕ) : Type 0 where

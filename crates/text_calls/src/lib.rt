@@ -25,7 +25,7 @@ ghost use Rattle.text_calls.specs.Turned.{Turned, Few, TurnedBlossom};
 pub const MOST: usize = 65;
 
 // A call's answer, with the interface as it stands now.
-fn tell(b: &[u64; WORDS], unit: u8, made: Made) -> Reply
+pub fn tell(b: &[u64; WORDS], unit: u8, made: Made) -> Reply
     requires { ⌜ SoundWords (now b) ⌝ }
     ensures { λ r. ⌜ numbersOf r ≡ shown (made .number) (made .node .serial .0) (view (now (b .entry))) unit ⌝ }
 {
@@ -34,7 +34,7 @@ fn tell(b: &[u64; WORDS], unit: u8, made: Made) -> Reply
 }
 
 // Hints where a node that was made stands.
-fn keep(made: Made, hints: &mut [u16; HINTS]) {
+pub fn keep(made: Made, hints: &mut [u16; HINTS]) {
     let node = made.node;
     let serial = node.serial;
     bench_serials::remember(
@@ -53,7 +53,7 @@ fn defect(b: &mut [u64; WORDS], unit: u8, vertex: Vertex, hints: &mut [u16; HINT
     tell(b, unit, made)
 }
 
-fn few(count: usize) -> usize
+pub fn few(count: usize) -> usize
     ensures { λ r. ⌜ Few count r ⌝ }
 {
     if count < MOST {

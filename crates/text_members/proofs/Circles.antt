@@ -23,7 +23,7 @@ use Rattle.text_members.specs.Names.{Names, AllNamed}
 
 -- ---- a stale member: UNIT, CHILD, CIRCLE or STALE, whatever the members are
 
-number : Bool → Bool → Bool → ℕ
+unfoldable pub number : Bool → Bool → Bool → ℕ
 number true c x = 3
 number false true x = 4
 number false false true = 6
@@ -36,14 +36,14 @@ first-is false true x s ts e = refl
 first-is false false true s ts e = refl
 first-is false false false s ts e = rw e
 
-settled : (o c x : Bool) (b b′ : Bench) (h : Handle) → settle (number o c x) b b′ h ≡ record { number = number o c x; bench = b; node = nobody }
+pub settled : (o c x : Bool) (b b′ : Bench) (h : Handle) → settle (number o c x) b b′ h ≡ record { number = number o c x; bench = b; node = nobody }
 unfolding settle number
 settled true c x b b′ h = refl
 settled false true x b b′ h = refl
 settled false false true b b′ h = refl
 settled false false false b b′ h = refl
 
-abbrev circle : List Handle → Bool
+abbrev pub circle : List Handle → Bool
 circle hs = empty hs || ltb 64 (length hs)
 
 module _ (b : Bench) (u : ℕ) where
@@ -70,14 +70,14 @@ module _ (b : Bench) (u : ℕ) where
 -- ---- members by words and by serials
 
 module _ (b : Bench) where
-  Alike : List ℕ → List ℕ → Type 0
+  unfoldable pub Alike : List ℕ → List ℕ → Type 0
   Alike ks ws = (handsGiven ws ≡ map (named b) ks) ⊎ ((any (stale b) (handsGiven ws) ≡ true) × (any (stale b) (map (named b) ks) ≡ true))
 
-  any-here : (h : Handle) (hs : List Handle) → nodeNamed b h ≡ none → any (stale b) (h ∷ hs) ≡ true
+  pub any-here : (h : Handle) (hs : List Handle) → nodeNamed b h ≡ none → any (stale b) (h ∷ hs) ≡ true
   unfolding any
   any-here h hs e = rw e
 
-  any-there : (h : Handle) (hs : List Handle) → any (stale b) hs ≡ true → any (stale b) (h ∷ hs) ≡ true
+  pub any-there : (h : Handle) (hs : List Handle) → any (stale b) hs ≡ true → any (stale b) (h ∷ hs) ≡ true
   unfolding any
   any-there h hs e = either (stale b h) (any (stale b) hs) e
     where
@@ -91,7 +91,7 @@ module _ (b : Bench) where
   alike-more k w ks ws (inl e) (inr f) = inr (any-there (handGiven w) (handsGiven ws) (f .0), any-there (named b k) (map (named b) ks) (f .1))
   alike-more k w ks ws (inr e) f = inr (any-here (handGiven w) (handsGiven ws) (e .0), any-here (named b k) (map (named b) ks) (e .1))
 
-  alike : (ks ws : List ℕ) → length ws ≡ length ks → ((i : ℕ) → i < length ks → Names b (getD ks i 0) (getD ws i 0)) → Alike ks ws
+  pub alike : (ks ws : List ℕ) → length ws ≡ length ks → ((i : ℕ) → i < length ks → Names b (getD ks i 0) (getD ws i 0)) → Alike ks ws
   unfolding Alike
   alike [] [] e f = inl refl
   alike [] (w ∷ ws) e f = absurd (omega arith)
