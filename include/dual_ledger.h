@@ -275,6 +275,13 @@ uint8_t dual_ledger_to_records(const uint8_t *text, size_t text_len, uint8_t *ou
  * out is too short: twice the file is enough. What was moved there and back is the same bytes. */
 uint8_t dual_ledger_to_text(const uint8_t *file, size_t file_len, uint8_t *out, size_t out_len, size_t *wrote);
 
+/* Runs a file of byte records, operation by operation, as the single calls answer: four numbers each at the front of answers, which are those of its text line,
+ * number, serial (of K the verdict), speed and sum; count says how many operations there were, and entries past 4 times that stay. A refused operation changes
+ * nothing, and the run goes on. FILE first; then BROKEN, once; then SMALL, where answers_len is below 4 times the number of records: refused, neither bench
+ * nor answers have changed, and *count is 0. */
+uint8_t dual_ledger_run_records(uint64_t *bench, const uint8_t *file, size_t file_len, int64_t *answers, size_t answers_len, size_t *count);
+uint8_t dual_ledger_trusted_run_records(uint64_t *bench, const uint8_t *file, size_t file_len, int64_t *answers, size_t answers_len, size_t *count);
+
 /* ---- the numbers [Refusals] */
 
 #define DUAL_LEDGER_LINE 1 /* text program: line not of the grammar */

@@ -43,6 +43,7 @@ mod notice;
 mod reads;
 pub mod records;
 mod refusal;
+pub mod runs;
 mod telling;
 mod text;
 mod verdict;

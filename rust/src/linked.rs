@@ -387,3 +387,24 @@ pub mod records {
     link_move!(to_records "dual_ledger_to_records");
     link_move!(to_text "dual_ledger_to_text");
 }
+
+/// Runs over a file of byte records.
+pub mod runs {
+    use super::*;
+
+    macro_rules! link_run {
+        ($name:ident $link:literal $bench:ty) => {
+            pub fn $name(bench: &mut $bench, file: &[u8], answers: &mut [[i64; 4]], count: &mut usize) -> u8 {
+                extern "C" {
+                    #[link_name = $link]
+                    fn linked(bench: &mut $bench, file: *const u8, bytes: usize, answers: *mut i64, room: usize, count: &mut usize) -> u8;
+                }
+                let room = 4 * answers.len();
+                // SAFETY: as above; both slices are of the lengths said, four numbers an entry, and `answers` is lent alone
+                unsafe { linked(bench, file.as_ptr(), file.len(), answers.as_mut_ptr().cast(), room, count) }
+            }
+        };
+    }
+    link_run!(run "dual_ledger_trusted_run_records" Sound);
+    link_run!(run_any "dual_ledger_run_records" Words);
+}

@@ -23,7 +23,7 @@ pub struct Reply {
     pub sum: i64,
 }
 
-fn reply(number: u8, serial: u64, speed: i64, sum: i64) -> Reply {
+pub(crate) fn reply(number: u8, serial: u64, speed: i64, sum: i64) -> Reply {
     Reply { refusal: Refusal::from_number(number), serial: serial as u32, speed, sum }
 }
 

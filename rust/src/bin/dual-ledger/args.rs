@@ -38,6 +38,11 @@ dual-ledger unpack IN OUT
     moves byte records back to text, if every pair is the member itself. There and back are the same
     bytes. A file OUT is there only when it is whole.
 
+dual-ledger run [--bench FILE] [--save FILE] IN
+    runs byte records, with their touching pairs, and prints the answers as `ledger` prints them.
+    --bench FILE   begins from the bench whose words the file keeps; else from an empty one
+    --save FILE    keeps the words of the bench after the run; a file is there only when it is whole
+
 A file named - is standard input, or output. Status 0: all was read, answered and written. Status 1: it was not,
 and a message says why; a last line without newline counts as cut. Status 2: called wrongly.
 
@@ -62,6 +67,8 @@ pub struct Args {
     pub at: Option<u64>,
     /// interfaces to be marked before a record runs
     pub fills: Vec<u8>,
+    pub bench: Option<PathBuf>,
+    pub save: Option<PathBuf>,
 }
 
 pub enum Asked {
@@ -72,6 +79,7 @@ pub enum Asked {
     Picture(Args),
     Pack(Args),
     Unpack(Args),
+    Run(Args),
 }
 
 #[derive(Clone, Copy, PartialEq, Eq)]
@@ -81,12 +89,13 @@ enum Work {
     Picture,
     Pack,
     Unpack,
+    Run,
 }
 
 impl Args {
     /// The words after the program's name.
     pub fn read(mut words: impl Iterator<Item = OsString>) -> Result<Asked, String> {
-        let first = words.next().ok_or("what is to be done? check, ages, picture, pack or unpack")?;
+        let first = words.next().ok_or("what is to be done? check, ages, picture, pack, unpack or run")?;
         let work = match first.to_str() {
             Some("--help" | "-h" | "help") => return Ok(Asked::Help),
             Some("--version" | "-V") => return Ok(Asked::Version),
@@ -95,6 +104,7 @@ impl Args {
             Some("picture") => Work::Picture,
             Some("pack") => Work::Pack,
             Some("unpack") => Work::Unpack,
+            Some("run") => Work::Run,
             _ => return Err(format!("there is no subcommand {}", first.to_string_lossy())),
         };
         let jobs = std::thread::available_parallelism().map_or(1, usize::from);
@@ -111,6 +121,9 @@ impl Args {
             fills: vec![],
         };
         let runs_records = matches!(work, Work::Check | Work::Ages | Work::Picture);
+            bench: None,
+            save: None,
+        };
         let mut no_more_options = false;
         while let Some(word) = words.next() {
             match word.to_str() {
@@ -128,6 +141,8 @@ impl Args {
                 Some("--unit") if work == Work::Picture && !no_more_options => args.unit = number(words.next(), "--unit wants an interface, 0 to 7")?,
                 Some("--at") if work == Work::Picture && !no_more_options => args.at = Some(number(words.next(), "--at wants a number of lines")?),
                 Some("--fill") if runs_records && !no_more_options => args.fills.push(interface(words.next(), "--fill")?),
+                Some("--bench") if work == Work::Run && !no_more_options => args.bench = Some(words.next().ok_or("--bench wants a file")?.into()),
+                Some("--save") if work == Work::Run && !no_more_options => args.save = Some(words.next().ok_or("--save wants a file")?.into()),
                 Some(option) if !no_more_options && option.starts_with('-') && option != "-" => {
                     return Err(format!("there is no option {option} here"))
                 }
@@ -143,6 +158,8 @@ impl Args {
             (Work::Picture, _) => Err("picture takes one file".to_string()),
             (Work::Pack, 2) => Ok(Asked::Pack(args)),
             (Work::Unpack, 2) => Ok(Asked::Unpack(args)),
+            (Work::Run, 1) => Ok(Asked::Run(args)),
+            (Work::Run, _) => Err("run takes one file".to_string()),
             (Work::Pack, _) => Err("pack takes two files, from and to".to_string()),
             (Work::Unpack, _) => Err("unpack takes two files, from and to".to_string()),
         }

@@ -10,6 +10,7 @@ mod json;
 mod output;
 mod pack;
 mod picture;
+mod run;
 mod svg;
 mod table;
 mod whole;
@@ -33,6 +34,7 @@ fn main() -> ExitCode {
         Asked::Picture(args) => picture::run(&args),
         Asked::Pack(args) => pack::pack(&args),
         Asked::Unpack(args) => pack::unpack(&args),
+        Asked::Run(args) => run::run(&args),
     };
     match done {
         Ok(true) => ExitCode::SUCCESS,

@@ -13,10 +13,10 @@ use std::path::Path;
 /// So many bytes are read or written between two looks at the clock.
 const PIECE: usize = 1 << 20;
 /// From so many on, a bar is shown.
-const LARGE: usize = 4 << 20;
+pub const LARGE: usize = 4 << 20;
 
 /// A bar of how many of so many bytes are done; without a number where it is not known.
-fn bar(what: &str, done: usize, of: Option<usize>) -> String {
+pub fn bar(what: &str, done: usize, of: Option<usize>) -> String {
     const WIDE: usize = 30;
     match of.filter(|of| *of > 0) {
         None => format!("{what} {} MB", done >> 20),
@@ -27,7 +27,7 @@ fn bar(what: &str, done: usize, of: Option<usize>) -> String {
     }
 }
 
-fn read(path: &Path, name: &str) -> Result<Vec<u8>, String> {
+pub fn read(path: &Path, name: &str) -> Result<Vec<u8>, String> {
     let mut from = input::open(path).map_err(|trouble| said(name, &trouble))?;
     let size =
         if path.as_os_str() == "-" { None } else { std::fs::metadata(path).ok().filter(|found| found.is_file()).map(|found| found.len() as usize) };
@@ -45,7 +45,7 @@ fn read(path: &Path, name: &str) -> Result<Vec<u8>, String> {
     Ok(bytes)
 }
 
-fn write(path: &Path, bytes: &[u8]) -> Result<bool, String> {
+pub fn write(path: &Path, bytes: &[u8]) -> Result<bool, String> {
     let mut out = Answers::open(path)?;
     let mut progress = Progress::new(bytes.len() >= LARGE);
     for (at, piece) in bytes.chunks(PIECE).enumerate() {
@@ -62,7 +62,7 @@ fn write(path: &Path, bytes: &[u8]) -> Result<bool, String> {
 }
 
 /// The name that a message has for a file.
-fn named(path: &Path, standard: &str) -> String {
+pub fn named(path: &Path, standard: &str) -> String {
     if path.as_os_str() == "-" {
         return standard.to_string();
     }
