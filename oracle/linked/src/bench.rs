@@ -1,5 +1,6 @@
 //! The benchmark: the original's bare calls and the linked ledger's in one run, over the fixed list and call by call. Best of several passes, each side in turn, by
 //! processor time. Prints a table, and writes the same numbers as lines of tabs for the picture.
+use crate::{bench_groups, bench_present, bench_records, bench_runs};
 use crate::ledger::state;
 use crate::nests::{self, BY_CALLS, BY_HAND};
 use crate::words::encode;
@@ -346,5 +347,6 @@ pub fn run(list_file: &str, numbers: &str) -> Result<(), String> {
     println!("defect, blossom: one made in an interface that has used its slots one after another, and in one that fills emptied slots; expand: made and taken apart.");
     println!("check and strict: both checks. nest: each blossom in the next, touching by the defect at the bottom; one bucket: vertices that are multiples of 512.");
     print!("{}", bench_records::table(text.as_bytes())?);
+    print!("{}", bench_runs::table(text.as_bytes(), &timing::read(&text)?)?);
     Ok(())
 }

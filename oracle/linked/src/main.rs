@@ -4,10 +4,12 @@ mod bench_groups;
 mod bench_marks;
 mod bench_present;
 mod bench_records;
+mod bench_runs;
 mod bend;
 mod damage;
 mod damage_groups;
 mod filling;
+mod file_runs;
 mod group_words;
 mod groups;
 mod ledger;
@@ -33,6 +35,7 @@ linked small                              a part of a few seconds
 linked scale [ACCEPTED REFUSED DAMAGED [SEED]]   until so many of each were compared; by default 10000000 1000000 1000000 1
 linked pictures [COUNT [SEED]]            pictures beside the original's, until so many benches with check 0; by default 30000 1
 linked records [COUNT [SEED]]             files of byte records, whole and spoiled, beside the model's reader, until so many; by default 1000000 1
+linked runs [COUNT [SEED]]                files of byte records run whole, beside single calls and the original, until so many operations; by default 10000000 1
 linked play FILE                          lines of a file by all three: the first difference, if there is one
 linked moves LIST                         times of moving such a list to byte records and back, beside its run
 bench LIST NUMBERS                        times of both sides in one run, over such a list; the same as numbers into a file";
@@ -114,6 +117,10 @@ fn recorded(least: usize, seed: u64) {
     print!("{}no difference\n", records::compare(least, seed).unwrap_or_else(|why| fail(why)));
 }
 
+fn ran(least: usize, seed: u64) {
+    print!("{}no difference\n", file_runs::compare(least, seed, nth).unwrap_or_else(|why| fail(why)));
+}
+
 fn moved(path: &str) -> String {
     let text = std::fs::read(path).unwrap_or_else(|why| fail(format!("{path}: {why}")));
     bench_records::table(&text).unwrap_or_else(|why| fail(why))
@@ -132,7 +139,8 @@ fn main() {
         ["small"] => {
             scale(60_000, 6_000, 10_000, 1);
             pictured(2_000, 1);
-            recorded(20_000, 1)
+            recorded(20_000, 1);
+            ran(100_000, 1)
         }
         ["scale"] => scale(10_000_000, 1_000_000, 1_000_000, 1),
         ["scale", accepted, refused, damaged] => scale(count(accepted) as usize, count(refused) as usize, count(damaged) as usize, 1),
@@ -143,6 +151,9 @@ fn main() {
         ["records"] => recorded(1_000_000, 1),
         ["records", least] => recorded(count(least) as usize, 1),
         ["records", least, seed] => recorded(count(least) as usize, count(seed)),
+        ["runs"] => ran(10_000_000, 1),
+        ["runs", least] => ran(count(least) as usize, 1),
+        ["runs", least, seed] => ran(count(least) as usize, count(seed)),
         ["play", path] => play(path),
         ["moves", list] => print!("{}", moved(list)),
         ["bench", list, numbers] => bench::run(list, numbers).unwrap_or_else(|why| fail(why)),
