@@ -219,7 +219,8 @@ module _ (b b' : List ℕ) (C : Canon b) (C' : Canon b') (near : Within (view b)
       let pa : interfaceAt b v .parent ≡ interfaceAt b' v .parent = up-inj _ _ (fields v lv (λ f. f .parent)) in
       let ha = left-inj (interfaceAt b v .left) (interfaceAt b v .right) (interfaceAt b' v .left) (interfaceAt b' v .right) (C .whole v lv) (C .both v lv) (C' .whole v lv) (C' .both v lv) (fields v lv (λ f. f .halves)) in
       let fi : interfaceAt b v .marks .fills ≡ interfaceAt b' v .marks .fills = fields v lv (λ f. f .marks .fills) in
-      λ i. record { used = us i; progress = pr i; sum = su i; speed = sp i; parent = pa i; left = ha .0 i; right = ha .1 i; marks = record { fills = fi i } }
+      let fl : interfaceAt b v .marks .floored ≡ interfaceAt b' v .marks .floored = fields v lv (λ f. f .marks .floored) in
+      λ i. record { used = us i; progress = pr i; sum = su i; speed = sp i; parent = pa i; left = ha .0 i; right = ha .1 i; marks = record { fills = fi i; floored = fl i } }
 
   sum-same : (v : ℕ) → v < 8 → sumUp 8 (interfaceAt b) v ≡ sumUp 8 (interfaceAt b') v
   sum-same v lv = sumUp-same (interfaceAt b') (interfaceAt b) (λ w lw. good-interface b' w) (λ w lw. ap (λ (x : Interface). x .parent) (interface-same w lw)) (λ w lw. ap (λ (x : Interface). x .progress) (interface-same w lw)) 8 v lv

@@ -34,7 +34,7 @@ abbrev pub halvesSeen : ℕ → ℕ → Option (ℕ × ℕ)
 halvesSeen l r = pick (eqb l 0) none (some (l - 1, r - 1))
 
 abbrev pub marksSeen : Marks → plain.Marks
-marksSeen m = record { fills = m .fills }
+marksSeen m = record { fills = m .fills; floored = m .floored }
 
 -- ---- values
 abbrev pub valueBy : GrowState → ℕ → ℕ → ℕ

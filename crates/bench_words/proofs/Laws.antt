@@ -194,11 +194,13 @@ up-back (Under p) g =
     simp (ne-eqb (p + 1) 0 (λ e. omega arith), a)
 
 pub marks-back : (m : Marks) → marksOf (marksWord m) ≡ m
-marks-back m = fills-back (m .fills)
+marks-back m = bits-back (m .fills) (m .floored)
   where
-    fills-back : (p : Bool) → marksOf (pick p 1 0) ≡ record { fills = p }
-    fills-back true = refl
-    fills-back false = refl
+    bits-back : (p q : Bool) → marksOf (pick p 1 0 + pick q 2 0) ≡ record { fills = p; floored = q }
+    bits-back true true = refl
+    bits-back true false = refl
+    bits-back false true = refl
+    bits-back false false = refl
 
 good-up : (p : Bool) (w : ℕ) → w < 8 → GoodUp (pick p Top (Under w))
 good-up true w l = tt

@@ -1,6 +1,6 @@
 -- Where a node and an interface lie in the bench's words, and what a load and a store of one is. Assumes nothing.
 use Prim.Native.Nat.{ℕ, suc, _+_, _*_, _%_}
-use mathlib.Core.Bool.{false}
+use mathlib.Core.Bool.{Bool, false}
 use mathlib.Core.List.{List, [], _∷_}
 use lib.ListN.{getD, set}
 use Rattle.bench_words.specs.Codec.{sumOffset, speedOffset, stateOf, stateWord, handleOf, handleWord, classOf, classWord, parentOf, parentWord, upOf, upWord, marksOf, marksWord}
@@ -117,9 +117,12 @@ setHalves f x y = record { used = f .used; progress = f .progress; sum = f .sum;
 abbrev pub setMarks : Interface → Marks → Interface
 setMarks f x = record { used = f .used; progress = f .progress; sum = f .sum; speed = f .speed; parent = f .parent; left = f .left; right = f .right; marks = x }
 
--- an interface that has no mark
+-- the same marks, floored or not; and none
+abbrev pub setFloored : Marks → Bool → Marks
+setFloored m x = record { fills = m .fills; floored = x }
+
 abbrev pub noMarks : Marks
-noMarks = record { fills = false }
+noMarks = record { fills = false; floored = false }
 
 abbrev pub noInterface : Interface
 noInterface = record { used = 0; progress = 0; sum = sumOffset; speed = speedOffset; parent = Top; left = 0; right = 0; marks = noMarks }

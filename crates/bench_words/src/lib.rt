@@ -4,11 +4,12 @@
 //   word 0                    the next serial
 //   words 16 u + 1 .. + 7     interface u: used slots, progress, sum + 2^62, speed + 1024, parent, left half, right half
 //   word 16 u + 8             the map of interface u: bit s is 1 where slot s holds a node
-//   word 16 u + 9             the marks of interface u: 1 where a new node takes the lowest empty slot
+//   word 16 u + 9             the marks of interface u: 1 where a new node takes the lowest empty slot, and 2 where no value may fall below zero
 //   words 16 u + 10 .. + 16   zero: room for later fields of interface u
 //   words 128 + 12 k + 1 ..   node k = 64 * interface + slot: serial, class, state, parent, place, next, two touching handles,
 //                    .. + 12  bias + 2^60, size, first member, members
 pub mod coding; // whether words are the code of what is loaded from them
+pub mod interfaces; // an interface's parent and its marks, as words
 
 use kinds::Class;
 use kinds::GrowState;
@@ -19,7 +20,7 @@ use kinds::Vertex;
 ghost use mathlib.Core.Path.{_≡_};
 ghost use lib.ListN.{length, getD, set};
 ghost use Prim.Native.Nat.{_+_, _*_, _<_};
-ghost use Rattle.bench_words.specs.Codec.{stateOf, stateWord, handleOf, handOf, handleWord, classOf, classWord, parentOf, parentWord, upOf, upWord, marksOf, marksWord};
+ghost use Rattle.bench_words.specs.Codec.{stateOf, stateWord, handleOf, handOf, handleWord, classOf, classWord, parentOf, parentWord};
 ghost use Rattle.bench_words.specs.Store.{nodeAt, storeNode, interfaceAt, storeInterface, mapAt, storeMap};
 
 pub const WORDS: usize = 6273;
@@ -54,9 +55,11 @@ pub enum Up {
     Under(u8),
 }
 
-// What an interface was marked with while it was empty. One that `fills` gives a new node its lowest empty slot.
+// What an interface was marked with while it was empty. One that `fills` gives a new node its lowest empty slot; in the tree of one that is
+// `floored` no growth takes a value below zero.
 pub struct Marks {
     pub fills: bool,
+    pub floored: bool,
 }
 
 // `left` and `right` are a half's number and one more, or 0 without halves.
@@ -177,40 +180,6 @@ pub fn full(b: &[u64; WORDS])
     none(b);
 }
 
-pub fn up_of(w: u64) -> Up
-    ensures { λ r. ⌜ r ≡ upOf w ⌝ }
-{
-    if w == 0 {
-        return Up::Top;
-    }
-    Up::Under(((w - 1) % 8) as u8)
-}
-
-pub fn up_word(u: Up) -> u64
-    ensures { λ r. ⌜ r ≡ upWord u ⌝ }
-{
-    match u {
-        Up::Top => 0,
-        Up::Under(p) => (p as u64) + 1,
-    }
-}
-
-// A bit for each mark.
-pub fn marks_of(w: u64) -> Marks
-    ensures { λ r. ⌜ r ≡ marksOf w ⌝ }
-{
-    Marks { fills: w % 2 == 1 }
-}
-
-pub fn marks_word(m: Marks) -> u64
-    ensures { λ r. ⌜ r ≡ marksWord m ⌝ }
-{
-    if m.fills {
-        return 1;
-    }
-    0
-}
-
 pub fn load_next(b: &[u64; WORDS]) -> u64
     ensures { λ r. ⌜ r ≡ getD (now (b .entry)) 0 0 ⌝ }
 {
@@ -228,8 +197,8 @@ pub fn load_interface(b: &[u64; WORDS], u: usize) -> Interface
     ensures { λ r. ⌜ r ≡ interfaceAt (now (b .entry)) u ⌝ }
 {
     let at = u * 16;
-    let parent = up_of(b[at + 5]);
-    let marks = marks_of(b[at + 9]);
+    let parent = interfaces::up_of(b[at + 5]);
+    let marks = interfaces::marks_of(b[at + 9]);
     Interface {
         used: b[at + 1],
         progress: b[at + 2],
@@ -253,10 +222,10 @@ pub fn store_interface(b: &mut [u64; WORDS], u: usize, n: Interface)
     b[at + 2] = n.progress;
     b[at + 3] = n.sum;
     b[at + 4] = n.speed;
-    b[at + 5] = up_word(parent);
+    b[at + 5] = interfaces::up_word(parent);
     b[at + 6] = n.left;
     b[at + 7] = n.right;
-    b[at + 9] = marks_word(marks);
+    b[at + 9] = interfaces::marks_word(marks);
 }
 
 // The map of an interface's present slots stands beside its record: most calls change the record and leave the map.

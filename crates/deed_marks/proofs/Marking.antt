@@ -10,7 +10,7 @@ use Rattle.bench_words.proofs.Maps.{store-interface-map}
 use Rattle.bench_words.specs.declared.Node.{Node}
 use Rattle.bench_words.specs.declared.Interface.{Interface}
 use Rattle.bench_words.specs.declared.Marks.{Marks}
-use Rattle.ledger_spec.specs.Bench.{Marking, withMark, filling}
+use Rattle.ledger_spec.specs.Bench.{Marking, withMark, filling, floor}
 use Rattle.ledger_spec.specs.Tests.{first}
 use Rattle.ledger_spec.specs.Refuse.{markTests}
 use Rattle.ledger_spec.specs.Deeds.{choose}
@@ -61,7 +61,14 @@ module _ (b : List ℕ) (u : ℕ) (F : Fit b) (t : first (markTests (view b) u) 
   pub mark-low : u < 8
   mark-low = mark-passed (view b) u t .here .low
 
-  pub filling-done : (U : Interface) {b' : List ℕ} → U ≡ interfaceAt b u → b' ≡ storeInterface b u (setMarks U (record { fills = true })) → Done b' (choose (view b) u filling)
+  pub filling-done : (U : Interface) {b' : List ℕ} → U ≡ interfaceAt b u → b' ≡ storeInterface b u (setMarks U (record { fills = true; floored = U .marks .floored })) → Done b' (choose (view b) u filling)
   filling-done U {b'} e e' =
-      let q : b' ≡ b₁ b u filling (record { fills = true }) F mark-low refl = simp (e', e) in
-      rw q (done b u filling (record { fills = true }) F mark-low refl)
+      let m : Marks = record { fills = true; floored = interfaceAt b u .marks .floored } in
+      let q : b' ≡ b₁ b u filling m F mark-low refl = simp (e', e) in
+      rw q (done b u filling m F mark-low refl)
+
+  pub floor-done : (U : Interface) {b' : List ℕ} → U ≡ interfaceAt b u → b' ≡ storeInterface b u (setMarks U (record { fills = U .marks .fills; floored = true })) → Done b' (choose (view b) u floor)
+  floor-done U {b'} e e' =
+      let m : Marks = record { fills = interfaceAt b u .marks .fills; floored = true } in
+      let q : b' ≡ b₁ b u floor m F mark-low refl = simp (e', e) in
+      rw q (done b u floor m F mark-low refl)

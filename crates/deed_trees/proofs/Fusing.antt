@@ -4,6 +4,7 @@ use Prim.Native.Nat.{ℕ, _+_, _-_, _*_, _<_, _≤_}
 use mathlib.Core.Path.{_≡_, refl, ap, ap₂, sym, _∙_, fun-ext}
 use mathlib.Core.Logic.{_≢_, by-cases}
 use mathlib.Core.Option.{some}
+use mathlib.Core.Bool.{Bool}
 use mathlib.Core.List.{List}
 use native.Mathlib.Decide.{ℕ-discrete}
 use native.Mathlib.Omega.{arith}
@@ -193,7 +194,8 @@ module _ (b : List ℕ) (p l r : ℕ) (F : Fit b) (T : first (fuseTests (view b)
       (halves-new ∙ sym (ap (λ (f : plain.Interface). f .halves) (join-p B p l r joining)))
 
   marks-now : (v : ℕ) → v < 8 → marksSeen (U₃ v .marks) ≡ interface J v .marks
-  marks-now = field (λ f. f .marks) marksSeen (λ f. f .marks) (λ f q. refl) (λ f q. refl) (is (λ f. f .marks)) (sym (ap (λ (f : plain.Interface). f .marks) (join-p B p l r joining) ∙ is (λ f. f .marks) p p<8))
+  marks-now = field (λ f. f .marks) marksSeen (λ f. f .marks) (λ f q. refl) (λ f q. refl) (is (λ f. f .marks))
+      (sym (ap (λ (f : plain.Interface). f .marks) (join-p B p l r joining) ∙ ap₂ (λ (m : plain.Marks) (x : Bool). plain.withFloor m x) (is (λ f. f .marks) p p<8) (is (λ f. f .marks .floored) l l<8)))
 
   parent-now : (v : ℕ) → v < 8 → upSeen (U₃ v .parent) ≡ interface J v .parent
   parent-now v lv = by-cases (ℕ-discrete v p)

@@ -5,7 +5,7 @@ use mathlib.Core.Logic.{_≢_}
 use mathlib.Core.List.{List}
 use lib.ListN.{getD}
 use Rattle.bench_words.specs.Codec.{sumOffset, speedOffset}
-use Rattle.bench_words.specs.Store.{nodeAt, interfaceAt, mapAt, setSum, setSpeed, setParent, setHalves, setMarks, noInterface}
+use Rattle.bench_words.specs.Store.{nodeAt, interfaceAt, mapAt, setSum, setSpeed, setParent, setHalves, setMarks, setFloored, noInterface}
 use Rattle.bench_words.specs.declared.Interface.{Interface}
 use Rattle.bench_words.specs.declared.Marks.{Marks}
 use Rattle.bench_words.specs.declared.Up.the-variants.{Under}
@@ -15,9 +15,9 @@ use Rattle.bench_views.specs.Canon.{Coded}
 abbrev pub withUp : Interface → ℕ → Interface
 withUp f p = setParent f (Under p)
 
--- the parent of a fuse, which keeps its marks, from its halves l and r, whose interfaces are L and R
+-- the parent of a fuse, whose marks were m, from its halves l and r, whose interfaces are L and R: it is floored as they are
 abbrev pub fusedWords : Marks → Interface → Interface → ℕ → ℕ → Interface
-fusedWords m L R l r = setMarks (setHalves (setSpeed (setSum noInterface (L .sum + R .sum - sumOffset)) (L .speed + R .speed - speedOffset)) (l + 1) (r + 1)) m
+fusedWords m L R l r = setMarks (setHalves (setSpeed (setSum noInterface (L .sum + R .sum - sumOffset)) (L .speed + R .speed - speedOffset)) (l + 1) (r + 1)) (setFloored m (L .marks .floored))
 
 -- b' is b with the first n slots of interface u empty
 pub record Emptied (b : List ℕ) (u : ℕ) (b' : List ℕ) (n : ℕ) : Type 0 where

@@ -30,7 +30,10 @@ fn no_interface() -> Interface
         parent: Up::Top,
         left: 0,
         right: 0,
-        marks: Marks { fills: false },
+        marks: Marks {
+            fills: false,
+            floored: false,
+        },
     }
 }
 
@@ -57,7 +60,7 @@ fn put_under(b: &mut [u64; WORDS], unit: usize, parent: usize)
     );
 }
 
-// Fuses two interfaces under a parent, which gets both sums and both speeds. Each of the three keeps its marks.
+// Fuses two interfaces under a parent, which gets both sums and both speeds, and is floored as its halves are. Each of the three keeps its mode.
 pub fn join(b: &mut [u64; WORDS], parent: usize, left: usize, right: usize)
     requires { ⌜ Fit (now b) × (numberOf (fuseTests (view (now b)) parent left right) ≡ 0) ⌝ }
     ensures { λ _. ⌜ Done (now (b .exit)) (joined (view (now (b .entry))) parent left right) ⌝ }
@@ -65,7 +68,8 @@ pub fn join(b: &mut [u64; WORDS], parent: usize, left: usize, right: usize)
     let l = bench_words::load_interface(b, left);
     let r = bench_words::load_interface(b, right);
     let p = bench_words::load_interface(b, parent);
-    let marks = p.marks;
+    let own = p.marks;
+    let half = l.marks;
     put_under(b, left, parent);
     put_under(b, right, parent);
     bench_words::store_interface(
@@ -79,7 +83,10 @@ pub fn join(b: &mut [u64; WORDS], parent: usize, left: usize, right: usize)
             parent: Up::Top,
             left: (left as u64) + 1,
             right: (right as u64) + 1,
-            marks,
+            marks: Marks {
+                fills: own.fills,
+                floored: half.floored,
+            },
         },
     );
 }

@@ -1,23 +1,27 @@
 -- Every call keeps a sound bench sound, so that from set-up no call ever meets BROKEN. Assumes nothing.
 use Prim.Native.Nat.{ℕ, zero, suc, _≤_, _<_, _^_}
-use mathlib.Core.Path.{_≡_, refl, sym, _∙_, subst}
+use mathlib.Core.Path.{_≡_, refl, sym, _∙_, ap, subst}
 use mathlib.Core.Logic.{_≢_}
 use mathlib.Core.Bool.{Bool, true, false, _&&_, true≢false}
+use mathlib.Core.Option.{some}
 use mathlib.Core.List.{List, [], _∷_}
 use native.Mathlib.Omega.{arith}
 use lib.Dec.{ltb}
 use borrow.Author.Tests.{ltb-true}
-use Rattle.ledger_spec.specs.Bench.{Bench, setUp}
-use Rattle.ledger_spec.specs.Tests.{first}
+use lib.IntN.{pos}
+use lib.Signed.{leZ}
+use Rattle.ledger_spec.specs.Bench.{Node, Bench, setUp}
+use Rattle.ledger_spec.specs.Tests.{first, floored}
 use Rattle.ledger_spec.specs.Refuse.{setUpNo, unitTests, defectTests, blossomTests, expandTests, stateTests, growTests, fuseTests, markTests}
 use Rattle.ledger_spec.specs.Calls.{nobody, settle, setUpCall, Call, Defect, Blossom, Expand, SetState, Grow, Fuse, Clear, Mark, perform}
-use Rattle.ledger_spec.specs.Sound.{sound}
+use Rattle.ledger_spec.specs.Sound.{sound, afloat}
+use Rattle.ledger_spec.specs.Look.{slotOf}
 use Rattle.ledger_spec.specs.Answers.{answer}
 use Rattle.ledger_spec.specs.Book.{Book, turn, turns, newBook}
 use Rattle.ledger_spec.specs.Facts.{Sound}
 use Rattle.ledger_spec.proofs.Lists.{and-true}
 use Rattle.ledger_spec.proofs.Passed.{fusable}
-use Rattle.ledger_spec.proofs.Accepted.{defect-passed, blossom-passed, expand-passed, state-passed, grow-passed}
+use Rattle.ledger_spec.proofs.Accepted.{defect-passed, blossom-passed, expand-passed, state-passed, grow-passed, mark-passed}
 use Rattle.ledger_spec.proofs.Says.{says}
 use Rattle.ledger_spec.proofs.Holds.{holds}
 use Rattle.ledger_laws.proofs.SoundCalls.{defect-sound, blossom-sound, expand-sound, state-sound, grow-sound, fuse-sound, choose-sound, clear-sound, opened-sound}
@@ -33,7 +37,7 @@ deed-sound b S (SetState u h s) e = state-sound b S u h s (state-passed b u h e)
 deed-sound b S (Grow u l) e = grow-sound b S u l (grow-passed b u l e)
 deed-sound b S (Fuse p l r) e = fuse-sound b S p l r (fusable b p l r e)
 deed-sound b S (Clear u) e = clear-sound b S u
-deed-sound b S (Mark u k) e = choose-sound b S u k
+deed-sound b S (Mark u k) e = choose-sound b S u k (mark-passed b u e)
 
 settled-sound : (n : ℕ) (b b′ : Bench) (c : Call) → (n ≡ 0 → Sound b′) → Sound b → Sound (settle n b b′ (nodeOf b c) .bench)
 unfolding settle
@@ -123,3 +127,7 @@ broken-only b c e = go (sound b) refl
 
 pub never-broken : (n : ℕ) → n < 2 ^ 32 → (cs : List Call) (c : Call) → answer (turns (newBook n) cs .bench) c .number ≢ 2
 never-broken n h cs c e = true≢false (sym (always-sound n h cs) ∙ broken-only (turns (newBook n) cs .bench) c e)
+
+-- in a floored interface no present node has a negative value, after any calls from set-up
+pub never-below : (n : ℕ) → n < 2 ^ 32 → (cs : List Call) (u s : ℕ) (m : Node) → floored (turns (newBook n) cs .bench) u ≡ true → slotOf (turns (newBook n) cs .bench) u s ≡ some m → leZ (pos 0) (m .value) ≡ true
+never-below n h cs u s m f e = ap afloat (sym e) ∙ turns-sound (newBook n) cs (begun-sound n h) .floors .values u s f

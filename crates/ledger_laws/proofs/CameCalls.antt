@@ -19,7 +19,7 @@ use Rattle.ledger_spec.specs.Deeds.{newHandle, addDefect, circle, sizeOf, sizes
 use Rattle.ledger_spec.specs.Frame.{Frame}
 use Rattle.ledger_spec.specs.Knit.{In, here, there, Has, Sewn}
 use Rattle.ledger_spec.specs.Facts.{Touching, Circle, Ring, Sound}
-use Rattle.ledger_spec.proofs.Range.{abs-add, abs-step}
+use Rattle.ledger_spec.proofs.Range.{abs-step}
 use Rattle.ledger_spec.proofs.Lists.{not-in-nil, in-cases}
 use Rattle.ledger_spec.proofs.Knit.{some-eq, none-some, class-apart, blossom-eq, Place, hit, miss, place-in}
 use Rattle.ledger_spec.proofs.Passed.{Fusable, has-node}
@@ -193,7 +193,9 @@ stem-grown b l u s x k = go (slotOf b u s) refl k
           serial = ap (λ (m : Node). m .serial) y;
           class = ap (λ (m : Node). m .class) y;
           size = ap (λ (m : Node). m .size) y;
-          value = omega (arith, ap (λ (m : Node). natAbs (m .value)) y, abs-add (n .value) (l *ℤ rate (n .state)), abs-step l (n .state));
+          move = l *ℤ rate (n .state);
+          small = abs-step l (n .state);
+          value = sym (ap (λ (m : Node). m .value) y);
         }
 
 pub grow-came : (b : Bench) (u : ℕ) (l : ℤ) → Came b (growBy b u l) (grown b u l)

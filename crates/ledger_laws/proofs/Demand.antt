@@ -91,7 +91,7 @@ module _ (b : Bench) (p l r : ℕ) (a : ℤ) where
 
     pub grow-too : answer fusedFirst (Grow p a) .number ≡ 0
     grow-too = subst (λ (d : Bench). answer d (Grow p a) .number ≡ 0) (sym (fused b p l r fuse-too .2))
-        (grows-now (join b p l r) p a (fuse-sound b S p l r f) (grow-after b p l r a (S .frame) f (S .forward l) (grew b l a x .1)))
+        (grows-now (join b p l r) p a (fuse-sound b S p l r f) (grow-after b p l r a (S .frame) f (S .forward l) (grew b l a x .1) (subst (λ (d : Bench). GrowPassed d r a) (grew b l a x .2) (grew grownLeft r a y .1))))
 
     pub fuse-called : Alike (answer grownBoth (Fuse p l r) .bench) (answer fusedFirst (Grow p a) .bench)
     fuse-called = subst (λ (d : Bench). Alike d (answer fusedFirst (Grow p a) .bench)) (sym (fused grownBoth p l r z .2 ∙ ap (λ (d : Bench). join d p l r) both-is))

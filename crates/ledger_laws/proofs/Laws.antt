@@ -11,7 +11,7 @@ use lib.Dec.{eqb}
 use lib.ListN.{length}
 use lib.Seq.{ext-getD}
 use lib.IntN.{ℤ, _+ℤ_, _*ℤ_, +ℤ-assoc}
-use Rattle.ledger_spec.specs.Bench.{Node, rate, Interface, Bench, fresh, withProgress, withSum, withSlots}
+use Rattle.ledger_spec.specs.Bench.{Node, rate, Marks, Interface, Bench, fresh, withProgress, withSum, withSlots}
 use Rattle.ledger_spec.specs.Look.{interface, top}
 use Rattle.ledger_spec.specs.Deeds.{growSlot, growBy, join}
 use Rattle.ledger_spec.specs.Account.{Alike}
@@ -153,7 +153,7 @@ module _ (b : Bench) (F : Frame b) (p l r : ℕ) (a : ℤ) (f : Fusable b p l r)
       marks w = grow-marks b₁ r a w ∙ grow-marks b l a w
 
       go : Dec (w ≡ p) → interface (join b₂ p l r) w .marks ≡ interface j w .marks
-      go (yes x) = subst (λ (m : ℕ). interface (join b₂ p l r) m .marks ≡ interface j m .marks) (sym x) (ap (λ (f : Interface). f .marks) (join-p b₂ p l r J₂) ∙ marks p ∙ sym (ap (λ (f : Interface). f .marks) (join-p b p l r J)))
+      go (yes x) = subst (λ (m : ℕ). interface (join b₂ p l r) m .marks ≡ interface j m .marks) (sym x) (ap (λ (f : Interface). f .marks) (join-p b₂ p l r J₂) ∙ ap₂ (λ (x y : Marks). record { floored = x .floored; fills = y .fills }) (marks l) (marks p) ∙ sym (ap (λ (f : Interface). f .marks) (join-p b p l r J)))
       go (no x) = join-kept b₂ p l r J₂ (λ f. f .marks) (λ f q. refl) w x ∙ marks w ∙ sym (join-kept b p l r J (λ f. f .marks) (λ f q. refl) w x)
 
   speeds : (w : ℕ) → interface b₂ w .speed ≡ interface b w .speed

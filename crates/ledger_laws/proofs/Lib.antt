@@ -7,6 +7,9 @@ pub mod KnitOther
 pub mod Sewn
 pub mod Stems
 pub mod CameCalls
+pub mod Sinks
+pub mod Belows
+pub mod Floors
 pub mod Reach
 pub mod SoundCalls
 pub mod Answered

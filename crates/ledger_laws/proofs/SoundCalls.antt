@@ -17,22 +17,23 @@ use Rattle.ledger_spec.specs.Change.{place, mark, markAll}
 use Rattle.ledger_spec.specs.Deeds.{newHandle, members, addDefect, addBlossom, removeBlossom, growBy, fusedParent, join, wipe, choose}
 use Rattle.ledger_spec.specs.Frame.{Frame}
 use Rattle.ledger_spec.specs.Knit.{Sewn}
-use Rattle.ledger_spec.specs.Facts.{W, Sound}
+use Rattle.ledger_spec.specs.Facts.{W, Floors, Sound}
 use Rattle.ledger_spec.proofs.Range.{abs-add}
 use Rattle.ledger_spec.proofs.Tops.{climb-none, alone, root-parent, below, top-root}
 use Rattle.ledger_spec.proofs.Knit.{none-some}
 use Rattle.ledger_spec.proofs.Passed.{Fusable}
-use Rattle.ledger_spec.proofs.Accepted.{DefectPassed, BlossomPassed, ExpandPassed, StatePassed, GrowPassed}
+use Rattle.ledger_spec.proofs.Accepted.{DefectPassed, BlossomPassed, ExpandPassed, StatePassed, GrowPassed, MarkPassed}
 use Rattle.ledger_spec.proofs.Slots.{free-vacant}
 use Rattle.ledger_spec.proofs.Gathered.{held-unit}
-use Rattle.ledger_spec.proofs.Readings.{mark-count, mark-next}
-use Rattle.ledger_spec.proofs.DeedReadings.{blossomNode, defect-is, defect-count, defect-count-else, defect-next, blossom-is, blossom-count, blossom-vacant, blossom-count-else, blossom-next, expand-is, expand-count, expand-next}
+use Rattle.ledger_spec.proofs.Readings.{mark-field, mark-count, mark-next}
+use Rattle.ledger_spec.proofs.DeedReadings.{defect-field, blossom-field, expand-field, blossomNode, defect-is, defect-count, defect-count-else, defect-next, blossom-is, blossom-count, blossom-vacant, blossom-count-else, blossom-next, expand-is, expand-count, expand-next}
 use Rattle.ledger_spec.proofs.TreeReadings.{joins, grow-parent, grow-top, grow-count, grow-next, grow-sum, grow-sum-else, grow-progress, grow-progress-else, join-slots, join-kept, join-p, join-next, join-rest, join-l, join-r, join-top-l, join-top-r, join-top-else, wipe-next, wipe-under, wipe-else, wipe-top-else, choose-field, choose-next}
 use Rattle.ledger_spec.proofs.Bounds.{grown-sum, speed-bound}
 use Rattle.ledger_laws.proofs.Quiet.{Quiet, quiet-frame, quiet-top, quiet-W, defect-quiet, blossom-quiet, expand-quiet, mark-quiet, place-quiet, markAll-quiet, choose-quiet}
 use Rattle.ledger_laws.proofs.Linked.{fuse-frame, clear-frame, opened-frame, all-fresh}
 use Rattle.ledger_laws.proofs.Paced.{Paced, inside, place-paced, mark-paced, markAll-paced, push-paced, grow-paced, fuse-paced, choose-paced, clear-paced, opened-paced}
 use Rattle.ledger_laws.proofs.Sewn.{defect-sewn, blossom-sewn, expand-sewn, state-sewn, grow-sewn, fuse-sewn, choose-sewn, clear-sewn, opened-sewn, opened-empty}
+use Rattle.ledger_laws.proofs.Floors.{still-floors, grow-floors, fuse-floors, clear-floors, choose-floors, opened-floors}
 use Rattle.ledger_laws.proofs.Stems.{Came, rings-kept, values-kept}
 use Rattle.ledger_laws.proofs.CameCalls.{still, defect-came, blossom-came, expand-came, state-came, grown, grown-here, grown-else, grow-came, fuse-came, clear-came, choose-came}
 use Rattle.ledger_laws.proofs.Reach.{not-negative, pos-sum, grow-frame, W-grow, W-grow-else, W-fuse, W-fuse-else, W-clear-else}
@@ -42,7 +43,7 @@ paced-of b S i h root = S .speeds i h (root-parent b (S .frame) i root)
 
 -- ---- the calls that touch nodes only
 module _ (b b′ : Bench) (S : Sound b) (Q : Quiet b b′) (S′ : Sewn b′) (P′ : Paced b′) (came : Came b b′ still)
-    (later : b .next ≤ b′ .next) (worn : b′ .next ≤ 2 ^ 32) (few : (u : ℕ) → length (interface b′ u .slots) ≤ 64) where
+    (later : b .next ≤ b′ .next) (worn : b′ .next ≤ 2 ^ 32) (few : (u : ℕ) → length (interface b′ u .slots) ≤ 64) (floors : Floors b′) where
   quiet-sound : Sound b′
   quiet-sound = record {
     frame = quiet-frame b b′ Q (S .frame);
@@ -55,12 +56,14 @@ module _ (b b′ : Bench) (S : Sound b) (Q : Quiet b b′) (S′ : Sewn b′) (P
     values = values-kept b b′ still came (λ u s x e. omega (arith, quiet-W b b′ Q (top b′ u), ap (W b) (quiet-top b b′ Q u))) (S .values);
     sums = λ i h free. omega (arith, ap natAbs (Q .sum i), quiet-W b b′ Q i, S .sums i h (sym (Q .parent i) ∙ free));
     speeds = λ i h free. P′ i h (climb-none 8 b′ i free);
+    floors = floors;
   }
 
 pub defect-sound : (b : Bench) → Sound b → (u v : ℕ) → DefectPassed b u → Sound (addDefect b u v)
 defect-sound b S u v P = quiet-sound b (addDefect b u v) S (defect-quiet b u v) (defect-sewn b (S .frame) (S .sewn) u v P)
     (subst Paced (sym (defect-is b u v)) (push-paced b (S .frame) u _ _ (P .here .low) (P .here .free) (free-vacant b u) (paced-of b S)))
     (defect-came b (S .frame) u v P) (omega (arith, defect-next b u v)) (omega (arith, defect-next b u v, P .unworn)) few
+    (still-floors b (addDefect b u v) (defect-quiet b u v .parent) (defect-field b u v (λ f. f .marks) (λ f l. refl) (λ f x. refl)) (defect-came b (S .frame) u v P) (S .floors))
   where
     few : (w : ℕ) → length (interface (addDefect b u v) w .slots) ≤ 64
     few w = go (ℕ-discrete w u)
@@ -73,6 +76,7 @@ pub blossom-sound : (b : Bench) → Sound b → (u : ℕ) (hs : List Handle) (ts
 blossom-sound b S u hs ts P = quiet-sound b (addBlossom b u hs ts) S (blossom-quiet b u hs ts) (blossom-sewn b (S .frame) (S .sewn) u hs ts P)
     (subst Paced (sym (blossom-is b u hs ts)) (push-paced c (quiet-frame b c marks (S .frame)) u (freeSlot b u) (blossomNode b hs ts) (P .here .low) (marks .parent u ∙ P .here .free) (blossom-vacant b u hs ts) (markAll-paced b (S .frame) hs stays (some (newHandle b u)) (paced-of b S))))
     (blossom-came b S u hs ts P) (omega (arith, blossom-next b u hs ts)) (omega (arith, blossom-next b u hs ts, P .unworn)) few
+    (still-floors b (addBlossom b u hs ts) (blossom-quiet b u hs ts .parent) (blossom-field b u hs ts (λ f. f .marks) (λ f l. refl) (λ f x. refl)) (blossom-came b S u hs ts P) (S .floors))
   where
     c : Bench
     c = markAll b hs stays (some (newHandle b u))
@@ -92,6 +96,7 @@ expand-sound b S u h P = quiet-sound b (removeBlossom b h) S (expand-quiet b h) 
     (subst Paced (sym (expand-is b h)) (markAll-paced c (quiet-frame b c (place-quiet b (h .unit) (h .slot) none) (S .frame)) (members (nodeNamed b h)) grows none
     (place-paced b (S .frame) (h .unit) (h .slot) none (held-unit b (S .frame) (h .unit) (h .slot) (P .named .node) (P .named .has .stands)) (λ x. refl) (paced-of b S))))
     (expand-came b (S .sewn) u h P) (omega (arith, expand-next b h)) (omega (arith, expand-next b h, S .worn)) (λ w. omega (arith, expand-count b h w, S .few w))
+    (still-floors b (removeBlossom b h) (expand-quiet b h .parent) (expand-field b h (λ f. f .marks) (λ f l. refl) (λ f x. refl)) (expand-came b (S .sewn) u h P) (S .floors))
   where
     c : Bench
     c = place b (h .unit) (h .slot) none
@@ -99,10 +104,12 @@ expand-sound b S u h P = quiet-sound b (removeBlossom b h) S (expand-quiet b h) 
 pub state-sound : (b : Bench) → Sound b → (u : ℕ) (h : Handle) (s : State) → StatePassed b u h → Sound (mark b h s none)
 state-sound b S u h s P = quiet-sound b (mark b h s none) S (mark-quiet b h s none) (state-sewn b (S .sewn) u h s P) (mark-paced b (S .frame) h s none (paced-of b S)) (state-came b h s none)
     (omega (arith, mark-next b h s none)) (omega (arith, mark-next b h s none, S .worn)) (λ w. omega (arith, mark-count b h s none w, S .few w))
+    (still-floors b (mark b h s none) (mark-quiet b h s none .parent) (mark-field b h s none (λ f. f .marks) (λ f l. refl) (λ f x. refl)) (state-came b h s none) (S .floors))
 
-pub choose-sound : (b : Bench) → Sound b → (u : ℕ) (k : Marking) → Sound (choose b u k)
-choose-sound b S u k = quiet-sound b (choose b u k) S (choose-quiet b u k) (choose-sewn b (S .sewn) u k) (choose-paced b u k (paced-of b S)) (choose-came b u k)
+pub choose-sound : (b : Bench) → Sound b → (u : ℕ) (k : Marking) → MarkPassed b u → Sound (choose b u k)
+choose-sound b S u k P = quiet-sound b (choose b u k) S (choose-quiet b u k) (choose-sewn b (S .sewn) u k) (choose-paced b u k (paced-of b S)) (choose-came b u k)
     (omega (arith, choose-next b u k)) (omega (arith, choose-next b u k, S .worn)) (λ w. omega (arith, ap length (choose-field b u k (λ f. f .slots) (λ f m. refl) w), S .few w))
+    (choose-floors b (S .frame) (S .floors) u k P)
 
 -- ---- grow
 not-past : (z : ℤ) (m : ℕ) → ltZ (pos m) z ≡ false → z ≡ pos (natAbs z) → natAbs z ≤ m
@@ -170,6 +177,7 @@ module _ (b : Bench) (S : Sound b) (u : ℕ) (l : ℤ) (P : GrowPassed b u l) wh
     values = values-kept b g (grown b u l) (grow-came b u l) room (S .values);
     sums = sums′;
     speeds = λ i h free. grow-paced b (S .frame) u l (paced-of b S) i h (climb-none 8 g i free);
+    floors = grow-floors b (S .frame) (S .floors) u l P;
   }
 
 -- ---- fuse
@@ -228,6 +236,7 @@ module _ (b : Bench) (S : Sound b) (p l r : ℕ) (f : Fusable b p l r) where
     values = values-kept b j still (fuse-came b F p l r f) fuse-room (S .values);
     sums = fuse-sums;
     speeds = λ i h free. fuse-paced b F p l r f (paced-of b S) i h (climb-none 8 j i free);
+    floors = fuse-floors b F (S .floors) p l r f;
   }
     where
       forward-at : (w : ℕ) → Dec (w ≡ p) → interface j w .progress ≡ pos (natAbs (interface j w .progress))
@@ -284,6 +293,7 @@ module _ (b : Bench) (S : Sound b) (u : ℕ) where
     values = values-kept b c still (clear-came b u) clear-room (S .values);
     sums = clear-sums;
     speeds = λ i h free. clear-paced b (S .frame) u (paced-of b S) i h (climb-none 8 c i free);
+    floors = clear-floors b (S .frame) (S .floors) u;
   }
 
 -- ---- set-up
@@ -299,6 +309,7 @@ opened-sound n low high = record {
   values = λ u s m e. absurd (none-some (opened-empty n u s) e);
   sums = λ i h free. omega (arith, ap (λ (f : Interface). natAbs (f .sum)) (all-fresh 8 i));
   speeds = λ i h free. opened-paced n i h (climb-none 8 (setUp n) i free);
+  floors = opened-floors n;
 }
   where
     all : (P : Interface → Type 0) (w : ℕ) → P fresh → P (interface (setUp n) w)

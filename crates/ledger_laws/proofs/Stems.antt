@@ -6,13 +6,14 @@ use mathlib.Core.Logic.{_⊎_, inl, inr}
 use mathlib.Core.Option.{Option, none, some}
 use mathlib.Core.List.{List, [], _∷_}
 use native.Mathlib.Omega.{arith}
-use lib.IntN.{pos, natAbs}
+use lib.IntN.{ℤ, pos, natAbs, _+ℤ_, +ℤ-idr}
 use Rattle.ledger_spec.specs.Bench.{Handle, State, Member, blossom, Node, Bench}
 use Rattle.ledger_spec.specs.Look.{slotOf, nodeNamed, top}
 use Rattle.ledger_spec.specs.Change.{restate}
 use Rattle.ledger_spec.specs.Deeds.{sizeOf, sizes}
 use Rattle.ledger_spec.specs.Knit.{mk, nodes, In, here, there, Down, Sewn}
 use Rattle.ledger_spec.specs.Facts.{W, Touching, Circle, Ring}
+use Rattle.ledger_spec.proofs.Range.{abs-add}
 use Rattle.ledger_spec.proofs.Knit.{some-eq, none-some}
 use Rattle.ledger_spec.proofs.Passed.{has-node}
 
@@ -22,7 +23,9 @@ pub record Stem (b : Bench) (d u s : ℕ) (x : Node) : Type 0 where
   pub serial : node .serial ≡ x .serial
   pub class : node .class ≡ x .class
   pub size : node .size ≡ x .size
-  pub value : natAbs (x .value) ≤ natAbs (node .value) + d
+  pub move : ℤ
+  pub small : natAbs move ≤ d
+  pub value : x .value ≡ node .value +ℤ move
 
 pub record New (b b′ : Bench) (u s : ℕ) (x : Node) : Type 0 where
   pub bare : slotOf b u s ≡ none
@@ -36,7 +39,7 @@ Came b b′ d = (u s : ℕ) (x : Node) → slotOf b′ u s ≡ some x → Stem b
 
 -- ---- where a slot is as it was, or its node got a state and a parent
 pub stem-same : (b b′ : Bench) (u s : ℕ) (x : Node) → slotOf b′ u s ≡ slotOf b u s → slotOf b′ u s ≡ some x → Stem b 0 u s x
-stem-same b b′ u s x e k = record { node = x; stood = sym e ∙ k; serial = refl; class = refl; size = refl; value = omega arith }
+stem-same b b′ u s x e k = record { node = x; stood = sym e ∙ k; serial = refl; class = refl; size = refl; move = pos 0; small = omega arith; value = sym (+ℤ-idr (x .value)) }
 
 pub stem-restated : (b b′ : Bench) (u s : ℕ) (x : Node) (t : State) (p : Option Handle) → slotOf b′ u s ≡ restate (slotOf b u s) t p → slotOf b′ u s ≡ some x → Stem b 0 u s x
 stem-restated b b′ u s x t p e k = go (slotOf b u s) refl (sym e ∙ k)
@@ -44,7 +47,7 @@ stem-restated b b′ u s x t p e k = go (slotOf b u s) refl (sym e ∙ k)
     go : (o : Option Node) → slotOf b u s ≡ o → restate o t p ≡ some x → Stem b 0 u s x
     go none f z = absurd (none-some refl z)
     go (some n) f z = let y = some-eq refl z in
-        record { node = n; stood = f; serial = ap (λ (m : Node). m .serial) y; class = ap (λ (m : Node). m .class) y; size = ap (λ (m : Node). m .size) y; value = omega (arith, ap (λ (m : Node). natAbs (m .value)) y) }
+        record { node = n; stood = f; serial = ap (λ (m : Node). m .serial) y; class = ap (λ (m : Node). m .class) y; size = ap (λ (m : Node). m .size) y; move = pos 0; small = omega arith; value = ap (λ (m : Node). m .value) (sym y) ∙ sym (+ℤ-idr (n .value)) }
 
 -- ---- sizes
 pub sizes-same : (b b′ : Bench) (hs : List Handle) → ((h : Handle) → In h hs → sizeOf (nodeNamed b′ h) ≡ sizeOf (nodeNamed b h)) → sizes b′ hs ≡ sizes b hs
@@ -97,5 +100,5 @@ pub values-kept : (b b′ : Bench) (d : ℕ → ℕ) → Came b b′ d → ((u s
 values-kept b b′ d came room vs u s x e = go (came u s x e)
   where
     go : Stem b (d u) u s x ⊎ New b b′ u s x → natAbs (x .value) ≤ W b′ (top b′ u)
-    go (inl t) = omega (arith, t .value, vs u s (t .node) (t .stood), room u s x e)
+    go (inl t) = omega (arith, ap natAbs (t .value), abs-add (t .node .value) (t .move), t .small, vs u s (t .node) (t .stood), room u s x e)
     go (inr t) = omega (arith, ap natAbs (t .value))

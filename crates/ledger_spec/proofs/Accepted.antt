@@ -6,20 +6,22 @@ use mathlib.Core.Bool.{Bool, true, false, _&&_, not, true≢false}
 use mathlib.Core.Option.{none, some}
 use mathlib.Core.List.{List, [], _∷_, _++_}
 use native.Mathlib.Omega.{arith}
+use native.Mathlib.Decide.{ℕ-discrete}
 use lib.Dec.{eqb, ltb}
-use borrow.Author.Tests.{leb-false, ltb-false, eqb-true, not-false}
+use borrow.Author.Tests.{leb-false, ltb-false, eqb-true, eq-eqb, ne-eqb, not-false}
 use lib.ListN.{length}
 use lib.IntN.{ℤ, pos, _+ℤ_}
 use lib.Signed.{ltZ}
 use Rattle.ledger_spec.specs.Bench.{Handle, Member, Class, defect, blossom, Node, Bench}
 use Rattle.ledger_spec.specs.Look.{interface, freeSlot, slotOf, nodeNamed, top, sameHandle}
-use Rattle.ledger_spec.specs.Tests.{first, any, isSome, empty, stale, foreign, hasParent, isDefect, twice, both}
+use Rattle.ledger_spec.specs.Tests.{first, any, isSome, empty, stale, foreign, hasParent, isDefect, twice, both, floored, sinks, below}
 use Rattle.ledger_spec.specs.Refuse.{unitTests, defectTests, blossomTests, expandTests, stateTests, growTests, markTests}
 use Rattle.ledger_spec.specs.Deeds.{members}
-use Rattle.ledger_spec.specs.SoundTree.{tally}
+use Rattle.ledger_spec.specs.SoundTree.{units, tally}
 use Rattle.ledger_spec.specs.Knit.{nodes, In, here, there, Has}
-use Rattle.ledger_spec.proofs.Lists.{or-false, any-no, in-left, in-right, tally-yes, tally-no, none-tally}
+use Rattle.ledger_spec.proofs.Lists.{any-slots, slots-any, no-any, or-false, any-no, in-left, in-right, tally-yes, tally-no, none-tally}
 use Rattle.ledger_spec.proofs.Knit.{same-handle, same-self}
+use Rattle.ledger_spec.proofs.Gathered.{in-units, units-in}
 use Rattle.ledger_spec.proofs.Passed.{Failed, passed, given-false, empty-true, Open, open-of, has-of}
 
 -- a node that a call may name: present, and in the tree of the call's interface
@@ -178,10 +180,36 @@ pub record GrowPassed (b : Bench) (u : ℕ) (l : ℤ) : Type 0 where
   pub here : Open b u
   pub forward : ltZ l (pos 0) ≡ false
   pub limit : ltZ (pos (2 ^ 40)) (interface b u .progress +ℤ l) ≡ false
+  pub above : floored b u ≡ true → (w s : ℕ) → w < 8 → top b w ≡ u → sinks l (slotOf b w s) ≡ false
+
+-- no node sinks, slot by slot
+unsunk : (b : Bench) (u : ℕ) (l : ℤ) → below b u l ≡ false → floored b u ≡ true → (w s : ℕ) → w < 8 → top b w ≡ u → sinks l (slotOf b w s) ≡ false
+unfolding below
+unsunk b u l e f w s h t = any-slots (sinks l) refl (interface b w .slots)
+    (sym (ap (λ (c : Bool). c && any (sinks l) (interface b w .slots)) (eq-eqb (top b w) u t)) ∙ any-no (λ (v : ℕ). eqb (top b v) u && any (sinks l) (interface b v .slots)) units
+    (sym (ap (λ (c : Bool). c && any (λ (v : ℕ). eqb (top b v) u && any (sinks l) (interface b v .slots)) units) f) ∙ e) (in-units w h)) s
+
+pub unsunk-tests : (b : Bench) (u : ℕ) (l : ℤ) → (floored b u ≡ true → (w s : ℕ) → w < 8 → top b w ≡ u → sinks l (slotOf b w s) ≡ false) → below b u l ≡ false
+unfolding below
+unsunk-tests b u l h = go (floored b u) refl
+  where
+    low : ℕ → Bool
+    low v = eqb (top b v) u && any (sinks l) (interface b v .slots)
+
+    each : floored b u ≡ true → (w : ℕ) → In w units → low w ≡ false
+    each f w i = at (ℕ-discrete (top b w) u)
+      where
+        at : Dec (top b w ≡ u) → low w ≡ false
+        at (yes t) = ap (λ (c : Bool). c && any (sinks l) (interface b w .slots)) (eq-eqb (top b w) u t) ∙ slots-any (sinks l) (interface b w .slots) (λ s. h f w s (units-in w i) t)
+        at (no t) = ap (λ (c : Bool). c && any (sinks l) (interface b w .slots)) (ne-eqb (top b w) u t)
+
+    go : (c : Bool) → floored b u ≡ c → (floored b u && any low units) ≡ false
+    go true f = ap (λ (c : Bool). c && any low units) f ∙ no-any low units (each f)
+    go false f = ap (λ (c : Bool). c && any low units) f
 
 pub grow-passed : (b : Bench) (u : ℕ) (l : ℤ) → first (growTests b u l) ≡ 0 → GrowPassed b u l
 unfolding growTests
 grow-passed b u l e =
     let t = passed (growTests b u l) tt e in
     let o = or-false (ltZ l (pos 0)) (ltZ (pos (2 ^ 40)) (interface b u .progress +ℤ l)) (t .1 .1 .0) in
-    record { here = open-of b u (t .0) (t .1 .0); forward = o .0; limit = o .1 }
+    record { here = open-of b u (t .0) (t .1 .0); forward = o .0; limit = o .1; above = unsunk b u l (t .1 .1 .1 .0) }

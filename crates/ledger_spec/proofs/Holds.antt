@@ -13,16 +13,16 @@ use lib.IntN.{ℤ, pos, negsuc, natAbs, _-ℤ_, pos-ne-negsuc}
 use lib.Signed.{leZ}
 use Rattle.ledger_spec.specs.Bench.{Handle, Member, Class, defect, blossom, Node, Bench}
 use Rattle.ledger_spec.specs.Look.{interface, slotOf, nodeNamed, top, tree, sameHandle}
-use Rattle.ledger_spec.specs.Tests.{isSome}
+use Rattle.ledger_spec.specs.Tests.{isSome, floored}
 use Rattle.ledger_spec.specs.Deeds.{sizes, members}
 use Rattle.ledger_spec.specs.Reads.{slotsOf}
-use Rattle.ledger_spec.specs.SoundTree.{units, tally, isParent, isHalf, linksUp, linksDown, soundInterface}
-use Rattle.ledger_spec.specs.Sound.{isStay, sameParent, soundTouch, soundClass, soundParent, soundSlot, rates, soundTop, sound}
+use Rattle.ledger_spec.specs.SoundTree.{all, units, tally, isParent, isHalf, linksUp, linksDown, soundInterface}
+use Rattle.ledger_spec.specs.Sound.{isStay, sameParent, soundTouch, soundClass, soundParent, soundSlot, rates, soundTop, afloat, soundFloor, soundPlain, sound}
 use Rattle.ledger_spec.specs.Account.{ratesIn}
 use Rattle.ledger_spec.specs.Knit.{mk, nodes, In, Up, Down}
 use Rattle.ledger_spec.specs.Facts.{W, Touching, Circle, Sound}
 use Rattle.ledger_spec.proofs.Ints.{diff-zero}
-use Rattle.ledger_spec.proofs.Lists.{both-true, all-of, in-map}
+use Rattle.ledger_spec.proofs.Lists.{both-true, all-of, in-map, slots-all}
 use Rattle.ledger_spec.proofs.Knit.{same-self}
 use Rattle.ledger_spec.proofs.Tops.{climb-none}
 use Rattle.ledger_spec.proofs.Trees.{tree-sum, gather-rates}
@@ -30,7 +30,7 @@ use Rattle.ledger_spec.proofs.Passed.{has-node}
 use Rattle.ledger_spec.proofs.Accepted.{members-of}
 use Rattle.ledger_spec.proofs.Gathered.{units-in, Slot, in-gather, in-tree}
 use Rattle.ledger_spec.proofs.Serials.{all-different}
-use Rattle.ledger_spec.proofs.SoundParts.{up-none, up-open, down-none, down-open, top-some, top-open, parent-none, parent-open}
+use Rattle.ledger_spec.proofs.SoundParts.{up-none, up-open, down-none, down-open, top-some, top-open, parent-none, parent-open, floor-of}
 
 -- ---- an interface
 ahead : (z : ℤ) (m : ℕ) → z ≡ pos (natAbs z) → natAbs z ≤ m → (leZ (pos 0) z && leZ z (pos m)) ≡ true
@@ -145,7 +145,18 @@ module _ (b : Bench) (S : Sound b) where
       go none e = top-open b i e ∙ both-true (all-of (soundSlot b (W b i)) (slotsOf b i) (entry-holds i h e)) (both-true (le-leb (natAbs (interface b i .sum)) (512 * W b i) (S .sums i h e))
           (eq-eqb (natAbs (interface b i .speed -ℤ rates (slotsOf b i))) 0 (diff-zero (interface b i .speed) (rates (slotsOf b i)) (S .speeds i h e ∙ sym (gather-rates b (tree 8 b i) ∙ tree-sum b (S .frame) (ratesIn b) i h e)))))
 
+  floor-holds : (u : ℕ) → soundFloor b u ≡ true
+  floor-holds u = floor-of b u (S .floors .level u) (go (floored b u) refl)
+    where
+      go : (c : Bool) → floored b u ≡ c → (not (floored b u) || all afloat (interface b u .slots)) ≡ true
+      go true e = ap (λ (c : Bool). not c || all afloat (interface b u .slots)) e ∙ slots-all afloat (interface b u .slots) (λ s. S .floors .values u s e)
+      go false e = ap (λ (c : Bool). not c || all afloat (interface b u .slots)) e
+
+  plain-holds : soundPlain b ≡ true
+  unfolding soundPlain
+  plain-holds = both-true (both-true (both-true (le-leb 1 (b .next) (S .sewn .begun)) (le-leb (b .next) (2 ^ 32) (S .worn))) (eq-eqb (length (b .interfaces)) 8 (S .frame .eight)))
+      (both-true (both-true (all-of (soundInterface b) units (λ u i. interface-holds u)) (all-of (soundTop b) units (λ u i. top-holds u (units-in u i)))) (all-different b (S .sewn .knit .one)))
+
   pub holds : sound b ≡ true
   unfolding sound
-  holds = both-true (both-true (both-true (le-leb 1 (b .next) (S .sewn .begun)) (le-leb (b .next) (2 ^ 32) (S .worn))) (eq-eqb (length (b .interfaces)) 8 (S .frame .eight)))
-      (both-true (both-true (all-of (soundInterface b) units (λ u i. interface-holds u)) (all-of (soundTop b) units (λ u i. top-holds u (units-in u i)))) (all-different b (S .sewn .knit .one)))
+  holds = both-true plain-holds (all-of (soundFloor b) units (λ u i. floor-holds u))

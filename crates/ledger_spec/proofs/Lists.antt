@@ -1,12 +1,13 @@
 -- Laws of tests over lists: a test of two parts, all of a list, how often a test holds, and what stands in a list. Assumes nothing.
-use Prim.Native.Nat.{suc, _≤_}
+use Prim.Native.Nat.{ℕ, zero, suc, _≤_}
 use mathlib.Core.Path.{_≡_, refl, sym, _∙_, ap, ap₂}
 use mathlib.Core.Logic.{_⊎_, inl, inr}
 use mathlib.Core.Bool.{Bool, true, false, _&&_, _||_, true≢false}
+use mathlib.Core.Option.{Option, none}
 use mathlib.Core.List.{List, [], _∷_, _++_, map}
 use native.Mathlib.Omega.{arith}
-use lib.ListN.{length}
-use Rattle.ledger_spec.specs.Tests.{any}
+use lib.ListN.{length, getD}
+use Rattle.ledger_spec.specs.Tests.{any, same}
 use Rattle.ledger_spec.specs.SoundTree.{all, tally}
 use Rattle.ledger_spec.specs.Knit.{In, here, there}
 
@@ -17,6 +18,10 @@ and-true false b e = absurd (true≢false (sym e))
 
 pub both-true : {a b : Bool} → a ≡ true → b ≡ true → (a && b) ≡ true
 both-true p q = ap₂ _&&_ p q
+
+pub or-false : (a b : Bool) → (a || b) ≡ false → (a ≡ false) × (b ≡ false)
+or-false true b e = absurd (true≢false e)
+or-false false b e = (refl, e)
 
 -- ---- what stands in a list
 pub not-in-nil : {A : Type 0} {x : A} → In x [] → ⊥
@@ -129,12 +134,47 @@ unfolding tally
 none-tally p [] h = refl
 none-tally p (x ∷ xs) h = tally-no p x xs (h x (here refl)) ∙ none-tally p xs (λ y i. h y (there i))
 
--- ---- none of a list
-pub or-false : (a b : Bool) → (a || b) ≡ false → (a ≡ false) × (b ≡ false)
-or-false true b e = absurd (true≢false e)
-or-false false b e = (refl, e)
+-- ---- a test of every slot
+pub all-slots : {A : Type 0} (p : Option A → Bool) → p none ≡ true → (l : List (Option A)) → all p l ≡ true → (s : ℕ) → p (getD l s none) ≡ true
+unfolding all
+all-slots p z [] e s = z
+all-slots p z (x ∷ xs) e zero = and-true (p x) (all p xs) e .0
+all-slots p z (x ∷ xs) e (suc s) = all-slots p z xs (and-true (p x) (all p xs) e .1) s
 
+pub slots-all : {A : Type 0} (p : Option A → Bool) (l : List (Option A)) → ((s : ℕ) → p (getD l s none) ≡ true) → all p l ≡ true
+unfolding all
+slots-all p [] h = refl
+slots-all p (x ∷ xs) h = both-true (h zero) (slots-all p xs (λ s. h (suc s)))
+
+pub any-slots : {A : Type 0} (p : Option A → Bool) → p none ≡ false → (l : List (Option A)) → any p l ≡ false → (s : ℕ) → p (getD l s none) ≡ false
+unfolding any
+any-slots p z [] e s = z
+any-slots p z (x ∷ xs) e zero = or-false (p x) (any p xs) e .0
+any-slots p z (x ∷ xs) e (suc s) = any-slots p z xs (or-false (p x) (any p xs) e .1) s
+
+pub slots-any : {A : Type 0} (p : Option A → Bool) (l : List (Option A)) → ((s : ℕ) → p (getD l s none) ≡ false) → any p l ≡ false
+unfolding any
+slots-any p [] h = refl
+slots-any p (x ∷ xs) h = ap₂ _||_ (h zero) (slots-any p xs (λ s. h (suc s)))
+
+-- ---- two tests that agree
+pub same-eq : (a c : Bool) → same a c ≡ true → a ≡ c
+same-eq true c e = sym e
+same-eq false true e = absurd (true≢false (sym e))
+same-eq false false e = refl
+
+pub eq-same : (a c : Bool) → a ≡ c → same a c ≡ true
+eq-same true c e = sym e
+eq-same false true e = absurd (true≢false (sym e))
+eq-same false false e = refl
+
+-- ---- none of a list
 pub any-no : {A : Type 0} (p : A → Bool) {x : A} (xs : List A) → any p xs ≡ false → In x xs → p x ≡ false
 unfolding any
 any-no p xs e (here {g} {hs = tl} k) = ap p k ∙ or-false (p g) (any p tl) e .0
 any-no p xs e (there {g} {hs = tl} i) = any-no p tl (or-false (p g) (any p tl) e .1) i
+
+pub no-any : {A : Type 0} (p : A → Bool) (xs : List A) → ((x : A) → In x xs → p x ≡ false) → any p xs ≡ false
+unfolding any
+no-any p [] h = refl
+no-any p (x ∷ xs) h = ap₂ _||_ (h x (here refl)) (no-any p xs (λ y i. h y (there i)))

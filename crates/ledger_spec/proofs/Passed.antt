@@ -12,9 +12,9 @@ use borrow.Author.Tests.{lt-leb, ne-eqb, eqb-true, eq-eqb, leb-false, eqb-false,
 use Rattle.ledger_spec.specs.Bench.{Handle, Node, Bench}
 use Rattle.ledger_spec.specs.Look.{interface, slotOf, nodeNamed, ifSerial}
 use Rattle.ledger_spec.specs.Knit.{Has}
-use Rattle.ledger_spec.proofs.Lists.{or-false}
+use Rattle.ledger_spec.proofs.Lists.{or-false, same-eq, eq-same}
 use Rattle.ledger_spec.proofs.Knit.{some-eq, none-some}
-use Rattle.ledger_spec.specs.Tests.{first, isSome, empty, outside, child, stale}
+use Rattle.ledger_spec.specs.Tests.{first, isSome, empty, outside, child, stale, floored, same}
 use Rattle.ledger_spec.specs.Refuse.{fuseTests}
 
 -- each test of a list failed; and no number of it is 0, which is computed
@@ -128,6 +128,7 @@ pub record Fusable (b : Bench) (p l r : ℕ) : Type 0 where
   pub no-slots : interface b p .slots ≡ []
   pub no-progress : natAbs (interface b p .progress) ≡ 0
   pub no-halves : isSome (interface b p .halves) ≡ false
+  pub alike : floored b l ≡ floored b r
 
 pub fusable : (b : Bench) (p l r : ℕ) → first (fuseTests b p l r) ≡ 0 → Fusable b p l r
 unfolding fuseTests
@@ -150,6 +151,7 @@ fusable b p l r e =
       no-slots = empty-true (interface b p .slots) (not-false (empty (interface b p .slots)) (u₁ .0));
       no-progress = eqb-true (natAbs (interface b p .progress)) 0 (not-false (eqb (natAbs (interface b p .progress)) 0) (u₂ .0));
       no-halves = u₂ .1;
+      alike = same-eq (floored b l) (floored b r) (not-false (same (floored b l) (floored b r)) (t .1 .1 .1 .1 .0));
     }
 
 -- and back: what can be fused is
@@ -161,7 +163,7 @@ fusable-tests b p l r f = failed (fuseTests b p l r) (
     ap₂ _||_ (ap isSome (f .p-none)) (ap₂ _||_ (ap isSome (f .l-none)) (ap isSome (f .r-none))),
     (
       ap₂ _||_ (ne-eqb l r (f .l≢r)) (ap₂ _||_ (lt-leb p l (f .l<p)) (lt-leb p r (f .r<p))),
-      (ap₂ _||_ (ap (λ (x : List (Option Node)). not (empty x)) (f .no-slots)) (ap₂ _||_ (ap (λ (z : ℕ). not (eqb z 0)) (f .no-progress)) (f .no-halves)), tt),
+      (ap₂ _||_ (ap (λ (x : List (Option Node)). not (empty x)) (f .no-slots)) (ap₂ _||_ (ap (λ (z : ℕ). not (eqb z 0)) (f .no-progress)) (f .no-halves)), (ap not (eq-same (floored b l) (floored b r) (f .alike)), tt)),
     ),
   ),
 )

@@ -1,10 +1,11 @@
 -- A bench that passes the test `sound` is sound: each part of the test says its fact, of every top and every node. Assumes nothing.
 use Prim.Native.Nat.{ℕ, _*_, _≤_, _<_}
 use mathlib.Core.Path.{_≡_, refl, sym, _∙_, ap, subst}
-use mathlib.Core.Bool.{Bool, true, false, _&&_, true≢false}
+use mathlib.Core.Bool.{Bool, true, false, not, _&&_, _||_, true≢false}
 use mathlib.Core.Option.{Option, none, some}
 use mathlib.Core.List.{List}
 use native.Mathlib.Omega.{arith}
+use native.Mathlib.Decide.{decLt}
 use lib.Dec.{eqb, leb, ltb}
 use borrow.Author.Tests.{leb-true, ltb-true, eqb-true}
 use lib.ListN.{length}
@@ -14,13 +15,15 @@ use Rattle.ledger_spec.specs.Look.{interface, slotOf, nodeNamed, top, tr
 use Rattle.ledger_spec.specs.Deeds.{sizes, members}
 use Rattle.ledger_spec.specs.Reads.{gather, slotsOf}
 use Rattle.ledger_spec.specs.SoundTree.{all, units, tally}
-use Rattle.ledger_spec.specs.Sound.{isStay, sameParent, soundTouch, soundClass, soundParent, soundSlot, rates, sound}
+use Rattle.ledger_spec.specs.Sound.{isStay, sameParent, soundTouch, soundClass, soundParent, soundSlot, rates, afloat, sound}
+use Rattle.ledger_spec.specs.Tests.{floored}
 use Rattle.ledger_spec.specs.Account.{ratesIn}
 use Rattle.ledger_spec.specs.Frame.{Frame}
 use Rattle.ledger_spec.specs.Knit.{mk, nodes, In, Has, Up, Down}
-use Rattle.ledger_spec.specs.Facts.{W, Touching, Circle, Sound}
+use Rattle.ledger_spec.specs.Facts.{W, Touching, Circle, Floors, Sound}
 use Rattle.ledger_spec.proofs.Ints.{zero-diff}
-use Rattle.ledger_spec.proofs.Lists.{and-true, all-in, map-in}
+use Rattle.ledger_spec.proofs.Lists.{and-true, all-in, map-in, all-slots}
+use Rattle.ledger_spec.proofs.Readings.{slot-out}
 use Rattle.ledger_spec.proofs.Knit.{same-handle}
 use Rattle.ledger_spec.proofs.Tops.{top-root, below}
 use Rattle.ledger_spec.proofs.Trees.{tree-sum, gather-rates}
@@ -28,7 +31,7 @@ use Rattle.ledger_spec.proofs.Passed.{node-has}
 use Rattle.ledger_spec.proofs.Accepted.{members-of, members-none}
 use Rattle.ledger_spec.proofs.Gathered.{in-units, gather-in, held-unit, held-slot, held-in}
 use Rattle.ledger_spec.proofs.Serials.{once}
-use Rattle.ledger_spec.proofs.SoundParts.{top-open, parent-open}
+use Rattle.ledger_spec.proofs.SoundParts.{top-open, parent-open, floor-parts}
 use Rattle.ledger_spec.proofs.SaysFrame.{Parts, parts, every-linked, framed}
 
 -- ---- a top
@@ -178,6 +181,16 @@ module _ (b : Bench) (P : Parts b) where
   entry : (u s : ℕ) (n : Node) → slotOf b u s ≡ some n → In (u, s, some n) (gather b units)
   entry u s n e = subst (λ (o : Option Node). In (u, s, o) (gather b units)) e (gather-in b units u s (in-units u (held-unit b F u s n e)) (held-slot b F u s n e))
 
+  floors-of : Floors b
+  floors-of = record {
+    level = λ u p e. let r : (u < p) × (p < 8) = F .rising u p e in floor-parts b u (P .floor u (omega arith)) .0 p e;
+    values = λ u s e. values u s e (decLt u 8);
+  }
+    where
+      values : (u s : ℕ) → floored b u ≡ true → Dec (u < 8) → afloat (slotOf b u s) ≡ true
+      values u s e (yes h) = all-slots afloat refl (interface b u .slots) (sym (ap (λ (c : Bool). not c || all afloat (interface b u .slots)) e) ∙ floor-parts b u (P .floor u h) .1) s
+      values u s e (no h) = ap afloat (slot-out b u s (omega (arith, h, F .eight)))
+
   says-parts : Sound b
   says-parts = record {
     frame = F;
@@ -198,6 +211,7 @@ module _ (b : Bench) (P : Parts b) where
     values = λ u s n e. placed u s n e .value;
     sums = λ i h free. topped b P i h free .sum;
     speeds = λ i h free. topped b P i h free .speed ∙ gather-rates b (tree 8 b i) ∙ tree-sum b F (ratesIn b) i h free;
+    floors = floors-of;
   }
 
 pub says : (b : Bench) → sound b ≡ true → Sound b

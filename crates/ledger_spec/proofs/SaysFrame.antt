@@ -17,7 +17,7 @@ use Rattle.ledger_spec.specs.Look.{interface}
 use Rattle.ledger_spec.specs.Tests.{isSome}
 use Rattle.ledger_spec.specs.Reads.{gather}
 use Rattle.ledger_spec.specs.SoundTree.{all, units, isParent, isHalf, linksUp, linksDown, soundInterface}
-use Rattle.ledger_spec.specs.Sound.{soundTop, serials, different, sound}
+use Rattle.ledger_spec.specs.Sound.{soundTop, serials, different, soundFloor, soundPlain, sound}
 use Rattle.ledger_spec.specs.Frame.{Frame}
 use Rattle.ledger_spec.proofs.Lists.{and-true, all-in}
 use Rattle.ledger_spec.proofs.Knit.{none-some}
@@ -32,12 +32,14 @@ pub record Parts (b : Bench) : Type 0 where
   pub each : (u : ℕ) → u < 8 → soundInterface b u ≡ true
   pub tops : (u : ℕ) → u < 8 → soundTop b u ≡ true
   pub apart : different (serials (gather b units)) ≡ true
+  pub floor : (u : ℕ) → u < 8 → soundFloor b u ≡ true
 
 pub parts : (b : Bench) → sound b ≡ true → Parts b
-unfolding sound
+unfolding sound soundPlain
 parts b e =
+    let z = and-true (soundPlain b) (all (soundFloor b) units) e in
     let a = and-true ((leb 1 (b .next) && leb (b .next) (2 ^ 32)) && eqb (length (b .interfaces)) 8)
-    ((all (soundInterface b) units && all (soundTop b) units) && different (serials (gather b units))) e in
+    ((all (soundInterface b) units && all (soundTop b) units) && different (serials (gather b units))) (z .0) in
     let n = and-true (leb 1 (b .next) && leb (b .next) (2 ^ 32)) (eqb (length (b .interfaces)) 8) (a .0) in
     let r = and-true (leb 1 (b .next)) (leb (b .next) (2 ^ 32)) (n .0) in
     let t = and-true (all (soundInterface b) units && all (soundTop b) units) (different (serials (gather b units))) (a .1) in
@@ -49,6 +51,7 @@ parts b e =
       each = λ u h. all-in (soundInterface b) units (f .0) (in-units u h);
       tops = λ u h. all-in (soundTop b) units (f .1) (in-units u h);
       apart = t .1;
+      floor = λ u h. all-in (soundFloor b) units (z .1) (in-units u h);
     }
 
 -- ---- an interface

@@ -1,9 +1,9 @@
 -- The tests behind `sound`, by the cases that they go by: an interface with a parent or none, with halves or none, a node with a parent or none.
 -- Assumes nothing.
 use Prim.Native.Nat.{ℕ, _*_}
-use mathlib.Core.Path.{_≡_}
-use mathlib.Core.Bool.{true, not, _&&_}
-use mathlib.Core.Option.{none, some}
+use mathlib.Core.Path.{_≡_, refl, sym, _∙_, ap}
+use mathlib.Core.Bool.{Bool, true, not, _&&_, _||_}
+use mathlib.Core.Option.{Option, none, some}
 use lib.Dec.{eqb, leb, ltb}
 use lib.IntN.{natAbs, _-ℤ_}
 use Rattle.ledger_spec.specs.Bench.{Handle, Node, Bench}
@@ -11,7 +11,9 @@ use Rattle.ledger_spec.specs.Look.{interface, nodeNamed, top, sameHandle
 use Rattle.ledger_spec.specs.Deeds.{members}
 use Rattle.ledger_spec.specs.Reads.{slotsOf}
 use Rattle.ledger_spec.specs.SoundTree.{all, tally, isParent, isHalf, linksUp, linksDown}
-use Rattle.ledger_spec.specs.Sound.{isStay, soundParent, soundSlot, rates, soundTop}
+use Rattle.ledger_spec.specs.Sound.{isStay, soundParent, soundSlot, rates, soundTop, afloat, soundFloor}
+use Rattle.ledger_spec.specs.Tests.{floored, same}
+use Rattle.ledger_spec.proofs.Lists.{and-true, both-true, same-eq, eq-same}
 use Rattle.ledger_spec.specs.Facts.{W}
 
 pub up-none : (b : Bench) (u : ℕ) → interface b u .parent ≡ none → linksUp b u ≡ true
@@ -39,6 +41,28 @@ pub top-open : (b : Bench) (i : ℕ) → interface b i .parent ≡ none
     → soundTop b i ≡ (all (soundSlot b (W b i)) (slotsOf b i) && (leb (natAbs (interface b i .sum)) (512 * W b i) && eqb (natAbs (interface b i .speed -ℤ rates (slotsOf b i))) 0))
 unfolding soundTop
 top-open b i e = rw (e, soundTop)
+
+-- the two parts of a floor's test
+pub floor-parts : (b : Bench) (u : ℕ) → soundFloor b u ≡ true → ((p : ℕ) → interface b u .parent ≡ some p → floored b u ≡ floored b p) × ((not (floored b u) || all afloat (interface b u .slots)) ≡ true)
+unfolding soundFloor
+floor-parts b u e = (λ p f. same-eq (floored b u) (floored b p) (sym (ap up f) ∙ a .0), a .1)
+  where
+    up : Option ℕ → Bool
+    up q = elim q [ none ↦ true | some p ↦ same (floored b u) (floored b p) ]
+
+    a : (up (interface b u .parent) ≡ true) × ((not (floored b u) || all afloat (interface b u .slots)) ≡ true)
+    a = and-true (up (interface b u .parent)) (not (floored b u) || all afloat (interface b u .slots)) e
+
+pub floor-of : (b : Bench) (u : ℕ) → ((p : ℕ) → interface b u .parent ≡ some p → floored b u ≡ floored b p) → (not (floored b u) || all afloat (interface b u .slots)) ≡ true → soundFloor b u ≡ true
+unfolding soundFloor
+floor-of b u h k = both-true (go (interface b u .parent) refl) k
+  where
+    up : Option ℕ → Bool
+    up q = elim q [ none ↦ true | some p ↦ same (floored b u) (floored b p) ]
+
+    go : (q : Option ℕ) → interface b u .parent ≡ q → up (interface b u .parent) ≡ true
+    go none e = ap up e
+    go (some p) e = ap up e ∙ eq-same (floored b u) (floored b p) (h p e)
 
 pub parent-none : (b : Bench) (h : Handle) (n : Node) → n .parent ≡ none → soundParent b h n ≡ true
 unfolding soundParent

@@ -9,7 +9,7 @@ use Rattle.ledger_spec.specs.Numbers.{BROKEN}
 use Rattle.ledger_spec.specs.Bench.{Handle, Bench}
 use Rattle.ledger_spec.specs.Calls.{Reply, nobody, Call, perform}
 use Rattle.ledger_spec.specs.Notices.{Notice, tells}
-use Rattle.ledger_spec.specs.Reads.{sumOf, speedOf, countOf, fillsOf, handleAtIndex, belongs, valueOf}
+use Rattle.ledger_spec.specs.Reads.{sumOf, speedOf, countOf, fillsOf, flooredOf, handleAtIndex, belongs, valueOf}
 use Rattle.ledger_spec.specs.Walk.{outerOf, belowOf, firstVertex, verticesInto}
 use Rattle.ledger_spec.specs.Check.{checkOf, strictOf}
 use Rattle.ledger_spec.specs.Sound.{sound}
@@ -59,6 +59,9 @@ countRead b u = record { own = countOf b u; zero = 0 }
 
 abbrev pub fillsRead : Bench → ℕ → Read Bool
 fillsRead b u = record { own = fillsOf b u; zero = false }
+
+abbrev pub flooredRead : Bench → ℕ → Read Bool
+flooredRead b u = record { own = flooredOf b u; zero = false }
 
 abbrev pub indexRead : Bench → ℕ → ℕ → Read (Option Handle)
 indexRead b u k = record { own = handleAtIndex b u k; zero = none }

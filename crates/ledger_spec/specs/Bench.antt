@@ -38,19 +38,24 @@ pub record Node : Type 0 where
   pub value : ℤ
   pub size : ℕ
 
--- what an interface is marked with since its last clear: whether a new node takes its lowest empty slot
+-- what an interface is marked with since its last clear: whether a new node takes its lowest empty slot, and whether no value of its tree may fall below 0
 pub record Marks : Type 0 where
   pub fills : Bool
+  pub floored : Bool
 
 abbrev pub noMarks : Marks
-noMarks = record { fills = false }
+noMarks = record { fills = false; floored = false }
+
+abbrev pub withFloor : Marks → Bool → Marks
+withFloor m x = record { fills = m .fills; floored = x }
 
 -- a mark that a call gives, and the marks with it
 pub data Marking : Type 0 where
-  filling : Marking
+  filling floor : Marking
 
 abbrev pub withMark : Marking → Marks → Marks
-withMark filling m = record { fills = true }
+withMark filling m = record { fills = true; floored = m .floored }
+withMark floor m = withFloor m true
 
 -- An interface. Its slots are those used since its last clear; one emptied by expansion is `none`.
 pub record Interface : Type 0 where

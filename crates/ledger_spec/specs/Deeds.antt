@@ -5,7 +5,7 @@ use mathlib.Core.Option.{Option, none, some}
 use mathlib.Core.List.{List, [], _∷_, map}
 use lib.Dec.{eqb}
 use lib.IntN.{ℤ, pos, _+ℤ_, _*ℤ_}
-use Rattle.ledger_spec.specs.Bench.{Handle, grows, stays, rate, Member, defect, blossom, Node, Marking, withMark, Interface, Bench, fresh, withSlots, withProgress, withSum, withSpeed, withParent, withHalves, withMarks}
+use Rattle.ledger_spec.specs.Bench.{Handle, grows, stays, rate, Member, defect, blossom, Node, Marking, withFloor, withMark, Interface, Bench, fresh, withSlots, withProgress, withSum, withSpeed, withParent, withHalves, withMarks}
 use Rattle.ledger_spec.specs.Look.{interface, freeSlot, nodeNamed, top}
 use Rattle.ledger_spec.specs.Change.{withInterface, place, push, markAll}
 
@@ -58,12 +58,14 @@ growBy b u l =
     let b₁ : Bench = record { next = b .next; interfaces = across (λ f. withSlots f (map (growSlot l) (f .slots))) b u 0 (b .interfaces) } in
     withInterface b₁ u (booked (interface b₁ u) l)
 
--- the parent of a fuse: both sums and both speeds, progress 0, no parent, and the two as its halves
+-- the parent of a fuse: both sums and both speeds, progress 0, no parent, the two as its halves, and their floor; its way to fill is its own
 abbrev pub fusedParent : Bench → ℕ → ℕ → ℕ → Interface
 fusedParent b p l r =
-    withHalves
+    withMarks
+    (withHalves
     (withSpeed (withSum (withProgress (withParent (interface b p) none) (pos 0)) (interface b l .sum +ℤ interface b r .sum)) (interface b l .speed +ℤ interface b r .speed))
-    (some (l, r))
+    (some (l, r)))
+    (withFloor (interface b p .marks) (interface b l .marks .floored))
 
 unfoldable pub join : Bench → ℕ → ℕ → ℕ → Bench
 join b p l r =

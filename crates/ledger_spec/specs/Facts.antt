@@ -1,6 +1,7 @@
 -- What a sound bench is, as facts: `sound b ≡ true` says all of this and no more (proofs: Says, Holds). Assumes nothing.
 use Prim.Native.Nat.{ℕ, _*_, _≤_, _<_}
 use mathlib.Core.Path.{_≡_}
+use mathlib.Core.Bool.{true}
 use mathlib.Core.Option.{none, some}
 use mathlib.Core.List.{List}
 use lib.ListN.{length}
@@ -10,6 +11,8 @@ use Rattle.ledger_spec.specs.Bench.{Handle, Member, defect, blossom, Nod
 use Rattle.ledger_spec.specs.Look.{interface, slotOf, top, tree}
 use Rattle.ledger_spec.specs.Deeds.{sizes}
 use Rattle.ledger_spec.specs.SoundTree.{reach}
+use Rattle.ledger_spec.specs.Tests.{floored}
+use Rattle.ledger_spec.specs.Sound.{afloat}
 use Rattle.ledger_spec.specs.Frame.{Frame}
 use Rattle.ledger_spec.specs.Knit.{nodes, In, Sewn}
 use Rattle.ledger_spec.specs.Account.{treeSum, ratesIn}
@@ -36,6 +39,11 @@ pub record Ring (b : Bench) (n : Node) : Type 0 where
   pub single : (v : ℕ) → n .class ≡ defect v → n .size ≡ 1
   pub circle : (ms : List Member) → n .class ≡ blossom ms → Circle b n ms
 
+-- an interface bears the floor mark of its parent, and where it is floored no value is negative
+pub record Floors (b : Bench) : Type 0 where
+  pub level : (u p : ℕ) → interface b u .parent ≡ some p → floored b u ≡ floored b p
+  pub values : (u s : ℕ) → floored b u ≡ true → afloat (slotOf b u s) ≡ true
+
 pub record Sound (b : Bench) : Type 0 where
   pub frame : Frame b
   pub few : (u : ℕ) → length (interface b u .slots) ≤ slotLimit
@@ -47,3 +55,4 @@ pub record Sound (b : Bench) : Type 0 where
   pub values : (u s : ℕ) (n : Node) → slotOf b u s ≡ some n → natAbs (n .value) ≤ W b (top b u)
   pub sums : (i : ℕ) → i < 8 → interface b i .parent ≡ none → natAbs (interface b i .sum) ≤ 512 * W b i
   pub speeds : (i : ℕ) → i < 8 → interface b i .parent ≡ none → interface b i .speed ≡ treeSum (top b) (ratesIn b) i
+  pub floors : Floors b

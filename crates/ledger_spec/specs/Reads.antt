@@ -11,7 +11,7 @@ use Rattle.ledger_spec.specs.Numbers.{UNIT, CHILD, STALE, RANGE}
 use Rattle.ledger_spec.specs.Bench.{Handle, Node, Bench}
 use Rattle.ledger_spec.specs.Look.{interface, nodeNamed, tree}
 use Rattle.ledger_spec.specs.Change.{worth}
-use Rattle.ledger_spec.specs.Tests.{first, outside, child, stale, foreign}
+use Rattle.ledger_spec.specs.Tests.{first, outside, child, stale, foreign, floored}
 use Rattle.ledger_spec.specs.Refuse.{unitTests}
 
 -- a value, or what stands for it where the number is not 0
@@ -48,6 +48,10 @@ countOf b u = said (first (unitTests b u)) (length (slotsOf b u)) 0
 -- whether an interface gives a new node its lowest empty slot
 unfoldable pub fillsOf : Bench → ℕ → ℕ × Bool
 fillsOf b u = said (first (unitTests b u)) (interface b u .marks .fills) false
+
+-- whether no value of its tree may fall below 0
+unfoldable pub flooredOf : Bench → ℕ → ℕ × Bool
+flooredOf b u = said (first (unitTests b u)) (floored b u) false
 
 unfoldable pub indexTests : Bench → ℕ → ℕ → List (Bool × ℕ)
 indexTests b u k = (outside u, UNIT) ∷ (child b u, CHILD) ∷ (leb (length (slotsOf b u)) k, RANGE) ∷ []

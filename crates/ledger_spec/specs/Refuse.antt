@@ -1,4 +1,4 @@
--- The numbers of the manual's table (docs/MANUAL.md, Refusals), for each call: its tests in rising order of their numbers, of which the first that holds gives
+-- The numbers of the manual's table (docs/MANUAL.md, Refusals), for each call: its tests in the order of that table (BELOW after LENGTH, MARK after USED), of which the first that holds gives
 -- the number (`first`). 0 is accepted. BROKEN (2) comes before all of these and is put there by Answers.antt (`answer`, `ask`). Assumes nothing.
 use Prim.Native.Nat.{ℕ}
 use mathlib.Core.Bool.{Bool, _&&_, _||_, not}
@@ -7,10 +7,10 @@ use lib.ListN.{length}
 use lib.Dec.{eqb, leb, ltb}
 use lib.IntN.{ℤ, pos, _+ℤ_}
 use lib.Signed.{ltZ}
-use Rattle.ledger_spec.specs.Numbers.{progressLimit, circleLimit, UNIT, CHILD, LENGTH, CIRCLE, TOUCH, STALE, FOREIGN, KIND, INSIDE, TWICE, FULL, WORN, PAIR, USED, MARK}
+use Rattle.ledger_spec.specs.Numbers.{progressLimit, circleLimit, UNIT, CHILD, LENGTH, CIRCLE, TOUCH, STALE, FOREIGN, KIND, INSIDE, TWICE, FULL, WORN, PAIR, USED, BELOW, MARK}
 use Rattle.ledger_spec.specs.Bench.{Handle, Bench}
 use Rattle.ledger_spec.specs.Look.{interface, nodeNamed}
-use Rattle.ledger_spec.specs.Tests.{first, any, empty, outside, child, stale, foreign, isDefect, hasParent, twice, full, worn, used, late, both}
+use Rattle.ledger_spec.specs.Tests.{first, any, empty, outside, child, stale, foreign, isDefect, hasParent, twice, full, worn, used, floored, below, same, late, both}
 
 abbrev pub setUpNo : ℕ → ℕ
 setUpNo n = first ((eqb n 0, WORN) ∷ [])
@@ -44,7 +44,7 @@ unfoldable pub stateTests : Bench → ℕ → Handle → List (Bool × ℕ)
 stateTests b u h = (outside u, UNIT) ∷ (child b u, CHILD) ∷ (stale b h, STALE) ∷ (foreign b u h, FOREIGN) ∷ (hasParent (nodeNamed b h), INSIDE) ∷ []
 
 unfoldable pub growTests : Bench → ℕ → ℤ → List (Bool × ℕ)
-growTests b u l = (outside u, UNIT) ∷ (child b u, CHILD) ∷ (ltZ l (pos 0) || ltZ (pos progressLimit) (interface b u .progress +ℤ l), LENGTH) ∷ []
+growTests b u l = (outside u, UNIT) ∷ (child b u, CHILD) ∷ (ltZ l (pos 0) || ltZ (pos progressLimit) (interface b u .progress +ℤ l), LENGTH) ∷ (below b u l, BELOW) ∷ []
 
 unfoldable pub markTests : Bench → ℕ → List (Bool × ℕ)
 markTests b u = (outside u, UNIT) ∷ (child b u, CHILD) ∷ (late (interface b u), MARK) ∷ []
@@ -55,4 +55,5 @@ fuseTests b p l r =
     ∷ (child b p || (child b l || child b r), CHILD)
     ∷ (eqb l r || (leb p l || leb p r), PAIR)
     ∷ (used (interface b p), USED)
+    ∷ (not (same (floored b l) (floored b r)), MARK)
     ∷ []

@@ -1,16 +1,18 @@
 -- A sound bench, as a test that computes: the rules of docs/MANUAL.md, A sound bench, of the plain bench. Slots past the used ones are empty by form,
 -- and there is no cached progress to go wrong. Assumes nothing.
 use Prim.Native.Nat.{ℕ, _*_}
-use mathlib.Core.Bool.{Bool, true, false, _&&_}
+use mathlib.Core.Bool.{Bool, true, false, not, _&&_, _||_}
 use mathlib.Core.Option.{Option, none, some}
 use mathlib.Core.List.{List, [], _∷_, map}
 use lib.ListN.{length}
 use lib.Dec.{eqb, leb, ltb}
+use lib.Signed.{leZ}
 use lib.IntN.{ℤ, pos, _+ℤ_, _-ℤ_, natAbs}
 use Rattle.ledger_spec.specs.Numbers.{serialLimit, circleLimit}
 use Rattle.ledger_spec.specs.Bench.{Handle, State, grows, stays, shrinks, Member, Class, defect, blossom, Node, Bench}
 use Rattle.ledger_spec.specs.Look.{interface, nodeNamed, top, tree, sameHandle}
 use Rattle.ledger_spec.specs.Change.{share}
+use Rattle.ledger_spec.specs.Tests.{floored, same}
 use Rattle.ledger_spec.specs.Deeds.{sizes, members}
 use Rattle.ledger_spec.specs.Reads.{gather, slotsOf}
 use Rattle.ledger_spec.specs.SoundTree.{all, units, tally, soundInterface, reach}
@@ -67,6 +69,18 @@ unfoldable pub different : List ℕ → Bool
 different [] = true
 different (x ∷ xs) = eqb (tally (eqb x) xs) 0 && different xs
 
-unfoldable pub sound : Bench → Bool
-sound b = ((leb 1 (b .next) && leb (b .next) serialLimit) && eqb (length (b .interfaces)) 8)
+-- ---- floors: an interface bears the mark of its parent, and where it is floored no value is negative
+abbrev pub afloat : Option Node → Bool
+afloat none = true
+afloat (some n) = leZ (pos 0) (n .value)
+
+unfoldable pub soundFloor : Bench → ℕ → Bool
+soundFloor b u = elim (interface b u .parent) [ none ↦ true | some p ↦ same (floored b u) (floored b p) ] && (not (floored b u) || all afloat (interface b u .slots))
+
+-- all the rules but the floors'
+unfoldable pub soundPlain : Bench → Bool
+soundPlain b = ((leb 1 (b .next) && leb (b .next) serialLimit) && eqb (length (b .interfaces)) 8)
     && ((all (soundInterface b) units && all (soundTop b) units) && different (serials (gather b units)))
+
+unfoldable pub sound : Bench → Bool
+sound b = soundPlain b && all (soundFloor b) units

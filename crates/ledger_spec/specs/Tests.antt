@@ -1,13 +1,15 @@
 -- The tests behind the numbers of the manual's table (docs/MANUAL.md, Refusals), each of one thing: an interface's number, a handle, a list. Assumes nothing.
 use Prim.Native.Nat.{ℕ}
-use mathlib.Core.Bool.{Bool, true, false, _||_, not}
+use mathlib.Core.Bool.{Bool, true, false, _||_, _&&_, not}
 use mathlib.Core.Option.{Option, none, some}
 use mathlib.Core.List.{List, [], _∷_}
 use lib.Dec.{eqb, leb}
-use lib.IntN.{natAbs}
+use lib.IntN.{ℤ, natAbs}
+use lib.Signed.{ltZ}
 use Rattle.ledger_spec.specs.Numbers.{slotLimit, serialLimit}
-use Rattle.ledger_spec.specs.Bench.{Handle, Node, Interface, Bench, defect, blossom}
+use Rattle.ledger_spec.specs.Bench.{Handle, State, grows, stays, shrinks, Node, Interface, Bench, defect, blossom}
 use Rattle.ledger_spec.specs.Look.{interface, freeSlot, nodeNamed, top, sameHandle}
+use Rattle.ledger_spec.specs.SoundTree.{units}
 
 unfoldable pub first : List (Bool × ℕ) → ℕ
 first [] = 0
@@ -61,7 +63,27 @@ worn b = leb serialLimit (b .next)
 abbrev pub used : Interface → Bool
 used f = not (empty (f .slots)) || (not (eqb (natAbs (f .progress)) 0) || isSome (f .halves))
 
--- MARK: too late for a mark
+-- BELOW: a shrinking node of u's tree has a value below l
+abbrev pub isShrink : State → Bool
+isShrink grows = false
+isShrink stays = false
+isShrink shrinks = true
+
+abbrev pub sinks : ℤ → Option Node → Bool
+sinks l none = false
+sinks l (some n) = isShrink (n .state) && ltZ (n .value) l
+
+abbrev pub floored : Bench → ℕ → Bool
+floored b u = interface b u .marks .floored
+
+unfoldable pub below : Bench → ℕ → ℤ → Bool
+below b u l = floored b u && any (λ w. eqb (top b w) u && any (sinks l) (interface b w .slots)) units
+
+-- MARK: halves of which one is floored; too late for a mark
+abbrev pub same : Bool → Bool → Bool
+same true c = c
+same false c = not c
+
 abbrev pub late : Interface → Bool
 late f = not (empty (f .slots)) || isSome (f .halves)
 

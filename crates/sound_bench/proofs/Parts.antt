@@ -1,4 +1,4 @@
--- The test taken apart: what it says of the next serial, each interface, each slot, each top and each serial. Assumes nothing.
+-- The test taken apart: what it says of the next serial, each interface, each slot, each top, each serial and each floor. Assumes nothing.
 use Prim.Native.Nat.{ℕ, _+_, _*_, _<_, _≤_}
 use mathlib.Core.Path.{_≡_, refl, _∙_, ap}
 use mathlib.Core.Bool.{Bool, true, false, not, _&&_}
@@ -23,6 +23,7 @@ use Rattle.sound_seats.specs.Seats.{parentTest}
 use Rattle.sound_nodes.specs.Nodes.{nearTest, handleIn, nodeIn, nodeTest, slotTest, slotsTest}
 use Rattle.sound_tops.specs.Tops.{topTest}
 use Rattle.sound_serials.specs.Different.{onceTest}
+use Rattle.sound_floors.specs.Floors.{floorTest}
 use Rattle.sound_bench.specs.Sound.{soundWords}
 
 -- a node that keeps the rules
@@ -46,6 +47,7 @@ pub record Parts (b : List ℕ) : Type 0 where
   pub slot : (u s : ℕ) → u < 8 → s < 64 → Slot b u s
   pub top : (u : ℕ) → u < 8 → topTest b u ≡ true
   pub once : (k : ℕ) → k < 512 → onceTest b k ≡ true
+  pub floor : (u : ℕ) → u < 8 → floorTest b u ≡ true
 
 module _ (b : List ℕ) (u s : ℕ) where
   kept-of : nodeTest b u s ≡ true → Kept b u s
@@ -84,7 +86,8 @@ parts b e =
     let y = and-true (leb (getD b 0 0) 4294967296) _ (x .1) in
     let z = and-true (allTo (interfaceTest b) 8) _ (y .1) in
     let w = and-true (allTo (slotsTest b) 8) _ (z .1) in
-    let v = and-true (allTo (topTest b) 8) (allTo (onceTest b) 512) (w .1) in
+    let v = and-true (allTo (topTest b) 8) _ (w .1) in
+    let t = and-true (allTo (onceTest b) 512) (allTo (floorTest b) 8) (v .1) in
     let slots : (u : ℕ) → u < 8 → (ltb (mapAt b u) 18446744073709551616 ≡ true) × (allTo (slotTest b (interfaceAt b u .used) (mapAt b u) u) 64 ≡ true) = λ u lu. and-true (ltb (mapAt b u) 18446744073709551616) _ (all-each (slotsTest b) 8 (w .0) u lu) in
     record {
       some = eqb-false (getD b 0 0) 0 (not-true (eqb (getD b 0 0) 0) (x .0));
@@ -93,11 +96,12 @@ parts b e =
       map = λ u lu. ltb-true (mapAt b u) 18446744073709551616 (slots u lu .0);
       slot = λ u s lu ls. slot-says b u s (all-each (slotTest b (interfaceAt b u .used) (mapAt b u) u) 64 (slots u lu .1) s ls);
       top = all-each (topTest b) 8 (v .0);
-      once = all-each (onceTest b) 512 (v .1);
+      once = all-each (onceTest b) 512 (t .0);
+      floor = all-each (floorTest b) 8 (t .1);
     }
 
 pub whole : (b : List ℕ) → Parts b → soundWords b ≡ true
 unfolding soundWords slotsTest
 whole b P =
     both-true (ap not (ne-eqb (getD b 0 0) 0 (P .some))) (both-true (le-leb (getD b 0 0) 4294967296 (P .worn)) (both-true (all-of (interfaceTest b) 8 (P .interface))
-    (both-true (all-of (slotsTest b) 8 (λ u lu. both-true (lt-ltb (mapAt b u) 18446744073709551616 (P .map u lu)) (all-of (slotTest b (interfaceAt b u .used) (mapAt b u) u) 64 (λ s ls. slot-holds b u s (P .slot u s lu ls))))) (both-true (all-of (topTest b) 8 (P .top)) (all-of (onceTest b) 512 (P .once))))))
+    (both-true (all-of (slotsTest b) 8 (λ u lu. both-true (lt-ltb (mapAt b u) 18446744073709551616 (P .map u lu)) (all-of (slotTest b (interfaceAt b u .used) (mapAt b u) u) 64 (λ s ls. slot-holds b u s (P .slot u s lu ls))))) (both-true (all-of (topTest b) 8 (P .top)) (both-true (all-of (onceTest b) 512 (P .once)) (all-of (floorTest b) 8 (P .floor)))))))

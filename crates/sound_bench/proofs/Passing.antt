@@ -53,6 +53,7 @@ use Rattle.sound_seats.specs.Seats.{parentTest}
 use Rattle.sound_nodes.specs.Nodes.{nearTest, handleIn}
 use Rattle.sound_tops.specs.Tops.{paceOf, topIn, topTest}
 use Rattle.sound_serials.specs.Different.{serialAt, unlike, onceTest}
+use Rattle.sound_floors.proofs.Level.{floors-hold}
 use Rattle.sound_bench.proofs.Circles.{length-follow, in-follow, in-nodes, sizes-follow}
 use Rattle.sound_bench.proofs.Speeds.{off-inj, off-both-sides, under-pace}
 use Rattle.sound_bench.proofs.Seeing.{shownAs, seen, see-ring, see-single}
@@ -293,4 +294,5 @@ module _ (b : List ℕ) (Z : SoundWords b) where
     slot = slot;
     top = top;
     once = once-held;
+    floor = floors-hold b (S .floors);
   }

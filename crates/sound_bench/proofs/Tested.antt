@@ -43,6 +43,7 @@ use Rattle.sound_trees.proofs.Widths.{width-is}
 use Rattle.sound_nodes.specs.Nodes.{handleIn}
 use Rattle.sound_tops.specs.Tops.{paceOf, topIn}
 use Rattle.sound_serials.specs.Different.{serialAt, unlike, onceTest}
+use Rattle.sound_floors.proofs.Level.{floors-say}
 use Rattle.sound_bench.proofs.Circles.{length-follow, member-at, node-at, once, sizes-follow}
 use Rattle.sound_bench.proofs.Speeds.{range-off, off-both-sides, under-pace}
 use Rattle.sound_bench.proofs.Seeing.{shownAs, Shown, ring, single, seen, see-ring}
@@ -323,6 +324,7 @@ module _ (b : List ℕ) (P : Parts b) (len : length b ≡ 6273) where
     values = value-near;
     sums = sum-near;
     speeds = speed-is;
+    floors = floors-say b (P .floor);
   }
     where
       positive : (m : ℕ) → (m ≡ 0 → ⊥) → 1 ≤ m

@@ -25,5 +25,8 @@ pub fn is_sound(b: &[u64; WORDS]) -> bool
     if !sound_tops::are_tops(b) {
         return false;
     }
-    sound_serials::are_different(b)
+    if !sound_serials::are_different(b) {
+        return false;
+    }
+    sound_floors::are_floors(b)
 }

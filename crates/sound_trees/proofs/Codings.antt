@@ -205,23 +205,27 @@ module _ (b : List ℕ) (u : ℕ) where
   unfolding linkAt
   words-link e = le-leb (getD b (ibase u + 5) 0) 8 (omega (arith, e, up-small (interfaceAt b u .parent) (good-interface b u)))
 
-  -- the marks' word, which has one bit
-  marks-code : (w : ℕ) → w ≤ 1 → w ≡ marksWord (marksOf w)
+  -- the marks' word, which has two bits
+  marks-code : (w : ℕ) → w ≤ 3 → w ≡ marksWord (marksOf w)
   marks-code zero l = refl
   marks-code (suc zero) l = refl
-  marks-code (suc (suc w)) l = absurd (omega arith)
+  marks-code (suc (suc zero)) l = refl
+  marks-code (suc (suc (suc zero))) l = refl
+  marks-code (suc (suc (suc (suc w)))) l = absurd (omega arith)
 
-  marks-small : (t : Bool) → pick t 1 0 ≤ 1
-  marks-small true = omega arith
-  marks-small false = omega arith
+  marks-small : (p q : Bool) → pick p 1 0 + pick q 2 0 ≤ 3
+  marks-small true true = omega arith
+  marks-small true false = omega arith
+  marks-small false true = omega arith
+  marks-small false false = omega arith
 
   pub flag-words : flagsAt b u ≡ true → getD b (ibase u + 9) 0 ≡ marksWord (interfaceAt b u .marks)
   unfolding flagsAt interfaceAt
-  flag-words e = marks-code (getD b (ibase u + 9) 0) (leb-true (getD b (ibase u + 9) 0) 1 e)
+  flag-words e = marks-code (getD b (ibase u + 9) 0) (leb-true (getD b (ibase u + 9) 0) 3 e)
 
   pub words-flag : getD b (ibase u + 9) 0 ≡ marksWord (interfaceAt b u .marks) → flagsAt b u ≡ true
   unfolding flagsAt
-  words-flag e = le-leb (getD b (ibase u + 9) 0) 1 (omega (arith, e, marks-small (interfaceAt b u .marks .fills)))
+  words-flag e = le-leb (getD b (ibase u + 9) 0) 3 (omega (arith, e, marks-small (interfaceAt b u .marks .fills) (interfaceAt b u .marks .floored)))
 
   spare-zero : spareAt b u ≡ true → (j : ℕ) → j < 7 → getD b (ibase u + (10 + j)) 0 ≡ 0
   unfolding spareAt

@@ -15,52 +15,52 @@ load-interface-requires-3 c κs = let a = c .before .before .before .before .bef
 
 put-under-requires : tie.Need-put-under-requires
 put-under-requires c κs =
-    let a = c .before .before .before .before .before .before .before .before .args in
-    (l<8 (a .b .now) (a .parent) (a .left) (a .right) (c .before .before .before .before .before .before .before .before .pre .0) (c .before .before .before .before .before .before .before .before .pre .1), p<8 (a .b .now) (a .parent) (a .left) (a .right) (c .before .before .before .before .before .before .before .before .pre .0) (c .before .before .before .before .before .before .before .before .pre .1))
+    let a = c .before .before .before .before .before .before .before .before .before .args in
+    (l<8 (a .b .now) (a .parent) (a .left) (a .right) (c .before .before .before .before .before .before .before .before .before .pre .0) (c .before .before .before .before .before .before .before .before .before .pre .1), p<8 (a .b .now) (a .parent) (a .left) (a .right) (c .before .before .before .before .before .before .before .before .before .pre .0) (c .before .before .before .before .before .before .before .before .before .pre .1))
 
 put-under-requires-2 : tie.Need-put-under-requires-2
 put-under-requires-2 c κs =
-    let a = c .before .before .before .before .before .before .before .before .before .before .args in
-    (r<8 (a .b .now) (a .parent) (a .left) (a .right) (c .before .before .before .before .before .before .before .before .before .before .pre .0) (c .before .before .before .before .before .before .before .before .before .before .pre .1), p<8 (a .b .now) (a .parent) (a .left) (a .right) (c .before .before .before .before .before .before .before .before .before .before .pre .0) (c .before .before .before .before .before .before .before .before .before .before .pre .1))
+    let a = c .before .before .before .before .before .before .before .before .before .before .before .args in
+    (r<8 (a .b .now) (a .parent) (a .left) (a .right) (c .before .before .before .before .before .before .before .before .before .before .before .pre .0) (c .before .before .before .before .before .before .before .before .before .before .before .pre .1), p<8 (a .b .now) (a .parent) (a .left) (a .right) (c .before .before .before .before .before .before .before .before .before .before .before .pre .0) (c .before .before .before .before .before .before .before .before .before .before .before .pre .1))
 
-add-t16 : tie.Need-add-t16
-add-t16 c =
-    let a = c .before .before .before .before .before .before .before .before .before .before .before .before .before .before .args in
-    let r = join-room (a .b .now) (a .parent) (a .left) (a .right) (c .before .before .before .before .before .before .before .before .before .before .before .before .before .before .pre .0) (c .before .before .before .before .before .before .before .before .before .before .before .before .before .before .pre .1) (c .before .before .before .before .before .before .before .before .before .before .before .before .load-interface .result) (c .before .before .before .before .before .before .before .before .before .before .load-interface2 .result) (c .before .before .before .before .before .before .before .before .before .before .before .before .load-interface .ensures) (c .before .before .before .before .before .before .before .before .before .before .load-interface2 .ensures) in
+add-t17 : tie.Need-add-t17
+add-t17 c =
+    let a = c .before .before .before .before .before .before .before .before .before .before .before .before .before .before .before .args in
+    let r = join-room (a .b .now) (a .parent) (a .left) (a .right) (c .before .before .before .before .before .before .before .before .before .before .before .before .before .before .before .pre .0) (c .before .before .before .before .before .before .before .before .before .before .before .before .before .before .before .pre .1) (c .before .before .before .before .before .before .before .before .before .before .before .before .before .load-interface .result) (c .before .before .before .before .before .before .before .before .before .before .before .load-interface2 .result) (c .before .before .before .before .before .before .before .before .before .before .before .before .before .load-interface .ensures) (c .before .before .before .before .before .before .before .before .before .before .before .load-interface2 .ensures) in
     omega (arith, r .sum-high)
 
-sub-t17 : tie.Need-sub-t17
-sub-t17 c =
-    let a = c .before .before .before .before .before .before .before .before .before .before .before .before .before .before .args in
-    let r = join-room (a .b .now) (a .parent) (a .left) (a .right) (c .before .before .before .before .before .before .before .before .before .before .before .before .before .before .pre .0) (c .before .before .before .before .before .before .before .before .before .before .before .before .before .before .pre .1) (c .before .before .before .before .before .before .before .before .before .before .before .before .load-interface .result) (c .before .before .before .before .before .before .before .before .before .before .load-interface2 .result) (c .before .before .before .before .before .before .before .before .before .before .before .before .load-interface .ensures) (c .before .before .before .before .before .before .before .before .before .before .load-interface2 .ensures) in
+sub-t18 : tie.Need-sub-t18
+sub-t18 c =
+    let a = c .before .before .before .before .before .before .before .before .before .before .before .before .before .before .before .args in
+    let r = join-room (a .b .now) (a .parent) (a .left) (a .right) (c .before .before .before .before .before .before .before .before .before .before .before .before .before .before .before .pre .0) (c .before .before .before .before .before .before .before .before .before .before .before .before .before .before .before .pre .1) (c .before .before .before .before .before .before .before .before .before .before .before .before .before .load-interface .result) (c .before .before .before .before .before .before .before .before .before .before .before .load-interface2 .result) (c .before .before .before .before .before .before .before .before .before .before .before .before .before .load-interface .ensures) (c .before .before .before .before .before .before .before .before .before .before .before .load-interface2 .ensures) in
     omega (arith, r .sum-low)
 
-add-t18 : tie.Need-add-t18
-add-t18 c =
-    let a = c .before .before .before .before .before .before .before .before .before .before .before .before .before .before .before .before .args in
-    let r = join-room (a .b .now) (a .parent) (a .left) (a .right) (c .before .before .before .before .before .before .before .before .before .before .before .before .before .before .before .before .pre .0) (c .before .before .before .before .before .before .before .before .before .before .before .before .before .before .before .before .pre .1) (c .before .before .before .before .before .before .before .before .before .before .before .before .before .before .load-interface .result) (c .before .before .before .before .before .before .before .before .before .before .before .before .load-interface2 .result) (c .before .before .before .before .before .before .before .before .before .before .before .before .before .before .load-interface .ensures) (c .before .before .before .before .before .before .before .before .before .before .before .before .load-interface2 .ensures) in
+add-t19 : tie.Need-add-t19
+add-t19 c =
+    let a = c .before .before .before .before .before .before .before .before .before .before .before .before .before .before .before .before .before .args in
+    let r = join-room (a .b .now) (a .parent) (a .left) (a .right) (c .before .before .before .before .before .before .before .before .before .before .before .before .before .before .before .before .before .pre .0) (c .before .before .before .before .before .before .before .before .before .before .before .before .before .before .before .before .before .pre .1) (c .before .before .before .before .before .before .before .before .before .before .before .before .before .before .before .load-interface .result) (c .before .before .before .before .before .before .before .before .before .before .before .before .before .load-interface2 .result) (c .before .before .before .before .before .before .before .before .before .before .before .before .before .before .before .load-interface .ensures) (c .before .before .before .before .before .before .before .before .before .before .before .before .before .load-interface2 .ensures) in
     omega (arith, r .speed-high)
 
-sub-t19 : tie.Need-sub-t19
-sub-t19 c =
-    let a = c .before .before .before .before .before .before .before .before .before .before .before .before .before .before .before .before .args in
-    let r = join-room (a .b .now) (a .parent) (a .left) (a .right) (c .before .before .before .before .before .before .before .before .before .before .before .before .before .before .before .before .pre .0) (c .before .before .before .before .before .before .before .before .before .before .before .before .before .before .before .before .pre .1) (c .before .before .before .before .before .before .before .before .before .before .before .before .before .before .load-interface .result) (c .before .before .before .before .before .before .before .before .before .before .before .before .load-interface2 .result) (c .before .before .before .before .before .before .before .before .before .before .before .before .before .before .load-interface .ensures) (c .before .before .before .before .before .before .before .before .before .before .before .before .load-interface2 .ensures) in
+sub-t20 : tie.Need-sub-t20
+sub-t20 c =
+    let a = c .before .before .before .before .before .before .before .before .before .before .before .before .before .before .before .before .before .args in
+    let r = join-room (a .b .now) (a .parent) (a .left) (a .right) (c .before .before .before .before .before .before .before .before .before .before .before .before .before .before .before .before .before .pre .0) (c .before .before .before .before .before .before .before .before .before .before .before .before .before .before .before .before .before .pre .1) (c .before .before .before .before .before .before .before .before .before .before .before .before .before .before .before .load-interface .result) (c .before .before .before .before .before .before .before .before .before .before .before .before .before .load-interface2 .result) (c .before .before .before .before .before .before .before .before .before .before .before .before .before .before .before .load-interface .ensures) (c .before .before .before .before .before .before .before .before .before .before .before .before .before .load-interface2 .ensures) in
     omega (arith, r .speed-low)
 
-add-t22 : tie.Need-add-t22
-add-t22 c = let a = c .before .before .before .before .before .before .before .before .before .before .before .before .before .before .before .before .args in omega (arith, l<8 (a .b .now) (a .parent) (a .left) (a .right) (c .before .before .before .before .before .before .before .before .before .before .before .before .before .before .before .before .pre .0) (c .before .before .before .before .before .before .before .before .before .before .before .before .before .before .before .before .pre .1))
+add-t23 : tie.Need-add-t23
+add-t23 c = let a = c .before .before .before .before .before .before .before .before .before .before .before .before .before .before .before .before .before .args in omega (arith, l<8 (a .b .now) (a .parent) (a .left) (a .right) (c .before .before .before .before .before .before .before .before .before .before .before .before .before .before .before .before .before .pre .0) (c .before .before .before .before .before .before .before .before .before .before .before .before .before .before .before .before .before .pre .1))
 
-add-t24 : tie.Need-add-t24
-add-t24 c = let a = c .before .before .before .before .before .before .before .before .before .before .before .before .before .before .before .before .args in omega (arith, r<8 (a .b .now) (a .parent) (a .left) (a .right) (c .before .before .before .before .before .before .before .before .before .before .before .before .before .before .before .before .pre .0) (c .before .before .before .before .before .before .before .before .before .before .before .before .before .before .before .before .pre .1))
+add-t25 : tie.Need-add-t25
+add-t25 c = let a = c .before .before .before .before .before .before .before .before .before .before .before .before .before .before .before .before .before .args in omega (arith, r<8 (a .b .now) (a .parent) (a .left) (a .right) (c .before .before .before .before .before .before .before .before .before .before .before .before .before .before .before .before .before .pre .0) (c .before .before .before .before .before .before .before .before .before .before .before .before .before .before .before .before .before .pre .1))
 
 store-interface-requires : tie.Need-store-interface-requires
-store-interface-requires c κs = let a = c .before .before .before .before .before .before .before .before .before .before .before .before .before .before .before .before .args in p<8 (a .b .now) (a .parent) (a .left) (a .right) (c .before .before .before .before .before .before .before .before .before .before .before .before .before .before .before .before .pre .0) (c .before .before .before .before .before .before .before .before .before .before .before .before .before .before .before .before .pre .1)
+store-interface-requires c κs = let a = c .before .before .before .before .before .before .before .before .before .before .before .before .before .before .before .before .before .args in p<8 (a .b .now) (a .parent) (a .left) (a .right) (c .before .before .before .before .before .before .before .before .before .before .before .before .before .before .before .before .before .pre .0) (c .before .before .before .before .before .before .before .before .before .before .before .before .before .before .before .before .before .pre .1)
 
 returns : tie.Need-returns
 returns c =
-    let a = c .before .before .before .before .before .before .before .before .before .before .before .before .before .before .before .before .before .args in
-    join-by (a .b .now) (a .parent) (a .left) (a .right) (c .before .before .before .before .before .before .before .before .before .before .before .before .before .before .before .before .before .pre .0) (c .before .before .before .before .before .before .before .before .before .before .before .before .before .before .before .before .before .pre .1) (c .before .before .before .before .before .before .before .before .before .before .before .before .before .before .before .load-interface .result) (c .before .before .before .before .before .before .before .before .before .before .before .before .before .load-interface2 .result) (c .before .before .before .before .before .before .before .before .before .before .before .load-interface3 .result)
-    (c .before .before .before .before .before .before .before .before .before .before .before .before .before .before .before .load-interface .ensures) (c .before .before .before .before .before .before .before .before .before .before .before .before .before .load-interface2 .ensures) (c .before .before .before .before .before .before .before .before .before .before .before .load-interface3 .ensures) (c .before .before .before .before .before .before .before .before .put-under .ensures) (c .before .before .before .before .before .before .put-under2 .ensures) (c .store-interface .ensures)
+    let a = c .before .before .before .before .before .before .before .before .before .before .before .before .before .before .before .before .before .before .args in
+    join-by (a .b .now) (a .parent) (a .left) (a .right) (c .before .before .before .before .before .before .before .before .before .before .before .before .before .before .before .before .before .before .pre .0) (c .before .before .before .before .before .before .before .before .before .before .before .before .before .before .before .before .before .before .pre .1) (c .before .before .before .before .before .before .before .before .before .before .before .before .before .before .before .before .load-interface .result) (c .before .before .before .before .before .before .before .before .before .before .before .before .before .before .load-interface2 .result) (c .before .before .before .before .before .before .before .before .before .before .before .before .load-interface3 .result)
+    (c .before .before .before .before .before .before .before .before .before .before .before .before .before .before .before .before .load-interface .ensures) (c .before .before .before .before .before .before .before .before .before .before .before .before .before .before .load-interface2 .ensures) (c .before .before .before .before .before .before .before .before .before .before .before .before .load-interface3 .ensures) (c .before .before .before .before .before .before .before .before .put-under .ensures) (c .before .before .before .before .before .before .put-under2 .ensures) (c .store-interface .ensures)
 
 pub join-spec : {M : Type 1} → statement M
 join-spec =
@@ -71,11 +71,11 @@ join-spec =
     load-interface-requires-3
     put-under-requires
     put-under-requires-2
-    add-t16
-    sub-t17
-    add-t18
-    sub-t19
-    add-t22
-    add-t24
+    add-t17
+    sub-t18
+    add-t19
+    sub-t20
+    add-t23
+    add-t25
     store-interface-requires
     returns)

@@ -1,7 +1,7 @@
 -- Each way out is a part of the test that fails, and the last that all hold. Assumes nothing.
 use mathlib.Core.Path.{sym, _∙_}
 use borrow.Author.Tests.{not-true, not-false}
-use Rattle.sound_bench.proofs.Rows.{steady-tested, next-none, next-worn, no-trees, no-nodes, no-tops, all-there}
+use Rattle.sound_bench.proofs.Rows.{steady-tested, next-none, next-worn, no-trees, no-nodes, no-tops, not-once, all-there}
 use borrow.Author.Needs.{needs}
 use Rattle.sound_bench.proofs.is_sound.Statement.{statement}
 use Rattle.sound_bench.proofs.is_sound.Tie as tie
@@ -40,7 +40,13 @@ are-different-requires : tie.Need-are-different-requires
 are-different-requires c κs = search needs
 
 returns-6 : tie.Need-returns-6
-returns-6 c = all-there (c .before .before .before .before .before .before .before .before .before .before .before .args .b .now) (c .before .before .before .before .before .before .before .before .before .load-next .result) (c .before .before .before .before .before .before .before .before .before .load-next .ensures) (c .before .before .before .before .before .before .before .before .if1 .left) (c .before .before .before .before .before .before .before .if2 .left) (c .before .before .before .before .before .before .are-trees .result) (c .before .before .before .before .before .before .are-trees .ensures) (not-false (c .before .before .before .before .before .before .are-trees .result) (c .before .before .before .before .before .if3 .left)) (c .before .before .before .before .are-nodes .result) (c .before .before .before .before .are-nodes .ensures) (not-false (c .before .before .before .before .are-nodes .result) (c .before .before .before .if4 .left)) (c .before .before .are-tops .result) (c .before .before .are-tops .ensures) (not-false (c .before .before .are-tops .result) (c .before .if5 .left)) (c .are-different .result) (c .are-different .ensures)
+returns-6 c = not-once (c .before .before .before .before .before .before .before .before .before .before .before .before .args .b .now) (c .before .before .before .before .before .before .before .before .before .before .load-next .result) (c .before .before .before .before .before .before .before .before .before .before .load-next .ensures) (c .before .before .before .before .before .before .before .before .before .if1 .left) (c .before .before .before .before .before .before .before .before .if2 .left) (c .before .before .before .before .before .before .before .are-trees .result) (c .before .before .before .before .before .before .before .are-trees .ensures) (not-false (c .before .before .before .before .before .before .before .are-trees .result) (c .before .before .before .before .before .before .if3 .left)) (c .before .before .before .before .before .are-nodes .result) (c .before .before .before .before .before .are-nodes .ensures) (not-false (c .before .before .before .before .before .are-nodes .result) (c .before .before .before .before .if4 .left)) (c .before .before .before .are-tops .result) (c .before .before .before .are-tops .ensures) (not-false (c .before .before .before .are-tops .result) (c .before .before .if5 .left)) (c .before .are-different .result) (c .before .are-different .ensures) (not-true (c .before .are-different .result) (c .if6 .taken))
+
+are-floors-requires : tie.Need-are-floors-requires
+are-floors-requires c κs = steady-tested (c .before .before .before .before .before .before .before .before .before .before .before .before .args .b .now) (c .before .before .before .before .before .before .before .before .before .before .before .full .ensures) (sym (c .before .before .before .before .before .before .before .are-trees .ensures) ∙ (not-false (c .before .before .before .before .before .before .before .are-trees .result) (c .before .before .before .before .before .before .if3 .left)))
+
+returns-7 : tie.Need-returns-7
+returns-7 c = all-there (c .before .before .before .before .before .before .before .before .before .before .before .before .before .args .b .now) (c .before .before .before .before .before .before .before .before .before .before .before .load-next .result) (c .before .before .before .before .before .before .before .before .before .before .before .load-next .ensures) (c .before .before .before .before .before .before .before .before .before .before .if1 .left) (c .before .before .before .before .before .before .before .before .before .if2 .left) (c .before .before .before .before .before .before .before .before .are-trees .result) (c .before .before .before .before .before .before .before .before .are-trees .ensures) (not-false (c .before .before .before .before .before .before .before .before .are-trees .result) (c .before .before .before .before .before .before .before .if3 .left)) (c .before .before .before .before .before .before .are-nodes .result) (c .before .before .before .before .before .before .are-nodes .ensures) (not-false (c .before .before .before .before .before .before .are-nodes .result) (c .before .before .before .before .before .if4 .left)) (c .before .before .before .before .are-tops .result) (c .before .before .before .before .are-tops .ensures) (not-false (c .before .before .before .before .are-tops .result) (c .before .before .before .if5 .left)) (c .before .before .are-different .result) (c .before .before .are-different .ensures) (not-false (c .before .before .are-different .result) (c .before .if6 .left)) (c .are-floors .result) (c .are-floors .ensures)
 
 pub is-sound-spec : {M : Type 1} → statement M
 is-sound-spec =
@@ -57,4 +63,6 @@ is-sound-spec =
     are-tops-requires
     returns-5
     are-different-requires
-    returns-6)
+    returns-6
+    are-floors-requires
+    returns-7)

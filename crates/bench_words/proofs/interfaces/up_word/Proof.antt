@@ -1,7 +1,7 @@
 -- Read or written by cases of the word or the value. Assumes nothing.
 use borrow.Author.Needs.{needs}
-use Rattle.bench_words.proofs.up_word.Statement.{statement}
-use Rattle.bench_words.proofs.up_word.Tie as tie
+use Rattle.bench_words.proofs.interfaces.up_word.Statement.{statement}
+use Rattle.bench_words.proofs.interfaces.up_word.Tie as tie
 
 enum-told : tie.Need-enum-told
 enum-told c = search needs

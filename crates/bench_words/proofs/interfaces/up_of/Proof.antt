@@ -1,8 +1,8 @@
 -- Read or written by cases of the word or the value. Assumes nothing.
 use borrow.Author.Tests.{ne-eqb}
 use borrow.Author.Needs.{needs}
-use Rattle.bench_words.proofs.up_of.Statement.{statement}
-use Rattle.bench_words.proofs.up_of.Tie as tie
+use Rattle.bench_words.proofs.interfaces.up_of.Statement.{statement}
+use Rattle.bench_words.proofs.interfaces.up_of.Tie as tie
 
 returns : tie.Need-returns
 returns c = rw (c .if1 .taken)
