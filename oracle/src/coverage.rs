@@ -113,6 +113,8 @@ impl Coverage {
         self.count("sum below 0", after.faces[unit].sum < 0);
         self.count("value below 0", after.present(unit).into_iter().any(|h| after.at(h).value < 0));
         self.count("growth of a fused tree", after.faces[unit].children.is_some());
+        self.count("growth of a floored tree", after.faces[unit].floored);
+        self.count("growth to the floor", after.faces[unit].floored && after.least_shrinking(unit) == Some(0));
     }
 
     fn group(&mut self, group: &Group) {

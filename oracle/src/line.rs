@@ -42,6 +42,8 @@ pub enum Line {
 pub enum Mode {
     /// a new node gets the lowest empty slot
     Filling,
+    /// no value falls below zero
+    Floored,
 }
 
 /// What stands in the way, over any way of naming a node.
@@ -126,6 +128,7 @@ impl Fields {
     fn mode(&self, at: usize) -> Result<Mode, String> {
         match self.signed(at)? {
             1 => Ok(Mode::Filling),
+            2 => Ok(Mode::Floored),
             other => Err(format!("{other} is no mode")),
         }
     }

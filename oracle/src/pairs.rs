@@ -57,6 +57,9 @@ impl Applying<'_> {
     fn fuse(&mut self, parent: u32, left: u32, right: u32) {
         let used = self.bench.faces.get(parent as usize).map_or(false, |f| !f.slots.is_empty() || f.progress != 0 || f.children.is_some());
         self.faces(&[parent, left, right]).put(left == right || parent <= left || parent <= right, PAIR).put(used, USED);
+        let floored = |unit: u32| self.bench.faces.get(unit as usize).map(|f| f.floored);
+        let differ = floored(left).is_some() && floored(right).is_some() && floored(left) != floored(right);
+        self.put(differ, MARK);
     }
 
     fn of_node(&mut self, serial: u32, call: &Line) {
@@ -89,6 +92,7 @@ pub fn applying(model: &Model, line: &Line) -> Numbers {
         Line::Grow(unit, length) => {
             let left = bench.faces.get(*unit as usize).map_or(PROGRESS, |f| PROGRESS - f.progress);
             all.faces(&[*unit]).put(*length < 0 || *length > left, LENGTH);
+            all.put((*unit as usize) < bench.faces.len() && bench.is_below(*unit as usize, *length), BELOW);
         }
         Line::Fuse(parent, left, right) => all.fuse(*parent, *left, *right),
         Line::Mark(unit, _) => {

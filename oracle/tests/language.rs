@@ -13,9 +13,22 @@ fn a_wrong_line_gets_a_message_with_its_number() {
 
 #[test]
 fn numbers_are_written_plainly() {
-    for line in
-        ["D 0 03", "D 0 +3", "D  0 3", "D 0 3 ", "G 0 -0", "D 0 4294967296", "S 0 1 2", "P 0 0", "Q 0 3", "g 0 1 2", "b 0 1 1", "t 0 1 1 1", ""]
-    {
+    for line in [
+        "D 0 03",
+        "D 0 +3",
+        "D  0 3",
+        "D 0 3 ",
+        "G 0 -0",
+        "D 0 4294967296",
+        "S 0 1 2",
+        "P 0 0",
+        "Q 0 3",
+        "P 0 -1",
+        "g 0 1 2",
+        "b 0 1 1",
+        "t 0 1 1 1",
+        "",
+    ] {
         assert!(read(line).is_err(), "{line}");
     }
 }

@@ -1,10 +1,11 @@
-//! The model's filling interfaces, held to the sentences that say what they are: the lowest empty slot, FULL, the used count.
+//! The model's marked interfaces, held to the sentences that say what they are: the lowest empty slot, FULL, the used count; no value below zero.
 use oracle::generator::plans::MARKS;
 use oracle::generator::Player;
 use oracle::line::{read, Line};
 use oracle::model::bench::{Bench, FACES, SLOTS};
-use oracle::model::refusals::{FULL, NO_SERIAL};
+use oracle::model::refusals::{BELOW, CHILD, FULL, LENGTH, MARK, NO_SERIAL, PAIR, UNIT, USED};
 use oracle::model::Model;
+use oracle::pairs::{applying, Seen};
 
 fn present(bench: &Bench, unit: usize) -> usize {
     bench.slots_of(unit).len()
@@ -95,4 +96,53 @@ fn no_serial_twice() {
         assert_eq!(say(&format!("E 0 {made}"))[0], 0);
     }
     assert_eq!((say("D 0 1")[0], seen.len()), (NO_SERIAL, 4));
+}
+
+/// In a floored tree no value is ever below zero; a growth is BELOW exactly where it would make one so, and leaves everything.
+#[test]
+fn no_value_below_zero() {
+    let (mut floored, mut refused, mut at_zero) = (0, 0, 0);
+    played(&mut |line, before, after, number| {
+        for unit in (0..FACES).filter(|unit| after.bench.faces[*unit].floored && after.is_top(*unit)) {
+            assert!(after.bench.present(unit).into_iter().all(|h| after.bench.at(h).value >= 0));
+            assert!(after.bench.tree(unit).into_iter().all(|below| after.bench.faces[below].floored));
+            floored += 1;
+        }
+        if let Line::Grow(unit, length) = line {
+            if before.is_top(*unit as usize) && *length >= 0 && number != LENGTH {
+                let falls = |h| before.bench.at(h).value + before.bench.at(h).state * length < 0;
+                let fallen = before.bench.present(*unit as usize).into_iter().any(falls);
+                // unfloored trees may have values below zero already
+                assert_eq!(number == BELOW, before.bench.faces[*unit as usize].floored && fallen);
+                assert!(number == 0 || before.bench == after.bench);
+                refused += (number == BELOW) as usize;
+                at_zero +=
+                    (number == 0 && after.bench.faces[*unit as usize].floored && after.bench.least_shrinking(*unit as usize) == Some(0)) as usize;
+            }
+        }
+    });
+    assert!(floored > 10_000 && refused > 30 && at_zero > 50, "{floored} {refused} {at_zero}");
+}
+
+/// The scenes have each number of the calls that the marks bring one to, alone and beside each other that can apply.
+#[test]
+fn each_number_and_each_pair() {
+    let (mut model, mut seen) = (Model::new(1), Seen::default());
+    for text in include_str!("../scenes/marks.txt").lines().filter(|line| !line.starts_with('#')) {
+        let call = read(text).unwrap();
+        let numbers = applying(&model, &call);
+        assert_eq!(model.answer(&call)[0], numbers.first().copied().unwrap_or(0), "{text}");
+        seen.see(text, &numbers);
+    }
+    let wanted = [
+        ('P', vec![(UNIT, UNIT), (CHILD, CHILD), (CHILD, MARK), (MARK, MARK)]),
+        ('Q', vec![(UNIT, UNIT), (CHILD, CHILD)]),
+        ('G', vec![(LENGTH, LENGTH), (LENGTH, BELOW), (BELOW, BELOW), (CHILD, BELOW)]),
+        ('F', vec![(UNIT, MARK), (CHILD, MARK), (PAIR, MARK), (USED, MARK), (MARK, MARK)]),
+    ];
+    for (letter, pairs) in wanted {
+        for pair in pairs {
+            assert!(seen.0[&letter].contains(&pair), "{letter}: no {pair:?}");
+        }
+    }
 }

@@ -50,7 +50,7 @@ fn what_they_cover() {
     for letter in letters.chars() {
         assert!(found.calls[&letter.to_string()].contains_key(&0), "{letter} is never accepted");
     }
-    for number in (3..=20).chain([26]) {
+    for number in (3..=20).chain([25, 26]) {
         assert!(found.calls.values().any(|numbers| numbers.contains_key(&number)), "no {number}");
     }
     (0..=5).for_each(|verdict| assert!(found.verdicts.contains_key(&("plain", verdict)), "no verdict {verdict}"));

@@ -55,6 +55,13 @@ fn each_rule_of_a_bench() {
         ("a value past the reach", |b| b.at_mut(MEMBER).value = 10),
         ("a sum past 512 times the reach", |b| b.faces[2].sum = 512 * 9 + 1),
         ("a speed", |b| b.faces[2].speed += 1),
+        ("a floor in the parent alone", |b| b.faces[2].floored = true),
+        ("a floor in one half alone", |b| b.faces[0].floored = true),
+        ("a floor in all but one half", |b| (b.faces[1].floored, b.faces[2].floored) = (true, true)),
+        ("a value of -1 above a floor", |b| {
+            (0..3).for_each(|unit| b.faces[unit].floored = true);
+            b.at_mut(MEMBER).value = -1;
+        }),
     ];
     for (rule, change) in breaks {
         let mut broken = bench();
@@ -71,6 +78,13 @@ fn what_is_free() {
         ("a value at the reach", |b| b.at_mut(MEMBER).value = -9),
         ("an emptied slot", |b| b.faces[4].slots = vec![None; 64]),
         ("the last next serial", |b| b.next = WORN),
+        ("a half that fills slots", |b| b.faces[1].fills = true),
+        ("a floored tree", |b| (0..3).for_each(|unit| b.faces[unit].floored = true)),
+        ("a value of 0 above a floor", |b| {
+            (0..3).for_each(|unit| b.faces[unit].floored = true);
+            b.at_mut(MEMBER).value = 0;
+        }),
+        ("a floored tree beside another", |b| b.faces[3].floored = true),
     ];
     for (what, change) in free {
         let mut sound = bench();

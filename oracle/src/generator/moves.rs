@@ -110,7 +110,15 @@ impl Player {
             98 => left,
             _ => self.rng.between(1000, 1_000_000),
         };
-        Some(format!("G {unit} {}", length.min(left)))
+        Some(format!("G {unit} {}", self.floored(unit, length.min(left))))
+    }
+
+    /// In a floored tree mostly as far as its shrinking nodes allow, or one past it.
+    fn floored(&mut self, unit: usize, length: i64) -> i64 {
+        match self.model.bench.least_shrinking(unit).filter(|_| self.model.bench.faces[unit].floored) {
+            Some(least) if self.rng.chance(80) => length.min(least + self.rng.chance(20) as i64),
+            _ => length,
+        }
     }
 
     /// Two trees under an interface above both that nothing was done in.
@@ -129,13 +137,15 @@ impl Player {
         }
     }
 
-    /// An interface that can still be given a mode, mostly one that has none.
+    /// An interface that can still be given a mode, mostly one that has it not.
     pub fn mark(&mut self) -> Option<String> {
         let is_new = |unit: &usize| self.model.bench.mode_number(*unit as u32) == 0;
         let all: Vec<usize> = self.tops().into_iter().filter(is_new).collect();
-        let unmarked: Vec<usize> = all.iter().copied().filter(|unit| !self.model.bench.faces[*unit].fills).collect();
+        let mode = 1 + self.rng.below(2);
+        let has_it = |unit: &usize| [self.model.bench.faces[*unit].fills, self.model.bench.faces[*unit].floored][mode - 1];
+        let unmarked: Vec<usize> = all.iter().copied().filter(|unit| !has_it(unit)).collect();
         let from = if self.rng.chance(90) { unmarked } else { all };
-        Some(format!("P {} 1", self.rng.pick(&from)?))
+        Some(format!("P {} {mode}", self.rng.pick(&from)?))
     }
 
     pub fn clear(&mut self) -> Option<String> {

@@ -170,7 +170,7 @@ pub const VERDICTS: Plan = Plan {
 /// Interfaces with modes, which the original has not, among others without.
 pub const MARKS: Plan = Plan {
     name: "marks",
-    about: "interfaces that fill emptied slots, alone and in trees with others that do not",
+    about: "interfaces that fill emptied slots, alone and in trees with others that do not, and floored trees",
     units: 8,
     vertices: 900,
     circle: 3,
@@ -181,8 +181,8 @@ pub const MARKS: Plan = Plan {
         (16, P.0),
         (22, P.1),
         (20, P.2),
-        (6, P.3),
-        (6, Player::grow),
+        (10, P.3),
+        (12, Player::grow),
         (5, Player::fuse),
         (1, Player::clear),
         (2, Player::bereave),

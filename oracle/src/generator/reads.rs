@@ -17,7 +17,7 @@ impl Player {
     }
 
     pub fn of_mode(&mut self) -> Option<String> {
-        Some(format!("Q {} 1", self.top()))
+        Some(format!("Q {} {}", self.top(), 1 + self.rng.below(2)))
     }
 
     pub fn handle_at(&mut self) -> Option<String> {

@@ -119,7 +119,7 @@ impl Player {
 
     pub fn wrong_mark(&mut self) -> Option<String> {
         let letter = self.rng.pick(&["P", "P", "Q"])?;
-        Some(format!("{letter} {} 1", self.any_unit()))
+        Some(format!("{letter} {} {}", self.any_unit(), 1 + self.rng.below(2)))
     }
 
     pub fn wrong_clear(&mut self) -> Option<String> {

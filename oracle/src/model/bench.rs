@@ -51,6 +51,8 @@ pub struct Face {
     pub children: Option<(usize, usize)>,
     /// a new node gets the lowest empty slot
     pub fills: bool,
+    /// no value of the tree falls below zero
+    pub floored: bool,
 }
 
 #[derive(Clone, Debug, PartialEq, Eq)]
@@ -134,6 +136,11 @@ impl Bench {
     /// Whether some interface of a tree fills emptied slots: indices of the tree are then not the original's.
     pub fn has_filling(&self, unit: usize) -> bool {
         self.tree(unit).into_iter().any(|below| self.faces[below].fills)
+    }
+
+    /// The least value of a shrinking node of a tree, if there is one.
+    pub fn least_shrinking(&self, unit: usize) -> Option<i64> {
+        self.present(unit).into_iter().map(|h| self.at(h)).filter(|node| node.state < 0).map(|node| node.value).min()
     }
 
     /// A tree's slots by index, each with its place.

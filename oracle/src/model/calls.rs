@@ -94,6 +94,7 @@ impl Bench {
             self.faces[parent as usize].speed += speed;
         }
         self.faces[parent as usize].children = Some((left as usize, right as usize));
+        self.faces[parent as usize].floored = self.faces[left as usize].floored;
         done(NOBODY, vec![])
     }
 
@@ -113,6 +114,7 @@ impl Bench {
         }
         match mode {
             Mode::Filling => self.faces[unit as usize].fills = true,
+            Mode::Floored => self.faces[unit as usize].floored = true,
         }
         done(NOBODY, vec![])
     }

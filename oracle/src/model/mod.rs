@@ -100,6 +100,7 @@ impl Model {
             Line::Sum(unit) => self.of_face(*unit, 1, |u| vec![b.faces[u].sum]),
             Line::Speed(unit) => self.of_face(*unit, 1, |u| vec![b.faces[u].speed]),
             Line::Marked(unit, Mode::Filling) => self.of_face(*unit, 1, |u| vec![b.faces[u].fills as i64]),
+            Line::Marked(unit, Mode::Floored) => self.of_face(*unit, 1, |u| vec![b.faces[u].floored as i64]),
             Line::Count(unit) => self.of_face(*unit, 1, |u| vec![b.slots(u).len() as i64]),
             Line::HandleAt(unit, index) => self.handle_at(*unit, *index as usize),
             Line::Belongs(unit, serial) => {

@@ -22,6 +22,7 @@ pub const RANGE: i64 = 18;
 pub const SMALL: i64 = 19;
 pub const ROOM: i64 = 20;
 pub const NOTHING: i64 = 21;
+pub const BELOW: i64 = 25;
 pub const MARK: i64 = 26;
 
 impl Bench {
@@ -98,9 +99,14 @@ impl Bench {
         first([&|| self.no_face(&[unit]), &|| self.no_node(unit, &[h]), &|| given(self.is_inside(h), INSIDE)])
     }
 
+    /// A floored tree in which a shrinking node has less than the length.
+    pub fn is_below(&self, unit: usize, length: i64) -> bool {
+        self.faces[unit].floored && self.least_shrinking(unit).map_or(false, |least| least < length)
+    }
+
     pub fn grow_number(&self, unit: u32, length: i64) -> i64 {
         let too_far = || length < 0 || length > PROGRESS - self.faces[unit as usize].progress;
-        first([&|| self.no_face(&[unit]), &|| given(too_far(), LENGTH)])
+        first([&|| self.no_face(&[unit]), &|| given(too_far(), LENGTH), &|| given(self.is_below(unit as usize, length), BELOW)])
     }
 
     /// A mode is chosen before anything is there; progress does not hinder.
@@ -117,9 +123,13 @@ impl Bench {
             let face = &self.faces[parent as usize];
             !face.slots.is_empty() || face.progress != 0 || face.children.is_some()
         };
-        first([&|| self.no_face(&[parent, left, right]), &|| given(left == right || parent <= left || parent <= right, PAIR), &|| {
-            given(used(), USED)
-        }])
+        let floored = |unit: u32| self.faces[unit as usize].floored;
+        first([
+            &|| self.no_face(&[parent, left, right]),
+            &|| given(left == right || parent <= left || parent <= right, PAIR),
+            &|| given(used(), USED),
+            &|| given(floored(left) != floored(right), MARK),
+        ])
     }
 }
 

@@ -32,6 +32,7 @@ impl Bench {
             ("progress", (0..=PROGRESS).contains(&face.progress)),
             ("halves", face.children.map_or(true, |(left, right)| left != right && linked(left) && linked(right))),
             ("parent's halves", face.parent.map_or(true, is_half_of)),
+            ("one floor in a tree", face.parent.and_then(|parent| self.faces.get(parent)).map_or(true, |top| top.floored == face.floored)),
         ])
     }
 
@@ -54,6 +55,7 @@ impl Bench {
             ("speed", self.faces[unit].speed == speed),
             ("sum", self.faces[unit].sum.unsigned_abs() <= 512 * reach as u64),
             ("values", present.iter().all(|h| self.at(*h).value.abs() <= reach)),
+            ("values above the floor", !self.faces[unit].floored || present.iter().all(|h| self.at(*h).value >= 0)),
         ])
         .or_else(|| present.into_iter().find_map(|h| self.broken_node(unit, h)))
     }
