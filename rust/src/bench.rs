@@ -141,6 +141,30 @@ impl Bench {
     pub fn mark_filling(&mut self, interface: u8) -> Result<(), Refusal> {
         settled(trusted::mark_filling(&mut self.0, interface), ())
     }
+
+    /// Has an interface without halves or used slots refuse every growth by which a value of its tree would fall below zero ([`Refusal::Below`]), until it is
+    /// cleared. A wrong length is then found by the call that has it. Two halves are both floored or neither ([`Refusal::Mark`]), and their parent is as they
+    /// are, whatever it was. Marked twice is as once.
+    ///
+    /// ```
+    /// use dual_ledger::{Bench, GrowState, Refusal};
+    ///
+    /// # fn main() -> Result<(), Refusal> {
+    /// let mut bench = Bench::default();
+    /// bench.mark_floored(0)?;
+    /// let node = bench.create_defect_node(0, 3)?;
+    /// bench.grow(0, 5)?;
+    /// bench.set_grow_state(0, node, GrowState::Shrink)?;
+    /// assert_eq!(bench.grow(0, 6), Err(Refusal::Below));
+    /// bench.grow(0, 5)?;
+    /// assert_eq!((bench.get_dual_variable(node)?, bench.is_floored(0)?), (0, true));
+    /// # Ok(())
+    /// # }
+    /// ```
+    #[doc = errors!(mark_floored)]
+    pub fn mark_floored(&mut self, interface: u8) -> Result<(), Refusal> {
+        settled(trusted::mark_floored(&mut self.0, interface), ())
+    }
 }
 
 /// # Reads and checks
@@ -167,6 +191,12 @@ impl Bench {
     #[doc = errors!(is_filling)]
     pub fn is_filling(&self, interface: u8) -> Result<bool, Refusal> {
         asked::is_filling(&self.0, interface)
+    }
+
+    /// Whether an interface without a parent, and with it its tree, is floored ([`mark_floored`](Bench::mark_floored)).
+    #[doc = errors!(is_floored)]
+    pub fn is_floored(&self, interface: u8) -> Result<bool, Refusal> {
+        asked::is_floored(&self.0, interface)
     }
 
     /// The node at an index of its tree: left half, right half, own. None for an emptied slot.

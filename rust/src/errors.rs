@@ -9,7 +9,7 @@ macro_rules! table {
         /// ```
         /// use dual_ledger::{Refusal, REFUSALS};
         /// let (_, fuse) = REFUSALS.iter().find(|(name, _)| *name == "fuse").unwrap();
-        /// assert_eq!(fuse, &[Refusal::Unit, Refusal::Child, Refusal::Pair, Refusal::Used]);
+        /// assert_eq!(fuse, &[Refusal::Unit, Refusal::Child, Refusal::Pair, Refusal::Used, Refusal::Mark]);
         /// ```
         pub const REFUSALS: &[(&str, &[Refusal])] = &[$((stringify!($name), &[Refusal::$first, $(Refusal::$refusal),*])),*];
 
@@ -27,14 +27,16 @@ table! {
     create_blossom: Unit Child Circle Touch Stale Foreign Inside Twice Full Worn;
     expand_blossom: Unit Child Stale Foreign Kind Inside;
     set_grow_state: Unit Child Stale Foreign Inside;
-    grow: Unit Child Length;
-    fuse: Unit Child Pair Used;
+    grow: Unit Child Length Below;
+    fuse: Unit Child Pair Used Mark;
     clear: Unit Child;
     mark_filling: Unit Child Mark;
+    mark_floored: Unit Child Mark;
     sum_dual_variables: Unit Child;
     sum_grow_speed: Unit Child;
     nodes_count: Unit Child;
     is_filling: Unit Child;
+    is_floored: Unit Child;
     get_node: Unit Child Range;
     present_count: Unit Child;
     next_present: Unit Child Range;

@@ -98,6 +98,13 @@ pub fn mark_filling(words: &mut Words, interface: u8) -> Result<(), Refusal> {
     settled(any::mark_filling(words, interface), ())
 }
 
+/// Has an interface without halves or used slots refuse every growth by which a value would fall below zero, until it is cleared. Tells nothing.
+#[doc = errors!(mark_floored)]
+#[doc = " [`Broken`](Refusal::Broken)"]
+pub fn mark_floored(words: &mut Words, interface: u8) -> Result<(), Refusal> {
+    settled(any::mark_floored(words, interface), ())
+}
+
 /// Does what a line of a text record says (docs/MANUAL.md, Lines), its newline left out. Of words that hold no sound bench the reply is
 /// [`Broken`](Refusal::Broken), and every word is as it was.
 pub fn line(words: &mut Words, line: &[u8]) -> Reply {

@@ -207,6 +207,7 @@ macro_rules! link_reads {
             sum_grow_speed(bench: &$bench, unit: u8, speed: &mut i64) -> u8;
             nodes_count(bench: &$bench, unit: u8, count: &mut u64) -> u8;
             is_filling(bench: &$bench, unit: u8, yes: &mut u64) -> u8;
+            is_floored(bench: &$bench, unit: u8, yes: &mut u64) -> u8;
             get_node(bench: &$bench, unit: u8, index: u32, node: &mut Handle) -> u8;
             present_count(bench: &$bench, unit: u8, count: &mut u64) -> u8;
             next_present(bench: &$bench, unit: u8, index: u32, next: &mut u32, node: &mut Handle) -> u8;
@@ -253,6 +254,7 @@ pub mod any {
         fuse(bench: &mut Words, parent: u8, left: u8, right: u8) -> u8;
         clear(bench: &mut Words, unit: u8) -> u8;
         mark_filling(bench: &mut Words, unit: u8) -> u8;
+        mark_floored(bench: &mut Words, unit: u8) -> u8;
     }
     link_blossom!("" Words, AnswerWords);
     link_reads!("" Words);
@@ -283,6 +285,7 @@ pub mod trusted {
         fuse(bench: &mut Sound, parent: u8, left: u8, right: u8) -> u8;
         clear(bench: &mut Sound, unit: u8) -> u8;
         mark_filling(bench: &mut Sound, unit: u8) -> u8;
+        mark_floored(bench: &mut Sound, unit: u8) -> u8;
     }
     link_blossom!("trusted_" Sound, Handle);
     link_reads!("trusted_" Sound);

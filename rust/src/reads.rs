@@ -42,6 +42,14 @@ macro_rules! reads {
             settled($form::is_filling(words, interface, &mut yes), yes == 1)
         }
 
+        /// Whether the interface, and with it its tree, is floored ([`mark_floored`](crate::Bench::mark_floored)).
+        #[doc = errors!(is_floored)]
+        #[doc = $broken]
+        pub fn is_floored(words: &$words, interface: u8) -> Result<bool, Refusal> {
+            let mut yes = 0;
+            settled($form::is_floored(words, interface, &mut yes), yes == 1)
+        }
+
         /// The node at an index of its tree: left half, right half, own. None for an emptied slot.
         #[doc = errors!(get_node)]
         #[doc = $broken]

@@ -58,7 +58,8 @@ refusals! {
     SelfPair = 22, "SELF", "a record's pair is not the member itself, which a line of text cannot say";
     File = 23, "FILE", "a trailer, list or record that does not fit, or a text with a bad line";
     Unsound = 24, "UNSOUND", "the check of the interface finds something";
-    Mark = 26, "MARK", "the interface is marked too late: it has slots used, or halves";
+    Below = 25, "BELOW", "a shrinking node of a floored tree would fall below zero";
+    Mark = 26, "MARK", "the interface is marked too late: it has slots used, or halves; or one half of a fuse is floored and the other is not";
 }
 
 impl Refusal {

@@ -129,6 +129,12 @@ impl<M: DualModule + ?Sized> Telling<'_, M> {
         self.bench.mark_filling(interface)
     }
 
+    /// Has an interface floored, as [`Bench::mark_floored`] does; nothing is told.
+    #[doc = errors!(mark_floored)]
+    pub fn mark_floored(&mut self, interface: u8) -> Result<(), Refusal> {
+        self.bench.mark_floored(interface)
+    }
+
     /// Makes the call, then tells its notices in their order; a refused call has none.
     fn told(&mut self, call: impl FnOnce(&mut Sound, &mut AnswerWords) -> u8) -> Result<Handle, Refusal> {
         let mut answer = Told::blank();

@@ -235,6 +235,25 @@ fn emptied_slots_filled() {
     }
 }
 
+/// The wrong length on the line where it happens.
+#[test]
+fn floors() {
+    let record = "D 0 3\nD 1 4\nG 0 5\nS 0 1 -1\nG 0 4\nG 0 2\nG 0 1\nF 2 0 1\n";
+    let folder = Folder::new("floor").with("shot.txt", record);
+    assert_eq!(folder.run(&["check", "shot.txt"]), (0, "shot.txt: 8 lines, 0 refused\n".into(), "".into()));
+    let below = "shot.txt:6: 25 BELOW: serial 1 shrinks and has 1, which is less than 2\n";
+    let mixed = "shot.txt:8: 26 MARK: interface 0 is floored, and interface 1 is not\n";
+    assert_eq!(folder.run(&["check", "--floor", "0", "shot.txt"]), (0, format!("{below}{mixed}shot.txt: 8 lines, 2 refused\n"), "".into()));
+    assert_eq!(folder.run(&["check", "--floor", "0", "--floor", "1", "shot.txt"]).1, format!("{below}shot.txt: 8 lines, 1 refused\n"));
+    let (status, ages, message) = folder.run(&["ages", "--csv", "--floor", "0", "--floor", "1", "--fill", "0", "shot.txt"]);
+    assert_eq!((status, message.as_str()), (0, below));
+    assert_eq!(ages.lines().nth(1), Some("node,1,0,3,,1,,,0,,,"));
+    for words in [&["check", "--floor", "8", "shot.txt"][..], &["picture", "--floor", "", "shot.txt"], &["ages", "shot.txt", "--floor"]] {
+        let (status, _, message) = folder.run(words);
+        assert_eq!((status, message.as_str()), (2, "dual-ledger: --floor wants an interface, 0 to 7\nTry 'dual-ledger --help'.\n"), "{words:?}");
+    }
+}
+
 #[test]
 fn ages_in_three_forms() {
     let folder = Folder::new("ages").with("shot.txt", &format!("{RECORD}D 1 20\nG 1 6\nF 2 0 1\nG 2 5\nS 2 4 1\n"));

@@ -160,10 +160,77 @@ fn marked_late() {
     let mut words = *Bench::default().words();
     lent::mark_filling(&mut words, 3).unwrap();
     assert_eq!((lent::is_filling(&words, 3), words[16 * 3 + 9]), (Ok(true), 1));
-    for stray in [2, 3, 4, 1 << 63, u64::MAX] {
+    for stray in [4, 5, 1 << 63, u64::MAX] {
         words[16 * 3 + 9] = stray;
         assert!(!lent::is_sound(&words));
         assert_eq!((lent::is_filling(&words, 3), lent::mark_filling(&mut words, 3)), (Err(Refusal::Broken), Err(Refusal::Broken)));
+    }
+}
+
+/// Down to zero and no further, in the interface and in a tree; what the floor does not speak of.
+#[test]
+fn no_value_below_zero() {
+    let mut bench = Bench::default();
+    bench.mark_floored(0).unwrap();
+    bench.mark_floored(1).unwrap();
+    assert_eq!((bench.is_floored(0), bench.is_floored(2), bench.is_floored(8)), (Ok(true), Ok(false), Err(Refusal::Unit)));
+    let [a, b] = [1, 2].map(|vertex| bench.create_defect_node(0, vertex).unwrap());
+    let far = bench.create_defect_node(1, 3).unwrap();
+    bench.grow(0, 5).unwrap();
+    bench.grow(1, 3).unwrap();
+    bench.set_grow_state(0, a, GrowState::Shrink).unwrap();
+    let before = bench.clone();
+    assert_eq!((bench.grow(0, 6), bench.grow(0, 1 << 40), bench.grow(0, -1)), (Err(Refusal::Below), Err(Refusal::Length), Err(Refusal::Length)));
+    assert_eq!((bench.grow(0, (1 << 40) - 5), bench == before), (Err(Refusal::Below), true));
+    bench.grow(0, 5).unwrap();
+    assert_eq!((bench.get_dual_variable(a), bench.grow(0, 1), bench.grow(0, 0)), (Ok(0), Err(Refusal::Below), Ok(())));
+    // in a tree every shrinking node counts; a parent is as its halves are
+    bench.fuse(2, 0, 1).unwrap();
+    assert_eq!((bench.is_floored(2), bench.is_floored(0)), (Ok(true), Err(Refusal::Child)));
+    bench.set_grow_state(2, a, GrowState::Grow).unwrap();
+    bench.set_grow_state(2, far, GrowState::Shrink).unwrap();
+    assert_eq!((bench.grow(2, 4), bench.grow(2, 3), bench.get_dual_variable(far)), (Err(Refusal::Below), Ok(()), Ok(0)));
+    // inside a blossom it stays, and the blossom has a value of its own; an expansion leaves it in the sum
+    let over = bench.create_blossom(2, &[far, b], &[]).unwrap();
+    bench.grow(2, 2).unwrap();
+    bench.set_grow_state(2, over, GrowState::Shrink).unwrap();
+    assert_eq!((bench.grow(2, 3), bench.grow(2, 1), bench.expand_blossom(2, over)), (Err(Refusal::Below), Ok(()), Ok(())));
+    assert_eq!((bench.sanity_check(2), bench.grow(2, 100)), (Ok(Verdict::SumDiffers), Ok(())));
+    assert_eq!(Bench::from_words(bench.words()).unwrap(), bench);
+    bench.clear(2).unwrap();
+    assert!((0..3).all(|unit| bench.is_floored(unit) == Ok(false) && bench.words()[16 * unit as usize + 9] == 0));
+}
+
+#[test]
+fn floored_late_or_by_halves() {
+    let mut bench = Bench::default();
+    bench.create_defect_node(0, 1).unwrap();
+    bench.grow(1, 5).unwrap();
+    bench.mark_floored(1).unwrap();
+    bench.mark_floored(1).unwrap();
+    bench.mark_floored(3).unwrap();
+    let before = bench.clone();
+    assert_eq!((bench.mark_floored(0), bench.mark_floored(8)), (Err(Refusal::Mark), Err(Refusal::Unit)));
+    assert_eq!((bench.fuse(2, 0, 1), bench.fuse(2, 1, 0), bench.fuse(1, 0, 1)), (Err(Refusal::Mark), Err(Refusal::Mark), Err(Refusal::Pair)));
+    assert_eq!(bench, before);
+    // a floored parent over halves that are not: the floor goes, the other mark stays
+    bench.mark_filling(3).unwrap();
+    bench.fuse(3, 0, 2).unwrap();
+    assert_eq!((bench.is_floored(3), bench.is_filling(3), bench.mark_floored(3)), (Ok(false), Ok(true), Err(Refusal::Mark)));
+    assert_eq!((bench.mark_floored(0), bench.is_floored(0)), (Err(Refusal::Child), Err(Refusal::Child)));
+    // by hand: a floor in one half only, and a value below it
+    let mut words = *bench.words();
+    words[9] = 2;
+    assert_eq!((Bench::from_words(&words), lent::is_floored(&words, 3)), (Err(Refusal::Broken), Err(Refusal::Broken)));
+    let mut bench = Bench::default();
+    bench.mark_floored(0).unwrap();
+    bench.create_defect_node(0, 1).unwrap();
+    bench.grow(0, 7).unwrap();
+    let mut words = *bench.words();
+    for (less, is_sound) in [(0, true), (7, true), (8, false), (14, false)] {
+        words[128 + 9] = (1 << 60) - less; // the bias: a value of 7 less so many
+        assert_eq!(lent::is_sound(&words), is_sound, "{less}");
+        assert_eq!(lent::grow(&mut words.clone(), 0, 0).is_ok(), is_sound, "{less}");
     }
 }
 

@@ -9,6 +9,8 @@ fn function(letter: &str, mode: Option<&str>) -> Option<&'static str> {
     Some(match letter {
         "P" if mode == Some("1") => "mark_filling",
         "Q" if mode == Some("1") => "is_filling",
+        "P" => "mark_floored",
+        "Q" => "is_floored",
         "N" => "set_up",
         "D" => "create_defect_node",
         "B" | "b" | "t" => "create_blossom",

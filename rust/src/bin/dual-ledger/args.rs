@@ -6,20 +6,20 @@ use std::path::PathBuf;
 pub const HELP: &str = "\
 Runs and moves records of the dual ledger (docs/MANUAL.md) by its proved functions.
 
-dual-ledger check [--jobs N] [--quiet] [--answers OUT] [--fill U].. FILE..
+dual-ledger check [--jobs N] [--quiet] [--answers OUT] [--fill U].. [--floor U].. FILE..
     runs each file, a record of its own, and shows the refused lines: file, line, number, name, why.
     --jobs N       on so many cores; else on all
     --quiet        shows nothing but what failed
     --answers OUT  writes what `ledger` would write, all files in the order named; a file OUT is there
                    only when it is whole; - is standard output
 
-dual-ledger ages [--csv | --json] [--quiet] [--fill U].. FILE
+dual-ledger ages [--csv | --json] [--quiet] [--fill U].. [--floor U].. FILE
     runs a record and prints each node that ever was: serial, interface, vertex or members, the lines
     of making and going, its value then or now; at the end the sums, added up.
     --csv, --json  as one table, as one object
     --quiet        does not show refused lines
 
-dual-ledger picture [--unit U] [--full] [--at N] [--svg] [--fill U].. FILE
+dual-ledger picture [--unit U] [--full] [--at N] [--svg] [--fill U].. [--floor U].. FILE
     runs a record and prints the nodes of an interface as JSON for the viewer, if its check says 0.
     --unit U       of this interface; else of 0
     --full         with full names; else abbreviated
@@ -29,6 +29,8 @@ dual-ledger picture [--unit U] [--full] [--at N] [--svg] [--fill U].. FILE
 Each of these marks interfaces before a record runs, as many as are named:
     --fill U       interface U fills the slots that expansions emptied, until it is cleared; it is full
                    when 64 of its nodes are present
+    --floor U      a growth of interface U by which a value would fall below zero is refused (BELOW), until
+                   it is cleared; so a wrong length is found on its line
 
 dual-ledger pack IN OUT
     moves a text record to byte records, which have a pair of touching serials beside each member of a
@@ -69,6 +71,7 @@ pub struct Args {
     pub fills: Vec<u8>,
     pub bench: Option<PathBuf>,
     pub save: Option<PathBuf>,
+    pub floors: Vec<u8>,
 }
 
 pub enum Asked {
@@ -119,6 +122,7 @@ impl Args {
             is_drawn: false,
             at: None,
             fills: vec![],
+            floors: vec![],
         };
         let runs_records = matches!(work, Work::Check | Work::Ages | Work::Picture);
             bench: None,
@@ -143,6 +147,7 @@ impl Args {
                 Some("--fill") if runs_records && !no_more_options => args.fills.push(interface(words.next(), "--fill")?),
                 Some("--bench") if work == Work::Run && !no_more_options => args.bench = Some(words.next().ok_or("--bench wants a file")?.into()),
                 Some("--save") if work == Work::Run && !no_more_options => args.save = Some(words.next().ok_or("--save wants a file")?.into()),
+                Some("--floor") if runs_records && !no_more_options => args.floors.push(interface(words.next(), "--floor")?),
                 Some(option) if !no_more_options && option.starts_with('-') && option != "-" => {
                     return Err(format!("there is no option {option} here"))
                 }
@@ -168,7 +173,9 @@ impl Args {
     /// A record from its beginning, on a bench whose interfaces are marked as was asked.
     pub fn session(&self) -> Session {
         let mut bench = Bench::default();
-        self.fills.iter().for_each(|unit| bench.mark_filling(*unit).expect("an interface of a new bench can be marked"));
+        let marked = "an interface of a new bench can be marked";
+        self.fills.iter().for_each(|unit| bench.mark_filling(*unit).expect(marked));
+        self.floors.iter().for_each(|unit| bench.mark_floored(*unit).expect(marked));
         Session::on(bench)
     }
 }

@@ -1,5 +1,5 @@
 //! Why a line was refused, in words. The number is the engine's; what is said about it is found by reading the bench, which the line left as it was.
-use dual_ledger::{Bench, Handle, Refusal};
+use dual_ledger::{Bench, GrowState, Handle, Refusal};
 
 /// A refused line's fields after the letter, as numbers where they are some.
 fn numbers(line: &[u8]) -> Vec<i128> {
@@ -28,6 +28,29 @@ fn is_child(bench: &Bench, interface: i128) -> bool {
 /// Whether the node has a parent, and the outermost blossom around it.
 fn outermost(bench: &Bench, node: Handle) -> Option<Handle> {
     bench.get_ancestor_blossom(node).ok().filter(|outer| *outer != node)
+}
+
+/// Whether a node shrinks: its speed rises by one where it is made to stay, which a copy of the bench is asked.
+fn shrinks(bench: &Bench, interface: u8, node: Handle) -> bool {
+    let mut stays = bench.clone();
+    let before = stays.sum_grow_speed(interface);
+    stays.set_grow_state(interface, node, GrowState::Stay).is_ok() && stays.sum_grow_speed(interface) == before.map(|speed| speed + 1)
+}
+
+/// The shrinking node of least value in a tree, with that value.
+fn lowest(bench: &Bench, interface: u8) -> Option<(Handle, i64)> {
+    let values = bench.present_nodes(interface).into_iter().flatten().filter_map(|(_, node)| Some((node, bench.get_dual_variable(node).ok()?)));
+    let mut all: Vec<(Handle, i64)> = values.collect();
+    all.sort_by_key(|(node, value)| (*value, node.serial()));
+    all.into_iter().find(|(node, _)| shrinks(bench, interface, *node))
+}
+
+/// Which of two halves is floored.
+fn one_floored(bench: &Bench, halves: &[i128]) -> Option<String> {
+    let is_floored = |unit: &i128| u8::try_from(*unit).is_ok_and(|unit| bench.is_floored(unit) == Ok(true));
+    let floored = halves.iter().find(|unit| is_floored(unit))?;
+    let other = halves.iter().find(|unit| !is_floored(unit))?;
+    Some(format!("interface {floored} is floored, and interface {other} is not"))
 }
 
 /// What a line that is not of the grammar has that a line has not.
@@ -127,6 +150,11 @@ pub fn explain(bench: &Bench, refusal: Refusal, line: &[u8]) -> String {
             [_, left, right] if left == right => format!("interface {left} cannot be both halves"),
             _ => format!("interface {unit} is not of a higher number than both its halves"),
         }),
+        Refusal::Below => u8::try_from(unit).ok().and_then(|unit| lowest(bench, unit)).map(|(node, value)| {
+            let length = fields.get(1).copied().unwrap_or(0);
+            format!("serial {} shrinks and has {value}, which is less than {length}", node.serial())
+        }),
+        Refusal::Mark => one_floored(bench, fields.get(1..).unwrap_or(&[])),
         Refusal::Used => Some(format!("interface {unit} has slots used, progress or halves already")),
         _ => None,
     };
