@@ -89,7 +89,7 @@ uint8_t dual_ledger_set_up(uint64_t *bench, uint32_t first);
 
 /* 1 where the words are a sound bench, else 0. Any words may be lent. Word 16 u + 8 is the map of interface u, bit s for slot s: words stored before there was
  * one have 0 there, and are no sound bench if they hold a node (docs/MIGRATING.md says how to take them over). Word 16 u + 9 has its marks: 1 where it fills
- * emptied slots, and no other bit. */
+ * emptied slots, 2 where it is floored, 3 where both, and no other bit. */
 uint8_t dual_ledger_is_sound(const uint64_t *bench);
 
 /* ---- calls, on any words */
@@ -113,6 +113,10 @@ uint8_t dual_ledger_clear(uint64_t *bench, uint8_t unit);
 /* Has interface unit, which has neither halves nor used slots, fill emptied slots until it is cleared: a new node gets its lowest empty slot, and FULL comes
  * exactly when 64 of its nodes are present [Filling]. MARK where it is too late; progress does not hinder, and twice is as once. Tells nothing. */
 uint8_t dual_ledger_mark_filling(uint64_t *bench, uint8_t unit);
+/* Has interface unit, which has neither halves nor used slots, floored until it is cleared: a growth by which a value of its tree would fall below zero is
+ * refused as BELOW [Floors]. Halves are both floored or neither (MARK), and their parent is as they are. MARK where it is too late; progress does not hinder,
+ * and twice is as once. Tells nothing. */
+uint8_t dual_ledger_mark_floored(uint64_t *bench, uint8_t unit);
 
 /* ---- the same on sound words, with the notices */
 
@@ -134,6 +138,7 @@ uint8_t dual_ledger_trusted_grow(uint64_t *bench, uint8_t unit, int64_t length);
 uint8_t dual_ledger_trusted_fuse(uint64_t *bench, uint8_t parent, uint8_t left, uint8_t right);
 uint8_t dual_ledger_trusted_clear(uint64_t *bench, uint8_t unit);
 uint8_t dual_ledger_trusted_mark_filling(uint64_t *bench, uint8_t unit);
+uint8_t dual_ledger_trusted_mark_floored(uint64_t *bench, uint8_t unit);
 
 /* ---- reads, on any words; dual_ledger_trusted_NAME with the same arguments on sound words */
 
@@ -145,6 +150,8 @@ uint8_t dual_ledger_sum_grow_speed(const uint64_t *bench, uint8_t unit, int64_t 
 uint8_t dual_ledger_nodes_count(const uint64_t *bench, uint8_t unit, uint64_t *count);
 /* yes: 1 where the interface fills emptied slots, else 0. Of an interface without a parent, and of that one alone: its halves may differ. */
 uint8_t dual_ledger_is_filling(const uint64_t *bench, uint8_t unit, uint64_t *yes);
+/* yes: 1 where the interface, and with it its tree, is floored, else 0. */
+uint8_t dual_ledger_is_floored(const uint64_t *bench, uint8_t unit, uint64_t *yes);
 /* The handle at an index of its tree, left half, right half, own; DUAL_LEDGER_NO_NODE for an emptied slot, 0 where refused. */
 uint8_t dual_ledger_get_node(const uint64_t *bench, uint8_t unit, uint32_t index, uint64_t *node);
 /* How many present nodes its tree has: the ones of its interfaces' maps, added. */
@@ -172,6 +179,7 @@ uint8_t dual_ledger_trusted_sum_dual_variables(const uint64_t *bench, uint8_t un
 uint8_t dual_ledger_trusted_sum_grow_speed(const uint64_t *bench, uint8_t unit, int64_t *speed);
 uint8_t dual_ledger_trusted_nodes_count(const uint64_t *bench, uint8_t unit, uint64_t *count);
 uint8_t dual_ledger_trusted_is_filling(const uint64_t *bench, uint8_t unit, uint64_t *yes);
+uint8_t dual_ledger_trusted_is_floored(const uint64_t *bench, uint8_t unit, uint64_t *yes);
 uint8_t dual_ledger_trusted_get_node(const uint64_t *bench, uint8_t unit, uint32_t index, uint64_t *node);
 uint8_t dual_ledger_trusted_present_count(const uint64_t *bench, uint8_t unit, uint64_t *count);
 uint8_t dual_ledger_trusted_next_present(const uint64_t *bench, uint8_t unit, uint32_t index, uint32_t *next, uint64_t *node);
@@ -308,12 +316,14 @@ uint8_t dual_ledger_trusted_run_records(uint64_t *bench, const uint8_t *file, si
 #define DUAL_LEDGER_SELF 22 /* moving back a record whose pair is not the member itself */
 #define DUAL_LEDGER_FILE 23 /* a trailer, list or record that does not fit, or a text with a bad line */
 #define DUAL_LEDGER_UNSOUND 24 /* the check of the interface says other than 0 */
-#define DUAL_LEDGER_MARK 26 /* an interface marked that has slots used, or halves */
+#define DUAL_LEDGER_BELOW 25 /* growth: a shrinking node of a floored tree would fall below zero */
+#define DUAL_LEDGER_MARK 26 /* an interface marked that has slots used, or halves; fuse: one half floored and the other not */
 
 /* The name of a number: "STALE" for 8; "ACCEPTED" for 0; NULL for a number that no function answers. */
 static inline const char *dual_ledger_refusal_name(uint8_t number) {
-    static const char *const names[25] = {"ACCEPTED", "LINE", "BROKEN", "UNIT", "CHILD", "LENGTH", "CIRCLE", "TOUCH",   "STALE", "FOREIGN", "KIND", "INSIDE", "TOP",
-                                          "TWICE",    "FULL", "WORN",   "PAIR", "USED",  "RANGE",  "SMALL",  "ROOM", "NOTHING", "SELF",  "FILE",    "UNSOUND"};
+    static const char *const names[29] = {"ACCEPTED", "LINE", "BROKEN", "UNIT", "CHILD", "LENGTH", "CIRCLE", "TOUCH",   "STALE", "FOREIGN", "KIND", "INSIDE", "TOP",
+                                          "TWICE",    "FULL", "WORN",   "PAIR", "USED",  "RANGE",  "SMALL",  "ROOM", "NOTHING", "SELF",  "FILE",    "UNSOUND", @BELOW@, "MARK", @STUCK@, @SHORT@};
+    return number < 29 ? names[number] : NULL;
     if (number == DUAL_LEDGER_MARK) return "MARK";
     return number < 25 ? names[number] : NULL;
 }

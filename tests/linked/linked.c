@@ -1,5 +1,5 @@
 /* The linked library from C, by its header alone: the manual's worked cases, a blossom with its notices word by word, every read and check in both forms,
- * interfaces that fill emptied slots, text records in lines and in chunks of every size, groups of obstacles, and refusals with all that was lent compared before and after. Ends with 0 and one line, or names the first difference. */
+ * interfaces that fill emptied slots and floored ones, text records in lines and in chunks of every size, groups of obstacles, and refusals with all that was lent compared before and after. Ends with 0 and one line, or names the first difference. */
 #include "dual_ledger.h"
 
 #include <inttypes.h>
@@ -33,6 +33,8 @@ static uint64_t handle(uint64_t serial, uint64_t slot, uint64_t unit) { return D
 /* ---- a line of the text program: number, serial, speed, sum */
 
 enum form { OPEN, TOLD, TRUSTED };
+
+static void one_line(int is_trusted, const char *line, int number, uint64_t serial, int64_t speed, int64_t sum);
 
 /* A call of one form; the node made or named is left in answer[0]. */
 static uint8_t call(enum form form, const char *line) {
@@ -353,7 +355,7 @@ static void reads(void) {
     check(0, 0, 5, 0), check_strictly(0, 0, 5, 0);
 }
 
-/* ---- interfaces that fill emptied slots */
+/* ---- marked interfaces: those that fill emptied slots, and floored ones */
 
 static void read_filling(uint8_t unit, int number, int64_t yes) {
     uint64_t got = 77;
@@ -412,11 +414,77 @@ static void filling(enum form form) {
     same("clear", form == OPEN ? dual_ledger_clear(bench, 2) : dual_ledger_trusted_clear(bench, 2), 0);
     read_filling(0, 0, 0), read_filling(2, 0, 0), read_filling(3, 0, 1);
     /* bits that no mark has */
-    for (int bit = 1; bit < 64; bit++) {
+    for (int bit = 2; bit < 64; bit++) {
         bench[16 * 5 + 9] = (uint64_t)1 << bit, same("a stray bit", dual_ledger_is_sound(bench), 0), memcpy(kept, bench, sizeof bench);
         same("a stray bit", dual_ledger_mark_filling(bench, 5), DUAL_LEDGER_BROKEN), same_words("a stray bit", bench, kept, DUAL_LEDGER_WORDS);
         node = 77, same("a stray bit", dual_ledger_is_filling(bench, 5, &node), DUAL_LEDGER_BROKEN), same("a stray bit", (int64_t)node, 0);
     }
+}
+
+static void read_floored(uint8_t unit, int number, int64_t yes) {
+    uint64_t got = 77;
+    same("floored", dual_ledger_is_floored(bench, unit, &got), number), same("floored", (int64_t)got, yes);
+    got = 77;
+    same("floored", dual_ledger_trusted_is_floored(bench, unit, &got), number), same("floored", (int64_t)got, yes);
+}
+
+/* Marks by one form; refused, every word is as it was. */
+static void mark_floored(enum form form, uint8_t unit, int number) {
+    memcpy(kept, bench, sizeof bench);
+    same("mark", form == OPEN ? dual_ledger_mark_floored(bench, unit) : dual_ledger_trusted_mark_floored(bench, unit), number);
+    if (number == 0) kept[16 * unit + 9] |= 2;
+    same_words("mark", bench, kept, DUAL_LEDGER_WORDS), same("sound", dual_ledger_is_sound(bench), 1);
+}
+
+/* Grows by one form; refused, every word is as it was. */
+static void grow(enum form form, uint8_t unit, int64_t length, int number) {
+    uint8_t got;
+    memcpy(kept, bench, sizeof bench);
+    if (form == OPEN) got = dual_ledger_grow(bench, unit, length, answer);
+    else if (form == TOLD) got = dual_ledger_told_grow(bench, unit, length, answer);
+    else got = dual_ledger_trusted_grow(bench, unit, length);
+    same("a growth", got, number), same("sound", dual_ledger_is_sound(bench), 1);
+    if (number) same_words("a growth refused", bench, kept, DUAL_LEDGER_WORDS);
+}
+
+static void fuse(enum form form, uint8_t parent, uint8_t left, uint8_t right, int number) {
+    memcpy(kept, bench, sizeof bench);
+    same("a fuse", form == OPEN ? dual_ledger_fuse(bench, parent, left, right) : dual_ledger_trusted_fuse(bench, parent, left, right), number);
+    if (number) same_words("a fuse refused", bench, kept, DUAL_LEDGER_WORDS);
+}
+
+/* Down to zero and no further; LENGTH before BELOW; mixed halves; a parent as its halves are; late marks; by hand, a floor in one half only and a value of -1. */
+static void floors(enum form form) {
+    uint64_t a, b;
+    int64_t value = 77;
+    same("set-up", dual_ledger_set_up(bench, 1), 0);
+    read_floored(0, 0, 0), mark_floored(form, 0, 0), mark_floored(form, 0, 0), mark_filling(form, 0, 0), read_floored(0, 0, 1), read_floored(1, 0, 0);
+    mark_floored(form, 8, DUAL_LEDGER_UNIT), read_floored(255, DUAL_LEDGER_UNIT, 0);
+    a = make(form, 0, 0, 0), mark_floored(form, 0, DUAL_LEDGER_MARK), grow(form, 0, 5, 0);
+    same("shrink", dual_ledger_trusted_set_grow_state(bench, 0, a, -1), 0);
+    grow(form, 0, 6, DUAL_LEDGER_BELOW), grow(form, 0, ((int64_t)1 << 40) - 5, DUAL_LEDGER_BELOW), grow(form, 0, ((int64_t)1 << 40) - 4, DUAL_LEDGER_LENGTH);
+    grow(form, 0, -1, DUAL_LEDGER_LENGTH), grow(form, 0, INT64_MAX, DUAL_LEDGER_LENGTH), grow(form, 0, 5, 0), grow(form, 0, 1, DUAL_LEDGER_BELOW), grow(form, 0, 0, 0);
+    same("at the floor", dual_ledger_get_dual_variable(bench, a, &value), 0), same("at the floor", value, 0);
+    b = make(form, 1, 0, 0), grow(form, 1, 4, 0), same("shrink", dual_ledger_trusted_set_grow_state(bench, 1, b, -1), 0), grow(form, 1, 9, 0);
+    same("below zero", dual_ledger_get_dual_variable(bench, b, &value), 0), same("below zero", value, -5);
+    fuse(form, 2, 0, 1, DUAL_LEDGER_MARK), fuse(form, 2, 1, 0, DUAL_LEDGER_MARK), fuse(form, 1, 0, 1, DUAL_LEDGER_PAIR);
+    mark_floored(form, 3, 0), b = make(form, 3, 0, 0), grow(form, 3, 2, 0), same("shrink", dual_ledger_trusted_set_grow_state(bench, 3, b, -1), 0);
+    same("grow again", dual_ledger_trusted_set_grow_state(bench, 0, a, 1), 0), fuse(form, 4, 3, 0, 0), read_floored(4, 0, 1), read_floored(3, DUAL_LEDGER_CHILD, 0);
+    mark_floored(form, 3, DUAL_LEDGER_CHILD), mark_floored(form, 4, DUAL_LEDGER_MARK);
+    grow(form, 4, 3, DUAL_LEDGER_BELOW), grow(form, 4, 2, 0), grow(form, 4, 1, DUAL_LEDGER_BELOW);
+    bench[16 * 3 + 9] = 0, same("a floor in one half only", dual_ledger_is_sound(bench), 0);
+    bench[16 * 3 + 9] = 2, bench[16 * 4 + 9] = 0, same("a floor in the halves only", dual_ledger_is_sound(bench), 0);
+    bench[16 * 4 + 9] = 2, same("all three", dual_ledger_is_sound(bench), 1);
+    bench[128 + 12 * 64 * 3 + 9]--, same("a value of -1 above a floor", dual_ledger_is_sound(bench), 0);
+    bench[16 * 0 + 9] = 1, bench[16 * 3 + 9] = bench[16 * 4 + 9] = 0, same("the same without floors", dual_ledger_is_sound(bench), 1);
+    /* a floored parent over halves that are not */
+    same("set-up", dual_ledger_set_up(bench, 1), 0), mark_floored(form, 2, 0), mark_filling(form, 2, 0), fuse(form, 2, 0, 1, 0);
+    read_floored(2, 0, 0), read_filling(2, 0, 1);
+    mark_floored(form, 5, 0), mark_floored(form, 6, 0), fuse(form, 7, 5, 6, 0), read_floored(7, 0, 1);
+    same("clear", form == OPEN ? dual_ledger_clear(bench, 7) : dual_ledger_trusted_clear(bench, 7), 0), read_floored(5, 0, 0), read_floored(7, 0, 0);
+    /* a line and a chunk pass it on */
+    mark_floored(form, 5, 0), one_line(form != OPEN, "D 5 3", 0, 1, 1, 0), one_line(form != OPEN, "S 5 1 -1", 0, 1, -1, 0);
+    one_line(form != OPEN, "G 5 1", DUAL_LEDGER_BELOW, 0, -1, 0), one_line(form != OPEN, "G 5 0", 0, 0, -1, 0), one_line(form != OPEN, "F 7 5 6", DUAL_LEDGER_MARK, 0, 0, 0);
 }
 
 /* ---- text records: lines, chunks cut anywhere, the end */
@@ -501,6 +569,7 @@ static void names(void) {
     same("the name of 8", strcmp(dual_ledger_refusal_name(DUAL_LEDGER_STALE), "STALE"), 0);
     same("the name of 21", strcmp(dual_ledger_refusal_name(DUAL_LEDGER_NOTHING), "NOTHING"), 0);
     same("the name of 24", strcmp(dual_ledger_refusal_name(DUAL_LEDGER_UNSOUND), "UNSOUND"), 0);
+    same("the name of 25", strcmp(dual_ledger_refusal_name(DUAL_LEDGER_BELOW), "BELOW"), 0);
     same("the name of 26", strcmp(dual_ledger_refusal_name(DUAL_LEDGER_MARK), "MARK"), 0);
     same("the name of 22", dual_ledger_refusal_name(22) == NULL, 1), same("the name of 0", strcmp(dual_ledger_refusal_name(0), "ACCEPTED"), 0);
     same("the name of 22", strcmp(dual_ledger_refusal_name(DUAL_LEDGER_SELF), "SELF"), 0);
@@ -767,6 +836,7 @@ int main(void) {
     pictures();
     for (int form = OPEN; form <= TRUSTED; form++) filling((enum form)form);
     records();
+    for (int form = OPEN; form <= TRUSTED; form++) filling((enum form)form), floors((enum form)form);
     text();
     names();
     refusals();

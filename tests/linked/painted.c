@@ -121,10 +121,12 @@ static void nest(uint64_t *words, int nodes) {
     must("a nest made by hand is not sound", dual_ledger_is_sound(words) == 1);
 }
 
-/* Three defects in a blossom, that and a fourth in another, touching by a defect; then two defects, and an interface fused of two. */
-static void small(uint64_t *words) {
+/* Three defects in a blossom, that and a fourth in another, touching by a defect; then two defects, and an interface fused of two. With a floor: a node that
+ * shrinks. */
+static void small(uint64_t *words, int floored) {
     uint64_t node;
     dual_ledger_set_up(words, 1);
+    for (uint8_t unit = 0; floored && unit < 4; unit++) must("a floor", dual_ledger_trusted_mark_floored(words, unit) == 0);
     for (uint32_t v = 0; v < 4; v++) dual_ledger_trusted_create_defect_node(words, 0, v, &node);
     for (uint64_t i = 0; i < 3; i++) members[i] = handle(i + 1, i, 0);
     must("a blossom of three", dual_ledger_trusted_create_blossom(words, 0, members, 3, NULL, 0, &node) == 0);
@@ -133,6 +135,7 @@ static void small(uint64_t *words) {
     must("a blossom of two", dual_ledger_trusted_create_blossom(words, 0, members, 2, touching, 4, &node) == 0);
     for (uint32_t v = 4; v < 6; v++) dual_ledger_trusted_create_defect_node(words, 0, v, &node);
     must("a fuse", dual_ledger_trusted_fuse(words, 2, 0, 1) == 0 && dual_ledger_trusted_grow(words, 2, 3) == 0);
+    if (floored) must("a node that shrinks", dual_ledger_trusted_set_grow_state(words, 2, handle(7, 6, 0), -1) == 0);
 }
 
 #define W(x) (uint64_t)(uintptr_t)(x)
@@ -157,10 +160,12 @@ static void calls(uint64_t unit, uint64_t node, int levels) {
     BOTH(fuse, b, 7, unit, 3);
     BOTH(clear, b, unit);
     BOTH(mark_filling, b, 7);
+    BOTH(mark_floored, b, 7);
     BOTH(sum_dual_variables, b, unit, a);
     BOTH(sum_grow_speed, b, unit, a);
     BOTH(nodes_count, b, unit, a);
     BOTH(is_filling, b, unit, a);
+    BOTH(is_floored, b, unit, a);
     BOTH(get_node, b, unit, 0, a);
     BOTH(present_count, b, unit, a);
     BOTH(next_present, b, unit, 0, W(vertices), a);
@@ -220,9 +225,9 @@ static void records(void) {
 }
 
 /* A bench of a few nodes: accepted calls of each kind. */
-static void few(void) {
+static void few(int floored) {
     uint64_t outer = handle(6, 5, 0);
-    small(start);
+    small(start, floored);
     members[0] = handle(7, 6, 0), members[1] = handle(8, 7, 0);
     touching[0] = touching[1] = members[0], touching[2] = touching[3] = members[1];
     calls(2, outer, 3);
@@ -298,6 +303,8 @@ int main(int words, char **word) {
     if (words != 2) return 2;
     few();
     records();
+    few(0);
+    few(1);
     long_sum();
     spoiled();
     for (size_t i = 0; i < sizeof depths / sizeof *depths; i++) {
