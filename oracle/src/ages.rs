@@ -1,6 +1,6 @@
 //! The ages of a record by the model, as `dual-ledger ages --csv` prints them, worked out another way: which nodes went by a line is seen from the bench before
 //! and after it, and what blossoms had when they went is kept by the interface whose slot they held. One record in three is run with interfaces that fill
-//! emptied slots (`--fill`); of these the answers of `dual-ledger check` are compared too.
+//! emptied slots (`--fill`) or are floored (`--floor`); of these the answers of `dual-ledger check` are compared too.
 use crate::generator::plans::{MIXED, TEXT};
 use crate::generator::Player;
 use crate::line::{numbers, read, Line};
@@ -104,13 +104,14 @@ pub fn compare(command: &str, count: u64) -> Result<String, String> {
     for seed in 0..count {
         let plan = if seed % 2 == 0 { TEXT } else { MIXED };
         let mut player = Player::new(plan, seed + 1);
-        let units: Vec<String> = (0..8).filter(|unit| seed % 3 == 0 && seed / 6 >> unit & 1 == 1).map(|unit| unit.to_string()).collect();
-        let marks: Vec<String> = units.iter().map(|unit| format!("P {unit} 1")).collect();
+        let units: Vec<String> = (0..8).filter(|unit| seed % 3 == 0 && seed / 12 >> unit & 1 == 1).map(|unit| unit.to_string()).collect();
+        let (mode, option) = [(1, "--fill"), (2, "--floor")][seed as usize / 6 % 2];
+        let marks: Vec<String> = units.iter().map(|unit| format!("P {unit} {mode}")).collect();
         marks.iter().for_each(|line| assert!(player.play(line)));
         let length = 20 + seed % 400;
         let record: String = (0..length).map(|_| if seed % 2 == 0 { player.accepted() } else { player.line() } + "\n").collect();
         std::fs::write(&path, &record).map_err(|why| why.to_string())?;
-        let options = units.iter().flat_map(|unit| ["--fill", unit]);
+        let options = units.iter().flat_map(|unit| [option, unit]);
         let output = Command::new(command)
             .args(["ages", "--csv", "--quiet"])
             .args(options.clone())

@@ -36,13 +36,47 @@ uint8_t dual_ledger_trusted_set_grow_state(uint64_t *bench, uint8_t unit, uint64
     return real_dual_ledger_trusted_set_grow_state(bench, unit, node, spoiled(4) && state < 0 ? 0 : state);
 }
 
-/* 5: growth to 2^40 exactly is refused; 6: one past it is not looked at, but grown by one less */
+/* whether every shrinking node of a floored interface stands higher than a value: of its own nodes alone */
+static int stands(const uint64_t *bench, uint8_t unit, int64_t least) {
+    for (uint64_t s = 0; unit < 8 && s < bench[16 * unit + 1]; s++) {
+        uint64_t node = DUAL_LEDGER_HANDLE(unit, s, bench[129 + 12 * (64 * unit + s)]);
+        int64_t value = 0;
+        if (bench[131 + 12 * (64 * unit + s)] == 2 && (dual_ledger_trusted_get_dual_variable(bench, node, &value) != 0 || value < least)) return 0;
+    }
+    return 1;
+}
+
+/* 5: growth to 2^40 exactly is refused; 6: one past it is not looked at, but grown by one less; 33: a floored
+ * interface is grown to one below its floor; 34: not to the floor itself */
 uint8_t dual_ledger_trusted_grow(uint64_t *bench, uint8_t unit, int64_t length) {
     uint64_t limit = (uint64_t)1 << 40;
     int fits = unit < 8 && length > 0;
     if (spoiled(5) && fits && bench[16 * unit + 2] + (uint64_t)length == limit) return DUAL_LEDGER_LENGTH;
     if (spoiled(6) && fits && bench[16 * unit + 2] + (uint64_t)length == limit + 1) return real_dual_ledger_trusted_grow(bench, unit, length - 1);
+    if (spoiled(33) && fits && bench[16 * unit + 9] >= 2 && stands(bench, unit, length - 1)) {
+        uint64_t marks = bench[16 * unit + 9];
+        bench[16 * unit + 9] = 0;
+        uint8_t number = real_dual_ledger_trusted_grow(bench, unit, length);
+        bench[16 * unit + 9] = marks;
+        return number;
+    }
+    if (spoiled(34) && fits && bench[16 * unit + 9] >= 2 && !stands(bench, unit, length + 1)) return DUAL_LEDGER_BELOW;
     return real_dual_ledger_trusted_grow(bench, unit, length);
+}
+
+/* 35: a parent keeps its own floor, trusted form */
+uint8_t dual_ledger_trusted_fuse(uint64_t *bench, uint8_t parent, uint8_t left, uint8_t right) {
+    uint64_t marks = parent < 8 ? bench[16 * parent + 9] : 0;
+    uint8_t number = real_dual_ledger_trusted_fuse(bench, parent, left, right);
+    if (number == 0 && spoiled(35)) bench[16 * parent + 9] = marks;
+    return number;
+}
+
+/* 36: every interface is said to be floored */
+uint8_t dual_ledger_trusted_is_floored(const uint64_t *bench, uint8_t unit, uint64_t *yes) {
+    uint8_t number = real_dual_ledger_trusted_is_floored(bench, unit, yes);
+    if (number == 0 && spoiled(36)) *yes = 1;
+    return number;
 }
 
 /* 7: touching handles left out, told form */
@@ -82,7 +116,7 @@ uint8_t dual_ledger_trusted_create_defect_node(uint64_t *bench, uint8_t unit, ui
 uint8_t dual_ledger_trusted_mark_filling(uint64_t *bench, uint8_t unit) {
     uint8_t number = real_dual_ledger_trusted_mark_filling(bench, unit);
     if (number != DUAL_LEDGER_MARK || !spoiled(29)) return number;
-    bench[16 * unit + 9] = 1;
+    bench[16 * unit + 9] |= 1;
     return 0;
 }
 
@@ -132,7 +166,7 @@ uint8_t dual_ledger_trusted_check_ptr_belonging(const uint64_t *bench, uint8_t u
 }
 
 /* 16 to 19: the sound test without the next serial, without touching handles below it, without the sum's limit, without the words past the used slots;
- * 32: without the bits that no mark has */
+ * 32: without the bits that no mark has; 37: without floors */
 uint8_t dual_ledger_is_sound(const uint64_t *bench) {
     static uint64_t mended[DUAL_LEDGER_WORDS];
     if (real_dual_ledger_is_sound(bench)) return 1;
@@ -144,7 +178,8 @@ uint8_t dual_ledger_is_sound(const uint64_t *bench) {
     for (int u = 0; spoiled(18) && u < 8; u++) mended[16 * u + 3] = (uint64_t)1 << 62;
     for (int u = 0; spoiled(19) && u < 8; u++)
         for (uint64_t s = bench[16 * u + 1]; s < 64; s++) memset(mended + 129 + 12 * (64 * u + s), 0, 12 * 8);
-    for (int u = 0; spoiled(32) && u < 8; u++) mended[16 * u + 9] = 0;
+    for (int u = 0; spoiled(32) && u < 8; u++) mended[16 * u + 9] &= 3;
+    for (int u = 0; spoiled(37) && u < 8; u++) mended[16 * u + 9] &= ~(uint64_t)2;
     return real_dual_ledger_is_sound(mended);
 }
 

@@ -1,7 +1,7 @@
 //! What the modes of an interface cost: defects and blossoms made in one that fills emptied slots, beside one that uses its slots one after another. Nanoseconds of
-//! a call: that of a round from a cleared interface less that of the round without the calls in question, by their number.
+//! a call: that of a round from a cleared interface less that of the round without the calls in question, by their number. And growths of floored trees.
 use crate::bench::{once, Row};
-use dual_ledger::{lent, Bench, Handle, Verdict};
+use dual_ledger::{lent, Bench, GrowState, Handle, Verdict};
 use oracle::timing::keep;
 
 /// So many nodes in a round: an interface has no more slots.
@@ -78,6 +78,40 @@ fn blossom_first() -> Row {
     }
 }
 
+/// A tree of so many defects, seven interfaces for 448, all of which shrink from a great height, or none.
+fn tree(nodes: usize, floored: bool, shrink: bool) -> (Bench, u8) {
+    let mut bench = Bench::default();
+    (0..7).filter(|_| floored).for_each(|unit| bench.mark_floored(unit).expect("a new interface"));
+    let mut all = vec![];
+    let mut fill = |bench: &mut Bench, unit: u8| {
+        let left = nodes - all.len();
+        all.extend((0..left.min(64) as u32).map(|vertex| bench.create_defect_node(unit, 64 * unit as u32 + vertex).expect("there is room")));
+    };
+    (0..4).for_each(|unit| fill(&mut bench, unit));
+    for (parent, left, right) in [(4, 0, 1), (5, 2, 3), (6, 4, 5)] {
+        bench.fuse(parent, left, right).expect("halves of one kind");
+        fill(&mut bench, parent);
+    }
+    bench.grow(6, 1 << 35).expect("far from the limit");
+    let state = if shrink { GrowState::Shrink } else { GrowState::Grow };
+    all.iter().for_each(|node| bench.set_grow_state(6, *node, state).expect("a node of the tree"));
+    (bench, 6)
+}
+
+/// One growth by 1.
+fn growth(nodes: usize, floored: bool, shrink: bool) -> Row {
+    let (mut bench, top) = tree(nodes, floored, shrink);
+    let mut words = Box::new(*bench.words());
+    Row {
+        what: format!("grow, {}{}", if floored { "floored" } else { "no floor" }, if shrink { ", shrinking" } else { "" }),
+        nodes,
+        original: None,
+        trusted: once(|_| keep(bench.grow(top, 1).is_ok())),
+        told: None,
+        public: Some(once(|_| keep(lent::grow(&mut words, top, 1).is_ok()))),
+    }
+}
+
 pub fn rows() -> Vec<Row> {
     let kinds: [(&str, Calls); 3] = [("defect", defects), ("blossom", blossoms), ("blossom, expand", expanded)];
     let mut rows: Vec<Row> = kinds.into_iter().flat_map(|(what, calls)| [row(what, false, calls), row(what, true, calls)]).collect();
@@ -92,5 +126,8 @@ pub fn rows() -> Vec<Row> {
         public: Some(once(|_| keep(lent::mark_filling(&mut words, 0).is_ok()))),
     });
     rows.push(blossom_first());
+    for nodes in [1, 64, 448] {
+        rows.extend([(false, true), (true, false), (true, true)].map(|(floored, shrink)| growth(nodes, floored, shrink)));
+    }
     rows
 }

@@ -29,7 +29,7 @@ fn bend_face(rng: &mut Rng, bench: &mut Bench, unit: usize) {
     let (sign, step) = (rng.pick(&[-1, 1]).unwrap(), rng.between(-1, 1));
     let halves = (half(rng), half(rng));
     let face = &mut bench.faces[unit];
-    match rng.below(9) {
+    match rng.below(10) {
         0 => bench.next = rng.pick(&[0, 1, WORN, WORN + 1, next - 1, next + 1]).unwrap(),
         1 => face.progress = rng.pick(&[0, PROGRESS, PROGRESS + 1, face.progress + 1]).unwrap(),
         2 => face.sum = sign * (512 * reach + step),
@@ -37,6 +37,7 @@ fn bend_face(rng: &mut Rng, bench: &mut Bench, unit: usize) {
         4 if face.slots.len() <= SLOTS => face.slots.push(None),
         5 => drop(face.slots.pop()),
         8 => face.fills = !face.fills,
+        9 => face.floored = !face.floored,
         6 => face.parent = Some(unit + 1 + rng.below(8)).filter(|parent| *parent < FACES && rng.chance(80)),
         _ => face.children = Some(halves).filter(|_| rng.chance(80)),
     }

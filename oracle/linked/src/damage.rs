@@ -14,7 +14,7 @@ use oracle::show;
 /// A way to damage words.
 type Damage = fn(&mut Rng, &mut Words);
 
-const KINDS: [(&str, Damage); 14] = [
+const KINDS: [(&str, Damage); 16] = [
     ("none", |_, _| {}),
     ("one bit of a word in use", |rng, words| flip(rng, words, 1)),
     ("up to eight bits of words in use", |rng, words| (0..1 + rng.below(8)).for_each(|_| flip(rng, words, 1))),
@@ -29,6 +29,11 @@ const KINDS: [(&str, Damage); 14] = [
     ("a map of 0", |rng, words| words[16 * rng.below(8) + 8] = 0),
     ("a bit of a marks word", |rng, words| words[16 * rng.below(8) + 9] ^= 1 << rng.below(64)),
     ("another marks word", |rng, words| words[16 * rng.below(8) + 9] = rng.next() % 6),
+    ("a floor in one half only, or gone from it", |rng, words| {
+        let halves: Vec<usize> = (0..8).filter(|unit| words[16 * unit + 5] != 0).collect();
+        rng.pick(&halves).into_iter().for_each(|unit| words[16 * unit + 9] ^= 2)
+    }),
+    ("a value of -1 above a floor, or another", sink),
 ];
 
 /// One bit of a map changed: of a slot, used or not, and held or not, as asked. Words without such a slot are left.
@@ -38,6 +43,17 @@ fn mark(rng: &mut Rng, words: &mut Words, asked: fn(usize, usize, bool) -> bool)
     let found: Vec<_> = all.filter(|(unit, slot)| asked(words[16 * unit + 1] as usize, *slot, held(words, *unit, *slot))).collect();
     if let Some((unit, slot)) = rng.pick(&found) {
         words[16 * unit + 8] ^= 1 << slot
+    }
+}
+
+/// A node of a floored interface, its value made -1, or 0, or one less than it is. Words without one are left.
+fn sink(rng: &mut Rng, words: &mut Words) {
+    let Some(mut bench) = decode(words) else { return };
+    let nodes: Vec<_> = (0..8).filter(|unit| bench.faces[*unit].floored).flat_map(|unit| bench.slots_of(unit)).collect();
+    if let Some(node) = rng.pick(&nodes) {
+        let value = bench.at(node).value;
+        bench.at_mut(node).value = rng.pick(&[-1, -1, 0, value - 1]).expect("there are some");
+        words.copy_from_slice(&encode(&bench)[..]);
     }
 }
 
@@ -173,7 +189,7 @@ fn shown(words: &Words) -> Vec<(usize, u64)> {
 fn call(rng: &mut Rng, was: &Plain) -> Line {
     let present: Vec<u32> = (0..8).flat_map(|unit| was.slots_of(unit)).map(|h| h.serial).collect();
     let (u, s) = (rng.below(9) as u32, rng.pick(&present).unwrap_or(1));
-    match rng.below(20) {
+    match rng.below(22) {
         0 | 1 => Line::Defect(u, rng.below(50) as u32),
         2 | 3 => Line::Blossom(u, rng.some(&present, 3), vec![]),
         4 => Line::Expand(u, s),
@@ -183,6 +199,8 @@ fn call(rng: &mut Rng, was: &Plain) -> Line {
         8 => Line::Clear(u),
         18 => Line::Mark(u, Mode::Filling),
         19 => Line::Marked(u, Mode::Filling),
+        20 => Line::Mark(u, Mode::Floored),
+        21 => Line::Marked(u, Mode::Floored),
         9 => Line::Strict(u),
         10 => Line::Sum(u),
         11 => Line::Speed(u),
@@ -238,6 +256,8 @@ fn public(words: &mut Words, line: &Line, was: &Plain) -> Vec<i64> {
         Line::Fuse(p, l, r) => none(lent::fuse(words, unit(*p), unit(*l), unit(*r))),
         Line::Clear(u) => none(lent::clear(words, unit(*u))),
         Line::Mark(u, Mode::Filling) => none(lent::mark_filling(words, unit(*u))),
+        Line::Mark(u, Mode::Floored) => none(lent::mark_floored(words, unit(*u))),
+        Line::Marked(u, Mode::Floored) => of(lent::is_floored(words, unit(*u)).map(|yes| [yes as i64])),
         Line::Marked(u, Mode::Filling) => of(lent::is_filling(words, unit(*u)).map(|yes| [yes as i64])),
         Line::Strict(u) => of(lent::strict_check(words, unit(*u)).map(|found| [found.number() as i64, found.index() as i64])),
         Line::Sum(u) => of(lent::sum_dual_variables(words, unit(*u)).map(|sum| [sum])),

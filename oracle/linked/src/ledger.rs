@@ -187,6 +187,10 @@ impl Ledger {
                 let u = unit(*u);
                 (self.trusted.mark_filling(u), self.told.telling(&mut notes).mark_filling(u), lent::mark_filling(&mut self.lent, u))
             }
+            Line::Mark(u, Mode::Floored) => {
+                let u = unit(*u);
+                (self.trusted.mark_floored(u), self.told.telling(&mut notes).mark_floored(u), lent::mark_floored(&mut self.lent, u))
+            }
             _ => unreachable!("{line:?} is no call on interfaces"),
         };
         let none = |result: Result<(), Refusal>| result.map(|_| None);

@@ -1,5 +1,5 @@
 //! How runs begin: most from a new bench; some with few serials left, with a full interface, with many free nodes, or in the largest tree; some with full groups;
-//! some with interfaces that fill emptied slots.
+//! some with interfaces that fill emptied slots, some with floored ones.
 use oracle::generator::rng::Rng;
 use oracle::generator::Plan;
 
@@ -7,15 +7,23 @@ use oracle::generator::Plan;
 pub fn lines(plan: &Plan, seed: u64, each: bool) -> Vec<String> {
     let mut rng = Rng::new(seed);
     let marked = match rng.below(5) {
-        0 => marks(rng.next()),
+        0 => marks(rng.next(), 1),
+        1 => floors(&mut rng),
         _ => vec![],
     };
     [marked, unmarked(plan, seed, each)].concat()
 }
 
 /// Interfaces by the bits of a number. (A set-up among the lines after them ends the marks, and so do clears.)
-fn marks(bits: u64) -> Vec<String> {
-    (0..8).filter(|unit| bits >> unit & 1 == 1).map(|unit| format!("P {unit} 1")).collect()
+fn marks(bits: u64, mode: u8) -> Vec<String> {
+    (0..8).filter(|unit| bits >> unit & 1 == 1).map(|unit| format!("P {unit} {mode}")).collect()
+}
+
+/// All interfaces floored in every other run, so that they can be fused; else some, where fuses are refused. Some of both fill emptied slots.
+fn floors(rng: &mut Rng) -> Vec<String> {
+    let floored = if rng.chance(50) { u64::MAX } else { rng.next() };
+    let filling = if rng.chance(50) { 0 } else { rng.next() };
+    [marks(floored, 2), marks(filling, 1)].concat()
 }
 
 fn unmarked(plan: &Plan, seed: u64, each: bool) -> Vec<String> {

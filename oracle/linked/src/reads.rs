@@ -63,6 +63,9 @@ impl Ledger {
             Line::Marked(u, Mode::Filling) => {
                 shown(&both(two, bench.is_filling(unit(*u)), || lent::is_filling(words, unit(*u)))?, |yes| [yes as i64])
             }
+            Line::Marked(u, Mode::Floored) => {
+                shown(&both(two, bench.is_floored(unit(*u)), || lent::is_floored(words, unit(*u)))?, |yes| [yes as i64])
+            }
             Line::HandleAt(u, index) => {
                 stepped(two, bench, words, unit(*u), *index)?;
                 let found = both(two, bench.get_node(unit(*u), *index), || lent::get_node(words, unit(*u), *index))?;

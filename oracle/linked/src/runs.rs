@@ -60,7 +60,7 @@ pub fn reads(model: &Model, groups: usize) -> Vec<Line> {
     for unit in (0..8).filter(|unit| model.is_top(*unit)) {
         let u = unit as u32;
         lines.extend([Line::Sum(u), Line::Speed(u), Line::Count(u), Line::Dump(u), Line::Check(u), Line::Strict(u)]);
-        lines.push(Line::Marked(u, Mode::Filling));
+        lines.extend([Line::Marked(u, Mode::Filling), Line::Marked(u, Mode::Floored)]);
         lines.extend((0..bench.slots(unit).len() as u32).map(|index| Line::HandleAt(u, index)));
         for h in bench.present(unit) {
             let s = h.serial;

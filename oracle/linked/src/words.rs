@@ -42,7 +42,7 @@ pub fn encode(bench: &Bench) -> Box<Words> {
         let fields = [face.slots.len() as u64, face.progress as u64, sum, speed, face.parent.map_or(0, one_more), left, right];
         words[16 * unit + 1..16 * unit + 8].copy_from_slice(&fields);
         words[16 * unit + 8] = map(face);
-        words[16 * unit + 9] = face.fills as u64;
+        words[16 * unit + 9] = face.fills as u64 + 2 * face.floored as u64;
         let above = above(bench, unit);
         for (slot, node) in face.slots.iter().enumerate() {
             node.iter().for_each(|node| put(bench, &mut words, SLOTS * unit + slot, node, above));
@@ -110,7 +110,8 @@ fn face(words: &Words, unit: usize) -> Option<Face> {
     };
     let fits = field(1) <= SLOTS as u64 && field(2) <= PROGRESS as u64 && parent.map_or(true, |parent| unit < parent && parent < FACES);
     let (sum, speed) = (field(3).wrapping_sub(SUM) as i64, field(4).wrapping_sub(SPEED) as i64);
-    fits.then_some(Face { slots: vec![], progress: field(2) as i64, sum, speed, parent, children, fills: field(9) == 1 })
+    let (fills, floored) = (field(9) & 1 == 1, field(9) & 2 == 2);
+    fits.then_some(Face { slots: vec![], progress: field(2) as i64, sum, speed, parent, children, fills, floored })
 }
 
 /// A slot: none inside if it is empty, none at all if it cannot be a slot's.
