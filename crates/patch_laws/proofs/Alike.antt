@@ -18,8 +18,7 @@ use Rattle.ledger_spec.specs.Calls.{Call, Defect, Blossom, Expand, SetState, Gr
 use Rattle.ledger_spec.specs.Knit.{In, here, there}
 use Rattle.ledger_spec.proofs.Lists.{in-left}
 use Rattle.ledger_laws.proofs.Answered.{testsOf}
-use Rattle.ledger_laws.proofs.Untouched.{namedBy}
-use Rattle.patch_laws.specs.Patch.{Patch, mine}
+use Rattle.patch_laws.specs.Patch.{Patch, mine, unitsNamed}
 use Rattle.patch_laws.proofs.Renamed.{Renaming, rePair, reNode, reSlot, re-size, re-given, re-orphan, re-defect, re-both}
 use Rattle.patch_laws.proofs.Faces.{Faces, Plain, Closed, top-faces, slot-faces}
 
@@ -48,7 +47,7 @@ Each p us = (u : ℕ) → In u us → mine p u ≡ true
 
 -- a call whose interfaces and handles are the patch's
 pub record Own (p : Patch) (c : Call) : Type 0 where
-  pub units : Each p (namedBy c)
+  pub units : Each p (unitsNamed c)
   pub handles : (h : Handle) → In h (handlesOf c) → mine p (h .unit) ≡ true
 
 -- a renaming that keeps the places of the patch's handles, and serials apart

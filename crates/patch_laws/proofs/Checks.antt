@@ -29,7 +29,7 @@ pub record Inside (p : Patch) (m : Member) : Type 0 where
   pub second : mine p (m .touch .1 .unit) ≡ true
 
 -- the index goes by places alone
-index-faces : (ρ : ℕ → ℕ) (ts : List Entry) (k : ℕ) (h : Handle) → indexIn (map (reEntry (by ρ)) ts) k (by ρ .handle h) ≡ indexIn ts k h
+pub index-faces : (ρ : ℕ → ℕ) (ts : List Entry) (k : ℕ) (h : Handle) → indexIn (map (reEntry (by ρ)) ts) k (by ρ .handle h) ≡ indexIn ts k h
 unfolding indexIn
 index-faces ρ [] k h = refl
 index-faces ρ (t ∷ ts) k h = ap (λ (n : ℕ). elim (eqb (t .0) (h .unit) && eqb (t .1) (h .slot)) as (λ x. ℕ) [ true ↦ k | false ↦ n ]) (index-faces ρ ts (suc k) h)

@@ -19,11 +19,10 @@ use Rattle.ledger_spec.specs.SoundTree.{all}
 use Rattle.ledger_spec.specs.Calls.{Call}
 use Rattle.ledger_spec.specs.Opened.{run}
 use Rattle.ledger_spec.proofs.Lists.{and-true}
-use Rattle.ledger_laws.proofs.Untouched.{namedBy}
-use Rattle.patch_laws.specs.Patch.{Name, Patch, Apart, mine, unitsOf, Defect, Blossom, Expand, SetState, Grow, Fuse, Clear, written, numberFrom}
+use Rattle.patch_laws.specs.Patch.{Name, Patch, Apart, mine, unitsNamed, unitsOf, Defect, Blossom, Expand, SetState, Grow, Fuse, Clear, written, numberFrom}
 use Rattle.patch_laws.specs.Obstacles.{numbered}
-use Rattle.patch_laws.specs.Runs.{defectAdded, Side, Value, Outer, Vertices, At, Check, Strict, Add, Seen, answered, amount, counted, truth, named, linked, indexed, listed, judged, kept, after, seen, readAt, Step, theirs, ours, asked, sees, reached, opened, own}
-use Rattle.patch_laws.specs.Statement.{readOf, Fits, AllFit, Fresh, Unworn}
+use Rattle.patch_laws.specs.Runs.{defectAdded, Side, Value, Outer, Vertices, At, Check, Strict, Add, Seen, answered, counted, judged, linked, listed, numberOf, after, seen, readBy, Step, theirs, ours, asked, sees, reached, opened, own}
+use Rattle.patch_laws.specs.Statement.{readOf, Fits, AllFit, Unworn}
 use Rattle.patch_laws.proofs.Patches.{two-patches}
 
 -- ---- the patches: interfaces 0 to 2, and 3 to 5
@@ -79,25 +78,13 @@ pub second-run : List Step
 second-run = woven (Call.Clear 2 ∷ Call.Defect 1 8 ∷ Call.Defect 1 9 ∷ Call.Blossom 1 (record { unit = 1; slot = 0; serial = 1000 } ∷ []) [] ∷ Call.Fuse 2 0 1 ∷ []) steps
 
 -- ---- the numbers that the watched patch is answered
-pub numberOf : Seen → ℕ
-numberOf (answered n h ns) = n
-numberOf (amount r) = r .0
-numberOf (counted r) = r .0
-numberOf (truth r) = r .0
-numberOf (named r) = r .0
-numberOf (linked r) = r .0
-numberOf (indexed r) = r .0
-numberOf (listed r) = r .0
-numberOf (judged r) = r .0
-numberOf (kept r) = r .0
-
 pub numbers : map numberOf (sees (opened 1) first-run) ≡ 0 ∷ 0 ∷ 0 ∷ 0 ∷ 0 ∷ 0 ∷ 0 ∷ 0 ∷ 0 ∷ 0 ∷ 0 ∷ 0 ∷ 0 ∷ 0 ∷ 0 ∷ 0 ∷ 0 ∷ 8 ∷ 8 ∷ 0 ∷ 4 ∷ 8 ∷ 0 ∷ 8 ∷ 0 ∷ 3 ∷ 0 ∷ []
-unfolding run written numberFrom numbered after seen readAt sees steps woven first-run numberOf
+unfolding run written numberFrom numbered after seen readBy sees steps woven first-run
 numbers = refl
 
 -- ---- what the theorem asks of a run, as tests
 fits : Patch → Patch → Step → Bool
-fits a p (theirs c) = all (mine a) (namedBy c)
+fits a p (theirs c) = all (mine a) (unitsNamed c)
 fits a p (ours c) = all (mine p) (unitsOf c)
 fits a p (asked r) = all (mine p) (readOf r)
 
@@ -113,34 +100,12 @@ all-fit a p [] e = tt
 all-fit a p (x ∷ xs) e = let t = and-true (fits a p x) (all (fits a p) xs) e in (one-fits a p x (t .0), all-fit a p xs (t .1))
 
 unspent : Seen → Bool
-unspent (answered n h ns) = not (eqb n 15)
-unspent (amount r) = true
-unspent (counted r) = true
-unspent (truth r) = true
-unspent (named r) = true
-unspent (linked r) = true
-unspent (indexed r) = true
-unspent (listed r) = true
-unspent (judged r) = true
-unspent (kept r) = true
-
-one-fresh : (x : Seen) → unspent x ≡ true → Fresh x
-unfolding unspent
-one-fresh (answered n h ns) e = λ z. true≢false (sym e ∙ ap not (eq-eqb n 15 z))
-one-fresh (amount r) e = tt
-one-fresh (counted r) e = tt
-one-fresh (truth r) e = tt
-one-fresh (named r) e = tt
-one-fresh (linked r) e = tt
-one-fresh (indexed r) e = tt
-one-fresh (listed r) e = tt
-one-fresh (judged r) e = tt
-one-fresh (kept r) e = tt
+unspent x = not (eqb (numberOf x) 15)
 
 all-fresh : (xs : List Seen) → all unspent xs ≡ true → Unworn xs
-unfolding all
+unfolding all unspent
 all-fresh [] e = tt
-all-fresh (x ∷ xs) e = let t = and-true (unspent x) (all unspent xs) e in (one-fresh x (t .0), all-fresh xs (t .1))
+all-fresh (x ∷ xs) e = let t = and-true (unspent x) (all unspent xs) e in (λ z. true≢false (sym (t .0) ∙ ap not (eq-eqb (numberOf x) 15 z)), all-fresh xs (t .1))
 
 -- ---- and the two runs show the same
 first-fits : all (fits other watched) first-run ≡ true
@@ -152,11 +117,11 @@ unfolding all mine fits other watched steps woven second-run
 second-fits = refl
 
 first-fresh : all unspent (sees (opened 1) first-run) ≡ true
-unfolding run written numberFrom numbered after seen readAt sees steps woven first-run unspent
+unfolding run written numberFrom numbered after seen readBy sees steps woven first-run unspent
 first-fresh = refl
 
 second-fresh : all unspent (sees (opened 1000) second-run) ≡ true
-unfolding run written numberFrom numbered after seen readAt sees steps woven second-run unspent
+unfolding run written numberFrom numbered after seen readBy sees steps woven second-run unspent
 second-fresh = refl
 
 same-steps : own first-run ≡ own second-run
@@ -204,5 +169,5 @@ abbrev seenAt : ℕ → Seen
 seenAt k = getD (sees (opened 1) first-run) k (counted (0, 0))
 
 pub looks : (seenAt 9 ≡ judged (0, (0, 0))) × (seenAt 10 ≡ linked (0, (record { unit = 5; slot = 0; number = some 5 }, 2))) × (seenAt 11 ≡ listed (0, (4, 10 ∷ 11 ∷ 12 ∷ 20 ∷ []))) × (seenAt 19 ≡ judged (0, (5, 0)))
-unfolding run written numberFrom numbered after seen readAt sees steps woven first-run
+unfolding run written numberFrom numbered after seen readBy sees steps woven first-run
 looks = (refl, refl, refl, refl)

@@ -1,11 +1,12 @@
 -- The slots of a tree of the patch, in the order of the index, on two benches whose interfaces of the patch are alike. Assumes nothing.
-use Prim.Native.Nat.{ℕ, zero, suc}
+use Prim.Native.Nat.{ℕ, zero, suc, _+_}
 use mathlib.Core.Path.{_≡_, refl, sym, _∙_, ap, ap₂, subst}
 use mathlib.Core.Logic.{_⊎_, inl, inr}
 use mathlib.Core.Bool.{true}
 use mathlib.Core.Option.{Option, none, some}
 use mathlib.Core.List.{List, [], _∷_, _++_, map, map-append}
 use lib.IntN.{_+ℤ_}
+use Rattle.read_present.specs.Present.{one, presentIn}
 use Rattle.ledger_spec.specs.Bench.{Node, Interface, Bench}
 use Rattle.ledger_spec.specs.Look.{interface, tree}
 use Rattle.ledger_spec.specs.Reads.{slotsFrom, gather, slotsOf}
@@ -35,6 +36,16 @@ pub total-faces : (R : Renaming) (ts : List Entry) → totalOf (map (reEntry R) 
 unfolding totalOf
 total-faces R [] = refl
 total-faces R (t ∷ ts) = ap₂ _+ℤ_ (re-worth R (t .2)) (total-faces R ts)
+
+-- ---- present nodes
+pub present-faces : (R : Renaming) (ts : List Entry) → presentIn (map (reEntry R) ts) ≡ presentIn ts
+unfolding presentIn
+present-faces R [] = refl
+present-faces R (t ∷ ts) = ap₂ _+_ (go (t .2)) (present-faces R ts)
+  where
+    go : (o : Option Node) → one (reSlot R o) ≡ one o
+    go none = refl
+    go (some n) = refl
 
 -- ---- trees
 module _ (p : Patch) (s : Bench) (C : Closed p s) where

@@ -23,15 +23,15 @@ use Rattle.ledger_spec.specs.Facts.{Sound}
 use Rattle.ledger_spec.proofs.Lists.{not-in-nil, in-cases, in-append, map-in}
 use Rattle.ledger_spec.proofs.Tops.{below}
 use Rattle.ledger_spec.proofs.Passed.{fusable}
-use Rattle.ledger_spec.proofs.Says.{says}
 use Rattle.ledger_spec.proofs.Holds.{holds}
 use Rattle.ledger_spec.proofs.Readings.{mark-next}
 use Rattle.ledger_spec.proofs.DeedReadings.{defect-next, blossom-next, expand-next}
 use Rattle.ledger_spec.proofs.TreeReadings.{joins, grow-next, join-next, wipe-next}
-use Rattle.ledger_laws.proofs.Answered.{testsOf, deedOf, nodeOf, answer-number, zero-sound, zero-tests, zero-bench, zero-node, zero-notices, refused-bench, refused-node, refused-notices}
+use Rattle.ledger_laws.proofs.Answered.{testsOf, deedOf, nodeOf, answer-number, zero-tests, zero-bench, zero-node, zero-notices, refused-bench, refused-node, refused-notices}
 use Rattle.ledger_laws.proofs.Always.{answered-sound}
+use Rattle.ledger_laws.proofs.Never.{next-grows}
 use Rattle.ledger_laws.proofs.Untouched.{namedBy, untouched}
-use Rattle.patch_laws.specs.Patch.{Patch, Apart, mine, Script, unitsOf, Table, nowhere, given, givenPair, written, nameOf}
+use Rattle.patch_laws.specs.Patch.{Patch, Apart, mine, unitsNamed, Script, unitsOf, Table, nowhere, given, givenPair, written, nameOf}
 use Rattle.patch_laws.specs.Runs.{heard, answered, Side, made, answerTo, after, seen}
 use Rattle.patch_laws.proofs.Renamed.{Renaming, rePair, map-map}
 use Rattle.patch_laws.proofs.Faces.{Faces, Closed, climb-mine, top-faces}
@@ -49,35 +49,27 @@ mine-own p u m h = go (p u) refl m
     go true e k = e
     go false e k = absurd (omega (arith, h, leb-true 8 u k))
 
-next-deed : (b : Bench) → Sound b → (c : Call) → first (testsOf b c) ≡ 0 → b .next ≤ deedOf b c .next
-unfolding deedOf testsOf
-next-deed b S (Defect u v) e = omega (arith, defect-next b u v)
-next-deed b S (Blossom u hs ts) e = omega (arith, blossom-next b u hs ts)
-next-deed b S (Expand u h) e = omega (arith, expand-next b h)
-next-deed b S (SetState u h t) e = omega (arith, mark-next b h t none)
-next-deed b S (Grow u l) e = omega (arith, grow-next b u l)
-next-deed b S (Fuse q l r) e = omega (arith, join-next b q l r (joins (S .frame) (fusable b q l r e)))
-next-deed b S (Clear u) e = omega (arith, wipe-next b u)
-
--- serials are not given out twice
-pub next-grows : (b : Bench) (c : Call) → b .next ≤ answer b c .bench .next
-next-grows b c = go (answer b c .number) refl
-  where
-    go : (n : ℕ) → answer b c .number ≡ n → b .next ≤ answer b c .bench .next
-    go zero e = subst (λ (d : Bench). b .next ≤ d .next) (sym (zero-bench b c e)) (next-deed b (says b (zero-sound b c e)) c (zero-tests b c e))
-    go (suc n) e = subst (λ (d : Bench). b .next ≤ d .next) (sym (refused-bench b c (λ z. omega (arith, e, z)))) (omega arith)
-
 out : (b : Bench) → Sound b → (w : ℕ) → 8 ≤ w → interface b w ≡ fresh
 out b S w h = List·getD-eq-default (b .interfaces) fresh (omega (arith, h, S .frame .eight))
 
+-- what a call names is what the law of untouched interfaces goes by
+same-units : (c : Call) → namedBy c ≡ unitsNamed c
+same-units (Defect u v) = refl
+same-units (Blossom u hs ts) = refl
+same-units (Expand u h) = refl
+same-units (SetState u h t) = refl
+same-units (Grow u l) = refl
+same-units (Fuse q l r) = refl
+same-units (Clear u) = refl
+
 -- the patch's interfaces are untouched
-module _ (a p : Patch) (apart : Apart a p) (R : Renaming) (s b : Bench) (S : Sound b) (C : Closed p s) (F : Faces p R s b) (c : Call) (w : Each a (namedBy c)) where
+module _ (a p : Patch) (apart : Apart a p) (R : Renaming) (s b : Bench) (S : Sound b) (C : Closed p s) (F : Faces p R s b) (c : Call) (w : Each a (unitsNamed c)) where
   pub theirs-still : (u : ℕ) → mine p u ≡ true → interface (answer b c .bench) u ≡ interface b u
   theirs-still u m = go (decLt u 8)
     where
       go : Dec (u < 8) → interface (answer b c .bench) u ≡ interface b u
       go (yes h) = untouched b c u (λ i. let low : top b u < 8 = below b (S .frame) 8 u h in
-          apart (top b u) (mine-own a (top b u) (w (top b u) i) low)
+          apart (top b u) (mine-own a (top b u) (w (top b u) (subst (In (top b u)) (same-units c) i)) low)
           (mine-own p (top b u) (subst (λ (t : ℕ). mine p t ≡ true) (sym (top-faces p R s b C F u m)) (climb-mine p s C 8 u m)) low))
       go (no h) = out (answer b c .bench) (answered-sound b S c) u (omega arith) ∙ sym (out b S u (omega arith))
 
@@ -96,7 +88,7 @@ pub record Link (p : Patch) (ρ : ℕ → ℕ) (k₀ k : Side) : Type 0 where
   pub places : (h : Handle) → In h (k₀ .table) → mine p (h .unit) ≡ true
   pub old : (h : Handle) → In h (k₀ .table) → h .serial < k₀ .bench .next
 
-pub theirs-link : (a p : Patch) → Apart a p → (ρ : ℕ → ℕ) (k₀ k : Side) → Link p ρ k₀ k → (c : Call) → Each a (namedBy c)
+pub theirs-link : (a p : Patch) → Apart a p → (ρ : ℕ → ℕ) (k₀ k : Side) → Link p ρ k₀ k → (c : Call) → Each a (unitsNamed c)
     → Link p (shifted ρ (k₀ .bench .next) (answer (k .bench) c .bench .next)) k₀ (record { bench = answer (k .bench) c .bench; table = k .table })
 theirs-link a p apart ρ k₀ k L c w = record {
   sound₀ = L .sound₀;

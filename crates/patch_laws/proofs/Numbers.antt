@@ -18,10 +18,10 @@ use Rattle.ledger_spec.specs.Answers.{answer}
 use Rattle.ledger_spec.proofs.Knit.{same-self}
 use Rattle.ledger_spec.proofs.DeedReadings.{defect-next, blossom-next}
 use Rattle.ledger_laws.proofs.Answered.{nodeOf, deedOf, zero-node, zero-bench}
+use Rattle.ledger_laws.proofs.Never.{next-grows}
 use Rattle.patch_laws.specs.Patch.{Script, Table, nowhere, given, givenPair, written, numberFrom}
 use Rattle.patch_laws.specs.Runs.{Side, made, answerTo, after, Step, theirs, ours, asked, reached, opened}
 use Rattle.patch_laws.specs.Statement.{RightNumbers}
-use Rattle.patch_laws.proofs.Links.{next-grows}
 
 abbrev Rises : Table → Type 0
 Rises t = (i j : ℕ) → i < j → j < length t → given t i .serial < given t j .serial

@@ -15,8 +15,7 @@ use Rattle.ledger_spec.proofs.Lists.{not-in-nil, all-in}
 use Rattle.ledger_spec.proofs.Knit.{none-some}
 use Rattle.ledger_laws.proofs.Linked.{all-fresh}
 use Rattle.ledger_laws.proofs.Always.{begun-sound}
-use Rattle.ledger_laws.proofs.Untouched.{namedBy}
-use Rattle.patch_laws.specs.Patch.{Patch, Apart, mine, Within, unitsOf}
+use Rattle.patch_laws.specs.Patch.{Patch, Apart, mine, Within, unitsNamed, unitsOf}
 use Rattle.patch_laws.specs.Runs.{Side, answerTo, after, seen, Step, theirs, ours, asked, sees, opened, own}
 use Rattle.patch_laws.specs.Statement.{readOf, AllFit, Unworn, TwoPatches}
 use Rattle.patch_laws.proofs.Renamed.{Renaming, reFace}
@@ -76,7 +75,7 @@ module _ (a p : Patch) (apart : Apart a p) where
   pub alone : (ρ : ℕ → ℕ) (k₀ k : Side) → Link p ρ k₀ k → (xs : List Step) → AllFit a p xs → Unworn (sees k xs) → sees k xs ≡ sees k₀ (own xs)
   unfolding sees own
   alone ρ k₀ k L [] fit w = refl
-  alone ρ k₀ k L (theirs c ∷ xs) fit w = alone _ k₀ (record { bench = answer (k .bench) c .bench; table = k .table }) (theirs-link a p apart ρ k₀ k L c (each a (namedBy c) (fit .0))) xs (fit .1) w
+  alone ρ k₀ k L (theirs c ∷ xs) fit w = alone _ k₀ (record { bench = answer (k .bench) c .bench; table = k .table }) (theirs-link a p apart ρ k₀ k L c (each a (unitsNamed c) (fit .0))) xs (fit .1) w
   alone ρ k₀ k L (ours c ∷ xs) fit w = let q : answerTo k c .number ≢ 15 = unfold seen in w .0 in
       ap₂ _∷_ (ours-seen p ρ k₀ k L c (each p (unitsOf c) (fit .0)) q)
       (alone ρ (after k₀ c) (after k c) (ours-link p ρ k₀ k L c (each p (unitsOf c) (fit .0)) q) xs (fit .1) (w .1))

@@ -1,5 +1,5 @@
 -- What the patch asks of either bench is answered alike. Assumes nothing.
-use Prim.Native.Nat.{ℕ, zero, suc}
+use Prim.Native.Nat.{ℕ, suc}
 use mathlib.Core.Path.{_≡_, refl, sym, _∙_, subst, ap, ap₂}
 use mathlib.Core.Bool.{Bool, true, false, _&&_, not}
 use mathlib.Core.Option.{Option, none, some}
@@ -14,7 +14,7 @@ use Rattle.kinds.specs.declared.Obstacle.the-variants.{NonZeroGrow, Conflicting
 use Rattle.ledger_spec.specs.Named.{handleNamed}
 use Rattle.ledger_spec.specs.Sound.{sound}
 use Rattle.ledger_spec.specs.Groups.{Group, soundGroup, added, extended}
-use Rattle.ledger_spec.specs.GroupCalls.{handlesOf, groupHandles, staleCode, vertexOf, orElse, add, extend}
+use Rattle.ledger_spec.specs.GroupCalls.{isEmpty, isActive, growthOf, peek, pop, handlesOf, groupHandles, staleCode, vertexOf, orElse, add, extend}
 use Rattle.ledger_spec.proofs.Lists.{map-in}
 use Rattle.ledger_spec.specs.Bench.{Handle, Node, Interface, Bench}
 use Rattle.ledger_spec.specs.Look.{interface, nodeNamed}
@@ -30,28 +30,48 @@ use Rattle.ledger_spec.specs.Answers.{ask}
 use Rattle.ledger_spec.specs.Knit.{here, In}
 use Rattle.ledger_spec.proofs.Holds.{holds}
 use Rattle.ledger_laws.proofs.Asked.{ask-true}
+use Rattle.ledger_sparing.specs.Sparing.{popSparing}
+use Rattle.bench_words.specs.Codec.{pick}
+use Rattle.read_present.specs.Present.{presentIn, orElse as orNext, nextFrom, presentOf, nextOf}
+use Rattle.picture_spec.specs.Picture.{picture, pictureTests, pictureInto}
 use Rattle.patch_laws.specs.Patch.{Patch, mine, Table, given, Name, nameOf}
-use Rattle.patch_laws.specs.Runs.{Read, Value, Outer, Below, First, Vertices, Belongs, At, Sum, Speed, Count, Check, Strict, Add, Extend, amount, counted, truth, named, linked, indexed, listed, judged, kept, nameIn, Side, readAt, told}
+use Rattle.patch_laws.specs.Runs.{Read, Value, Outer, Below, First, Vertices, Belongs, At, Next, Sum, Speed, Count, Present, Check, Strict, Picture, Empty, Active, Growth, Peek, Pop, Spare, Add, Extend, Seen, amount, counted, truth, named, linked, indexed, found, listed, judged, measured, peeked, taken, kept, nameIn, lent, back, Side, readBy, told}
 use Rattle.patch_laws.specs.Statement.{readOf}
 use Rattle.patch_laws.proofs.Renamed.{reParent, reSlot, re-worth, re-size}
 use Rattle.patch_laws.proofs.Alike.{Each, any-map, Names, node-faces, stale-faces, foreign-faces, child-faces, unit-faces}
 use Rattle.patch_laws.proofs.Rising.{by, rising-above, rising-one, rising-names, name-same}
 use Rattle.patch_laws.proofs.Links.{Link, given-mine, given-faces}
-use Rattle.patch_laws.proofs.Gathered.{Entry, reEntry, slots-faces}
+use Rattle.patch_laws.proofs.Gathered.{Entry, reEntry, slots-faces, present-faces}
 use Rattle.patch_laws.proofs.Upward.{up-faces, outer-faces, links-faces, under-faces, vertices-faces}
-use Rattle.patch_laws.specs.Obstacles.{mapObstacle, mapGroup, coded, givenCode, nameCode, numberCode}
-use Rattle.patch_laws.proofs.Obstacles.{obstacle-twice, group-twice, handles-map, group-map, sound-map, mapped, added-map, extended-map}
+use Rattle.patch_laws.specs.Obstacles.{mapObstacle, mapTaken, mapGroup, coded, givenCode, nameCode, numberCode}
+use Rattle.patch_laws.proofs.Obstacles.{said-map, obstacle-twice, group-twice, taken-twice, handles-map, group-map, sound-map, empty-map, active-map, growth-map, peek-map, mapPopped, pop-map, spare-map, mapped, added-map, extended-map}
 use Rattle.patch_laws.proofs.Checks.{verdict-faces, strict-verdict}
-
--- a renamed answer of a read
-said-map : {A B : Type 0} (f : A → B) (n : ℕ) (v z : A) → said n (f v) (f z) ≡ (said n v z .0, f (said n v z .1))
-unfolding said
-said-map f zero v z = refl
-said-map f (suc n) v z = refl
+use Rattle.patch_laws.proofs.Pictures.{picture-faces}
 
 re-some : (ρ : ℕ → ℕ) (o : Option Handle) → present (reParent (by ρ) o) ≡ present o
 re-some ρ none = refl
 re-some ρ (some h) = refl
+
+-- ---- a slot's handle, and the next present one
+re-as : (ρ : ℕ → ℕ) (t : Entry) (o : Option Node) → asHandle (t .0, t .1, reSlot (by ρ) o) ≡ reParent (by ρ) (asHandle (t .0, t .1, o))
+re-as ρ t none = refl
+re-as ρ t (some n) = refl
+
+abbrev reFound : (ℕ → ℕ) → ℕ × Option Handle → ℕ × Option Handle
+reFound ρ x = (x .0, reParent (by ρ) (x .1))
+
+next-faces : (ρ : ℕ → ℕ) (i k : ℕ) (ts : List Entry) → nextFrom i k (map (reEntry (by ρ)) ts) ≡ reFound ρ (nextFrom i k ts)
+unfolding nextFrom
+next-faces ρ i k [] = refl
+next-faces ρ i k (t ∷ ts) = ap₂ (λ (o : Option Handle) (r : ℕ × Option Handle). orNext o i r) (here-or (leb k i)) (next-faces ρ (suc i) k ts) ∙ joined (pick (leb k i) (asHandle t) none) (nextFrom (suc i) k ts)
+  where
+    here-or : (c : Bool) → pick c (asHandle (reEntry (by ρ) t)) none ≡ reParent (by ρ) (pick c (asHandle t) none)
+    here-or true = re-as ρ t (t .2)
+    here-or false = refl
+
+    joined : (o : Option Handle) (r : ℕ × Option Handle) → orNext (reParent (by ρ) o) i (reFound ρ r) ≡ reFound ρ (orNext o i r)
+    joined none r = refl
+    joined (some h) r = refl
 
 module _ (p : Patch) (ρ : ℕ → ℕ) (k₀ k : Side) (L : Link p ρ k₀ k) where
   abbrev s : Bench
@@ -143,21 +163,44 @@ module _ (p : Patch) (ρ : ℕ → ℕ) (k₀ k : Side) (L : Link p ρ k₀ k) w
     unfolding belongs
     belongs-same h x = unit-same _ _ false (λ i. not (stale-faces p (by ρ) s b (L .closed) (L .faces) N h x i) && not (foreign-faces p (by ρ) s b (L .closed) (L .faces) N u h x i))
 
-    index-same : (k : ℕ) → handleAtIndex b u k ≡ (handleAtIndex s u k .0, reParent (by ρ) (handleAtIndex s u k .1))
-    unfolding handleAtIndex indexTests
-    index-same k = (λ i. said (first ((outside u, 3) ∷ (child-faces p (by ρ) s b (L .closed) (L .faces) N u m i, 4) ∷ (leb (count-was i) k, 18) ∷ [])) (handle-was i) none)
-        ∙ said-map (reParent (by ρ)) (first (indexTests s u k)) (asHandle (getD (slotsOf s u) k (0, 0, none))) none
+    present-same : presentOf b u ≡ presentOf s u
+    unfolding presentOf
+    present-same = unit-same (presentIn (slotsOf b u)) (presentIn (slotsOf s u)) 0 (ap presentIn (slots-faces p (by ρ) s b (L .closed) (L .faces) u m) ∙ present-faces (by ρ) (slotsOf s u))
+
+    -- ---- by an index
+    index-was : (k : ℕ) → first (indexTests b u k) ≡ first (indexTests s u k)
+    unfolding indexTests
+    index-was k = λ i. first ((outside u, 3) ∷ (child-faces p (by ρ) s b (L .closed) (L .faces) N u m i, 4) ∷ (leb (count-was i) k, 18) ∷ [])
       where
         count-was : length (slotsOf b u) ≡ length (slotsOf s u)
         count-was = ap length (slots-faces p (by ρ) s b (L .closed) (L .faces) u m) ∙ length-map (slotsOf s u) (reEntry (by ρ))
 
-        re-as : (t : Entry) (o : Option Node) → asHandle (t .0, t .1, reSlot (by ρ) o) ≡ reParent (by ρ) (asHandle (t .0, t .1, o))
-        re-as t none = refl
-        re-as t (some n) = refl
-
+    index-same : (k : ℕ) → handleAtIndex b u k ≡ (handleAtIndex s u k .0, reParent (by ρ) (handleAtIndex s u k .1))
+    unfolding handleAtIndex
+    index-same k = (λ i. said (index-was k i) (handle-was i) none) ∙ said-map (reParent (by ρ)) (first (indexTests s u k)) (asHandle (getD (slotsOf s u) k (0, 0, none))) none
+      where
         handle-was : asHandle (getD (slotsOf b u) k (0, 0, none)) ≡ reParent (by ρ) (asHandle (getD (slotsOf s u) k (0, 0, none)))
         handle-was = ap (λ (l : List Entry). asHandle (getD l k (0, 0, none))) (slots-faces p (by ρ) s b (L .closed) (L .faces) u m) ∙ ap asHandle (List·getD-map (reEntry (by ρ)) (slotsOf s u) k (0, 0, none))
-            ∙ re-as (getD (slotsOf s u) k (0, 0, none)) (getD (slotsOf s u) k (0, 0, none) .2)
+            ∙ re-as ρ (getD (slotsOf s u) k (0, 0, none)) (getD (slotsOf s u) k (0, 0, none) .2)
+
+    next-same : (k : ℕ) → nextOf b u k ≡ (nextOf s u k .0, reFound ρ (nextOf s u k .1))
+    unfolding nextOf
+    next-same k = (λ i. said (index-was k i) (next-was i) (0, none)) ∙ said-map (reFound ρ) (first (indexTests s u k)) (nextFrom 0 k (slotsOf s u)) (0, none)
+      where
+        next-was : nextFrom 0 k (slotsOf b u) ≡ reFound ρ (nextFrom 0 k (slotsOf s u))
+        next-was = ap (nextFrom 0 k) (slots-faces p (by ρ) s b (L .closed) (L .faces) u m) ∙ next-faces ρ 0 k (slotsOf s u)
+
+    picture-same : (a : Bool) (out : List ℕ) → pictureInto b u a out ≡ pictureInto s u a out
+    unfolding pictureInto pictureTests
+    picture-same a out = λ i. said (first (
+        (outside u, 3)
+        ∷ (child-faces p (by ρ) s b (L .closed) (L .faces) N u m i, 4)
+        ∷ (not (eqb (verdict-faces p ρ s b (L .closed) (L .faces) N (L .held) (L .rising .origin) u m i .0) 0), 24)
+        ∷ (ltb (length out) (length (drawn i)), 19)
+        ∷ [])) (length (drawn i), drawn i ++ drop (length (drawn i)) out) (0, out)
+      where
+        drawn : picture b u a ≡ picture s u a
+        drawn = picture-faces p ρ s b (L .closed) (L .faces) u m a
 
   -- ---- the calls on groups
   F : Code → Code
@@ -258,11 +301,27 @@ module _ (p : Patch) (ρ : ℕ → ℕ) (k₀ k : Side) (L : Link p ρ k₀ k) w
   codes-mine : (l : List Code) (c : Code) → In c (map (givenCode (k₀ .table)) l) → mine p (c .unit) ≡ true
   codes-mine l c i = let x = map-in (givenCode (k₀ .table)) l i in subst (λ (d : Code). mine p (d .unit) ≡ true) (sym (x .2)) (mine-was (x .0 .serial .0))
 
-  kept-same : (r r₀ : ℕ × Group) → r ≡ (r₀ .0, mapGroup F (r₀ .1)) → kept (r .0, mapGroup (numberCode (k .table)) (r .1)) ≡ kept (r₀ .0, mapGroup (numberCode (k₀ .table)) (r₀ .1))
-  kept-same r r₀ e = ap (λ (x : ℕ × Group). kept (x .0, mapGroup (numberCode (k .table)) (x .1))) e ∙ ap (λ (x : Group). kept (r₀ .0, x)) (shown-was (r₀ .1))
+  kept-same : (z : Group) (r r₀ : ℕ × Group) → r ≡ (r₀ .0, mapGroup F (r₀ .1)) → (z₀ : Group)
+      → kept (ask b z r .0, mapGroup (numberCode (k .table)) (ask b z r .1)) ≡ kept (ask s z₀ r₀ .0, mapGroup (numberCode (k₀ .table)) (ask s z₀ r₀ .1))
+  kept-same z r r₀ e z₀ = ap show (ask-true b z r (holds b (L .sound)) ∙ e) ∙ ap (λ (x : Group). kept (r₀ .0, x)) (shown-was (r₀ .1)) ∙ ap show₀ (sym (ask-true s z₀ r₀ (holds s (L .sound₀))))
+    where
+      show : ℕ × Group → Seen
+      show x = kept (x .0, mapGroup (numberCode (k .table)) (x .1))
+
+      show₀ : ℕ × Group → Seen
+      show₀ x = kept (x .0, mapGroup (numberCode (k₀ .table)) (x .1))
+
+  taken-was : (o : Option Obstacle) → mapTaken (numberCode (k .table)) (mapTaken F o) ≡ mapTaken (numberCode (k₀ .table)) o
+  unfolding F
+  taken-was o = taken-twice (numberCode (k .table)) F (numberCode (k₀ .table)) (λ c. ap nameCode (name-was (handleNamed c))) o
+
+  popped-same : (r r₀ : ℕ × (Option Obstacle × Group)) → r ≡ (r₀ .0, mapPopped F (r₀ .1))
+      → taken (r .0, (mapTaken (numberCode (k .table)) (r .1 .0), back (k .table) (r .1 .1))) ≡ taken (r₀ .0, (mapTaken (numberCode (k₀ .table)) (r₀ .1 .0), back (k₀ .table) (r₀ .1 .1)))
+  popped-same r r₀ e = ap (λ (x : ℕ × (Option Obstacle × Group)). taken (x .0, (mapTaken (numberCode (k .table)) (x .1 .0), back (k .table) (x .1 .1)))) e
+      ∙ ap₂ (λ (o : Option Obstacle) (g : Group). taken (r₀ .0, (o, g))) (taken-was (r₀ .1 .0)) (shown-was (r₀ .1 .1))
 
   pub told-same : (r : Read) → Each p (readOf r) → told k r ≡ told k₀ r
-  unfolding readAt
+  unfolding readBy
   told-same (Value n) w = ap amount (asked-same (pos 0) _ _ (ap (valueOf b) (node-was n) ∙ value-same (given (k₀ .table) n) (mine-was n)))
   told-same (Outer n) w = let q = asked-by {A = Handle × ℕ} {B = Name × ℕ} (nobody, 0) (λ x. (by ρ .handle (x .0), x .1)) (λ x. (nameOf (k .table) (x .0), x .1)) (λ x. (nameOf (k₀ .table) (x .0), x .1)) (λ x i. (name-was (x .0) i, x .1))
       (outerOf b (given (k .table) n)) (outerOf s (given (k₀ .table) n)) (ap (outerOf b) (node-was n) ∙ outer-same (given (k₀ .table) n) (mine-was n)) in λ i. linked (q .0 i, q .1 i)
@@ -272,12 +331,23 @@ module _ (p : Patch) (ρ : ℕ → ℕ) (k₀ k : Side) (L : Link p ρ k₀ k) w
   told-same (Vertices n out) w = ap listed (asked-same (0, out) _ _ (ap (λ (h : Handle). verticesInto b h out) (node-was n) ∙ vertices-same (given (k₀ .table) n) (mine-was n) out))
   told-same (Belongs u n) w = ap truth (asked-same false _ _ (ap (belongs b u) (node-was n) ∙ belongs-same u (w u (here refl)) (given (k₀ .table) n) (mine-was n)))
   told-same (At u j) w = let q = asked-by none (reParent (by ρ)) (nameIn (k .table)) (nameIn (k₀ .table)) in-was (handleAtIndex b u j) (handleAtIndex s u j) (index-same u (w u (here refl)) j) in λ i. indexed (q .0 i, q .1 i)
+  told-same (Next u j) w = let q = asked-by {A = ℕ × Option Handle} {B = ℕ × Option Name} (0, none) (reFound ρ) (λ x. (x .0, nameIn (k .table) (x .1))) (λ x. (x .0, nameIn (k₀ .table) (x .1))) (λ x i. (x .0, in-was (x .1) i))
+      (nextOf b u j) (nextOf s u j) (next-same u (w u (here refl)) j) in λ i. found (q .0 i, q .1 i)
   told-same (Sum u) w = ap amount (asked-same (pos 0) _ _ (sum-same u (w u (here refl))))
   told-same (Speed u) w = ap amount (asked-same (pos 0) _ _ (speed-same u (w u (here refl))))
   told-same (Count u) w = ap counted (asked-same 0 _ _ (count-same u (w u (here refl))))
+  told-same (Present u) w = ap counted (asked-same 0 _ _ (present-same u (w u (here refl))))
   told-same (Check u) w = ap judged (asked-same (0, 0) _ _ (check-same u (w u (here refl))))
   told-same (Strict u) w = ap judged (asked-same (0, 0) _ _ (strict-same u (w u (here refl))))
-  told-same (Add g o) w = kept-same _ (add s (mapGroup (givenCode (k₀ .table)) g) (mapObstacle (givenCode (k₀ .table)) o)) (ap₂ (add b) (group-was g) (obstacle-was o) ∙ add-same (mapGroup (givenCode (k₀ .table)) g) (mapObstacle (givenCode (k₀ .table)) o)
-      (λ c i. codes-mine (handlesOf o) c (subst (In c) (handles-map (givenCode (k₀ .table)) o) i)))
-  told-same (Extend g h) w = kept-same _ (extend s (mapGroup (givenCode (k₀ .table)) g) (mapGroup (givenCode (k₀ .table)) h)) (ap₂ (extend b) (group-was g) (group-was h) ∙ extend-same (mapGroup (givenCode (k₀ .table)) g) (mapGroup (givenCode (k₀ .table)) h)
-      (λ c i. codes-mine (groupHandles h) c (subst (In c) (group-map (givenCode (k₀ .table)) h) i)))
+  told-same (Picture u a out) w = ap listed (asked-same (0, out) _ _ (picture-same u (w u (here refl)) a out))
+  told-same (Empty g) w = ap truth (ap isEmpty (group-was g) ∙ empty-map F (lent (k₀ .table) g))
+  told-same (Active g) w = ap truth (ap isActive (group-was g) ∙ active-map F (lent (k₀ .table) g))
+  told-same (Growth g) w = ap measured (ap growthOf (group-was g) ∙ growth-map F (lent (k₀ .table) g))
+  told-same (Peek g) w = let q = ap peek (group-was g) ∙ peek-map F (lent (k₀ .table) g) in
+      ap (λ (x : ℕ × Option Obstacle). peeked (x .0, mapTaken (numberCode (k .table)) (x .1))) q ∙ ap (λ (o : Option Obstacle). peeked (peek (lent (k₀ .table) g) .0, o)) (taken-was (peek (lent (k₀ .table) g) .1))
+  told-same (Pop g) w = popped-same _ (pop (lent (k₀ .table) g)) (ap pop (group-was g) ∙ pop-map F (lent (k₀ .table) g))
+  told-same (Spare g) w = popped-same _ (popSparing (lent (k₀ .table) g)) (ap popSparing (group-was g) ∙ spare-map F (lent (k₀ .table) g))
+  told-same (Add g o) w = kept-same _ _ (add s (mapGroup (givenCode (k₀ .table)) g) (mapObstacle (givenCode (k₀ .table)) o)) (ap₂ (add b) (group-was g) (obstacle-was o) ∙ add-same (mapGroup (givenCode (k₀ .table)) g) (mapObstacle (givenCode (k₀ .table)) o)
+      (λ c i. codes-mine (handlesOf o) c (subst (In c) (handles-map (givenCode (k₀ .table)) o) i))) _
+  told-same (Extend g h) w = kept-same _ _ (extend s (mapGroup (givenCode (k₀ .table)) g) (mapGroup (givenCode (k₀ .table)) h)) (ap₂ (extend b) (group-was g) (group-was h) ∙ extend-same (mapGroup (givenCode (k₀ .table)) g) (mapGroup (givenCode (k₀ .table)) h)
+      (λ c i. codes-mine (groupHandles h) c (subst (In c) (group-map (givenCode (k₀ .table)) h) i))) _

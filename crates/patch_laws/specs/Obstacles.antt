@@ -30,6 +30,11 @@ mapObstacle f (TouchingVirtual p v m) = TouchingVirtual (mapPair f p) v m
 mapObstacle f (BlossomNeedExpand n) = BlossomNeedExpand (f n)
 mapObstacle f (VertexShrinkStop n p) = VertexShrinkStop (f n) (mapMaybe f p)
 
+-- what a group gave out, if anything
+abbrev pub mapTaken : (Code → Code) → Option Obstacle → Option Obstacle
+mapTaken f none = none
+mapTaken f (some o) = some (mapObstacle f o)
+
 abbrev pub mapEntry : (Code → Code) → Entry → Entry
 mapEntry f e = record { obstacle = mapObstacle f (e .obstacle) }
 

@@ -1,30 +1,32 @@
 -- A run of two patches on one bench, and what the watched one sees of it. Assumes nothing.
 use Prim.Native.Nat.{ℕ, zero, suc}
-use mathlib.Core.Bool.{Bool, false}
+use mathlib.Core.Bool.{Bool}
 use mathlib.Core.Option.{Option, none, some}
 use mathlib.Core.List.{List, [], _∷_, _++_, map}
-use lib.IntN.{ℤ, pos}
+use lib.IntN.{ℤ}
 use Rattle.kinds.specs.declared.Obstacle.{Obstacle}
 use Rattle.ledger_spec.specs.Bench.{Handle, State, Bench}
-use Rattle.ledger_spec.specs.Calls.{nobody, Call, setUpCall}
+use Rattle.ledger_spec.specs.Calls.{Call, setUpCall}
 use Rattle.ledger_spec.specs.Notices.{Notice}
-use Rattle.ledger_spec.specs.Reads.{sumOf, speedOf, countOf, handleAtIndex, valueOf, belongs}
-use Rattle.ledger_spec.specs.Walk.{outerOf, belowOf, firstVertex, verticesInto}
-use Rattle.ledger_spec.specs.Check.{checkOf, strictOf}
 use Rattle.ledger_spec.specs.Groups.{Group}
-use Rattle.ledger_spec.specs.GroupCalls.{add, extend}
-use Rattle.ledger_spec.specs.Answers.{Answer, answer, ask}
-use Rattle.patch_laws.specs.Obstacles.{mapObstacle, mapGroup, givenCode, numberCode}
+use Rattle.ledger_spec.specs.GroupCalls.{isEmpty, isActive, growthOf, peek, pop, add, extend}
+use Rattle.ledger_spec.specs.Answers.{Answer, answer, Read as Asking, read, sumRead, speedRead, countRead, indexRead, belongsRead, valueRead, outerRead, belowRead, firstRead, verticesRead, checkRead, strictRead}
+use Rattle.ledger_sparing.specs.Sparing.{popSparing}
+use Rattle.picture_spec.specs.Picture.{pictureRead}
+use Rattle.read_present.specs.Present.{presentRead, nextRead}
+use Rattle.patch_laws.specs.Obstacles.{mapObstacle, mapTaken, mapGroup, givenCode, numberCode}
 use Rattle.patch_laws.specs.Patch.{Script, Defect, Blossom, Expand, SetState, Grow, Fuse, Clear, Table, given, written, Name, nameOf}
 
--- ---- what the patch can ask of a node that it made, and of an interface: every read of the ledger. The calls on
--- groups that are lent the bench only read it; groups are the patch's own, written by numbers.
+-- ---- what the patch can ask of a node that it made, and of an interface: every read of the ledger. The calls on groups change no bench, and those
+-- that are lent one only read it; groups are the patch's own, written by numbers.
 pub data Read : Type 0 where
   Value Outer Below First : (node : ℕ) → Read
   Vertices : (node : ℕ) (room : List ℕ) → Read
   Belongs : (unit node : ℕ) → Read
-  At : (unit index : ℕ) → Read
-  Sum Speed Count Check Strict : (unit : ℕ) → Read
+  At Next : (unit index : ℕ) → Read
+  Sum Speed Count Present Check Strict : (unit : ℕ) → Read
+  Picture : (unit : ℕ) (abbreviated : Bool) (room : List ℕ) → Read
+  Empty Active Growth Peek Pop Spare : Group → Read
   Add : Group → Obstacle → Read
   Extend : Group → Group → Read
 
@@ -51,14 +53,41 @@ pub data Seen : Type 0 where
   named : ℕ × Name → Seen
   linked : ℕ × (Name × ℕ) → Seen
   indexed : ℕ × Option Name → Seen
+  found : ℕ × (ℕ × Option Name) → Seen
   listed : ℕ × (ℕ × List ℕ) → Seen
   judged : ℕ × (ℕ × ℕ) → Seen
+  measured : ℕ × Option ℤ → Seen
+  peeked : ℕ × Option Obstacle → Seen
+  taken : ℕ × (Option Obstacle × Group) → Seen
   kept : ℕ × Group → Seen
+
+abbrev pub numberOf : Seen → ℕ
+numberOf (answered n h ns) = n
+numberOf (amount r) = r .0
+numberOf (counted r) = r .0
+numberOf (truth r) = r .0
+numberOf (named r) = r .0
+numberOf (linked r) = r .0
+numberOf (indexed r) = r .0
+numberOf (found r) = r .0
+numberOf (listed r) = r .0
+numberOf (judged r) = r .0
+numberOf (measured r) = r .0
+numberOf (peeked r) = r .0
+numberOf (taken r) = r .0
+numberOf (kept r) = r .0
 
 -- a slot's handle; nothing where the slot was emptied
 abbrev pub nameIn : Table → Option Handle → Option Name
 nameIn t none = none
 nameIn t (some h) = some (nameOf t h)
+
+-- the patch's group as the ledger has it, and back
+abbrev pub lent : Table → Group → Group
+lent t g = mapGroup (givenCode t) g
+
+abbrev pub back : Table → Group → Group
+back t g = mapGroup (numberCode t) g
 
 -- ---- one side of the comparison: the bench, and the handles that the patch was given on it
 pub record Side : Type 0 where
@@ -86,22 +115,35 @@ after k c = record { bench = answerTo k c .bench; table = k .table ++ made c (an
 unfoldable pub seen : Side → Script → Seen
 seen k c = answered (answerTo k c .number) (nameOf (after k c .table) (answerTo k c .node)) (map (heard (after k c .table)) (answerTo k c .notices))
 
--- the answer of a read of one bench, whose nodes are those of a table
-unfoldable pub readAt : Bench → Table → Read → Seen
-readAt b t (Value n) = amount (ask b (pos 0) (valueOf b (given t n)))
-readAt b t (Outer n) = let r : ℕ × (Handle × ℕ) = ask b (nobody, 0) (outerOf b (given t n)) in linked (r .0, (nameOf t (r .1 .0), r .1 .1))
-readAt b t (Below n) = let r : ℕ × Handle = ask b nobody (belowOf b (given t n)) in named (r .0, nameOf t (r .1))
-readAt b t (First n) = counted (ask b 0 (firstVertex b (given t n)))
-readAt b t (Vertices n out) = listed (ask b (0, out) (verticesInto b (given t n) out))
-readAt b t (Belongs u n) = truth (ask b false (belongs b u (given t n)))
-readAt b t (At u k) = let r : ℕ × Option Handle = ask b none (handleAtIndex b u k) in indexed (r .0, nameIn t (r .1))
-readAt b t (Sum u) = amount (ask b (pos 0) (sumOf b u))
-readAt b t (Speed u) = amount (ask b (pos 0) (speedOf b u))
-readAt b t (Count u) = counted (ask b 0 (countOf b u))
-readAt b t (Check u) = judged (ask b (0, 0) (checkOf b u))
-readAt b t (Strict u) = judged (ask b (0, 0) (strictOf b u))
-readAt b t (Add g o) = let r : ℕ × Group = add b (mapGroup (givenCode t) g) (mapObstacle (givenCode t) o) in kept (r .0, mapGroup (numberCode t) (r .1))
-readAt b t (Extend g h) = let r : ℕ × Group = extend b (mapGroup (givenCode t) g) (mapGroup (givenCode t) h) in kept (r .0, mapGroup (numberCode t) (r .1))
+-- What a read of a bench shows, the patch's nodes being those of a table. `asks` says what a read answers, of the bench as it is here, or of the words
+-- that hold it: its own answer, or BROKEN and its zero.
+unfoldable pub readBy : ((A : Type 0) → Asking A → ℕ × A) → Bench → Table → Read → Seen
+readBy asks b t (Value n) = amount (asks ℤ (valueRead b (given t n)))
+readBy asks b t (Outer n) = let r : ℕ × (Handle × ℕ) = asks (Handle × ℕ) (outerRead b (given t n)) in linked (r .0, (nameOf t (r .1 .0), r .1 .1))
+readBy asks b t (Below n) = let r : ℕ × Handle = asks Handle (belowRead b (given t n)) in named (r .0, nameOf t (r .1))
+readBy asks b t (First n) = counted (asks ℕ (firstRead b (given t n)))
+readBy asks b t (Vertices n out) = listed (asks (ℕ × List ℕ) (verticesRead b (given t n) out))
+readBy asks b t (Belongs u n) = truth (asks Bool (belongsRead b u (given t n)))
+readBy asks b t (At u k) = let r : ℕ × Option Handle = asks (Option Handle) (indexRead b u k) in indexed (r .0, nameIn t (r .1))
+readBy asks b t (Next u k) = let r : ℕ × (ℕ × Option Handle) = asks (ℕ × Option Handle) (nextRead b u k) in found (r .0, (r .1 .0, nameIn t (r .1 .1)))
+readBy asks b t (Sum u) = amount (asks ℤ (sumRead b u))
+readBy asks b t (Speed u) = amount (asks ℤ (speedRead b u))
+readBy asks b t (Count u) = counted (asks ℕ (countRead b u))
+readBy asks b t (Present u) = counted (asks ℕ (presentRead b u))
+readBy asks b t (Check u) = judged (asks (ℕ × ℕ) (checkRead b u))
+readBy asks b t (Strict u) = judged (asks (ℕ × ℕ) (strictRead b u))
+readBy asks b t (Picture u a out) = listed (asks (ℕ × List ℕ) (pictureRead b u a out))
+readBy asks b t (Empty g) = truth (isEmpty (lent t g))
+readBy asks b t (Active g) = truth (isActive (lent t g))
+readBy asks b t (Growth g) = measured (growthOf (lent t g))
+readBy asks b t (Peek g) = let r : ℕ × Option Obstacle = peek (lent t g) in peeked (r .0, mapTaken (numberCode t) (r .1))
+readBy asks b t (Pop g) = let r : ℕ × (Option Obstacle × Group) = pop (lent t g) in taken (r .0, (mapTaken (numberCode t) (r .1 .0), back t (r .1 .1)))
+readBy asks b t (Spare g) = let r : ℕ × (Option Obstacle × Group) = popSparing (lent t g) in taken (r .0, (mapTaken (numberCode t) (r .1 .0), back t (r .1 .1)))
+readBy asks b t (Add g o) = let r : ℕ × Group = asks Group (record { own = add b (lent t g) (mapObstacle (givenCode t) o); zero = lent t g }) in kept (r .0, back t (r .1))
+readBy asks b t (Extend g h) = let r : ℕ × Group = asks Group (record { own = extend b (lent t g) (lent t h); zero = lent t g }) in kept (r .0, back t (r .1))
+
+abbrev pub readAt : Bench → Table → Read → Seen
+readAt b t r = readBy (λ A q. read b q) b t r
 
 abbrev pub told : Side → Read → Seen
 told k r = readAt (k .bench) (k .table) r

@@ -5,9 +5,9 @@ use mathlib.Core.Logic.{_≢_}
 use mathlib.Core.Option.{some}
 use mathlib.Core.List.{List, [], _∷_}
 use lib.ListN.{length}
-use Rattle.ledger_laws.proofs.Untouched.{namedBy}
-use Rattle.patch_laws.specs.Patch.{Patch, Apart, Within, unitsOf, Table, given, nameOf}
-use Rattle.patch_laws.specs.Runs.{Read, Value, Outer, Below, First, Vertices, Belongs, At, Sum, Speed, Count, Check, Strict, Add, Extend, Seen, answered, amount, counted, truth, named, linked, indexed, listed, judged, kept, Step, theirs, ours, asked, sees, reached, opened, own}
+use Rattle.ledger_spec.specs.Numbers.{WORN}
+use Rattle.patch_laws.specs.Patch.{Patch, Apart, Within, unitsNamed, unitsOf, Table, given, nameOf}
+use Rattle.patch_laws.specs.Runs.{Read, Value, Outer, Below, First, Vertices, Belongs, At, Next, Sum, Speed, Count, Present, Check, Strict, Picture, Empty, Active, Growth, Peek, Pop, Spare, Add, Extend, Seen, numberOf, Step, theirs, ours, asked, sees, reached, opened, own}
 
 -- the interfaces that a read names; a node's handle is the patch's by its number
 abbrev pub readOf : Read → List ℕ
@@ -18,18 +18,27 @@ readOf (First n) = []
 readOf (Vertices n out) = []
 readOf (Belongs u n) = u ∷ []
 readOf (At u k) = u ∷ []
+readOf (Next u k) = u ∷ []
 readOf (Sum u) = u ∷ []
 readOf (Speed u) = u ∷ []
 readOf (Count u) = u ∷ []
+readOf (Present u) = u ∷ []
 readOf (Check u) = u ∷ []
 readOf (Strict u) = u ∷ []
+readOf (Picture u a out) = u ∷ []
+readOf (Empty g) = []
+readOf (Active g) = []
+readOf (Growth g) = []
+readOf (Peek g) = []
+readOf (Pop g) = []
+readOf (Spare g) = []
 readOf (Add g o) = []
 readOf (Extend g h) = []
 
 -- A step names interfaces of its own patch only, a being the other patch and p the watched one: so no fuse joins them. The other's handles may be any,
 -- and its calls may be refused or not.
 abbrev pub Fits : Patch → Patch → Step → Type 0
-Fits a p (theirs c) = Within a (namedBy c)
+Fits a p (theirs c) = Within a (unitsNamed c)
 Fits a p (ours c) = Within p (unitsOf c)
 Fits a p (asked r) = Within p (readOf r)
 
@@ -38,21 +47,9 @@ AllFit a p [] = Unit {0}
 AllFit a p (x ∷ xs) = Fits a p x × AllFit a p xs
 
 -- no answer to the watched patch is WORN; whether the other patch meets it does not matter
-abbrev pub Fresh : Seen → Type 0
-Fresh (answered n h ns) = n ≢ 15
-Fresh (amount r) = Unit {0}
-Fresh (counted r) = Unit {0}
-Fresh (truth r) = Unit {0}
-Fresh (named r) = Unit {0}
-Fresh (linked r) = Unit {0}
-Fresh (indexed r) = Unit {0}
-Fresh (listed r) = Unit {0}
-Fresh (judged r) = Unit {0}
-Fresh (kept r) = Unit {0}
-
 abbrev pub Unworn : List Seen → Type 0
 Unworn [] = Unit {0}
-Unworn (x ∷ xs) = Fresh x × Unworn xs
+Unworn (x ∷ xs) = (numberOf x ≢ WORN) × Unworn xs
 
 -- Two runs from set-up, with any first serials, whose watched patch makes the same calls and reads, show it the same: numbers, names, notices, values,
 -- verdicts and groups. The other patch's calls, how many and between which steps, are any in each. A bench has no settings of its own; one that is
