@@ -1,5 +1,5 @@
 -- The theorem is not empty: two runs from set-up with serials 1 and 1000, in which the other patch makes quite different calls, and the watched one makes
--- defects, blossoms with touching pairs, fuses, grows, expands and clears its own, adds to a group, names nodes that went and a number that it was
+-- defects, blossoms with touching pairs, fuses, grows, expands and clears its own, adds to a group and pops one, asks for present nodes, names nodes that went and a number that it was
 -- not given, and interfaces that have a parent or do not exist. Assumes nothing.
 use Prim.Native.Nat.{ℕ}
 use mathlib.Core.Path.{_≡_, refl, sym, _∙_, ap}
@@ -13,7 +13,9 @@ use lib.IntN.{pos}
 use borrow.Author.Tests.{ltb-true, eq-eqb}
 use Rattle.kinds.specs.declared.MaybePair.the-variants.{NoPair}
 use Rattle.kinds.specs.declared.Obstacle.the-variants.{BlossomNeedExpand, VertexShrinkStop}
-use Rattle.ledger_spec.specs.Groups.{emptyGroup}
+use Rattle.ledger_sparing.specs.Sparing.{spared, popSparing}
+use Rattle.read_present.specs.Present.{presentIn, nextFrom, presentOf, nextOf}
+use Rattle.ledger_spec.specs.Groups.{emptyGroup, conflicts}
 use Rattle.ledger_spec.specs.Bench.{Handle, grows, shrinks}
 use Rattle.ledger_spec.specs.SoundTree.{all}
 use Rattle.ledger_spec.specs.Calls.{Call}
@@ -21,7 +23,7 @@ use Rattle.ledger_spec.specs.Opened.{run}
 use Rattle.ledger_spec.proofs.Lists.{and-true}
 use Rattle.patch_laws.specs.Patch.{Name, Patch, Apart, mine, unitsNamed, unitsOf, Defect, Blossom, Expand, SetState, Grow, Fuse, Clear, written, numberFrom}
 use Rattle.patch_laws.specs.Obstacles.{numbered}
-use Rattle.patch_laws.specs.Runs.{defectAdded, Side, Value, Outer, Vertices, At, Check, Strict, Add, Seen, answered, counted, judged, linked, listed, numberOf, after, seen, readBy, Step, theirs, ours, asked, sees, reached, opened, own}
+use Rattle.patch_laws.specs.Runs.{defectAdded, Side, Value, Outer, Vertices, At, Next, Present, Check, Strict, Spare, Add, Seen, answered, counted, judged, linked, found, listed, numberOf, after, seen, readBy, Step, theirs, ours, asked, sees, reached, opened, own}
 use Rattle.patch_laws.specs.Statement.{readOf, Fits, AllFit, Unworn}
 use Rattle.patch_laws.proofs.Patches.{two-patches}
 
@@ -58,6 +60,9 @@ steps = ours (Defect 3 10)
     ∷ asked (Value 5)
     ∷ asked (Add emptyGroup (BlossomNeedExpand (numbered 0 0 (some 5))))
     ∷ asked (Check 5)
+    ∷ asked (Present 5)
+    ∷ asked (Next 5 3)
+    ∷ asked (Spare (conflicts (record { obstacle = BlossomNeedExpand (numbered 0 0 (some 3)) } ∷ []) []))
     ∷ ours (Defect 3 1)
     ∷ ours (SetState 5 9 grows)
     ∷ ours (Clear 5)
@@ -78,8 +83,8 @@ pub second-run : List Step
 second-run = woven (Call.Clear 2 ∷ Call.Defect 1 8 ∷ Call.Defect 1 9 ∷ Call.Blossom 1 (record { unit = 1; slot = 0; serial = 1000 } ∷ []) [] ∷ Call.Fuse 2 0 1 ∷ []) steps
 
 -- ---- the numbers that the watched patch is answered
-pub numbers : map numberOf (sees (opened 1) first-run) ≡ 0 ∷ 0 ∷ 0 ∷ 0 ∷ 0 ∷ 0 ∷ 0 ∷ 0 ∷ 0 ∷ 0 ∷ 0 ∷ 0 ∷ 0 ∷ 0 ∷ 0 ∷ 0 ∷ 0 ∷ 8 ∷ 8 ∷ 0 ∷ 4 ∷ 8 ∷ 0 ∷ 8 ∷ 0 ∷ 3 ∷ 0 ∷ []
-unfolding run written numberFrom numbered after seen readBy sees steps woven first-run
+pub numbers : map numberOf (sees (opened 1) first-run) ≡ 0 ∷ 0 ∷ 0 ∷ 0 ∷ 0 ∷ 0 ∷ 0 ∷ 0 ∷ 0 ∷ 0 ∷ 0 ∷ 0 ∷ 0 ∷ 0 ∷ 0 ∷ 0 ∷ 0 ∷ 8 ∷ 8 ∷ 0 ∷ 0 ∷ 0 ∷ 0 ∷ 4 ∷ 8 ∷ 0 ∷ 8 ∷ 0 ∷ 3 ∷ 0 ∷ []
+unfolding run written numberFrom numbered after seen presentIn nextFrom presentOf nextOf spared popSparing readBy sees steps woven first-run
 numbers = refl
 
 -- ---- what the theorem asks of a run, as tests
@@ -117,11 +122,11 @@ unfolding all mine fits other watched steps woven second-run
 second-fits = refl
 
 first-fresh : all unspent (sees (opened 1) first-run) ≡ true
-unfolding run written numberFrom numbered after seen readBy sees steps woven first-run unspent
+unfolding run written numberFrom numbered after seen presentIn nextFrom presentOf nextOf spared popSparing readBy sees steps woven first-run unspent
 first-fresh = refl
 
 second-fresh : all unspent (sees (opened 1000) second-run) ≡ true
-unfolding run written numberFrom numbered after seen readBy sees steps woven second-run unspent
+unfolding run written numberFrom numbered after seen presentIn nextFrom presentOf nextOf spared popSparing readBy sees steps woven second-run unspent
 second-fresh = refl
 
 same-steps : own first-run ≡ own second-run
@@ -136,11 +141,11 @@ example = two-patches other watched disjoint 1 1000 (omega arith) (omega arith) 
 pub serials : Side → List Step → List ℕ
 serials k xs = map (λ (h : Handle). h .serial) (reached k xs .table)
 
-pub first-serials : serials (opened 1) first-run ≡ 2 ∷ 4 ∷ 6 ∷ 8 ∷ 11 ∷ 14 ∷ 32 ∷ []
+pub first-serials : serials (opened 1) first-run ≡ 2 ∷ 4 ∷ 6 ∷ 8 ∷ 11 ∷ 14 ∷ 35 ∷ []
 unfolding run written numbered after steps woven first-run reached serials
 first-serials = refl
 
-pub second-serials : serials (opened 1000) second-run ≡ 1003 ∷ 1006 ∷ 1009 ∷ 1012 ∷ 1017 ∷ 1022 ∷ 1057 ∷ []
+pub second-serials : serials (opened 1000) second-run ≡ 1003 ∷ 1006 ∷ 1009 ∷ 1012 ∷ 1017 ∷ 1022 ∷ 1063 ∷ []
 unfolding run written numbered after steps woven second-run reached serials
 second-serials = refl
 
@@ -164,10 +169,11 @@ unfolding run written numberFrom after seen sees
 alone-here = refl
 
 -- some of what is seen: both checks pass, the outermost blossom of the first defect with two links, the vertices of a blossom; then, expanded, the sum
--- is not the total
+-- is not the total, five nodes are present, and the one at or after index 3 is the first blossom
 abbrev seenAt : ℕ → Seen
 seenAt k = getD (sees (opened 1) first-run) k (counted (0, 0))
 
 pub looks : (seenAt 9 ≡ judged (0, (0, 0))) × (seenAt 10 ≡ linked (0, (record { unit = 5; slot = 0; number = some 5 }, 2))) × (seenAt 11 ≡ listed (0, (4, 10 ∷ 11 ∷ 12 ∷ 20 ∷ []))) × (seenAt 19 ≡ judged (0, (5, 0)))
-unfolding run written numberFrom numbered after seen readBy sees steps woven first-run
-looks = (refl, refl, refl, refl)
+    × (seenAt 20 ≡ counted (0, 5)) × (seenAt 21 ≡ found (0, (3, some (record { unit = 3; slot = 3; number = some 3 }))))
+unfolding run written numberFrom numbered after seen presentIn nextFrom presentOf nextOf spared popSparing readBy sees steps woven first-run
+looks = (refl, refl, refl, refl, refl, refl)
