@@ -301,6 +301,9 @@ module _ (p : Patch) (ρ : ℕ → ℕ) (k₀ k : Side) (L : Link p ρ k₀ k) (
   T = subst (λ (x : Call). Turn p ρ (k₀ .bench) (answerTo k₀ c) (answer (k .bench) x)) (sym named-same)
       (turned p ρ k₀ k L (written (k₀ .table) c) (written-own p (k₀ .table) (L .places) c w) (subst (λ (x : Call). answer (k .bench) x .number ≢ 15) named-same q))
 
+  pub ours-turn : Turn p ρ (k₀ .bench) (answerTo k₀ c) (answerTo k c)
+  ours-turn = T
+
   table-after : after k c .table ≡ map (by ρ .handle) (after k₀ c .table)
   unfolding after
   table-after = ap₂ {C = Table} _++_ (L .table) (ap₂ (made c) (T .number) (T .node) ∙ made-faces ρ c (answerTo k₀ c .number) (answerTo k₀ c .node)) ∙ sym (map-append (by ρ .handle) (k₀ .table) (made c (answerTo k₀ c .number) (answerTo k₀ c .node)))

@@ -47,6 +47,10 @@ unfolding setUpCall settle first-serial first
 opened-is zero = refl
 opened-is (suc n) = ap (λ (c : Bool). settle (first ((c, 15) ∷ [])) (setUp 1) (setUp (suc n)) nobody .bench) (ne-eqb (suc n) 0 (λ e. omega arith))
 
+pub opened-one : setUpCall 1 .bench ≡ setUp 1
+unfolding first-serial
+opened-one = opened-is 1
+
 some-serial : (n : ℕ) → 1 ≤ first-serial n
 unfolding first-serial
 some-serial zero = omega arith
@@ -67,7 +71,7 @@ opened-link p n h = subst (λ (b : Bench). Link p (shifted (λ i. i) 1 (first-se
       old = λ x i. absurd (not-in-nil i);
     }))
 
-each : (p : Patch) (us : List ℕ) → Within p us → Each p us
+pub each : (p : Patch) (us : List ℕ) → Within p us → Each p us
 each p us w u i = all-in (mine p) us w i
 
 -- ---- a run, step by step

@@ -26,7 +26,7 @@ use Rattle.ledger_spec.specs.Walk.{parentIn, outermost, linksFrom, belowFrom, v
 use Rattle.ledger_spec.specs.Deeds.{sizeOf}
 use Rattle.ledger_spec.specs.Calls.{nobody}
 use Rattle.ledger_spec.specs.Check.{verdict, strictVerdict, checkOf, strictOf}
-use Rattle.ledger_spec.specs.Answers.{ask}
+use Rattle.ledger_spec.specs.Answers.{ask, read, checkRead}
 use Rattle.ledger_spec.specs.Knit.{here, In}
 use Rattle.ledger_spec.proofs.Holds.{holds}
 use Rattle.ledger_laws.proofs.Asked.{ask-true}
@@ -154,6 +154,9 @@ module _ (p : Patch) (ρ : ℕ → ℕ) (k₀ k : Side) (L : Link p ρ k₀ k) w
     check-same : checkOf b u ≡ checkOf s u
     unfolding checkOf
     check-same = unit-same (verdict b u) (verdict s u) (0, 0) (verdict-faces p ρ s b (L .closed) (L .faces) N (L .held) (L .rising .origin) u m)
+
+    pub check-was : read b (checkRead b u) ≡ read s (checkRead s u)
+    check-was = asked-same (0, 0) (checkOf b u) (checkOf s u) check-same
 
     strict-same : strictOf b u ≡ strictOf s u
     unfolding strictOf

@@ -1,0 +1,4 @@
+pub mod Firm
+pub mod Twins
+pub mod Kin
+pub mod Texts
