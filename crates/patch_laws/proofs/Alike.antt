@@ -10,16 +10,16 @@ use lib.ListN.{length, length-map}
 use lib.IntN.{natAbs, ℤ, pos, _+ℤ_}
 use lib.Signed.{ltZ}
 use Rattle.ledger_spec.specs.Bench.{Handle, Node, Interface, Bench}
-use Rattle.ledger_spec.specs.Look.{interface, slotOf, ifSerial, nodeNamed, top, sameHandle}
-use Rattle.ledger_spec.specs.Tests.{first, any, isSome, empty, outside, child, stale, foreign, isDefect, hasParent, twice, full, worn, used, both}
-use Rattle.ledger_spec.specs.Refuse.{unitTests, defectTests, blossomTests, expandTests, stateTests, growTests, fuseTests}
+use Rattle.ledger_spec.specs.Look.{interface, gap, freeSlot, slotOf, ifSerial, nodeNamed, top, sameHandle}
+use Rattle.ledger_spec.specs.Tests.{first, any, isSome, empty, outside, child, stale, foreign, isDefect, hasParent, twice, full, worn, used, late, both}
+use Rattle.ledger_spec.specs.Refuse.{unitTests, defectTests, blossomTests, expandTests, stateTests, growTests, fuseTests, markTests}
 use Rattle.ledger_spec.specs.Deeds.{sizes, sizeOf}
-use Rattle.ledger_spec.specs.Calls.{Call, Defect, Blossom, Expand, SetState, Grow, Fuse, Clear}
+use Rattle.ledger_spec.specs.Calls.{Call, Defect, Blossom, Expand, SetState, Grow, Fuse, Clear, Mark}
 use Rattle.ledger_spec.specs.Knit.{In, here, there}
 use Rattle.ledger_spec.proofs.Lists.{in-left}
 use Rattle.ledger_laws.proofs.Answered.{testsOf}
 use Rattle.patch_laws.specs.Patch.{Patch, mine, unitsNamed}
-use Rattle.patch_laws.proofs.Renamed.{Renaming, rePair, reNode, reSlot, re-size, re-given, re-orphan, re-defect, re-both}
+use Rattle.patch_laws.proofs.Renamed.{Renaming, rePair, reNode, reSlot, re-size, re-gap, re-given, re-orphan, re-defect, re-both}
 use Rattle.patch_laws.proofs.Faces.{Faces, Plain, Closed, top-faces, slot-faces}
 
 -- ---- a call with its handles renamed, and the handles that it names
@@ -31,6 +31,7 @@ reCall R (SetState u h t) = SetState u (R .handle h) t
 reCall R (Grow u l) = Grow u l
 reCall R (Fuse q l r) = Fuse q l r
 reCall R (Clear u) = Clear u
+reCall R (Mark u k) = Mark u k
 
 abbrev pub handlesOf : Call → List Handle
 handlesOf (Defect u v) = []
@@ -40,6 +41,7 @@ handlesOf (SetState u h t) = h ∷ []
 handlesOf (Grow u l) = []
 handlesOf (Fuse q l r) = []
 handlesOf (Clear u) = []
+handlesOf (Mark u k) = []
 
 -- all of a list of interfaces
 abbrev pub Each : Patch → List ℕ → Type 0
@@ -124,8 +126,18 @@ module _ (p : Patch) (R : Renaming) (s b : Bench) (C : Closed p s) (F : Faces p 
     pub count-faces : length (interface b u .slots) ≡ length (interface s u .slots)
     count-faces = ap (λ (f : Interface). length (f .slots)) (F .face u m) ∙ length-map (interface s u .slots) (reSlot R)
 
+    pub free-faces : freeSlot b u ≡ freeSlot s u
+    unfolding freeSlot
+    free-faces = (λ i. pick (F .face u m i .marks .fills) (gap (F .face u m i .slots)) (length (F .face u m i .slots))) ∙ ap₂ (pick (interface s u .marks .fills)) (re-gap R (interface s u .slots)) (length-map (interface s u .slots) (reSlot R))
+      where
+        pick : Bool → ℕ → ℕ → ℕ
+        pick c x y = elim c as (λ z. ℕ) [ true ↦ x | false ↦ y ]
+
     full-faces : full b u ≡ full s u
-    full-faces = ap (leb 64) count-faces
+    full-faces = ap (leb 64) free-faces
+
+    late-faces : late (interface b u) ≡ late (interface s u)
+    late-faces = ap late (F .face u m) ∙ ap (λ (c : Bool). not c || isSome (interface s u .halves)) (empty-map (reSlot R) (interface s u .slots))
 
     used-faces : used (interface b u) ≡ used (interface s u)
     used-faces = ap used (F .face u m) ∙ ap (λ (c : Bool). not c || (not (eqb (natAbs (interface s u .progress)) 0) || isSome (interface s u .halves))) (empty-map (reSlot R) (interface s u .slots))
@@ -204,6 +216,10 @@ module _ (p : Patch) (R : Renaming) (s b : Bench) (C : Closed p s) (F : Faces p 
     fuse-tests q l r mq ml mr = λ i. (outside q || (outside l || outside r), 3) ∷ (child-faces q mq i || (child-faces l ml i || child-faces r mr i), 4)
         ∷ (eqb l r || (leb q l || leb q r), 16) ∷ (used-faces q mq i, 17) ∷ []
 
+    mark-tests : (u : ℕ) → mine p u ≡ true → markTests b u ≡ markTests s u
+    unfolding markTests
+    mark-tests u m = λ i. (outside u, 3) ∷ (child-faces u m i, 4) ∷ (late-faces u m i, 26) ∷ []
+
     pub tests-faces : (c : Call) → Own p c → first (testsOf b (reCall R c)) ≢ 15 → first (testsOf b (reCall R c)) ≡ first (testsOf s c)
     unfolding testsOf
     tests-faces (Defect u v) k q = defect-tests u (k .units u (here refl)) q
@@ -213,3 +229,4 @@ module _ (p : Patch) (R : Renaming) (s b : Bench) (C : Closed p s) (F : Faces p 
     tests-faces (Grow u l) k q = ap first (grow-tests u l (k .units u (here refl)))
     tests-faces (Fuse f l r) k q = ap first (fuse-tests f l r (k .units f (here refl)) (k .units l (there (here refl))) (k .units r (there (there (here refl)))))
     tests-faces (Clear u) k q = ap first (unit-faces u (k .units u (here refl)))
+    tests-faces (Mark u t) k q = ap first (mark-tests u (k .units u (here refl)))

@@ -9,11 +9,11 @@ use mathlib.Core.List.{List, [], _∷_, _++_, map, map-append}
 use native.Mathlib.Decide.{ℕ-discrete}
 use lib.IntN.{pos}
 use Rattle.ledger_spec.specs.Bench.{Handle, grows, stays, defect, blossom, Interface, Bench}
-use Rattle.ledger_spec.specs.Look.{interface, nodeNamed, top}
-use Rattle.ledger_spec.specs.Change.{place, markAll}
+use Rattle.ledger_spec.specs.Look.{interface, freeSlot, nodeNamed, top}
+use Rattle.ledger_spec.specs.Change.{place, push, markAll}
 use Rattle.ledger_spec.specs.Tests.{first, both}
 use Rattle.ledger_spec.specs.Deeds.{newHandle, members, addDefect, addBlossom, removeBlossom, join, wipe}
-use Rattle.ledger_spec.specs.Calls.{Call, Defect, Blossom, Expand, SetState, Grow, Fuse, Clear}
+use Rattle.ledger_spec.specs.Calls.{Call, Defect, Blossom, Expand, SetState, Grow, Fuse, Clear, Mark}
 use Rattle.ledger_spec.specs.Notices.{Notice, defectAdded, stateSet, shrinkPrepared, blossomAdded, blossomRemoved, grown, tells}
 use Rattle.ledger_spec.specs.Knit.{In, here, there}
 use Rattle.ledger_spec.specs.Facts.{Sound}
@@ -22,12 +22,12 @@ use Rattle.ledger_spec.proofs.Knit.{some-eq, none-some}
 use Rattle.ledger_spec.proofs.Passed.{Fusable, fusable}
 use Rattle.ledger_spec.proofs.DeedReadings.{defectNode, blossomNode}
 use Rattle.ledger_spec.proofs.TreeReadings.{Joins, joins, grow-parent, grow-halves, join-l, join-r, join-rest, join-p, join-kept, wipe-under, wipe-else}
-use Rattle.ledger_laws.proofs.Quiet.{place-quiet, defect-quiet, blossom-quiet, expand-quiet, mark-quiet}
+use Rattle.ledger_laws.proofs.Quiet.{place-quiet, defect-quiet, blossom-quiet, expand-quiet, mark-quiet, choose-quiet}
 use Rattle.ledger_laws.proofs.Answered.{testsOf, deedOf}
 use Rattle.patch_laws.specs.Patch.{Patch, mine}
 use Rattle.patch_laws.proofs.Renamed.{Renaming, rePair, re-circle, re-members}
-use Rattle.patch_laws.proofs.Faces.{Faces, Closed, closed-same, closed-quiet, place-faces, mark-faces, markAll-faces, push-faces, join-faces, grow-faces, wipe-faces}
-use Rattle.patch_laws.proofs.Alike.{reCall, Own, Names, node-faces, sizes-faces, count-faces}
+use Rattle.patch_laws.proofs.Faces.{Faces, Closed, closed-same, closed-quiet, place-faces, mark-faces, markAll-faces, push-faces, join-faces, choose-faces, grow-faces, wipe-faces}
+use Rattle.patch_laws.proofs.Alike.{reCall, Own, Names, node-faces, sizes-faces, free-faces}
 use Rattle.patch_laws.proofs.Held.{keep, Held, keep-names, members-mine, call-kept}
 
 abbrev pub reNotice : Renaming → Notice → Notice
@@ -40,7 +40,7 @@ reNotice R (grown l) = grown l
 
 module _ (p : Patch) (R : Renaming) (s b : Bench) (C : Closed p s) (F : Faces p R s b) (N : Names p R) (H : Held p s) (next : R .serial (s .next) ≡ b .next) where
   pub new-faces : (u : ℕ) → mine p u ≡ true → newHandle b u ≡ R .handle (newHandle s u)
-  new-faces u m = (λ i. record { unit = u; slot = count-faces p R s b C F N u m i; serial = sym next i }) ∙ sym (N .plain (newHandle s u) m)
+  new-faces u m = (λ i. record { unit = u; slot = free-faces p R s b C F N u m i; serial = sym next i }) ∙ sym (N .plain (newHandle s u) m)
 
   members-faces : (h : Handle) → mine p (h .unit) ≡ true → members (nodeNamed b (R .handle h)) ≡ map (R .handle) (members (nodeNamed s h))
   members-faces h k = ap members (node-faces p R s b C F N h k) ∙ re-members R (nodeNamed s h)
@@ -48,15 +48,23 @@ module _ (p : Patch) (R : Renaming) (s b : Bench) (C : Closed p s) (F : Faces p 
   -- ---- the bench after it
   defect-faces : (u v : ℕ) → mine p u ≡ true → Faces p R (addDefect s u v) (addDefect b u v)
   unfolding addDefect
-  defect-faces u v m = push-faces p R s b F u (defectNode s v) (defectNode b v) m (λ i. record { serial = sym next i; class = defect v; state = grows; parent = none; value = pos 0; size = 1 })
+  defect-faces u v m = subst (λ (t : ℕ). Faces p R (push s u (freeSlot s u) (defectNode s v)) (push b u t (defectNode b v))) (sym (free-faces p R s b C F N u m))
+      (push-faces p R s b F u (freeSlot s u) (defectNode s v) (defectNode b v) m (λ i. record { serial = sym next i; class = defect v; state = grows; parent = none; value = pos 0; size = 1 }))
 
   blossom-faces : (u : ℕ) (hs : List Handle) (ts : List (Handle × Handle)) → mine p u ≡ true → ((h : Handle) → In h hs → mine p (h .unit) ≡ true)
       → Faces p R (addBlossom s u hs ts) (addBlossom b u (map (R .handle) hs) (map (rePair R) ts))
   unfolding addBlossom
-  blossom-faces u hs ts m k = push-faces p R (markAll s hs stays (some (newHandle s u))) (markAll b (map (R .handle) hs) stays (some (newHandle b u))) marked u (blossomNode s hs ts) (blossomNode b (map (R .handle) hs) (map (rePair R) ts)) m
-      (λ i. record { serial = sym next i; class = blossom (re-circle R hs ts i); state = grows; parent = none; value = pos 0; size = sizes-faces p R s b C F N hs k i })
+  blossom-faces u hs ts m k = subst (λ (t : ℕ). Faces p R (push s₁ u (freeSlot s u) (blossomNode s hs ts)) (push b₁ u t (blossomNode b (map (R .handle) hs) (map (rePair R) ts)))) (sym (free-faces p R s b C F N u m))
+      (push-faces p R s₁ b₁ marked u (freeSlot s u) (blossomNode s hs ts) (blossomNode b (map (R .handle) hs) (map (rePair R) ts)) m
+      (λ i. record { serial = sym next i; class = blossom (re-circle R hs ts i); state = grows; parent = none; value = pos 0; size = sizes-faces p R s b C F N hs k i }))
     where
-      marked : Faces p R (markAll s hs stays (some (newHandle s u))) (markAll b (map (R .handle) hs) stays (some (newHandle b u)))
+      s₁ : Bench
+      s₁ = markAll s hs stays (some (newHandle s u))
+
+      b₁ : Bench
+      b₁ = markAll b (map (R .handle) hs) stays (some (newHandle b u))
+
+      marked : Faces p R s₁ b₁
       marked = subst (λ (h : Handle). Faces p R (markAll s hs stays (some (newHandle s u))) (markAll b (map (R .handle) hs) stays (some h))) (sym (new-faces u m))
           (markAll-faces p R (N .plain) s b C F hs stays (some (newHandle s u)) (λ h i. k h i))
 
@@ -78,6 +86,7 @@ module _ (p : Patch) (R : Renaming) (s b : Bench) (C : Closed p s) (F : Faces p 
   deed-faces (Grow u l) k = grow-faces p R s b C F u l
   deed-faces (Fuse q l r) k = join-faces p R s b F q l r (k .units q (here refl)) (k .units l (there (here refl))) (k .units r (there (there (here refl))))
   deed-faces (Clear u) k = wipe-faces p R s b C F u
+  deed-faces (Mark u t) k = choose-faces p R s b F u t (k .units u (here refl))
 
   -- ---- the node and the notices
   pub tells-faces : (c : Call) → Own p c → tells b (reCall R c) ≡ map (reNotice R) (tells s c)
@@ -98,6 +107,7 @@ module _ (p : Patch) (R : Renaming) (s b : Bench) (C : Closed p s) (F : Faces p 
   tells-faces (Grow u l) k = refl
   tells-faces (Fuse q l r) k = refl
   tells-faces (Clear u) k = refl
+  tells-faces (Mark u t) k = refl
 
 -- ---- links within the patch stay there
 module _ (p : Patch) (s : Bench) (S : Sound s) (C : Closed p s) where
@@ -145,6 +155,7 @@ module _ (p : Patch) (s : Bench) (S : Sound s) (C : Closed p s) where
   deed-closed (Grow u l) k e = closed-same p s _ C (grow-parent s u l) (grow-halves s u l)
   deed-closed (Fuse q l r) k e = fuse-closed q l r (fusable s q l r e) (k .units q (here refl)) (k .units l (there (here refl))) (k .units r (there (there (here refl))))
   deed-closed (Clear u) k e = clear-closed u
+  deed-closed (Mark u t) k e = closed-quiet p s _ C (choose-quiet s u t)
 
   pub deed-held : Held p s → (c : Call) → Own p c → Held p (deedOf s c)
   deed-held H c k = subst (λ (d : Call). Faces p (keep p) (deedOf s c) (deedOf s d)) (call-kept p c k) (deed-faces p (keep p) s s C H (keep-names p) H refl c k)

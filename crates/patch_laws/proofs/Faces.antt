@@ -3,23 +3,23 @@ use Prim.Native.Nat.{ℕ, zero, suc, _≤_, _<_}
 use mathlib.Core.Path.{_≡_, refl, sym, _∙_, ap, ap₂, subst}
 use mathlib.Core.Bool.{Bool, true, false}
 use mathlib.Core.Option.{Option, none, some}
-use mathlib.Core.List.{List, [], _∷_, _++_, map, map-append}
+use mathlib.Core.List.{List, [], _∷_, map}
 use native.Mathlib.Omega.{arith}
 use native.Mathlib.Decide.{ℕ-discrete, decLt}
 use lib.Dec.{eqb}
 use lib.ListN.{getD, length, set, length-set, List·getD-map, List·getD-eq-default}
 use lib.IntN.{ℤ, pos, _+ℤ_, _-ℤ_}
-use Rattle.ledger_spec.specs.Bench.{Handle, State, rate, Node, Interface, Bench, fresh, withSlots, withSpeed, withParent}
+use Rattle.ledger_spec.specs.Bench.{Handle, State, rate, Node, Interface, Bench, fresh, Marking, withMark, withSlots, withProgress, withSum, withSpeed, withParent, withHalves, withMarks}
 use Rattle.ledger_spec.specs.Look.{interface, slotOf, climb, top}
-use Rattle.ledger_spec.specs.Change.{share, withInterface, faster, place, push, restate, mark, markAll}
-use Rattle.ledger_spec.specs.Deeds.{growBy, booked, join, wipe}
+use Rattle.ledger_spec.specs.Change.{share, withInterface, faster, place, put, push, restate, mark, markAll}
+use Rattle.ledger_spec.specs.Deeds.{growBy, booked, join, choose, wipe}
 use Rattle.ledger_spec.specs.Knit.{In, here, there}
 use Rattle.ledger_spec.proofs.Interfaces.{put-here, put-else, put-out}
 use Rattle.ledger_spec.proofs.Tops.{climb-none, climb-some}
 use Rattle.ledger_spec.proofs.TreeReadings.{inTree, atTop, grow-interface, grow-length, wipe-under, wipe-else, wipe-length}
 use Rattle.ledger_laws.proofs.Quiet.{Quiet, mark-quiet}
 use Rattle.patch_laws.specs.Patch.{Patch, mine}
-use Rattle.patch_laws.proofs.Renamed.{Renaming, reParent, reNode, reSlot, reFace, map-set, re-share, re-restate, re-grows}
+use Rattle.patch_laws.proofs.Renamed.{Renaming, reParent, reNode, reSlot, reFace, map-set, re-share, re-put, re-restate, re-grows}
 
 -- the patch's interfaces of b are those of s, renamed
 pub record Faces (p : Patch) (R : Renaming) (s b : Bench) : Type 0 where
@@ -130,18 +130,23 @@ module _ (p : Patch) (R : Renaming) where
   markAll-faces N s b C F [] t q m = F
   markAll-faces N s b C F (h ∷ hs) t q m = markAll-faces N (mark s h t q) (mark b (R .handle h) t (reParent R q)) (closed-quiet p s (mark s h t q) C (mark-quiet s h t q)) (mark-faces N s b C F h t q (m h (here refl))) hs t q (λ g i. m g (there i))
 
-  pub push-faces : (s b : Bench) → Faces p R s b → (u : ℕ) (n n′ : Node) → mine p u ≡ true → n′ ≡ reNode R n → Faces p R (push s u n) (push b u n′)
+  pub push-faces : (s b : Bench) → Faces p R s b → (u t : ℕ) (n n′ : Node) → mine p u ≡ true → n′ ≡ reNode R n → Faces p R (push s u t n) (push b u t n′)
   unfolding push
-  push-faces s b F u n n′ m e = subst (λ (x : Node). Faces p R (push s u n) (push b u x)) (sym e) (faster-faces _ _ (record { long = inner .long; face = inner .face }) u (rate (n .state)) m)
+  push-faces s b F u t n n′ m e = subst (λ (x : Node). Faces p R (push s u t n) (push b u t x)) (sym e) (faster-faces _ _ (record { long = inner .long; face = inner .face }) u (rate (n .state)) m)
     where
-      inner : Faces p R (withInterface s u (withSlots (interface s u) (interface s u .slots ++ (some n ∷ [])))) (withInterface b u (withSlots (interface b u) (interface b u .slots ++ (some (reNode R n) ∷ []))))
-      inner = put-faces s b F u _ _ (ap (λ (f : Interface). withSlots f (f .slots ++ (some (reNode R n) ∷ []))) (F .face u m) ∙ ap (withSlots (reFace R (interface s u))) (sym (map-append (reSlot R) (interface s u .slots) (some n ∷ []))))
+      inner : Faces p R (withInterface s u (withSlots (interface s u) (put (interface s u .slots) t n))) (withInterface b u (withSlots (interface b u) (put (interface b u .slots) t (reNode R n))))
+      inner = put-faces s b F u _ _ (ap (λ (f : Interface). withSlots f (put (f .slots) t (reNode R n))) (F .face u m) ∙ ap (withSlots (reFace R (interface s u))) (re-put R (interface s u .slots) t n))
 
   -- ---- fusing
   pub join-faces : (s b : Bench) → Faces p R s b → (q l r : ℕ) → mine p q ≡ true → mine p l ≡ true → mine p r ≡ true → Faces p R (join s q l r) (join b q l r)
   unfolding join
   join-faces s b F q l r mq ml mr = put-faces _ _ (put-faces _ _ (put-faces s b F l _ _ (ap (λ (f : Interface). withParent f (some q)) (F .face l ml))) r _ _ (ap (λ (f : Interface). withParent f (some q)) (F .face r mr))) q _ _
-      (λ i. record { slots = F .face q mq i .slots; progress = pos 0; sum = F .face l ml i .sum +ℤ F .face r mr i .sum; speed = F .face l ml i .speed +ℤ F .face r mr i .speed; parent = none; halves = some (l, r) })
+      (λ i. withHalves (withSpeed (withSum (withProgress (withParent (F .face q mq i) none) (pos 0)) (F .face l ml i .sum +ℤ F .face r mr i .sum)) (F .face l ml i .speed +ℤ F .face r mr i .speed)) (some (l, r)))
+
+  -- ---- a mark
+  pub choose-faces : (s b : Bench) → Faces p R s b → (u : ℕ) (k : Marking) → mine p u ≡ true → Faces p R (choose s u k) (choose b u k)
+  unfolding choose
+  choose-faces s b F u k m = put-faces s b F u _ _ (ap (λ (f : Interface). withMarks f (withMark k (f .marks))) (F .face u m))
 
   -- ---- growing and clearing, a whole tree at once
   re-grown : (l : ℤ) (x y : Bool) (f : Interface) → atTop y l (inTree x l (reFace R f)) ≡ reFace R (atTop y l (inTree x l f))

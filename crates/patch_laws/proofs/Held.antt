@@ -11,7 +11,7 @@ use Rattle.ledger_spec.specs.Bench.{Handle, Member, Class, defect, blossom, Nod
 use Rattle.ledger_spec.specs.Look.{slotOf, nodeNamed}
 use Rattle.ledger_spec.specs.Tests.{both}
 use Rattle.ledger_spec.specs.Deeds.{members}
-use Rattle.ledger_spec.specs.Calls.{Call, Defect, Blossom, Expand, SetState, Grow, Fuse, Clear}
+use Rattle.ledger_spec.specs.Calls.{Call, Defect, Blossom, Expand, SetState, Grow, Fuse, Clear, Mark}
 use Rattle.ledger_spec.specs.Knit.{In, here, there}
 use Rattle.ledger_spec.proofs.Lists.{not-in-nil, map-in, in-left, in-right}
 use Rattle.ledger_spec.proofs.Knit.{some-eq, blossom-eq}
@@ -111,3 +111,4 @@ call-kept p (SetState u h t) k = ap (λ (g : Handle). SetState u g t) (kept p h 
 call-kept p (Grow u l) k = refl
 call-kept p (Fuse q l r) k = refl
 call-kept p (Clear u) k = refl
+call-kept p (Mark u t) k = refl

@@ -15,7 +15,7 @@ use Rattle.ledger_spec.specs.Bench.{Handle, Bench, fresh}
 use Rattle.ledger_spec.specs.Look.{interface, top}
 use Rattle.ledger_spec.specs.Tests.{first, worn, both}
 use Rattle.ledger_spec.specs.Deeds.{newHandle}
-use Rattle.ledger_spec.specs.Calls.{nobody, Call, Defect, Blossom, Expand, SetState, Grow, Fuse, Clear}
+use Rattle.ledger_spec.specs.Calls.{nobody, Call, Defect, Blossom, Expand, SetState, Grow, Fuse, Clear, Mark}
 use Rattle.ledger_spec.specs.Notices.{Notice}
 use Rattle.ledger_spec.specs.Answers.{Answer, answer}
 use Rattle.ledger_spec.specs.Knit.{In, here, there}
@@ -26,7 +26,7 @@ use Rattle.ledger_spec.proofs.Passed.{fusable}
 use Rattle.ledger_spec.proofs.Holds.{holds}
 use Rattle.ledger_spec.proofs.Readings.{mark-next}
 use Rattle.ledger_spec.proofs.DeedReadings.{defect-next, blossom-next, expand-next}
-use Rattle.ledger_spec.proofs.TreeReadings.{joins, grow-next, join-next, wipe-next}
+use Rattle.ledger_spec.proofs.TreeReadings.{joins, grow-next, join-next, wipe-next, choose-next}
 use Rattle.ledger_laws.proofs.Answered.{testsOf, deedOf, nodeOf, answer-number, zero-tests, zero-bench, zero-node, zero-notices, refused-bench, refused-node, refused-notices}
 use Rattle.ledger_laws.proofs.Always.{answered-sound}
 use Rattle.ledger_laws.proofs.Never.{next-grows}
@@ -61,6 +61,7 @@ same-units (SetState u h t) = refl
 same-units (Grow u l) = refl
 same-units (Fuse q l r) = refl
 same-units (Clear u) = refl
+same-units (Mark u k) = refl
 
 -- the patch's interfaces are untouched
 module _ (a p : Patch) (apart : Apart a p) (R : Renaming) (s b : Bench) (S : Sound b) (C : Closed p s) (F : Faces p R s b) (c : Call) (w : Each a (unitsNamed c)) where
@@ -153,6 +154,7 @@ module _ (p : Patch) (ρ : ℕ → ℕ) (k₀ k : Side) (L : Link p ρ k₀ k) (
   same-node (Grow u l) w = nobody-same
   same-node (Fuse q l r) w = nobody-same
   same-node (Clear u) w = nobody-same
+  same-node (Mark u t) w = nobody-same
 
   -- the next serials, in step
   same-rising : (x : Call) → first (testsOf s x) ≡ 0 → first (testsOf b (reCall (by ρ) x)) ≡ 0 → Rising ρ (deedOf s x .next) (deedOf b (reCall (by ρ) x) .next)
@@ -164,6 +166,7 @@ module _ (p : Patch) (ρ : ℕ → ℕ) (k₀ k : Side) (L : Link p ρ k₀ k) (
   same-rising (Grow u l) e f = subst₂ (Rising ρ) (sym (grow-next s u l)) (sym (grow-next b u l)) (L .rising)
   same-rising (Fuse q l r) e f = subst₂ (Rising ρ) (sym (join-next s q l r (joins (L .sound₀ .frame) (fusable s q l r e)))) (sym (join-next b q l r (joins (L .sound .frame) (fusable b q l r f)))) (L .rising)
   same-rising (Clear u) e f = subst₂ (Rising ρ) (sym (wipe-next s u)) (sym (wipe-next b u)) (L .rising)
+  same-rising (Mark u t) e f = subst₂ (Rising ρ) (sym (choose-next s u t)) (sym (choose-next b u t)) (L .rising)
 
   pub turned : answer b d .number ≢ 15 → Turn p ρ s (answer s c) (answer b d)
   turned q = go (answer s c .number) refl
@@ -231,6 +234,7 @@ module _ (p : Patch) (t : Table) (places : (h : Handle) → In h t → mine p (h
   written-own (Script.SetState u k s) w = record { units = w; handles = members-own (k ∷ []) }
   written-own (Script.Grow u l) w = record { units = w; handles = λ h i. absurd (not-in-nil i) }
   written-own (Script.Fuse q l r) w = record { units = w; handles = λ h i. absurd (not-in-nil i) }
+  written-own (Script.Mark u k) w = record { units = w; handles = λ h i. absurd (not-in-nil i) }
   written-own (Script.Clear u) w = record { units = w; handles = λ h i. absurd (not-in-nil i) }
 
 module _ (ρ : ℕ → ℕ) (origin : ρ 0 ≡ 0) (t : Table) where
@@ -247,6 +251,7 @@ module _ (ρ : ℕ → ℕ) (origin : ρ 0 ≡ 0) (t : Table) where
   written-faces (Script.Grow u l) = refl
   written-faces (Script.Fuse q l r) = refl
   written-faces (Script.Clear u) = refl
+  written-faces (Script.Mark u k) = refl
 
 -- ---- a step of the patch on both sides
 made-faces : (ρ : ℕ → ℕ) (c : Script) (n : ℕ) (h : Handle) → made c n (by ρ .handle h) ≡ map (by ρ .handle) (made c n h)
@@ -259,6 +264,7 @@ made-faces ρ (Script.SetState u k s) n h = refl
 made-faces ρ (Script.Grow u l) n h = refl
 made-faces ρ (Script.Fuse q l r) n h = refl
 made-faces ρ (Script.Clear u) n h = refl
+made-faces ρ (Script.Mark u k) n h = refl
 
 -- a node that was handed out is the patch's, and its serial is given out
 made-own : (p : Patch) (k : Side) (c : Script) → Each p (unitsOf c) → (n : ℕ) → answerTo k c .number ≡ n → (h : Handle) → In h (made c n (answerTo k c .node))
@@ -292,6 +298,7 @@ made-own p k (Script.SetState u j s) w n z h i = absurd (not-in-nil i)
 made-own p k (Script.Grow u l) w n z h i = absurd (not-in-nil i)
 made-own p k (Script.Fuse q l r) w n z h i = absurd (not-in-nil i)
 made-own p k (Script.Clear u) w n z h i = absurd (not-in-nil i)
+made-own p k (Script.Mark u t) w n z h i = absurd (not-in-nil i)
 
 module _ (p : Patch) (ρ : ℕ → ℕ) (k₀ k : Side) (L : Link p ρ k₀ k) (c : Script) (w : Each p (unitsOf c)) (q : answerTo k c .number ≢ 15) where
   named-same : written (k .table) c ≡ reCall (by ρ) (written (k₀ .table) c)

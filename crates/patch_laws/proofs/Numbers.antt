@@ -60,6 +60,7 @@ new-one k (Script.SetState u j s) n z = inl refl
 new-one k (Script.Grow u l) n z = inl refl
 new-one k (Script.Fuse q l r) n z = inl refl
 new-one k (Script.Clear u) n z = inl refl
+new-one k (Script.Mark u t) n z = inl refl
 
 ordered-kept : (k : Side) (b : Bench) → k .bench .next ≤ b .next → Ordered k → Ordered (record { bench = b; table = k .table })
 ordered-kept k b h O = record { rises = O .rises; old = λ j x. omega (arith, O .old j x) }

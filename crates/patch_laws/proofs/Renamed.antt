@@ -5,8 +5,9 @@ use mathlib.Core.Option.{Option, none, some}
 use mathlib.Core.List.{List, [], _∷_, map}
 use lib.ListN.{set}
 use lib.IntN.{ℤ}
-use Rattle.ledger_spec.specs.Bench.{Handle, State, Member, Class, defect, blossom, Node, Interface}
-use Rattle.ledger_spec.specs.Change.{share, worth, restate}
+use Rattle.ledger_spec.specs.Bench.{Handle, State, Member, Class, defect, blossom, Node, Interface, withSlots}
+use Rattle.ledger_spec.specs.Look.{gap}
+use Rattle.ledger_spec.specs.Change.{share, worth, put, restate}
 use Rattle.ledger_spec.specs.Deeds.{circle, members, sizeOf, growSlot}
 use Rattle.ledger_spec.specs.Tests.{isSome, isDefect, hasParent, both}
 
@@ -37,7 +38,7 @@ reSlot R none = none
 reSlot R (some n) = some (reNode R n)
 
 abbrev pub reFace : Renaming → Interface → Interface
-reFace R f = record { slots = map (reSlot R) (f .slots); progress = f .progress; sum = f .sum; speed = f .speed; parent = f .parent; halves = f .halves }
+reFace R f = withSlots f (map (reSlot R) (f .slots))
 
 -- ---- lists
 pub map-set : {A B : Type 0} (f : A → B) (l : List A) (i : ℕ) (y : A) → map f (set l i y) ≡ set (map f l) i (f y)
@@ -66,6 +67,19 @@ module _ (R : Renaming) where
   pub re-given : (o : Option Node) → isSome (reSlot R o) ≡ isSome o
   re-given none = refl
   re-given (some n) = refl
+
+  -- the lowest empty slot, and a node put at a slot
+  pub re-gap : (xs : List (Option Node)) → gap (map (reSlot R) xs) ≡ gap xs
+  unfolding gap
+  re-gap [] = refl
+  re-gap (none ∷ xs) = refl
+  re-gap (some n ∷ xs) = ap suc (re-gap xs)
+
+  pub re-put : (xs : List (Option Node)) (s : ℕ) (n : Node) → put (map (reSlot R) xs) s (reNode R n) ≡ map (reSlot R) (put xs s n)
+  unfolding put
+  re-put [] s n = refl
+  re-put (x ∷ xs) zero n = refl
+  re-put (x ∷ xs) (suc s) n = ap {B = List (Option Node)} (λ l. reSlot R x ∷ l) (re-put xs s n)
 
   pub re-restate : (o : Option Node) (s : State) (q : Option Handle) → restate (reSlot R o) s (reParent R q) ≡ reSlot R (restate o s q)
   re-restate none s q = refl

@@ -11,7 +11,7 @@ use native.Mathlib.Decide.{decLt}
 use lib.Dec.{eqb, ltb}
 use lib.ListN.{getD}
 use borrow.Author.Tests.{eq-eqb, ne-eqb, lt-ltb, le-ltb}
-use Rattle.ledger_spec.specs.Bench.{Handle, Member, Class, defect, blossom, Node, Bench}
+use Rattle.ledger_spec.specs.Bench.{Handle, Member, Class, defect, blossom, Node, Bench, withSlots}
 use Rattle.ledger_spec.specs.Look.{interface, slotOf}
 use Rattle.ledger_spec.specs.Notices.{Notice}
 use Rattle.ledger_spec.specs.Knit.{In, here, there}
@@ -158,7 +158,7 @@ module _ (ρ σ : ℕ → ℕ) (s : Bench) (e : (i : ℕ) → i < s .next → ρ
             ap some (handle-agree h (omega (arith, U .has .serial, low (h .unit) (h .slot) (U .over) (U .has .stands))))
 
     face-agree : (w : ℕ) → reFace (by ρ) (interface s w) ≡ reFace (by σ) (interface s w)
-    face-agree w = ap (λ (l : List (Option Node)). record { slots = l; progress = interface s w .progress; sum = interface s w .sum; speed = interface s w .speed; parent = interface s w .parent; halves = interface s w .halves })
+    face-agree w = ap (withSlots (interface s w))
         (slots-agree (interface s w .slots) (λ k n q. node-agree w k n q))
 
     pub faces-agree : (p : Patch) (b : Bench) → Faces p (by ρ) s b → Faces p (by σ) s b

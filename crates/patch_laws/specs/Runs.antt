@@ -10,12 +10,12 @@ use Rattle.ledger_spec.specs.Calls.{Call, setUpCall}
 use Rattle.ledger_spec.specs.Notices.{Notice}
 use Rattle.ledger_spec.specs.Groups.{Group}
 use Rattle.ledger_spec.specs.GroupCalls.{isEmpty, isActive, growthOf, peek, pop, add, extend}
-use Rattle.ledger_spec.specs.Answers.{Answer, answer, Read as Asking, read, sumRead, speedRead, countRead, indexRead, belongsRead, valueRead, outerRead, belowRead, firstRead, verticesRead, checkRead, strictRead}
+use Rattle.ledger_spec.specs.Answers.{Answer, answer, Read as Asking, read, sumRead, speedRead, countRead, indexRead, belongsRead, valueRead, outerRead, belowRead, firstRead, verticesRead, fillsRead, checkRead, strictRead}
 use Rattle.ledger_sparing.specs.Sparing.{popSparing}
 use Rattle.picture_spec.specs.Picture.{pictureRead}
 use Rattle.read_present.specs.Present.{presentRead, nextRead}
 use Rattle.patch_laws.specs.Obstacles.{mapObstacle, mapTaken, mapGroup, givenCode, numberCode}
-use Rattle.patch_laws.specs.Patch.{Script, Defect, Blossom, Expand, SetState, Grow, Fuse, Clear, Table, given, written, Name, nameOf}
+use Rattle.patch_laws.specs.Patch.{Script, Defect, Blossom, Expand, SetState, Grow, Fuse, Clear, Mark, Table, given, written, Name, nameOf}
 
 -- ---- what the patch can ask of a node that it made, and of an interface: every read of the ledger. The calls on groups change no bench, and those
 -- that are lent one only read it; groups are the patch's own, written by numbers.
@@ -24,7 +24,7 @@ pub data Read : Type 0 where
   Vertices : (node : ℕ) (room : List ℕ) → Read
   Belongs : (unit node : ℕ) → Read
   At Next : (unit index : ℕ) → Read
-  Sum Speed Count Present Check Strict : (unit : ℕ) → Read
+  Sum Speed Count Present Fills Check Strict : (unit : ℕ) → Read
   Picture : (unit : ℕ) (abbreviated : Bool) (room : List ℕ) → Read
   Empty Active Growth Peek Pop Spare : Group → Read
   Add : Group → Obstacle → Read
@@ -105,6 +105,7 @@ made (SetState u k s) n h = []
 made (Grow u l) n h = []
 made (Fuse p l r) n h = []
 made (Clear u) n h = []
+made (Mark u k) n h = []
 
 abbrev pub answerTo : Side → Script → Answer
 answerTo k c = answer (k .bench) (written (k .table) c)
@@ -130,6 +131,7 @@ readBy asks b t (Sum u) = amount (asks ℤ (sumRead b u))
 readBy asks b t (Speed u) = amount (asks ℤ (speedRead b u))
 readBy asks b t (Count u) = counted (asks ℕ (countRead b u))
 readBy asks b t (Present u) = counted (asks ℕ (presentRead b u))
+readBy asks b t (Fills u) = truth (asks Bool (fillsRead b u))
 readBy asks b t (Check u) = judged (asks (ℕ × ℕ) (checkRead b u))
 readBy asks b t (Strict u) = judged (asks (ℕ × ℕ) (strictRead b u))
 readBy asks b t (Picture u a out) = listed (asks (ℕ × List ℕ) (pictureRead b u a out))

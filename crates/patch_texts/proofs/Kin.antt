@@ -20,7 +20,7 @@ use Rattle.ledger_spec.specs.Knit.{In}
 use Rattle.ledger_spec.specs.Facts.{Sound}
 use Rattle.ledger_spec.proofs.Lists.{not-in-nil, in-cases, in-append}
 use Rattle.ledger_laws.proofs.Never.{next-grows}
-use Rattle.patch_laws.specs.Patch.{Script, Defect, Blossom, Expand, SetState, Grow, Fuse, Clear, Table, given, unitsOf, written}
+use Rattle.patch_laws.specs.Patch.{Script, Defect, Blossom, Expand, SetState, Grow, Fuse, Clear, Mark, Table, given, unitsOf, written}
 use Rattle.patch_laws.specs.Runs.{Side, made, answerTo, after}
 use Rattle.patch_laws.proofs.Renamed.{map-map}
 use Rattle.patch_texts.specs.Page.{Serials, serialAt, spelled, handed, numberFrom, field, Page}
@@ -159,6 +159,7 @@ made-new k Z (SetState u j s) n e h i = absurd (not-in-nil i)
 made-new k Z (Grow u l) n e h i = absurd (not-in-nil i)
 made-new k Z (Fuse p l r) n e h i = absurd (not-in-nil i)
 made-new k Z (Clear u) n e h i = absurd (not-in-nil i)
+made-new k Z (Mark u t) n e h i = absurd (not-in-nil i)
 
 module _ (k : Side) (q : Page) (N : Kin k q) (Z : Sound (k .bench)) {l : Line} {c : Script} {u : ℕ} (Y : Says l c u) where
   -- the line's answer is the call's
