@@ -15,6 +15,7 @@ mod groups;
 mod ledger;
 mod nests;
 mod openings;
+mod patches;
 mod pictures;
 mod reads;
 mod records;
@@ -36,6 +37,7 @@ linked scale [ACCEPTED REFUSED DAMAGED [SEED]]   until so many of each were comp
 linked pictures [COUNT [SEED]]            pictures beside the original's, until so many benches with check 0; by default 30000 1
 linked records [COUNT [SEED]]             files of byte records, whole and spoiled, beside the model's reader, until so many; by default 1000000 1
 linked runs [COUNT [SEED]]                files of byte records run whole, beside single calls and the original, until so many operations; by default 10000000 1
+linked patches [COUNT [SEED]]             two patches on one bench, so many pairs of runs; by default 2000 1
 linked play FILE                          lines of a file by all three: the first difference, if there is one
 linked moves LIST                         times of moving such a list to byte records and back, beside its run
 bench LIST NUMBERS                        times of both sides in one run, over such a list; the same as numbers into a file";
@@ -124,6 +126,8 @@ fn ran(least: usize, seed: u64) {
 fn moved(path: &str) -> String {
     let text = std::fs::read(path).unwrap_or_else(|why| fail(format!("{path}: {why}")));
     bench_records::table(&text).unwrap_or_else(|why| fail(why))
+fn patched(count: usize, seed: u64) {
+    print!("{}no difference\n", patches::compare(count, seed).unwrap_or_else(|why| fail(why)));
 }
 
 fn play(path: &str) {
@@ -141,6 +145,7 @@ fn main() {
             pictured(2_000, 1);
             recorded(20_000, 1);
             ran(100_000, 1)
+            patched(60, 1)
         }
         ["scale"] => scale(10_000_000, 1_000_000, 1_000_000, 1),
         ["scale", accepted, refused, damaged] => scale(count(accepted) as usize, count(refused) as usize, count(damaged) as usize, 1),
@@ -154,6 +159,9 @@ fn main() {
         ["runs"] => ran(10_000_000, 1),
         ["runs", least] => ran(count(least) as usize, 1),
         ["runs", least, seed] => ran(count(least) as usize, count(seed)),
+        ["patches"] => patched(2_000, 1),
+        ["patches", pairs] => patched(count(pairs) as usize, 1),
+        ["patches", pairs, seed] => patched(count(pairs) as usize, count(seed)),
         ["play", path] => play(path),
         ["moves", list] => print!("{}", moved(list)),
         ["bench", list, numbers] => bench::run(list, numbers).unwrap_or_else(|why| fail(why)),
