@@ -332,11 +332,11 @@ impl Pair {
         (all, ours.table.iter().map(|node| node.serial()).collect(), met)
     }
 
-    /// Every fuse of one of ours and one of theirs.
+    /// Every fuse of one of ours and one of theirs into a parent that is not ours: one of ours could be cleared at once, which undoes it.
     fn joins(&self) -> impl Iterator<Item = (u8, u8, u8)> + '_ {
-        self.ours
-            .iter()
-            .flat_map(move |left| self.theirs.iter().flat_map(move |right| (left.max(right) + 1..8).map(move |parent| (parent, *left, *right))))
+        let parents =
+            |left: u8, right: u8| (left.max(right) + 1..8).filter(|parent| !self.ours.contains(parent)).map(move |parent| (parent, left, right));
+        self.ours.iter().flat_map(move |left| self.theirs.iter().flat_map(move |right| parents(*left, *right)))
     }
 
     /// The lines of B among lines of A, on words of their own: what is answered but for the serial, and the number of the serial.
