@@ -9,18 +9,21 @@ use lib.Dec.{eqb, leb, ltb}
 use lib.ListN.{length, length-map}
 use lib.IntN.{natAbs, ℤ, pos, _+ℤ_}
 use lib.Signed.{ltZ}
+use borrow.Author.Tests.{ne-eqb}
 use Rattle.ledger_spec.specs.Bench.{Handle, Node, Interface, Bench}
 use Rattle.ledger_spec.specs.Look.{interface, gap, freeSlot, slotOf, ifSerial, nodeNamed, top, sameHandle}
-use Rattle.ledger_spec.specs.Tests.{first, any, isSome, empty, outside, child, stale, foreign, isDefect, hasParent, twice, full, worn, used, late, both}
+use Rattle.ledger_spec.specs.Tests.{first, any, isSome, empty, outside, child, stale, foreign, isDefect, hasParent, twice, full, worn, used, floored, sinks, below, same, late, both}
 use Rattle.ledger_spec.specs.Refuse.{unitTests, defectTests, blossomTests, expandTests, stateTests, growTests, fuseTests, markTests}
 use Rattle.ledger_spec.specs.Deeds.{sizes, sizeOf}
 use Rattle.ledger_spec.specs.Calls.{Call, Defect, Blossom, Expand, SetState, Grow, Fuse, Clear, Mark}
+use Rattle.ledger_spec.specs.SoundTree.{units}
+use Rattle.ledger_spec.specs.Frame.{Frame}
 use Rattle.ledger_spec.specs.Knit.{In, here, there}
 use Rattle.ledger_spec.proofs.Lists.{in-left}
 use Rattle.ledger_laws.proofs.Answered.{testsOf}
 use Rattle.patch_laws.specs.Patch.{Patch, mine, unitsNamed}
-use Rattle.patch_laws.proofs.Renamed.{Renaming, rePair, reNode, reSlot, re-size, re-gap, re-given, re-orphan, re-defect, re-both}
-use Rattle.patch_laws.proofs.Faces.{Faces, Plain, Closed, top-faces, slot-faces}
+use Rattle.patch_laws.proofs.Renamed.{Renaming, rePair, reNode, reSlot, re-size, re-sinks, re-gap, re-given, re-orphan, re-defect, re-both}
+use Rattle.patch_laws.proofs.Faces.{Faces, Plain, Closed, top-faces, climb-back, slot-faces}
 
 -- ---- a call with its handles renamed, and the handles that it names
 abbrev pub reCall : Renaming → Call → Call
@@ -136,6 +139,9 @@ module _ (p : Patch) (R : Renaming) (s b : Bench) (C : Closed p s) (F : Faces p 
     full-faces : full b u ≡ full s u
     full-faces = ap (leb 64) free-faces
 
+    pub floored-faces : floored b u ≡ floored s u
+    floored-faces = ap (λ (f : Interface). f .marks .floored) (F .face u m)
+
     late-faces : late (interface b u) ≡ late (interface s u)
     late-faces = ap late (F .face u m) ∙ ap (λ (c : Bool). not c || isSome (interface s u .halves)) (empty-map (reSlot R) (interface s u .slots))
 
@@ -147,7 +153,7 @@ module _ (p : Patch) (R : Renaming) (s b : Bench) (C : Closed p s) (F : Faces p 
     unit-faces = λ i. (outside u, 3) ∷ (child-faces i, 4) ∷ []
 
   -- ---- the tests of each call
-  module _ (wear : worn s ≡ true → worn b ≡ true) where
+  module _ (wear : worn s ≡ true → worn b ≡ true) (fs : Frame s) (fb : Frame b) where
     defect-tests : (u : ℕ) → mine p u ≡ true → first (defectTests b u) ≢ 15 → first (defectTests b u) ≡ first (defectTests s u)
     unfolding defectTests
     defect-tests u m q = worn-last ((outside u, 3) ∷ (child b u, 4) ∷ (full b u, 14) ∷ []) (worn b) (worn s) wear q
@@ -207,14 +213,39 @@ module _ (p : Patch) (R : Renaming) (s b : Bench) (C : Closed p s) (F : Faces p 
     unfolding stateTests
     state-tests u h m k = λ i. (outside u, 3) ∷ (child-faces u m i, 4) ∷ (stale-faces h k i, 8) ∷ (foreign-faces u h k i, 9) ∷ ((ap hasParent (node-faces h k) ∙ re-orphan R (nodeNamed s h)) i, 11) ∷ []
 
+    -- whose top is an interface of the patch, is the patch's: so a node of another patch is never one that would sink
+    top-back : (w : ℕ) → (mine p (top s w) ≡ true → mine p w ≡ true) × (mine p (top b w) ≡ true → mine p w ≡ true)
+    top-back w = (
+      climb-back p s fs (λ q l r k e. (C .left q l r k e, C .right q l r k e)) 8 w,
+      climb-back p b fb (λ q l r k e. let f = sym (ap (λ (f : Interface). f .halves) (F .face q k)) ∙ e in (C .left q l r k f, C .right q l r k f)) 8 w,
+    )
+
+    below-faces : (u : ℕ) → mine p u ≡ true → (l : ℤ) → below b u l ≡ below s u l
+    unfolding below any
+    below-faces u m l = ap₂ _&&_ (floored-faces u m) (any-all units)
+      where
+        sunk : Bench → ℕ → Bool
+        sunk d w = eqb (top d w) u && any (sinks l) (interface d w .slots)
+
+        other : (d : Bench) (w : ℕ) → (mine p (top d w) ≡ true → mine p w ≡ true) → mine p w ≡ false → sunk d w ≡ false
+        other d w back z = ap (λ (c : Bool). c && any (sinks l) (interface d w .slots)) (ne-eqb (top d w) u (λ e. true≢false (sym (back (ap (mine p) e ∙ m)) ∙ z)))
+
+        each : (w : ℕ) (c : Bool) → mine p w ≡ c → sunk b w ≡ sunk s w
+        each w true z = ap₂ _&&_ (ap (λ (t : ℕ). eqb t u) (top-faces p R s b C F w z)) (ap (λ (f : Interface). any (sinks l) (f .slots)) (F .face w z) ∙ any-map (sinks l) (reSlot R) (sinks l) (interface s w .slots) (λ o i. re-sinks R l o))
+        each w false z = other b w (top-back w .1) z ∙ sym (other s w (top-back w .0) z)
+
+        any-all : (ws : List ℕ) → any (sunk b) ws ≡ any (sunk s) ws
+        any-all [] = refl
+        any-all (w ∷ ws) = ap₂ _||_ (each w (mine p w) refl) (any-all ws)
+
     grow-tests : (u : ℕ) (l : ℤ) → mine p u ≡ true → growTests b u l ≡ growTests s u l
     unfolding growTests
-    grow-tests u l m = λ i. (outside u, 3) ∷ (child-faces u m i, 4) ∷ (ltZ l (pos 0) || ltZ (pos (2 ^ 40)) (F .face u m i .progress +ℤ l), 5) ∷ []
+    grow-tests u l m = λ i. (outside u, 3) ∷ (child-faces u m i, 4) ∷ (ltZ l (pos 0) || ltZ (pos (2 ^ 40)) (F .face u m i .progress +ℤ l), 5) ∷ (below-faces u m l i, 25) ∷ []
 
     fuse-tests : (q l r : ℕ) → mine p q ≡ true → mine p l ≡ true → mine p r ≡ true → fuseTests b q l r ≡ fuseTests s q l r
     unfolding fuseTests
     fuse-tests q l r mq ml mr = λ i. (outside q || (outside l || outside r), 3) ∷ (child-faces q mq i || (child-faces l ml i || child-faces r mr i), 4)
-        ∷ (eqb l r || (leb q l || leb q r), 16) ∷ (used-faces q mq i, 17) ∷ []
+        ∷ (eqb l r || (leb q l || leb q r), 16) ∷ (used-faces q mq i, 17) ∷ (not (same (floored-faces l ml i) (floored-faces r mr i)), 26) ∷ []
 
     mark-tests : (u : ℕ) → mine p u ≡ true → markTests b u ≡ markTests s u
     unfolding markTests

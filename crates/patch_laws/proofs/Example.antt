@@ -16,14 +16,14 @@ use Rattle.kinds.specs.declared.Obstacle.the-variants.{BlossomNeedExpand, Verte
 use Rattle.ledger_sparing.specs.Sparing.{spared, popSparing}
 use Rattle.read_present.specs.Present.{presentIn, nextFrom, presentOf, nextOf}
 use Rattle.ledger_spec.specs.Groups.{emptyGroup, conflicts}
-use Rattle.ledger_spec.specs.Bench.{Handle, grows, shrinks, filling}
+use Rattle.ledger_spec.specs.Bench.{Handle, grows, shrinks, filling, floor}
 use Rattle.ledger_spec.specs.SoundTree.{all}
 use Rattle.ledger_spec.specs.Calls.{Call}
 use Rattle.ledger_spec.specs.Opened.{run}
 use Rattle.ledger_spec.proofs.Lists.{and-true}
 use Rattle.patch_laws.specs.Patch.{Name, Patch, Apart, mine, unitsNamed, unitsOf, Defect, Blossom, Expand, SetState, Grow, Fuse, Clear, Mark, written, numberFrom}
 use Rattle.patch_laws.specs.Obstacles.{numbered}
-use Rattle.patch_laws.specs.Runs.{defectAdded, Side, Value, Outer, Vertices, At, Next, Present, Fills, Check, Strict, Spare, Add, Seen, answered, counted, judged, linked, found, listed, numberOf, after, seen, readBy, Step, theirs, ours, asked, sees, reached, opened, own}
+use Rattle.patch_laws.specs.Runs.{defectAdded, Side, Value, Outer, Vertices, At, Next, Present, Fills, Floored, Check, Strict, Spare, Add, Seen, answered, counted, judged, linked, found, listed, numberOf, after, seen, readBy, Step, theirs, ours, asked, sees, reached, opened, own}
 use Rattle.patch_laws.specs.Statement.{readOf, Fits, AllFit, Unworn}
 use Rattle.patch_laws.proofs.Patches.{two-patches}
 
@@ -68,9 +68,12 @@ steps = ours (Defect 3 10)
     ∷ ours (Clear 5)
     ∷ ours (SetState 3 0 grows)
     ∷ ours (Mark 3 filling)
+    ∷ ours (Mark 4 floor)
     ∷ asked (Fills 3)
+    ∷ asked (Floored 4)
     ∷ ours (Defect 3 10)
     ∷ ours (Mark 3 filling)
+    ∷ ours (Fuse 5 3 4)
     ∷ ours (Defect 9 10)
     ∷ asked (At 3 0)
     ∷ []
@@ -86,7 +89,7 @@ pub second-run : List Step
 second-run = woven (Call.Clear 2 ∷ Call.Defect 1 8 ∷ Call.Defect 1 9 ∷ Call.Blossom 1 (record { unit = 1; slot = 0; serial = 1000 } ∷ []) [] ∷ Call.Fuse 2 0 1 ∷ []) steps
 
 -- ---- the numbers that the watched patch is answered
-pub numbers : map numberOf (sees (opened 1) first-run) ≡ 0 ∷ 0 ∷ 0 ∷ 0 ∷ 0 ∷ 0 ∷ 0 ∷ 0 ∷ 0 ∷ 0 ∷ 0 ∷ 0 ∷ 0 ∷ 0 ∷ 0 ∷ 0 ∷ 0 ∷ 8 ∷ 8 ∷ 0 ∷ 0 ∷ 0 ∷ 0 ∷ 4 ∷ 8 ∷ 0 ∷ 8 ∷ 0 ∷ 0 ∷ 0 ∷ 26 ∷ 3 ∷ 0 ∷ []
+pub numbers : map numberOf (sees (opened 1) first-run) ≡ 0 ∷ 0 ∷ 0 ∷ 0 ∷ 0 ∷ 0 ∷ 0 ∷ 0 ∷ 0 ∷ 0 ∷ 0 ∷ 0 ∷ 0 ∷ 0 ∷ 0 ∷ 0 ∷ 0 ∷ 8 ∷ 8 ∷ 0 ∷ 0 ∷ 0 ∷ 0 ∷ 4 ∷ 8 ∷ 0 ∷ 8 ∷ 0 ∷ 0 ∷ 0 ∷ 0 ∷ 0 ∷ 26 ∷ 26 ∷ 3 ∷ 0 ∷ []
 unfolding run written numberFrom numbered after seen presentIn nextFrom presentOf nextOf spared popSparing readBy sees steps woven first-run
 numbers = refl
 
@@ -144,11 +147,11 @@ example = two-patches other watched disjoint 1 1000 (omega arith) (omega arith) 
 pub serials : Side → List Step → List ℕ
 serials k xs = map (λ (h : Handle). h .serial) (reached k xs .table)
 
-pub first-serials : serials (opened 1) first-run ≡ 2 ∷ 4 ∷ 6 ∷ 8 ∷ 11 ∷ 14 ∷ 37 ∷ []
+pub first-serials : serials (opened 1) first-run ≡ 2 ∷ 4 ∷ 6 ∷ 8 ∷ 11 ∷ 14 ∷ 39 ∷ []
 unfolding run written numbered after steps woven first-run reached serials
 first-serials = refl
 
-pub second-serials : serials (opened 1000) second-run ≡ 1003 ∷ 1006 ∷ 1009 ∷ 1012 ∷ 1017 ∷ 1022 ∷ 1067 ∷ []
+pub second-serials : serials (opened 1000) second-run ≡ 1003 ∷ 1006 ∷ 1009 ∷ 1012 ∷ 1017 ∷ 1022 ∷ 1071 ∷ []
 unfolding run written numbered after steps woven second-run reached serials
 second-serials = refl
 

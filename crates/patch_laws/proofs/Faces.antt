@@ -1,7 +1,8 @@
 -- A bench whose interfaces of one patch are another's, with serials renamed: every step of a call keeps it so. No step looks at a serial. Assumes nothing.
 use Prim.Native.Nat.{ℕ, zero, suc, _≤_, _<_}
 use mathlib.Core.Path.{_≡_, refl, sym, _∙_, ap, ap₂, subst}
-use mathlib.Core.Bool.{Bool, true, false}
+use mathlib.Core.Logic.{_⊎_, inl, inr}
+use mathlib.Core.Bool.{Bool, true, false, true≢false}
 use mathlib.Core.Option.{Option, none, some}
 use mathlib.Core.List.{List, [], _∷_, map}
 use native.Mathlib.Omega.{arith}
@@ -9,10 +10,12 @@ use native.Mathlib.Decide.{ℕ-discrete, decLt}
 use lib.Dec.{eqb}
 use lib.ListN.{getD, length, set, length-set, List·getD-map, List·getD-eq-default}
 use lib.IntN.{ℤ, pos, _+ℤ_, _-ℤ_}
-use Rattle.ledger_spec.specs.Bench.{Handle, State, rate, Node, Interface, Bench, fresh, Marking, withMark, withSlots, withProgress, withSum, withSpeed, withParent, withHalves, withMarks}
+use Rattle.ledger_spec.specs.Bench.{Handle, State, rate, Node, Interface, Bench, fresh, Marking, withFloor, withMark, withSlots, withProgress, withSum, withSpeed, withParent, withHalves, withMarks}
 use Rattle.ledger_spec.specs.Look.{interface, slotOf, climb, top}
 use Rattle.ledger_spec.specs.Change.{share, withInterface, faster, place, put, push, restate, mark, markAll}
 use Rattle.ledger_spec.specs.Deeds.{growBy, booked, join, choose, wipe}
+use Rattle.ledger_spec.specs.Tests.{isSome}
+use Rattle.ledger_spec.specs.Frame.{Frame}
 use Rattle.ledger_spec.specs.Knit.{In, here, there}
 use Rattle.ledger_spec.proofs.Interfaces.{put-here, put-else, put-out}
 use Rattle.ledger_spec.proofs.Tops.{climb-none, climb-some}
@@ -73,6 +76,28 @@ module _ (p : Patch) (R : Renaming) (s b : Bench) (C : Closed p s) (F : Faces p 
 
   pub top-faces : (w : ℕ) → mine p w ≡ true → top b w ≡ top s w
   top-faces w m = climb-faces 8 w m
+
+-- ---- and back: what stands under an interface of the patch is the patch's
+pub climb-back : (p : Patch) (b : Bench) → Frame b → ((q l r : ℕ) → mine p q ≡ true → interface b q .halves ≡ some (l, r) → (mine p l ≡ true) × (mine p r ≡ true))
+    → (k w : ℕ) → mine p (climb k b w) ≡ true → mine p w ≡ true
+unfolding climb
+climb-back p b F H zero w m = m
+climb-back p b F H (suc k) w m = go (interface b w .parent) refl (climb-back p b F H k)
+  where
+    go : (o : Option ℕ) → interface b w .parent ≡ o → ((q : ℕ) → mine p (climb k b q) ≡ true → mine p q ≡ true) → mine p w ≡ true
+    go none e ih = subst (λ (t : ℕ). mine p t ≡ true) (climb-none (suc k) b w e) m
+    go (some q) e ih = halves (interface b q .halves) refl
+      where
+        above : mine p q ≡ true
+        above = ih q (subst (λ (t : ℕ). mine p t ≡ true) (climb-some k b w q e) m)
+
+        halves : (o : Option (ℕ × ℕ)) → interface b q .halves ≡ o → mine p w ≡ true
+        halves none f = absurd (true≢false (sym (F .linked w q e) ∙ ap isSome f))
+        halves (some lr) f = side (F .up w q (lr .0) (lr .1) e f)
+          where
+            side : (w ≡ lr .0) ⊎ (w ≡ lr .1) → mine p w ≡ true
+            side (inl x) = subst (λ (z : ℕ). mine p z ≡ true) (sym x) (H q (lr .0) (lr .1) above f .0)
+            side (inr x) = subst (λ (z : ℕ). mine p z ≡ true) (sym x) (H q (lr .0) (lr .1) above f .1)
 
 -- ---- an interface put in another's place, on both benches
 module _ (p : Patch) (R : Renaming) where
@@ -141,7 +166,8 @@ module _ (p : Patch) (R : Renaming) where
   pub join-faces : (s b : Bench) → Faces p R s b → (q l r : ℕ) → mine p q ≡ true → mine p l ≡ true → mine p r ≡ true → Faces p R (join s q l r) (join b q l r)
   unfolding join
   join-faces s b F q l r mq ml mr = put-faces _ _ (put-faces _ _ (put-faces s b F l _ _ (ap (λ (f : Interface). withParent f (some q)) (F .face l ml))) r _ _ (ap (λ (f : Interface). withParent f (some q)) (F .face r mr))) q _ _
-      (λ i. withHalves (withSpeed (withSum (withProgress (withParent (F .face q mq i) none) (pos 0)) (F .face l ml i .sum +ℤ F .face r mr i .sum)) (F .face l ml i .speed +ℤ F .face r mr i .speed)) (some (l, r)))
+      (λ i. withMarks (withHalves (withSpeed (withSum (withProgress (withParent (F .face q mq i) none) (pos 0)) (F .face l ml i .sum +ℤ F .face r mr i .sum)) (F .face l ml i .speed +ℤ F .face r mr i .speed)) (some (l, r)))
+      (withFloor (F .face q mq i .marks) (F .face l ml i .marks .floored)))
 
   -- ---- a mark
   pub choose-faces : (s b : Bench) → Faces p R s b → (u : ℕ) (k : Marking) → mine p u ≡ true → Faces p R (choose s u k) (choose b u k)

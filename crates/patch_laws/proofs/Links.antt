@@ -143,7 +143,7 @@ module _ (p : Patch) (ρ : ℕ → ℕ) (k₀ k : Side) (L : Link p ρ k₀ k) (
   wear e = le-leb (2 ^ 32) (b .next) (omega (arith, leb-true (2 ^ 32) (s .next) e, rising-least ρ (s .next) (b .next) (L .rising)))
 
   same-number : answer b d .number ≢ 15 → answer b d .number ≡ answer s c .number
-  same-number q = answer-number b d (holds b (L .sound)) ∙ tests-faces p (by ρ) s b (L .closed) (L .faces) N wear c o (λ z. q (answer-number b d (holds b (L .sound)) ∙ z)) ∙ sym (answer-number s c (holds s (L .sound₀)))
+  same-number q = answer-number b d (holds b (L .sound)) ∙ tests-faces p (by ρ) s b (L .closed) (L .faces) N wear (L .sound₀ .frame) (L .sound .frame) c o (λ z. q (answer-number b d (holds b (L .sound)) ∙ z)) ∙ sym (answer-number s c (holds s (L .sound₀)))
 
   same-node : (x : Call) → Own p x → nodeOf b (reCall (by ρ) x) ≡ by ρ .handle (nodeOf s x)
   unfolding nodeOf

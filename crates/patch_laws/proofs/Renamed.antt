@@ -9,7 +9,7 @@ use Rattle.ledger_spec.specs.Bench.{Handle, State, Member, Class, defect, bloss
 use Rattle.ledger_spec.specs.Look.{gap}
 use Rattle.ledger_spec.specs.Change.{share, worth, put, restate}
 use Rattle.ledger_spec.specs.Deeds.{circle, members, sizeOf, growSlot}
-use Rattle.ledger_spec.specs.Tests.{isSome, isDefect, hasParent, both}
+use Rattle.ledger_spec.specs.Tests.{isSome, isDefect, hasParent, sinks, both}
 
 -- of the serials that nodes have, and of the handles that name nodes
 pub record Renaming : Type 0 where
@@ -59,6 +59,10 @@ module _ (R : Renaming) where
   pub re-worth : (o : Option Node) → worth (reSlot R o) ≡ worth o
   re-worth none = refl
   re-worth (some n) = refl
+
+  pub re-sinks : (l : ℤ) (o : Option Node) → sinks l (reSlot R o) ≡ sinks l o
+  re-sinks l none = refl
+  re-sinks l (some n) = refl
 
   pub re-size : (o : Option Node) → sizeOf (reSlot R o) ≡ sizeOf o
   re-size none = refl

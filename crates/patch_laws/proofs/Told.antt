@@ -19,9 +19,9 @@ use Rattle.ledger_spec.proofs.Lists.{map-in}
 use Rattle.ledger_spec.specs.Bench.{Handle, Node, Interface, Bench}
 use Rattle.ledger_spec.specs.Look.{interface, nodeNamed}
 use Rattle.ledger_spec.specs.Change.{worth}
-use Rattle.ledger_spec.specs.Tests.{first, any, isSome as present, outside}
+use Rattle.ledger_spec.specs.Tests.{first, any, isSome as present, outside, floored}
 use Rattle.ledger_spec.specs.Refuse.{unitTests}
-use Rattle.ledger_spec.specs.Reads.{said, slotsOf, asHandle, sumOf, speedOf, countOf, fillsOf, indexTests, handleAtIndex, nodeTests, valueOf, belongs}
+use Rattle.ledger_spec.specs.Reads.{said, slotsOf, asHandle, sumOf, speedOf, countOf, fillsOf, flooredOf, indexTests, handleAtIndex, nodeTests, valueOf, belongs}
 use Rattle.ledger_spec.specs.Walk.{parentIn, outermost, linksFrom, belowFrom, verticesOf, outerOf, belowTests, belowOf, firstVertex, sizeTests, verticesInto}
 use Rattle.ledger_spec.specs.Deeds.{sizeOf}
 use Rattle.ledger_spec.specs.Calls.{nobody}
@@ -35,10 +35,10 @@ use Rattle.bench_words.specs.Codec.{pick}
 use Rattle.read_present.specs.Present.{presentIn, orElse as orNext, nextFrom, presentOf, nextOf}
 use Rattle.picture_spec.specs.Picture.{picture, pictureTests, pictureInto}
 use Rattle.patch_laws.specs.Patch.{Patch, mine, Table, given, Name, nameOf}
-use Rattle.patch_laws.specs.Runs.{Read, Value, Outer, Below, First, Vertices, Belongs, At, Next, Sum, Speed, Count, Present, Fills, Check, Strict, Picture, Empty, Active, Growth, Peek, Pop, Spare, Add, Extend, Seen, amount, counted, truth, named, linked, indexed, found, listed, judged, measured, peeked, taken, kept, nameIn, lent, back, Side, readBy, told}
+use Rattle.patch_laws.specs.Runs.{Read, Value, Outer, Below, First, Vertices, Belongs, At, Next, Sum, Speed, Count, Present, Fills, Floored, Check, Strict, Picture, Empty, Active, Growth, Peek, Pop, Spare, Add, Extend, Seen, amount, counted, truth, named, linked, indexed, found, listed, judged, measured, peeked, taken, kept, nameIn, lent, back, Side, readBy, told}
 use Rattle.patch_laws.specs.Statement.{readOf}
 use Rattle.patch_laws.proofs.Renamed.{reParent, reSlot, re-worth, re-size}
-use Rattle.patch_laws.proofs.Alike.{Each, any-map, Names, node-faces, stale-faces, foreign-faces, child-faces, unit-faces}
+use Rattle.patch_laws.proofs.Alike.{Each, any-map, Names, node-faces, stale-faces, foreign-faces, child-faces, floored-faces, unit-faces}
 use Rattle.patch_laws.proofs.Rising.{by, rising-above, rising-one, rising-names, name-same}
 use Rattle.patch_laws.proofs.Links.{Link, given-mine, given-faces}
 use Rattle.patch_laws.proofs.Gathered.{Entry, reEntry, slots-faces, present-faces}
@@ -154,6 +154,10 @@ module _ (p : Patch) (ρ : ℕ → ℕ) (k₀ k : Side) (L : Link p ρ k₀ k) w
     fills-same : fillsOf b u ≡ fillsOf s u
     unfolding fillsOf
     fills-same = unit-same (interface b u .marks .fills) (interface s u .marks .fills) false (ap (λ (f : Interface). f .marks .fills) (L .faces .face u m))
+
+    floored-same : flooredOf b u ≡ flooredOf s u
+    unfolding flooredOf
+    floored-same = unit-same (floored b u) (floored s u) false (floored-faces p (by ρ) s b (L .closed) (L .faces) N u m)
 
     check-same : checkOf b u ≡ checkOf s u
     unfolding checkOf
@@ -345,6 +349,7 @@ module _ (p : Patch) (ρ : ℕ → ℕ) (k₀ k : Side) (L : Link p ρ k₀ k) w
   told-same (Count u) w = ap counted (asked-same 0 _ _ (count-same u (w u (here refl))))
   told-same (Present u) w = ap counted (asked-same 0 _ _ (present-same u (w u (here refl))))
   told-same (Fills u) w = ap truth (asked-same false _ _ (fills-same u (w u (here refl))))
+  told-same (Floored u) w = ap truth (asked-same false _ _ (floored-same u (w u (here refl))))
   told-same (Check u) w = ap judged (asked-same (0, 0) _ _ (check-same u (w u (here refl))))
   told-same (Strict u) w = ap judged (asked-same (0, 0) _ _ (strict-same u (w u (here refl))))
   told-same (Picture u a out) w = ap listed (asked-same (0, out) _ _ (picture-same u (w u (here refl)) a out))

@@ -10,7 +10,7 @@ use Rattle.ledger_spec.specs.Calls.{Call, setUpCall}
 use Rattle.ledger_spec.specs.Notices.{Notice}
 use Rattle.ledger_spec.specs.Groups.{Group}
 use Rattle.ledger_spec.specs.GroupCalls.{isEmpty, isActive, growthOf, peek, pop, add, extend}
-use Rattle.ledger_spec.specs.Answers.{Answer, answer, Read as Asking, read, sumRead, speedRead, countRead, indexRead, belongsRead, valueRead, outerRead, belowRead, firstRead, verticesRead, fillsRead, checkRead, strictRead}
+use Rattle.ledger_spec.specs.Answers.{Answer, answer, Read as Asking, read, sumRead, speedRead, countRead, indexRead, belongsRead, valueRead, outerRead, belowRead, firstRead, verticesRead, fillsRead, flooredRead, checkRead, strictRead}
 use Rattle.ledger_sparing.specs.Sparing.{popSparing}
 use Rattle.picture_spec.specs.Picture.{pictureRead}
 use Rattle.read_present.specs.Present.{presentRead, nextRead}
@@ -24,7 +24,7 @@ pub data Read : Type 0 where
   Vertices : (node : ℕ) (room : List ℕ) → Read
   Belongs : (unit node : ℕ) → Read
   At Next : (unit index : ℕ) → Read
-  Sum Speed Count Present Fills Check Strict : (unit : ℕ) → Read
+  Sum Speed Count Present Fills Floored Check Strict : (unit : ℕ) → Read
   Picture : (unit : ℕ) (abbreviated : Bool) (room : List ℕ) → Read
   Empty Active Growth Peek Pop Spare : Group → Read
   Add : Group → Obstacle → Read
@@ -132,6 +132,7 @@ readBy asks b t (Speed u) = amount (asks ℤ (speedRead b u))
 readBy asks b t (Count u) = counted (asks ℕ (countRead b u))
 readBy asks b t (Present u) = counted (asks ℕ (presentRead b u))
 readBy asks b t (Fills u) = truth (asks Bool (fillsRead b u))
+readBy asks b t (Floored u) = truth (asks Bool (flooredRead b u))
 readBy asks b t (Check u) = judged (asks (ℕ × ℕ) (checkRead b u))
 readBy asks b t (Strict u) = judged (asks (ℕ × ℕ) (strictRead b u))
 readBy asks b t (Picture u a out) = listed (asks (ℕ × List ℕ) (pictureRead b u a out))

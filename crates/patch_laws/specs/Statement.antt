@@ -7,7 +7,7 @@ use mathlib.Core.List.{List, [], _∷_}
 use lib.ListN.{length}
 use Rattle.ledger_spec.specs.Numbers.{WORN}
 use Rattle.patch_laws.specs.Patch.{Patch, Apart, Within, unitsNamed, unitsOf, Table, given, nameOf}
-use Rattle.patch_laws.specs.Runs.{Read, Value, Outer, Below, First, Vertices, Belongs, At, Next, Sum, Speed, Count, Present, Fills, Check, Strict, Picture, Empty, Active, Growth, Peek, Pop, Spare, Add, Extend, Seen, numberOf, Step, theirs, ours, asked, sees, reached, opened, own}
+use Rattle.patch_laws.specs.Runs.{Read, Value, Outer, Below, First, Vertices, Belongs, At, Next, Sum, Speed, Count, Present, Fills, Floored, Check, Strict, Picture, Empty, Active, Growth, Peek, Pop, Spare, Add, Extend, Seen, numberOf, Step, theirs, ours, asked, sees, reached, opened, own}
 
 -- the interfaces that a read names; a node's handle is the patch's by its number
 abbrev pub readOf : Read → List ℕ
@@ -24,6 +24,7 @@ readOf (Speed u) = u ∷ []
 readOf (Count u) = u ∷ []
 readOf (Present u) = u ∷ []
 readOf (Fills u) = u ∷ []
+readOf (Floored u) = u ∷ []
 readOf (Check u) = u ∷ []
 readOf (Strict u) = u ∷ []
 readOf (Picture u a out) = u ∷ []
