@@ -16,6 +16,8 @@ enum Call {
     Grow(u8, i64),
     Fuse(u8, u8, u8),
     Clear(u8),
+    Filling(u8),
+    Floored(u8),
     Stop(usize, Option<[usize; 2]>),
     Conflict([usize; 4]),
     Extend,
@@ -104,6 +106,8 @@ impl Patch {
             Call::Grow(unit, length) => none(telling.grow(*unit, *length)),
             Call::Fuse(parent, left, right) => none(telling.fuse(*parent, *left, *right)),
             Call::Clear(unit) => none(telling.clear(*unit)),
+            Call::Filling(unit) => none(telling.mark_filling(*unit)),
+            Call::Floored(unit) => none(telling.mark_floored(*unit)),
             grouped => return self.grouping(bench, grouped),
         };
         if let (Call::Defect(..) | Call::Blossom(..), Ok(Some(made))) = (call, answer) {
@@ -164,8 +168,9 @@ impl Patch {
                 })
                 .collect();
             let totals = (bench.sum_dual_variables(unit), bench.sum_grow_speed(unit), count, bench.present_count(unit));
+            let marks = (bench.is_filling(unit), bench.is_floored(unit));
             let verdicts = (bench.sanity_check(unit), bench.strict_check(unit), bench.snapshot(unit, true));
-            seen.push(format!("interface {unit}: {totals:?} {verdicts:?} {slots:?}"));
+            seen.push(format!("interface {unit}: {totals:?} {marks:?} {verdicts:?} {slots:?}"));
         }
         seen
     }
@@ -206,6 +211,11 @@ impl Patch {
                 Call::Fuse(three[2], three[0], three[1])
             }
             19 if rng.chance(30) => Call::Clear(unit),
+            19 => {
+                let new: Vec<u8> = free.iter().copied().filter(|unit| bench.nodes_count(*unit) == Ok(0)).collect();
+                let unit = if rng.chance(80) { rng.pick(&new).unwrap_or(unit) } else { unit };
+                [Call::Filling(unit), Call::Floored(unit)][rng.below(2)].clone()
+            }
             20 => Call::Stop(any(rng), if rng.chance(50) { Some([any(rng), any(rng)]) } else { None }),
             21 => Call::Conflict([any(rng), any(rng), any(rng), any(rng)]),
             22 => Call::Extend,
