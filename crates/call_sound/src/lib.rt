@@ -5,7 +5,7 @@ use kinds::GrowState;
 use kinds::Handle;
 use kinds::Vertex;
 use outcomes::Made;
-ghost use Rattle.ledger_spec.specs.Bench.{filling};
+ghost use Rattle.ledger_spec.specs.Bench.{filling, floor};
 ghost use Rattle.ledger_spec.specs.Calls.{Defect, Expand, SetState, Grow, Fuse, Clear, Mark};
 ghost use Rattle.ledger_spec.specs.Named.{handleNamed, stateNamed};
 ghost use Rattle.bench_views.specs.Fit.{SoundWords};
@@ -94,5 +94,18 @@ pub fn mark_filling(b: &mut [u64; WORDS], unit: u8) -> Made
         return Made::refused(number);
     }
     deed_marks::mark_filling(b, unit as usize);
+    Made::refused(0)
+}
+
+// From now to its clear a growth that takes a value of the interface's tree below 0 is refused.
+pub fn mark_floor(b: &mut [u64; WORDS], unit: u8) -> Made
+    requires { ⌜ SoundWords (now b) ⌝ }
+    ensures { λ r. ⌜ Answered (now (b .entry)) (Mark unit floor) (r .number) (r .node) (now (b .exit)) ⌝ }
+{
+    let number = refuse_calls::mark_number(b, unit);
+    if number != 0 {
+        return Made::refused(number);
+    }
+    deed_marks::mark_floor(b, unit as usize);
     Made::refused(0)
 }

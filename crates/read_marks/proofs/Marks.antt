@@ -8,9 +8,9 @@ use Rattle.bench_words.specs.Store.{nodeAt, interfaceAt}
 use Rattle.bench_words.specs.declared.Interface.{Interface}
 use Rattle.ledger_spec.specs.Bench as plain
 use Rattle.ledger_spec.specs.Look.{interface}
-use Rattle.ledger_spec.specs.Tests.{first}
+use Rattle.ledger_spec.specs.Tests.{first, floored}
 use Rattle.ledger_spec.specs.Refuse.{unitTests}
-use Rattle.ledger_spec.specs.Reads.{fillsOf}
+use Rattle.ledger_spec.specs.Reads.{fillsOf, flooredOf}
 use Rattle.ledger_spec.proofs.Accepted.{clear-passed}
 use Rattle.bench_views.specs.View.{view}
 use Rattle.bench_views.proofs.Views.{interface-in}
@@ -21,6 +21,10 @@ module _ (b : List ℕ) (u n : ℕ) (e : n ≡ first (unitTests (view b) u)) whe
   unfolding fillsOf
   fills-no q = refused (interface (view b) u .marks .fills) false n (first (unitTests (view b) u)) e q
 
+  pub floored-no : (n ≡ 0 → ⊥) → (n, false) ≡ flooredOf (view b) u
+  unfolding flooredOf
+  floored-no q = refused (floored (view b) u) false n (first (unitTests (view b) u)) e q
+
   module _ (q : n ≡ 0) where
     pub low : u < 8
     low = clear-passed (view b) u (sym e ∙ q) .low
@@ -29,3 +33,8 @@ module _ (b : List ℕ) (u n : ℕ) (e : n ≡ first (unitTests (view b) u)) whe
     unfolding fillsOf
     fills-yes f i = accepted (interface (view b) u .marks .fills) false n (first (unitTests (view b) u)) e q (f .marks .fills)
         (ap (λ (x : Interface). x .marks .fills) i ∙ sym (ap (λ (x : plain.Interface). x .marks .fills) (interface-in (getD b 0 0) (interfaceAt b) (nodeAt b) u low)))
+
+    pub floored-yes : (f : Interface) → f ≡ interfaceAt b u → (0, f .marks .floored) ≡ flooredOf (view b) u
+    unfolding flooredOf
+    floored-yes f i = accepted (floored (view b) u) false n (first (unitTests (view b) u)) e q (f .marks .floored)
+        (ap (λ (x : Interface). x .marks .floored) i ∙ sym (ap (λ (x : plain.Interface). x .marks .floored) (interface-in (getD b 0 0) (interfaceAt b) (nodeAt b) u low)))

@@ -1,7 +1,7 @@
 // The reads of an interface's marks, on words that hold a sound bench. None changes the bench. Assumes nothing.
 use bench_words::WORDS;
 ghost use mathlib.Core.Path.{_≡_};
-ghost use Rattle.ledger_spec.specs.Reads.{fillsOf};
+ghost use Rattle.ledger_spec.specs.Reads.{fillsOf, flooredOf};
 ghost use Rattle.bench_views.specs.View.{view};
 ghost use Rattle.read_marks.specs.Shown.{shownMark};
 
@@ -27,5 +27,24 @@ pub fn is_filling(b: &[u64; WORDS], unit: u8) -> Marked
     Marked {
         number: 0,
         marked: marks.fills,
+    }
+}
+
+// Whether no value of the interface's tree may fall below 0: UNIT, CHILD, or the answer.
+pub fn is_floored(b: &[u64; WORDS], unit: u8) -> Marked
+    ensures { λ r. ⌜ shownMark r ≡ flooredOf (view (now (b .entry))) unit ⌝ }
+{
+    let number = read_sound::unit_number(b, unit);
+    if number != 0 {
+        return Marked {
+            number,
+            marked: false,
+        };
+    }
+    let f = bench_words::load_interface(b, unit as usize);
+    let marks = f.marks;
+    Marked {
+        number: 0,
+        marked: marks.floored,
     }
 }

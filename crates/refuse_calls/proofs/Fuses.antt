@@ -1,7 +1,7 @@
--- The number of fuse: its four tests, read off the interfaces' words. Assumes nothing.
+-- The number of fuse: its five tests, read off the interfaces' words. Assumes nothing.
 use Prim.Native.Nat.{ℕ, suc, _-_, _<_}
 use mathlib.Core.Path.{_≡_, refl, ap, ap₂, sym, _∙_}
-use mathlib.Core.Bool.{Bool, true, false, _||_, not}
+use mathlib.Core.Bool.{Bool, true, false, _||_, not, true≢false}
 use mathlib.Core.Option.{none, some}
 use mathlib.Core.List.{List, [], _∷_}
 use lib.Dec.{eqb, leb}
@@ -13,7 +13,7 @@ use Rattle.bench_words.specs.declared.Interface.{Interface}
 use Rattle.ledger_spec.specs.Bench.{Bench}
 use Rattle.ledger_spec.specs.Bench as plain
 use Rattle.ledger_spec.specs.Look.{interface}
-use Rattle.ledger_spec.specs.Tests.{first, isSome, empty, outside, child, used, late}
+use Rattle.ledger_spec.specs.Tests.{first, isSome, empty, outside, child, used, floored, same, late}
 use Rattle.ledger_spec.specs.Refuse.{fuseTests}
 use Rattle.ledger_spec.proofs.Lists.{or-false}
 use Rattle.bench_views.specs.View.{view, upSeen, halvesSeen, interfaceIn}
@@ -41,6 +41,9 @@ module _ (b : List ℕ) (u : ℕ) (low : u < 8) (f : Interface) (i : f ≡ inter
   pub child-is : child (view b) u ≡ isSome (upSeen (f .parent))
   child-is = seen (λ (x : plain.Interface). isSome (x .parent)) ∙ ap (λ (x : Interface). isSome (upSeen (x .parent))) (sym i)
 
+  pub floored-is : floored (view b) u ≡ f .marks .floored
+  floored-is = seen (λ (x : plain.Interface). x .marks .floored) ∙ ap (λ (x : Interface). x .marks .floored) (sym i)
+
   slots-are : not (empty (interface (view b) u .slots)) ≡ not (eqb (f .used) 0)
   slots-are = ap not (empty-counts (interface (view b) u .slots) ∙ ap (λ (k : ℕ). eqb k 0) (view-count (getD b 0 0) (interfaceAt b) (nodeAt b) u low ∙ ap (λ (x : Interface). x .used) (sym i)))
 
@@ -56,7 +59,16 @@ module _ (b : List ℕ) (u : ℕ) (low : u < 8) (f : Interface) (i : f ≡ inter
   pub late-is : late (interface (view b) u) ≡ (not (eqb (f .used) 0) || not (eqb (f .left) 0))
   late-is = ap₂ _||_ slots-are fused-is
 
--- ---- the four tests
+-- ---- two marks
+pub differ-yes : (x y : Bool) → x ≡ true → not y ≡ not (same x y)
+differ-yes x y e = rw e
+
+pub differ-no : (x y : Bool) → x ≡ false → y ≡ not (same x y)
+differ-no true y e = absurd (true≢false e)
+differ-no false true e = refl
+differ-no false false e = refl
+
+-- ---- the five tests
 module _ (B : Bench) (p l r : ℕ) where
   pub fuse-low : (o : Bool) → o ≡ (outside p || (outside l || outside r)) → o ≡ false → (p < 8) × (l < 8) × (r < 8)
   fuse-low o e t =
@@ -71,7 +83,7 @@ module _ (B : Bench) (p l r : ℕ) where
 
     module _ (t : o ≡ false) (c : Bool) (e₂ : c ≡ (child B p || (child B l || child B r))) where
       rest : List (Bool × ℕ)
-      rest = (eqb l r || (leb p l || leb p r), 16) ∷ (used (interface B p), 17) ∷ []
+      rest = (eqb l r || (leb p l || leb p r), 16) ∷ (used (interface B p), 17) ∷ (not (same (floored B l) (floored B r)), 26) ∷ []
 
       inside : first (fuseTests B p l r) ≡ first ((child B p || (child B l || child B r), 4) ∷ rest)
       unfolding fuseTests rest
@@ -86,15 +98,22 @@ module _ (B : Bench) (p l r : ℕ) where
 
         pub fuse-order : d ≡ true → 16 ≡ first (fuseTests B p l r)
         unfolding rest
-        fuse-order t₃ = sym (tops ∙ first-yes (eqb l r || (leb p l || leb p r)) 16 ((used (interface B p), 17) ∷ []) (sym e₃ ∙ t₃))
+        fuse-order t₃ = sym (tops ∙ first-yes (eqb l r || (leb p l || leb p r)) 16 ((used (interface B p), 17) ∷ (not (same (floored B l) (floored B r)), 26) ∷ []) (sym e₃ ∙ t₃))
 
         module _ (t₃ : d ≡ false) (w : Bool) (e₄ : w ≡ used (interface B p)) where
-          below : first (fuseTests B p l r) ≡ first ((used (interface B p), 17) ∷ [])
+          below : first (fuseTests B p l r) ≡ first ((used (interface B p), 17) ∷ (not (same (floored B l) (floored B r)), 26) ∷ [])
           unfolding rest
-          below = tops ∙ first-no (eqb l r || (leb p l || leb p r)) 16 ((used (interface B p), 17) ∷ []) (sym e₃ ∙ t₃)
+          below = tops ∙ first-no (eqb l r || (leb p l || leb p r)) 16 ((used (interface B p), 17) ∷ (not (same (floored B l) (floored B r)), 26) ∷ []) (sym e₃ ∙ t₃)
 
           pub fuse-used : w ≡ true → 17 ≡ first (fuseTests B p l r)
-          fuse-used t₄ = sym (below ∙ first-yes (used (interface B p)) 17 [] (sym e₄ ∙ t₄))
+          fuse-used t₄ = sym (below ∙ first-yes (used (interface B p)) 17 ((not (same (floored B l) (floored B r)), 26) ∷ []) (sym e₄ ∙ t₄))
 
-          pub fuse-fine : w ≡ false → 0 ≡ first (fuseTests B p l r)
-          fuse-fine t₄ = sym (below ∙ first-no (used (interface B p)) 17 [] (sym e₄ ∙ t₄) ∙ first-none)
+          module _ (t₄ : w ≡ false) (v : Bool) (e₅ : v ≡ not (same (floored B l) (floored B r))) where
+            last : first (fuseTests B p l r) ≡ first ((not (same (floored B l) (floored B r)), 26) ∷ [])
+            last = below ∙ first-no (used (interface B p)) 17 ((not (same (floored B l) (floored B r)), 26) ∷ []) (sym e₄ ∙ t₄)
+
+            pub fuse-mixed : v ≡ true → 26 ≡ first (fuseTests B p l r)
+            fuse-mixed t₅ = sym (last ∙ first-yes (not (same (floored B l) (floored B r))) 26 [] (sym e₅ ∙ t₅))
+
+            pub fuse-fine : v ≡ false → 0 ≡ first (fuseTests B p l r)
+            fuse-fine t₅ = sym (last ∙ first-no (not (same (floored B l) (floored B r))) 26 [] (sym e₅ ∙ t₅) ∙ first-none)

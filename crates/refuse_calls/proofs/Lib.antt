@@ -4,3 +4,4 @@ pub mod Units
 pub mod Named
 pub mod Fuses
 pub mod Rooms
+pub mod Belows

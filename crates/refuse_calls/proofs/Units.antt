@@ -15,12 +15,13 @@ use Rattle.bench_words.specs.declared.Interface.{Interface}
 use Rattle.ledger_spec.specs.Bench as plain
 use Rattle.ledger_spec.specs.Look.{interface}
 use Rattle.ledger_spec.specs.Tests.{first, late}
-use Rattle.ledger_spec.specs.Refuse.{unitTests, defectTests, growTests, markTests}
+use Rattle.ledger_spec.specs.Refuse.{unitTests, defectTests, markTests}
 use Rattle.ledger_spec.proofs.Passed.{Failed, passed}
 use Rattle.ledger_spec.proofs.Accepted.{clear-passed}
 use Rattle.bench_views.specs.View.{view}
 use Rattle.bench_views.proofs.Views.{interface-in, view-count, view-next}
 use Rattle.read_sound.proofs.Numbers.{first-yes, first-no, first-none}
+use Rattle.refuse_calls.specs.Length.{lengthTests}
 use Rattle.refuse_calls.specs.Room.{roomTests}
 use Rattle.refuse_calls.proofs.Firsts.{refused-by, decided-by}
 
@@ -36,8 +37,8 @@ module _ (b : List ℕ) (u n : ℕ) (e : n ≡ first (unitTests (view b) u)) whe
   unfolding unitTests defectTests
   defect-no q = refused-by (unitTests (view b) u) (roomTests (view b) u) n e q
 
-  pub grow-no : (l : ℤ) → n ≢ 0 → n ≡ first (growTests (view b) u l)
-  unfolding unitTests growTests
+  pub grow-no : (l : ℤ) → n ≢ 0 → n ≡ first (lengthTests (view b) u l)
+  unfolding unitTests
   grow-no l q = refused-by (unitTests (view b) u) ((ltZ l (pos 0) || ltZ (pos 1099511627776) (interface (view b) u .progress +ℤ l), 5) ∷ []) n e q
 
   pub defect-rest : n ≡ 0 → (k : ℕ) → k ≡ first (roomTests (view b) u) → k ≡ first (defectTests (view b) u)
@@ -62,11 +63,11 @@ module _ (b : List ℕ) (u n : ℕ) (e : n ≡ first (unitTests (view b) u)) whe
 
   -- ---- grow
   module _ (z : n ≡ 0) where
-    grow-rest : (l : ℤ) (k : ℕ) → k ≡ first ((ltZ l (pos 0) || ltZ (pos 1099511627776) (interface (view b) u .progress +ℤ l), 5) ∷ []) → k ≡ first (growTests (view b) u l)
-    unfolding unitTests growTests
+    grow-rest : (l : ℤ) (k : ℕ) → k ≡ first ((ltZ l (pos 0) || ltZ (pos 1099511627776) (interface (view b) u .progress +ℤ l), 5) ∷ []) → k ≡ first (lengthTests (view b) u l)
+    unfolding unitTests
     grow-rest l k r = decided-by (unitTests (view b) u) ((ltZ l (pos 0) || ltZ (pos 1099511627776) (interface (view b) u .progress +ℤ l), 5) ∷ []) (unit-failed z) k r
 
-    pub grow-back : (l : ℤ) → ltZ l (pos 0) ≡ true → 5 ≡ first (growTests (view b) u l)
+    pub grow-back : (l : ℤ) → ltZ l (pos 0) ≡ true → 5 ≡ first (lengthTests (view b) u l)
     grow-back l t = grow-rest l 5 (sym (first-yes (ltZ l (pos 0) || ltZ (pos 1099511627776) (interface (view b) u .progress +ℤ l)) 5 [] (ap (λ (c : Bool). c || ltZ (pos 1099511627776) (interface (view b) u .progress +ℤ l)) t)))
 
     module _ (f : Interface) (i : f ≡ interfaceAt b u) (x : ℕ) (l : ℤ) (p : l ≡ pos x) where
@@ -76,8 +77,8 @@ module _ (b : List ℕ) (u n : ℕ) (e : n ≡ first (unitTests (view b) u)) whe
       limit : (c : Bool) → ltb 1099511627776 (f .progress + x) ≡ c → (ltZ l (pos 0) || ltZ (pos 1099511627776) (interface (view b) u .progress +ℤ l)) ≡ c
       limit c t = ap₂ (λ (y w : ℤ). ltZ y (pos 0) || ltZ (pos 1099511627776) w) p progress-is ∙ ap₂ _||_ (le-ltb x 0 (omega arith)) t
 
-      pub grow-far : 1099511627776 < f .progress + x → 5 ≡ first (growTests (view b) u l)
+      pub grow-far : 1099511627776 < f .progress + x → 5 ≡ first (lengthTests (view b) u l)
       grow-far w = grow-rest l 5 (sym (first-yes (ltZ l (pos 0) || ltZ (pos 1099511627776) (interface (view b) u .progress +ℤ l)) 5 [] (limit true (lt-ltb 1099511627776 (f .progress + x) w))))
 
-      pub grow-fine : f .progress + x ≤ 1099511627776 → 0 ≡ first (growTests (view b) u l)
+      pub grow-fine : f .progress + x ≤ 1099511627776 → 0 ≡ first (lengthTests (view b) u l)
       grow-fine w = grow-rest l 0 (sym (first-no (ltZ l (pos 0) || ltZ (pos 1099511627776) (interface (view b) u .progress +ℤ l)) 5 [] (limit false (le-ltb 1099511627776 (f .progress + x) w)) ∙ first-none))

@@ -1,2 +1,3 @@
+pub mod Length
 pub mod Named
 pub mod Room

@@ -9,16 +9,18 @@ use kinds::Parent;
 use kinds::Serial;
 use kinds::numbers;
 ghost use mathlib.Core.Path.{_≡_};
-ghost use mathlib.Core.Bool.{_||_};
+ghost use mathlib.Core.Bool.{_||_, not};
 ghost use Prim.Native.Nat.{_<_};
 ghost use lib.Dec.{eqb, leb};
 ghost use Rattle.ledger_spec.specs.Look.{interface};
 ghost use Rattle.ledger_spec.specs.Named.{handleNamed};
-ghost use Rattle.ledger_spec.specs.Tests.{first, outside, child, used, late};
+ghost use Rattle.ledger_spec.specs.Tests.{first, outside, child, used, floored, same, late};
 ghost use Rattle.ledger_spec.specs.Refuse.{defectTests, stateTests, expandTests, growTests, fuseTests, markTests};
 ghost use Rattle.bench_views.specs.Records.{Steady};
 ghost use Rattle.bench_views.specs.Canon.{Canon};
+ghost use Rattle.bench_views.specs.Fit.{Fit};
 ghost use Rattle.bench_views.specs.View.{view};
+ghost use Rattle.refuse_calls.specs.Length.{lengthTests};
 ghost use Rattle.refuse_calls.specs.Named.{namedTests};
 ghost use Rattle.refuse_calls.specs.Room.{roomTests};
 
@@ -52,9 +54,9 @@ pub fn defect_number(b: &[u64; WORDS], unit: u8) -> u8
 }
 
 // UNIT, CHILD, LENGTH (5): a length below 0, or one past the progress limit.
-pub fn grow_number(b: &[u64; WORDS], unit: u8, length: i64) -> u8
+fn length_number(b: &[u64; WORDS], unit: u8, length: i64) -> u8
     requires { ⌜ Steady (now b) ⌝ }
-    ensures { λ r. ⌜ r ≡ first (growTests (view (now (b .entry))) unit length) ⌝ }
+    ensures { λ r. ⌜ r ≡ first (lengthTests (view (now (b .entry))) unit length) ⌝ }
 {
     let number = read_sound::unit_number(b, unit);
     if number != 0 {
@@ -66,6 +68,22 @@ pub fn grow_number(b: &[u64; WORDS], unit: u8, length: i64) -> u8
     let f = bench_words::load_interface(b, unit as usize);
     if Interface::PROGRESS < f.progress + (length as u64) {
         return numbers::LENGTH;
+    }
+    0
+}
+
+// And BELOW (25): in a floored tree, a length past the value of a node that shrinks.
+pub fn grow_number(b: &[u64; WORDS], unit: u8, length: i64) -> u8
+    requires { ⌜ Fit (now b) ⌝ }
+    ensures { λ r. ⌜ r ≡ first (growTests (view (now (b .entry))) unit length) ⌝ }
+{
+    let number = length_number(b, unit, length);
+    if number != 0 {
+        return number;
+    }
+    let low = bench_floors::least_shrinking(b, unit as usize);
+    if low < (length as u64) {
+        return numbers::BELOW;
     }
     0
 }
@@ -194,7 +212,27 @@ fn is_used(b: &[u64; WORDS], unit: u8) -> bool
     f.left != 0
 }
 
-// UNIT, CHILD, PAIR (16), USED (17).
+fn is_floored(b: &[u64; WORDS], unit: u8) -> bool
+    requires { ⌜ unit < 8 ⌝ }
+    ensures { λ a. ⌜ a ≡ floored (view (now (b .entry))) unit ⌝ }
+{
+    let f = bench_words::load_interface(b, unit as usize);
+    let marks = f.marks;
+    marks.floored
+}
+
+// One of two is floored, and the other not.
+fn floors_differ(b: &[u64; WORDS], l: u8, r: u8) -> bool
+    requires { ⌜ (l < 8) × (r < 8) ⌝ }
+    ensures { λ a. ⌜ a ≡ not (same (floored (view (now (b .entry))) l) (floored (view (now (b .entry))) r)) ⌝ }
+{
+    if is_floored(b, l) {
+        return !is_floored(b, r);
+    }
+    is_floored(b, r)
+}
+
+// UNIT, CHILD, PAIR (16), USED (17), MARK (26).
 pub fn fuse_number(b: &[u64; WORDS], parent: u8, left: u8, right: u8) -> u8
     ensures { λ r. ⌜ r ≡ first (fuseTests (view (now (b .entry))) parent left right) ⌝ }
 {
@@ -209,6 +247,9 @@ pub fn fuse_number(b: &[u64; WORDS], parent: u8, left: u8, right: u8) -> u8
     }
     if is_used(b, parent) {
         return numbers::USED;
+    }
+    if floors_differ(b, left, right) {
+        return numbers::MARK;
     }
     0
 }

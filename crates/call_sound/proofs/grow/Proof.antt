@@ -3,12 +3,13 @@ use borrow.Author.Needs.{needs}
 use mathlib.Core.Path.{refl}
 use Rattle.ledger_spec.specs.Calls.{Grow}
 use Rattle.ledger_laws.proofs.Answered.{testsOf, deedOf, nodeOf}
+use Rattle.bench_views.proofs.Fits.{fit-of}
 use Rattle.call_sound.proofs.Settling.{stops, goes-bare, grow-said, grows-on, grows-fit, grows-done}
 use Rattle.call_sound.proofs.grow.Statement.{statement}
 use Rattle.call_sound.proofs.grow.Tie as tie
 
 grow-number-requires : tie.Need-grow-number-requires
-grow-number-requires c κs = search needs
+grow-number-requires c κs = fit-of _ (c .before .pre)
 
 refused-requires : tie.Need-refused-requires
 refused-requires c κs = search needs

@@ -1,7 +1,7 @@
 -- The number is that of the first test that holds. Assumes nothing.
 use borrow.Author.Needs.{needs}
 use Rattle.bench_views.specs.View.{view}
-use Rattle.refuse_calls.proofs.Fuses.{fuse-low, fuse-out, fuse-child, fuse-order, fuse-used, fuse-fine}
+use Rattle.refuse_calls.proofs.Fuses.{fuse-low, fuse-out, fuse-child, fuse-order, fuse-used, fuse-mixed, fuse-fine}
 use Rattle.refuse_calls.proofs.fuse_number.Statement.{statement}
 use Rattle.refuse_calls.proofs.fuse_number.Tie as tie
 
@@ -29,8 +29,22 @@ is-used-requires c κs = fuse-low (view (c .before .before .before .before .befo
 returns-4 : tie.Need-returns-4
 returns-4 c = fuse-used (view (c .before .before .before .before .before .before .before .before .args .b .now)) (c .before .before .before .before .before .before .before .before .args .parent) (c .before .before .before .before .before .before .before .before .args .left) (c .before .before .before .before .before .before .before .before .args .right) (c .before .before .before .before .before .before .before .any-outside .result) (c .before .before .before .before .before .before .before .any-outside .ensures) (c .before .before .before .before .before .before .if1 .left) (c .before .before .before .before .before .any-child .result) (c .before .before .before .before .before .any-child .ensures) (c .before .before .before .before .if2 .left) (c .before .before .before .out-of-order .result) (c .before .before .before .out-of-order .ensures) (c .before .before .if3 .left) (c .before .is-used .result) (c .before .is-used .ensures) (c .if4 .taken)
 
+floors-differ-requires : tie.Need-floors-differ-requires
+floors-differ-requires c κs = let a = c .before .before .before .before .before .before .before .before .args in
+    let q = fuse-low (view (a .b .now)) (a .parent) (a .left) (a .right) (c .before .before .before .before .before .before .before .any-outside .result) (c .before .before .before .before .before .before .before .any-outside .ensures) (c .before .before .before .before .before .before .if1 .left) in
+    (q .1, q .2)
+
 returns-5 : tie.Need-returns-5
-returns-5 c = fuse-fine (view (c .before .before .before .before .before .before .before .before .args .b .now)) (c .before .before .before .before .before .before .before .before .args .parent) (c .before .before .before .before .before .before .before .before .args .left) (c .before .before .before .before .before .before .before .before .args .right) (c .before .before .before .before .before .before .before .any-outside .result) (c .before .before .before .before .before .before .before .any-outside .ensures) (c .before .before .before .before .before .before .if1 .left) (c .before .before .before .before .before .any-child .result) (c .before .before .before .before .before .any-child .ensures) (c .before .before .before .before .if2 .left) (c .before .before .before .out-of-order .result) (c .before .before .before .out-of-order .ensures) (c .before .before .if3 .left) (c .before .is-used .result) (c .before .is-used .ensures) (c .if4 .left)
+returns-5 c = let a = c .before .before .before .before .before .before .before .before .before .before .args in
+    fuse-mixed (view (a .b .now)) (a .parent) (a .left) (a .right) (c .before .before .before .before .before .before .before .before .before .any-outside .result) (c .before .before .before .before .before .before .before .before .before .any-outside .ensures) (c .before .before .before .before .before .before .before .before .if1 .left)
+    (c .before .before .before .before .before .before .before .any-child .result) (c .before .before .before .before .before .before .before .any-child .ensures) (c .before .before .before .before .before .before .if2 .left) (c .before .before .before .before .before .out-of-order .result) (c .before .before .before .before .before .out-of-order .ensures) (c .before .before .before .before .if3 .left)
+    (c .before .before .before .is-used .result) (c .before .before .before .is-used .ensures) (c .before .before .if4 .left) (c .before .floors-differ .result) (c .before .floors-differ .ensures) (c .if5 .taken)
+
+returns-6 : tie.Need-returns-6
+returns-6 c = let a = c .before .before .before .before .before .before .before .before .before .before .args in
+    fuse-fine (view (a .b .now)) (a .parent) (a .left) (a .right) (c .before .before .before .before .before .before .before .before .before .any-outside .result) (c .before .before .before .before .before .before .before .before .before .any-outside .ensures) (c .before .before .before .before .before .before .before .before .if1 .left)
+    (c .before .before .before .before .before .before .before .any-child .result) (c .before .before .before .before .before .before .before .any-child .ensures) (c .before .before .before .before .before .before .if2 .left) (c .before .before .before .before .before .out-of-order .result) (c .before .before .before .before .before .out-of-order .ensures) (c .before .before .before .before .if3 .left)
+    (c .before .before .before .is-used .result) (c .before .before .before .is-used .ensures) (c .before .before .if4 .left) (c .before .floors-differ .result) (c .before .floors-differ .ensures) (c .if5 .left)
 
 pub fuse-number-spec : {M : Type 1} → statement M
 fuse-number-spec =
@@ -44,4 +58,6 @@ fuse-number-spec =
     returns-3
     is-used-requires
     returns-4
-    returns-5)
+    floors-differ-requires
+    returns-5
+    returns-6)

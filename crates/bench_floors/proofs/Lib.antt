@@ -1,0 +1,4 @@
+pub mod Trees
+pub mod Lowers
+pub mod Along
+pub mod Values
