@@ -6,7 +6,7 @@ use kinds::Handle;
 use kinds::Vertex;
 use outcome_notices::Notices;
 ghost use mathlib.Core.Path.{_≡_};
-ghost use Rattle.ledger_spec.specs.Bench.{filling};
+ghost use Rattle.ledger_spec.specs.Bench.{filling, floor};
 ghost use Rattle.ledger_spec.specs.Calls.{Defect, Blossom, Expand, SetState, Grow, Fuse, Clear, Mark};
 ghost use Rattle.ledger_spec.specs.Named.{handleNamed, stateNamed};
 ghost use Rattle.deed_circles.specs.Given.{handsGiven, pairsGiven};
@@ -145,5 +145,13 @@ pub fn mark_filling(b: &mut [u64; WORDS], unit: u8) -> Answer
     ensures { λ r. ⌜ Told (now (b .entry)) (Mark unit filling) r (now (b .exit)) ⌝ }
 {
     let made = call_sound::mark_filling(b, unit);
+    Answer::refused(made.number)
+}
+
+pub fn mark_floor(b: &mut [u64; WORDS], unit: u8) -> Answer
+    requires { ⌜ SoundWords (now b) ⌝ }
+    ensures { λ r. ⌜ Told (now (b .entry)) (Mark unit floor) r (now (b .exit)) ⌝ }
+{
+    let made = call_sound::mark_floor(b, unit);
     Answer::refused(made.number)
 }
