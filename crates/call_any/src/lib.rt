@@ -6,7 +6,7 @@ use kinds::GrowState;
 use kinds::Handle;
 use kinds::Vertex;
 use kinds::numbers;
-ghost use Rattle.ledger_spec.specs.Bench.{filling};
+ghost use Rattle.ledger_spec.specs.Bench.{filling, floor};
 ghost use Rattle.ledger_spec.specs.Calls.{Defect, Blossom, Expand, SetState, Grow, Fuse, Clear, Mark};
 ghost use Rattle.ledger_spec.specs.Named.{handleNamed, stateNamed};
 ghost use Rattle.deed_circles.specs.Given.{handsGiven, pairsGiven};
@@ -84,4 +84,13 @@ pub fn mark_filling(b: &mut [u64; WORDS], unit: u8) -> Answer
         return Answer::refused(numbers::BROKEN);
     }
     call_told::mark_filling(b, unit)
+}
+
+pub fn mark_floor(b: &mut [u64; WORDS], unit: u8) -> Answer
+    ensures { λ r. ⌜ Called (soundWords (now (b .entry))) (now (b .entry)) (Mark unit floor) r (now (b .exit)) ⌝ }
+{
+    if !sound_lent::is_bench(b) {
+        return Answer::refused(numbers::BROKEN);
+    }
+    call_told::mark_floor(b, unit)
 }

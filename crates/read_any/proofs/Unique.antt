@@ -20,7 +20,7 @@ use Rattle.read_sound.specs.declared.Represented.{Represented}
 use Rattle.read_marks.specs.Shown.{shownMark}
 use Rattle.read_marks.specs.declared.Marked.{Marked}
 use Rattle.sound_lent.specs.Verdict.{readWords}
-use Rattle.ledger_spec.specs.Answers.{sumRead, speedRead, countRead, fillsRead, indexRead, belongsRead, valueRead, outerRead, belowRead, firstRead, verticesRead}
+use Rattle.ledger_spec.specs.Answers.{sumRead, speedRead, countRead, fillsRead, flooredRead, indexRead, belongsRead, valueRead, outerRead, belowRead, firstRead, verticesRead}
 
 -- ---- what is shown of an answer determines it
 abbrev packed : Handle → Packed
@@ -75,6 +75,9 @@ module _ (b : List ℕ) where
 
     pub only-is-filling : (r s : Marked) → shownMark r ≡ readWords b (fillsRead (view b) u) → shownMark s ≡ readWords b (fillsRead (view b) u) → r ≡ s
     only-is-filling r s p q = mark-same r s (p ∙ sym q)
+
+    pub only-is-floored : (r s : Marked) → shownMark r ≡ readWords b (flooredRead (view b) u) → shownMark s ≡ readWords b (flooredRead (view b) u) → r ≡ s
+    only-is-floored r s p q = mark-same r s (p ∙ sym q)
 
     pub only-get-node : (k : ℕ) (r s : Indexed) → shownNode r ≡ readWords b (indexRead (view b) u k) → shownNode s ≡ readWords b (indexRead (view b) u k) → r ≡ s
     only-get-node k r s p q = index-same r s (p ∙ sym q)

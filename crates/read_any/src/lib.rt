@@ -20,7 +20,7 @@ ghost use Rattle.bench_views.specs.View.{view};
 ghost use Rattle.read_sound.specs.Shown.{shownWeight, shownCount, shownBelongs, shownNode, shownAncestor, shownSecond, shownVertex, shownVertices};
 ghost use Rattle.read_marks.specs.Shown.{shownMark};
 ghost use Rattle.sound_lent.specs.Verdict.{readWords};
-ghost use Rattle.ledger_spec.specs.Answers.{sumRead, speedRead, countRead, fillsRead, indexRead, belongsRead, valueRead, outerRead, belowRead, firstRead, verticesRead};
+ghost use Rattle.ledger_spec.specs.Answers.{sumRead, speedRead, countRead, fillsRead, flooredRead, indexRead, belongsRead, valueRead, outerRead, belowRead, firstRead, verticesRead};
 
 pub fn sum_dual_variables(b: &[u64; WORDS], unit: u8) -> Weighed
     ensures { λ r. ⌜ shownWeight r ≡ readWords (now (b .entry)) (sumRead (view (now (b .entry))) unit) ⌝ }
@@ -70,6 +70,19 @@ pub fn is_filling(b: &[u64; WORDS], unit: u8) -> Marked
         };
     }
     read_marks::is_filling(b, unit)
+}
+
+// Whether no value of the interface's tree may fall below 0.
+pub fn is_floored(b: &[u64; WORDS], unit: u8) -> Marked
+    ensures { λ r. ⌜ shownMark r ≡ readWords (now (b .entry)) (flooredRead (view (now (b .entry))) unit) ⌝ }
+{
+    if !sound_lent::is_bench(b) {
+        return Marked {
+            number: numbers::BROKEN,
+            marked: false,
+        };
+    }
+    read_marks::is_floored(b, unit)
 }
 
 // The handle at an index of the tree, nothing if its slot was emptied, RANGE (18) at or past the count.
