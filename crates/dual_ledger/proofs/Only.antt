@@ -7,13 +7,13 @@ use mathlib.Core.Bool.{Bool, false}
 use mathlib.Core.Option.{none}
 use mathlib.Core.List.{List}
 use lib.IntN.{ℤ}
-use Rattle.ledger_spec.specs.Bench.{Handle, State, filling}
+use Rattle.ledger_spec.specs.Bench.{Handle, State, filling, floor}
 use Rattle.ledger_spec.specs.Calls.{Call, Defect, Blossom, Expand, SetState, Grow, Fuse, Clear, Mark}
-use Rattle.ledger_spec.specs.Reads.{sumOf, speedOf, countOf, fillsOf, handleAtIndex, valueOf, belongs}
+use Rattle.ledger_spec.specs.Reads.{sumOf, speedOf, countOf, fillsOf, flooredOf, handleAtIndex, valueOf, belongs}
 use Rattle.ledger_spec.specs.Walk.{outerOf, belowOf, firstVertex, verticesInto}
 use Rattle.ledger_spec.specs.Check.{checkOf, strictOf}
 use Rattle.ledger_spec.specs.GroupCalls.{isEmpty, isActive, growthOf}
-use Rattle.ledger_spec.specs.Answers.{sumRead, speedRead, countRead, fillsRead, indexRead, belongsRead, valueRead, outerRead, belowRead, firstRead, verticesRead, checkRead, strictRead}
+use Rattle.ledger_spec.specs.Answers.{sumRead, speedRead, countRead, fillsRead, flooredRead, indexRead, belongsRead, valueRead, outerRead, belowRead, firstRead, verticesRead, checkRead, strictRead}
 use Rattle.bench_views.specs.View.{view}
 use Rattle.sound_bench.specs.Sound.{soundWords}
 use Rattle.sound_lent.specs.Verdict.{Verdict, readWords}
@@ -100,6 +100,9 @@ module _ (b : List ℕ) where
     pub only-mark-filling : LeftOnce (Mark u filling)
     only-mark-filling = left (Mark u filling)
 
+    pub only-mark-floor : LeftOnce (Mark u floor)
+    only-mark-floor = left (Mark u floor)
+
     pub only-told-create-defect-node : (v : ℕ) → ToldOnce (Defect u v)
     only-told-create-defect-node v = told (Defect u v)
 
@@ -139,6 +142,9 @@ module _ (b : List ℕ) where
     pub only-trusted-mark-filling : SettledOnce (Mark u filling)
     only-trusted-mark-filling = settled (Mark u filling)
 
+    pub only-trusted-mark-floor : SettledOnce (Mark u floor)
+    only-trusted-mark-floor = settled (Mark u floor)
+
 -- ---- the reads of an interface: on any words, on sound ones
 module _ (b : List ℕ) (u : ℕ) where
   pub only-sum-dual-variables : Only (worded signedWord (readWords b (sumRead (view b) u)))
@@ -164,6 +170,12 @@ module _ (b : List ℕ) (u : ℕ) where
 
   pub only-trusted-is-filling : Only (worded flagWord (fillsOf (view b) u))
   only-trusted-is-filling = one (worded flagWord (fillsOf (view b) u))
+
+  pub only-is-floored : Only (worded flagWord (readWords b (flooredRead (view b) u)))
+  only-is-floored = one (worded flagWord (readWords b (flooredRead (view b) u)))
+
+  pub only-trusted-is-floored : Only (worded flagWord (flooredOf (view b) u))
+  only-trusted-is-floored = one (worded flagWord (flooredOf (view b) u))
 
   pub only-get-node : (k : ℕ) → Only (indexed (readWords b (indexRead (view b) u k)))
   only-get-node k = one (indexed (readWords b (indexRead (view b) u k)))
