@@ -86,11 +86,11 @@ pub fn mark_filling(b: &mut [u64; WORDS], unit: u8) -> Answer
     call_told::mark_filling(b, unit)
 }
 
-pub fn mark_floor(b: &mut [u64; WORDS], unit: u8) -> Answer
+pub fn mark_floored(b: &mut [u64; WORDS], unit: u8) -> Answer
     ensures { λ r. ⌜ Called (soundWords (now (b .entry))) (now (b .entry)) (Mark unit floor) r (now (b .exit)) ⌝ }
 {
     if !sound_lent::is_bench(b) {
         return Answer::refused(numbers::BROKEN);
     }
-    call_told::mark_floor(b, unit)
+    call_told::mark_floored(b, unit)
 }

@@ -98,7 +98,7 @@ pub fn mark_filling(b: &mut [u64; WORDS], unit: u8) -> Made
 }
 
 // From now to its clear a growth that takes a value of the interface's tree below 0 is refused.
-pub fn mark_floor(b: &mut [u64; WORDS], unit: u8) -> Made
+pub fn mark_floored(b: &mut [u64; WORDS], unit: u8) -> Made
     requires { ⌜ SoundWords (now b) ⌝ }
     ensures { λ r. ⌜ Answered (now (b .entry)) (Mark unit floor) (r .number) (r .node) (now (b .exit)) ⌝ }
 {
@@ -106,6 +106,6 @@ pub fn mark_floor(b: &mut [u64; WORDS], unit: u8) -> Made
     if number != 0 {
         return Made::refused(number);
     }
-    deed_marks::mark_floor(b, unit as usize);
+    deed_marks::mark_floored(b, unit as usize);
     Made::refused(0)
 }

@@ -148,10 +148,10 @@ pub fn mark_filling(b: &mut [u64; WORDS], unit: u8) -> Answer
     Answer::refused(made.number)
 }
 
-pub fn mark_floor(b: &mut [u64; WORDS], unit: u8) -> Answer
+pub fn mark_floored(b: &mut [u64; WORDS], unit: u8) -> Answer
     requires { ⌜ SoundWords (now b) ⌝ }
     ensures { λ r. ⌜ Told (now (b .entry)) (Mark unit floor) r (now (b .exit)) ⌝ }
 {
-    let made = call_sound::mark_floor(b, unit);
+    let made = call_sound::mark_floored(b, unit);
     Answer::refused(made.number)
 }

@@ -39,7 +39,7 @@ pub fn mark_filling(b: &mut [u64; WORDS], unit: usize)
 }
 
 // From now on, and until it is cleared, no growth takes a value of the interface's tree below zero.
-pub fn mark_floor(b: &mut [u64; WORDS], unit: usize)
+pub fn mark_floored(b: &mut [u64; WORDS], unit: usize)
     requires { ⌜ Fit (now b) × (first (markTests (view (now b)) unit) ≡ 0) ⌝ }
     ensures { λ _. ⌜ Done (now (b .exit)) (choose (view (now (b .entry))) unit floor) ⌝ }
 {

@@ -100,8 +100,8 @@ module _ (b : List ℕ) where
     pub only-mark-filling : LeftOnce (Mark u filling)
     only-mark-filling = left (Mark u filling)
 
-    pub only-mark-floor : LeftOnce (Mark u floor)
-    only-mark-floor = left (Mark u floor)
+    pub only-mark-floored : LeftOnce (Mark u floor)
+    only-mark-floored = left (Mark u floor)
 
     pub only-told-create-defect-node : (v : ℕ) → ToldOnce (Defect u v)
     only-told-create-defect-node v = told (Defect u v)
@@ -142,8 +142,8 @@ module _ (b : List ℕ) where
     pub only-trusted-mark-filling : SettledOnce (Mark u filling)
     only-trusted-mark-filling = settled (Mark u filling)
 
-    pub only-trusted-mark-floor : SettledOnce (Mark u floor)
-    only-trusted-mark-floor = settled (Mark u floor)
+    pub only-trusted-mark-floored : SettledOnce (Mark u floor)
+    only-trusted-mark-floored = settled (Mark u floor)
 
 -- ---- the reads of an interface: on any words, on sound ones
 module _ (b : List ℕ) (u : ℕ) where

@@ -54,19 +54,19 @@ pub extern "C" fn dual_ledger_trusted_is_filling(
 
 // From now to its clear a growth that takes a value of the interface's tree below 0 is refused.
 #[no_mangle]
-pub extern "C" fn dual_ledger_mark_floor(bench: &mut [u64; WORDS], unit: u8) -> u8
+pub extern "C" fn dual_ledger_mark_floored(bench: &mut [u64; WORDS], unit: u8) -> u8
     ensures { λ r. ⌜ Left (now (bench .entry)) (Mark unit floor) r (now (bench .exit)) ⌝ }
 {
-    let a = call_any::mark_floor(bench, unit);
+    let a = call_any::mark_floored(bench, unit);
     a.number
 }
 
 #[no_mangle]
-pub extern "C" fn dual_ledger_trusted_mark_floor(bench: &mut [u64; WORDS], unit: u8) -> u8
+pub extern "C" fn dual_ledger_trusted_mark_floored(bench: &mut [u64; WORDS], unit: u8) -> u8
     requires { ⌜ SoundWords (now bench) ⌝ }
     ensures { λ r. ⌜ Settled (now (bench .entry)) (Mark unit floor) r (now (bench .exit)) ⌝ }
 {
-    let made = call_sound::mark_floor(bench, unit);
+    let made = call_sound::mark_floored(bench, unit);
     made.number
 }
 
