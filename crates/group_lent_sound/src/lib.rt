@@ -1,30 +1,46 @@
 // Whether any words hold a sound group, in place: only the words that count are looked at. Assumes nothing.
-use group_lent::GROUP;
+use group_lent::Five;
 ghost use mathlib.Core.Path.{_≡_};
-ghost use Prim.Native.Nat.{_≤_, _<_};
+ghost use Prim.Native.Nat.{_+_, _≤_, _<_};
+ghost use lib.ListN.{length};
+ghost use Rattle.group_lent.specs.Forms.{fiveAt};
 ghost use Rattle.group_lent_sound.specs.Test.{entryFits, stopFits, entriesFit, stopsFit, headFits, soundIn};
 
-fn entry_fits(w: &[u64; GROUP], i: usize) -> bool
-    requires { ⌜ i < 128 ⌝ }
+// Five words of a slice (`five_at` of crate group_lent is of a whole group's array).
+fn five_of(w: &[u64], at: usize) -> Five
+    requires { ⌜ at + 5 ≤ length (now w) ⌝ }
+    ensures { λ r. ⌜ r ≡ fiveAt (now (w .entry)) at ⌝ }
+{
+    Five {
+        kind: w[at],
+        a: w[at + 1],
+        b: w[at + 2],
+        c: w[at + 3],
+        d: w[at + 4],
+    }
+}
+
+fn entry_fits(w: &[u64], i: usize) -> bool
+    requires { ⌜ (length (now w) ≡ 1413) × (i < 128) ⌝ }
     ensures { λ r. ⌜ r ≡ entryFits (now (w .entry)) i ⌝ }
 {
-    let f = group_lent::five_at(w, 5 + i * 5);
+    let f = five_of(w, 5 + i * 5);
     let ok = group_lent::is_form(f);
     ok & ((f.kind != 1) & (f.kind < 5))
 }
 
-fn stop_fits(w: &[u64; GROUP], least: u64, i: usize) -> bool
-    requires { ⌜ i < 128 ⌝ }
+fn stop_fits(w: &[u64], least: u64, i: usize) -> bool
+    requires { ⌜ (length (now w) ≡ 1413) × (i < 128) ⌝ }
     ensures { λ r. ⌜ r ≡ stopFits (now (w .entry)) least i ⌝ }
 {
     let v = w[645 + i * 6];
-    let f = group_lent::five_at(w, 645 + i * 6 + 1);
+    let f = five_of(w, 645 + i * 6 + 1);
     let ok = group_lent::is_form(f);
     ((v < 4294967296) & ok) & ((5 <= f.kind) & (least <= v))
 }
 
-fn entries_fit(w: &[u64; GROUP], n: usize) -> bool
-    requires { ⌜ n ≤ 128 ⌝ }
+fn entries_fit(w: &[u64], n: usize) -> bool
+    requires { ⌜ (length (now w) ≡ 1413) × (n ≤ 128) ⌝ }
     ensures { λ r. ⌜ r ≡ entriesFit (now (w .entry)) 0 n ⌝ }
 {
     let mut i: usize = 0;
@@ -37,8 +53,8 @@ fn entries_fit(w: &[u64; GROUP], n: usize) -> bool
     true
 }
 
-fn stops_fit(w: &[u64; GROUP], m: usize) -> bool
-    requires { ⌜ m ≤ 128 ⌝ }
+fn stops_fit(w: &[u64], m: usize) -> bool
+    requires { ⌜ (length (now w) ≡ 1413) × (m ≤ 128) ⌝ }
     ensures { λ r. ⌜ r ≡ stopsFit (now (w .entry)) 0 0 m ⌝ }
 {
     let mut least: u64 = 0;
@@ -53,13 +69,16 @@ fn stops_fit(w: &[u64; GROUP], m: usize) -> bool
     true
 }
 
-fn head_fits(w: &[u64; GROUP]) -> bool
+fn head_fits(w: &[u64]) -> bool
+    requires { ⌜ length (now w) ≡ 1413 ⌝ }
     ensures { λ r. ⌜ r ≡ headFits (now (w .entry)) ⌝ }
 {
     (w[0] == 2) & ((w[1] == 0) & ((w[2] == 0) & ((w[3] <= 128) & (w[4] <= 128))))
 }
 
-pub fn is_sound(w: &[u64; GROUP]) -> bool
+// Of a group's 1413 words, wherever they are lent from.
+pub fn is_sound(w: &[u64]) -> bool
+    requires { ⌜ length (now w) ≡ 1413 ⌝ }
     ensures { λ r. ⌜ r ≡ soundIn (now (w .entry)) ⌝ }
 {
     if w[0] == 1 {

@@ -15,13 +15,13 @@ abbrev μ-loop : tie.MeasureT-loop
 μ-loop w n i₀ i = n - i
 
 loop-holds : tie.Need-loop-holds Inv-loop μ-loop
-loop-holds c = let z : c .args .n ≡ c .args .n - 0 = omega arith in (omega arith, ap (entriesFit (c .args .w .now) 0) z)
+loop-holds c = let z : c .before .args .n ≡ c .before .args .n - 0 = omega arith in (omega arith, ap (entriesFit (c .before .args .w .now) 0) z)
 
 entry-fits-requires : tie.Need-entry-fits-requires Inv-loop μ-loop
 entry-fits-requires c κs = omega arith
 
 returns : tie.Need-returns Inv-loop μ-loop
-returns c = let l = c .before .before .before in let s = l .before in entries-no (s .args .w .now) (s .args .n) (l .loop .i) _ _ (c .before .before .loop-test .taken) (l .loop .inv .1) (c .before .entry-fits .ensures) (not-true _ (c .if1 .taken))
+returns c = let l = c .before .before .before in let s = l .before in entries-no (s .before .args .w .now) (s .before .args .n) (l .loop .i) _ _ (c .before .before .loop-test .taken) (l .loop .inv .1) (c .before .entry-fits .ensures) (not-true _ (c .if1 .taken))
 
 add-i : tie.Need-add-i Inv-loop μ-loop
 add-i c = omega arith
@@ -30,10 +30,10 @@ loop-less : tie.Need-loop-less Inv-loop μ-loop
 loop-less c = omega arith
 
 loop-again : tie.Need-loop-again Inv-loop μ-loop
-loop-again c = let l = c .before .before .before in let s = l .before in (omega arith, entries-on (s .args .w .now) (s .args .n) (l .loop .i) _ _ (c .before .before .loop-test .taken) (l .loop .inv .1) (c .before .entry-fits .ensures) (not-false _ (c .if1 .left)))
+loop-again c = let l = c .before .before .before in let s = l .before in (omega arith, entries-on (s .before .args .w .now) (s .before .args .n) (l .loop .i) _ _ (c .before .before .loop-test .taken) (l .loop .inv .1) (c .before .entry-fits .ensures) (not-false _ (c .if1 .left)))
 
 returns-2 : tie.Need-returns-2 Inv-loop μ-loop
-returns-2 c = let l = c .before in let s = l .before in entries-end (s .args .w .now) (s .args .n) (l .loop .i) _ (c .loop-test .left) (l .loop .inv .1)
+returns-2 c = let l = c .before in let s = l .before in entries-end (s .before .args .w .now) (s .before .args .n) (l .loop .i) _ (c .loop-test .left) (l .loop .inv .1)
 
 pub entries-fit-spec : {M : Type 1} → statement M
 entries-fit-spec =

@@ -13,26 +13,26 @@ add-v c = search needs
 mul-v-2 : tie.Need-mul-v-2
 mul-v-2 c = search needs
 
-element-copy-out-v : tie.Need-element-copy-out-v
-element-copy-out-v c = search needs
+shared-slice-read-v : tie.Need-shared-slice-read-v
+shared-slice-read-v c = search needs
 
-mul-five-at : tie.Need-mul-five-at
-mul-five-at c = search needs
+mul-five-of : tie.Need-mul-five-of
+mul-five-of c = search needs
 
-add-five-at : tie.Need-add-five-at
-add-five-at c = search needs
+add-five-of : tie.Need-add-five-of
+add-five-of c = search needs
 
-add-five-at-2 : tie.Need-add-five-at-2
-add-five-at-2 c = search needs
+add-five-of-2 : tie.Need-add-five-of-2
+add-five-of-2 c = search needs
 
-five-at-requires : tie.Need-five-at-requires
-five-at-requires c κs = search needs
+five-of-requires : tie.Need-five-of-requires
+five-of-requires c κs = search needs
 
 is-form-requires : tie.Need-is-form-requires
 is-form-requires c κs = search needs
 
 returns : tie.Need-returns
-returns c = let s = c .before .before .before .before in stop-fits (s .args .w .now) (s .args .least) (s .args .i) _ _ (c .before .before .five-at .ensures) (c .before .is-form .ensures)
+returns c = let s = c .before .before .before .before in stop-fits (s .before .args .w .now) (s .before .args .least) (s .before .args .i) _ _ (c .before .before .five-of .ensures) (c .before .is-form .ensures)
 
 pub stop-fits-spec : {M : Type 1} → statement M
 stop-fits-spec =
@@ -41,10 +41,10 @@ stop-fits-spec =
     mul-v
     add-v
     mul-v-2
-    element-copy-out-v
-    mul-five-at
-    add-five-at
-    add-five-at-2
-    five-at-requires
+    shared-slice-read-v
+    mul-five-of
+    add-five-of
+    add-five-of-2
+    five-of-requires
     is-form-requires
     returns)

@@ -15,13 +15,13 @@ abbrev μ-loop : tie.MeasureT-loop
 μ-loop w m least₀ i₀ least i = m - i
 
 loop-holds : tie.Need-loop-holds Inv-loop μ-loop
-loop-holds c = let z : c .args .m ≡ c .args .m - 0 = omega arith in (omega arith, ap (stopsFit (c .args .w .now) 0 0) z)
+loop-holds c = let z : c .before .args .m ≡ c .before .args .m - 0 = omega arith in (omega arith, ap (stopsFit (c .before .args .w .now) 0 0) z)
 
 stop-fits-requires : tie.Need-stop-fits-requires Inv-loop μ-loop
 stop-fits-requires c κs = omega arith
 
 returns : tie.Need-returns Inv-loop μ-loop
-returns c = let l = c .before .before .before in let s = l .before in stops-no (s .args .w .now) (s .args .m) (l .loop .i) _ _ (c .before .before .loop-test .taken) (l .loop .least) (l .loop .inv .1) (c .before .stop-fits .ensures) (not-true _ (c .if1 .taken))
+returns c = let l = c .before .before .before in let s = l .before in stops-no (s .before .args .w .now) (s .before .args .m) (l .loop .i) _ _ (c .before .before .loop-test .taken) (l .loop .least) (l .loop .inv .1) (c .before .stop-fits .ensures) (not-true _ (c .if1 .taken))
 
 mul-least : tie.Need-mul-least Inv-loop μ-loop
 mul-least c = omega arith
@@ -32,8 +32,8 @@ add-least c = omega arith
 mul-least-2 : tie.Need-mul-least-2 Inv-loop μ-loop
 mul-least-2 c = omega arith
 
-element-copy-out-least : tie.Need-element-copy-out-least Inv-loop μ-loop
-element-copy-out-least c = omega arith
+shared-slice-read-least : tie.Need-shared-slice-read-least Inv-loop μ-loop
+shared-slice-read-least c = omega arith
 
 add-least-2 : tie.Need-add-least-2 Inv-loop μ-loop
 add-least-2 c = omega arith
@@ -45,10 +45,10 @@ loop-less : tie.Need-loop-less Inv-loop μ-loop
 loop-less c = omega arith
 
 loop-again : tie.Need-loop-again Inv-loop μ-loop
-loop-again c = let l = c .before .before .before .before in let s = l .before in (omega arith, stops-on (s .args .w .now) (s .args .m) (l .loop .i) _ _ (c .before .before .before .loop-test .taken) (l .loop .least) (l .loop .inv .1) (c .before .before .stop-fits .ensures) (not-false _ (c .before .if1 .left)))
+loop-again c = let l = c .before .before .before .before in let s = l .before in (omega arith, stops-on (s .before .args .w .now) (s .before .args .m) (l .loop .i) _ _ (c .before .before .before .loop-test .taken) (l .loop .least) (l .loop .inv .1) (c .before .before .stop-fits .ensures) (not-false _ (c .before .if1 .left)))
 
 returns-2 : tie.Need-returns-2 Inv-loop μ-loop
-returns-2 c = let l = c .before in let s = l .before in stops-end (s .args .w .now) (s .args .m) (l .loop .i) _ (c .loop-test .left) (l .loop .least) (l .loop .inv .1)
+returns-2 c = let l = c .before in let s = l .before in stops-end (s .before .args .w .now) (s .before .args .m) (l .loop .i) _ (c .loop-test .left) (l .loop .least) (l .loop .inv .1)
 
 pub stops-fit-spec : {M : Type 1} → statement M
 stops-fit-spec =
@@ -62,7 +62,7 @@ stops-fit-spec =
     mul-least
     add-least
     mul-least-2
-    element-copy-out-least
+    shared-slice-read-least
     add-least-2
     add-i
     loop-less
