@@ -5,3 +5,5 @@ pub mod Stepping
 pub mod Totals
 pub mod Whole
 pub mod Parts
+pub mod Tests
+pub mod Answers

@@ -19,6 +19,7 @@ use Rattle.ledger_spec.specs.Groups.{Group}
 use Rattle.ledger_laws.proofs.Laws.{grow-grow}
 use Rattle.recorded_spec.specs.Recorded.{Steps, stopped, onward, groupTests, growthIn, stepBy, orElse, steps}
 use Rattle.recorded_spec.specs.Sums.{Sums, refused, further, sums}
+use Rattle.recorded_spec.proofs.Zero.{grow-zero}
 use Rattle.recorded_spec.proofs.Tested.{tests-grown, group-first}
 use Rattle.recorded_spec.proofs.Lengths.{group-grows, Stepped, stepped}
 
@@ -102,3 +103,7 @@ module _ (b : Bench) (F : Frame b) (u : ℕ) (low : u < 8) where
           → Same d (elim t [ true ↦ onward (first (groupTests g ++ growTests (growBy b u d) u l)) l (growBy b u d) after | false ↦ stopped 0 (growBy b u d) ]) (elim t [ true ↦ further on l again | false ↦ refused 0 ])
       go true k ih = subst (λ (n : ℕ). Same d (onward n l (growBy b u d) after) (further on l again)) (sym (step-number d left g h k)) (rest on refl k ih)
       go false k ih = same-stopped d 0
+
+  -- from the bench itself
+  pub steps-are : (l : ℤ) (gs : List (Option Group)) → Same (pos 0) (steps b u l gs) (sums inAll (pos 0) l gs)
+  steps-are l gs = subst (λ (x : Bench). Same (pos 0) (steps x u l gs) (sums inAll (pos 0) l gs)) (grow-zero b u) (steps-sums (pos 0) l gs refl)

@@ -32,9 +32,8 @@ use Rattle.ledger_laws.proofs.SoundCalls.{grow-sound}
 use Rattle.recorded_spec.specs.Recorded.{Steps, stopped, onward, groupTests, stepBy, orElse, steps, recordedTests, recordedNo, allOrNone, growRecorded}
 use Rattle.recorded_spec.specs.Sums.{Sums, sums}
 use Rattle.recorded_spec.specs.Grown.{OneByOne, none-left, grown-by}
-use Rattle.recorded_spec.proofs.Zero.{grow-zero}
 use Rattle.recorded_spec.proofs.Tested.{group-first}
-use Rattle.recorded_spec.proofs.Stepping.{inAll, Same, steps-sums}
+use Rattle.recorded_spec.proofs.Stepping.{inAll, Same, steps-are}
 use Rattle.recorded_spec.proofs.Totals.{first-zero, nothing-left, Through, through}
 
 -- ---- an accepted call
@@ -74,8 +73,7 @@ module _ (b : Bench) (u : ℕ) (l : ℤ) (gs : List (Option Group)) (room : ℕ)
   -- ---- what an accepted call comes to
   module _ (A : Accepted b u l gs room) where
     again : Same b (A .sound .frame) u (A .here .low) (pos 0) (steps b u l gs) (sums (inAll b (A .sound .frame) u (A .here .low)) (pos 0) l gs)
-    again = subst (λ (x : Bench). Same b (A .sound .frame) u (A .here .low) (pos 0) (steps x u l gs) (sums (inAll b (A .sound .frame) u (A .here .low)) (pos 0) l gs)) (grow-zero b u)
-        (steps-sums b (A .sound .frame) u (A .here .low) (pos 0) l gs refl)
+    again = steps-are b (A .sound .frame) u (A .here .low) l gs
 
     came : Through (inAll b (A .sound .frame) u (A .here .low)) (pos 0) l gs (sums (inAll b (A .sound .frame) u (A .here .low)) (pos 0) l gs)
     came = through (inAll b (A .sound .frame) u (A .here .low)) (pos 0) l gs (A .forward) (sym (again .number) ∙ A .went)
