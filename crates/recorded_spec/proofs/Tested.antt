@@ -8,7 +8,7 @@ use native.Mathlib.Omega.{arith}
 use borrow.Author.Tests.{le-ltb}
 use lib.IntN.{ℤ, pos, negsuc, _+ℤ_, +ℤ-assoc}
 use lib.Signed.{ltZ}
-use Rattle.ledger_spec.specs.Numbers.{progressLimit, UNIT, CHILD, LENGTH, NOTHING, STUCK}
+use Rattle.ledger_spec.specs.Numbers.{progressLimit, UNIT, CHILD, LENGTH, BELOW, NOTHING, STUCK}
 use Rattle.ledger_spec.specs.Bench.{Bench}
 use Rattle.ledger_spec.specs.Look.{interface}
 use Rattle.ledger_spec.specs.Tests.{first, outside, child, isSome}
@@ -18,6 +18,7 @@ use Rattle.ledger_spec.specs.Frame.{Frame}
 use Rattle.ledger_spec.specs.Groups.{Group, growth, conflicts, largest, eqZ}
 use Rattle.ledger_spec.proofs.TreeReadings.{grow-parent, grow-progress}
 use Rattle.ledger_laws.proofs.Paced.{inside}
+use Rattle.ledger_laws.proofs.Belows.{below-grown}
 use Rattle.recorded_spec.specs.Recorded.{groupTests, orElse}
 
 not-below : (d s : ℤ) → ltZ d (pos 0) ≡ false → ltZ s (pos 0) ≡ false → ltZ (d +ℤ s) (pos 0) ≡ false
@@ -32,7 +33,7 @@ module _ (b : Bench) (F : Frame b) (u : ℕ) (low : u < 8) (d s : ℤ) (ahead : 
 
   pub tests-grown : growTests (growBy b u d) u s ≡ growTests b u (d +ℤ s)
   unfolding growTests
-  tests-grown = λ i. (outside u, UNIT) ∷ (isSome (grow-parent b u d u i), CHILD) ∷ (far i, LENGTH) ∷ []
+  tests-grown = λ i. (outside u, UNIT) ∷ (isSome (grow-parent b u d u i), CHILD) ∷ (far i, LENGTH) ∷ (below-grown b F u d s ahead on i, BELOW) ∷ []
 
 -- a group's own tests come first
 pub group-first : (g : Option Group) (ts : List (Bool × ℕ)) → first (groupTests g ++ ts) ≡ orElse (first (groupTests g)) (first ts)

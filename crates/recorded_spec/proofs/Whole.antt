@@ -1,24 +1,24 @@
 -- Growing against a recording that is accepted is one growth by the whole length, and the same as its steps one by one. Assumes nothing.
 use Prim.Native.Nat.{ℕ, zero, suc, _<_, _≤_}
 use mathlib.Core.Path.{_≡_, refl, sym, _∙_, ap, ap₂, subst}
-use mathlib.Core.Bool.{Bool, true, false, true≢false}
-use mathlib.Core.Option.{Option}
+use mathlib.Core.Bool.{Bool, true, false, _&&_, true≢false}
+use mathlib.Core.Option.{Option, none, some}
 use mathlib.Core.List.{List, [], _∷_, _++_}
 use native.Mathlib.Omega.{arith}
 use lib.ListN.{length, take}
-use lib.IntN.{ℤ, pos, _+ℤ_, _-ℤ_, +ℤ-idl, +ℤ-idr, natAbs}
-use lib.Signed.{ltZ}
+use lib.IntN.{ℤ, pos, negsuc, _+ℤ_, _-ℤ_, +ℤ-idl, +ℤ-idr, natAbs}
+use lib.Signed.{ltZ, leZ}
 use lib.Dec.{ltb}
 use borrow.Author.Tests.{le-ltb}
 use Rattle.ledger_spec.specs.Numbers.{progressLimit, SMALL, LENGTH}
-use Rattle.ledger_spec.specs.Bench.{Bench}
-use Rattle.ledger_spec.specs.Look.{interface}
-use Rattle.ledger_spec.specs.Tests.{first}
+use Rattle.ledger_spec.specs.Bench.{State, grows, stays, shrinks, Node, Bench}
+use Rattle.ledger_spec.specs.Look.{interface, slotOf}
+use Rattle.ledger_spec.specs.Tests.{first, isShrink, sinks, floored}
 use Rattle.ledger_spec.specs.Refuse.{unitTests, growTests}
 use Rattle.ledger_spec.specs.Deeds.{growBy}
 use Rattle.ledger_spec.specs.Calls.{Grow}
 use Rattle.ledger_spec.specs.Answers.{answer}
-use Rattle.ledger_spec.specs.Sound.{sound}
+use Rattle.ledger_spec.specs.Sound.{sound, afloat}
 use Rattle.ledger_spec.specs.Facts.{Sound}
 use Rattle.ledger_spec.specs.Account.{total}
 use Rattle.ledger_spec.specs.Groups.{Group}
@@ -26,6 +26,7 @@ use Rattle.ledger_spec.proofs.Says.{says}
 use Rattle.ledger_spec.proofs.Holds.{holds}
 use Rattle.ledger_spec.proofs.Passed.{Open, passed, open-of}
 use Rattle.ledger_spec.proofs.Accepted.{GrowPassed, grow-passed}
+use Rattle.ledger_laws.proofs.Floors.{level-top}
 use Rattle.ledger_laws.proofs.GrowCalls.{grow-tests}
 use Rattle.ledger_laws.proofs.Demand.{grew, grows-now}
 use Rattle.ledger_laws.proofs.SoundCalls.{grow-sound}
@@ -35,6 +36,17 @@ use Rattle.recorded_spec.specs.Grown.{OneByOne, none-left, grown-by}
 use Rattle.recorded_spec.proofs.Tested.{group-first}
 use Rattle.recorded_spec.proofs.Stepping.{inAll, Same, steps-are}
 use Rattle.recorded_spec.proofs.Totals.{first-zero, nothing-left, Through, through}
+
+-- what is not below 0 does not sink by 0
+float-stays : (o : Option Node) → afloat o ≡ true → sinks (pos 0) o ≡ false
+float-stays none h = refl
+float-stays (some n) h = go (n .state) (n .value) h
+  where
+    go : (s : State) (v : ℤ) → leZ (pos 0) v ≡ true → (isShrink s && ltZ v (pos 0)) ≡ false
+    go grows v e = refl
+    go stays v e = refl
+    go shrinks (pos m) e = le-ltb m 0 (omega arith)
+    go shrinks (negsuc m) e = absurd (true≢false (sym e))
 
 -- ---- an accepted call
 pub record Accepted (b : Bench) (u : ℕ) (l : ℤ) (gs : List (Option Group)) (room : ℕ) : Type 0 where
@@ -99,6 +111,8 @@ module _ (b : Bench) (u : ℕ) (l : ℤ) (gs : List (Option Group)) (room : ℕ)
           here = A .here;
           forward = A .forward;
           limit = ap (λ (z : ℤ). ltZ (pos progressLimit) (interface b u .progress +ℤ z)) (nothing-left l (A .forward) k) ∙ ap (ltZ (pos progressLimit)) (+ℤ-idr (interface b u .progress)) ∙ stays;
+          above = λ e w s h t. ap (λ (z : ℤ). sinks z (slotOf b w s)) (nothing-left l (A .forward) k)
+              ∙ float-stays (slotOf b w s) (A .sound .floors .values w s (level-top b (A .sound .floors) w ∙ ap (floored b) t ∙ e));
         })
 
 -- ---- the theorems
