@@ -1,10 +1,11 @@
 -- The steps' sums by another test that says the same; and by none at all where all were accepted. Assumes nothing.
-use Prim.Native.Nat.{ℕ, zero, suc, _+_}
+use Prim.Native.Nat.{ℕ, zero, suc, _+_, _≤_}
 use mathlib.Core.Path.{_≡_, refl, sym, _∙_, ap, ap₂}
 use mathlib.Core.Bool.{Bool, true, false}
 use mathlib.Core.Option.{Option}
 use mathlib.Core.List.{List, [], _∷_}
 use native.Mathlib.Omega.{arith}
+use lib.ListN.{length}
 use lib.IntN.{ℤ, pos, _+ℤ_, _-ℤ_}
 use lib.Signed.{ltZ}
 use Rattle.ledger_spec.specs.Numbers.{SHORT}
@@ -69,3 +70,29 @@ module _ (f : ℤ → ℕ) where
           ≡ ifLeft t (further (orElse (first (groupTests x)) (f (d +ℤ l))) l (sums f (d +ℤ l) (left -ℤ l) gs))
       go false ih q = refl
       go true ih q = taken (first (groupTests x)) (f (d +ℤ l)) l (sums f (d +ℤ l) (left -ℤ l) gs) (sums (λ t. 0) (d +ℤ l) (left -ℤ l) gs) (ih (d +ℤ l) (left -ℤ l)) q
+
+-- ---- no more steps than groups
+module _ (f : ℤ → ℕ) where
+  few-on : (n : ℕ) (l : ℤ) (s : Sums) (k : ℕ) → length (s .lengths) ≤ k → length (further n l s .lengths) ≤ suc k
+  few-on zero l s k h = omega arith
+  few-on (suc n) l s k h = omega arith
+
+  pub sums-few : (gs : List (Option Group)) (d left : ℤ) → length (sums f d left gs .lengths) ≤ length gs
+  unfolding sums
+  sums-few [] d left = go (ltZ (pos 0) left)
+    where
+      none-yet : Bool → Sums
+      none-yet t = elim t [ true ↦ refused SHORT | false ↦ refused 0 ]
+
+      go : (t : Bool) → length (none-yet t .lengths) ≤ 0
+      go true = omega arith
+      go false = omega arith
+  sums-few (x ∷ gs) d left = go (ltZ (pos 0) left) (sums-few gs (d +ℤ stepBy left x) (left -ℤ stepBy left x))
+    where
+      l : ℤ
+      l = stepBy left x
+
+      go : (t : Bool) → length (sums f (d +ℤ l) (left -ℤ l) gs .lengths) ≤ length gs
+          → length (ifLeft t (further (orElse (first (groupTests x)) (f (d +ℤ l))) l (sums f (d +ℤ l) (left -ℤ l) gs)) .lengths) ≤ suc (length gs)
+      go false h = omega arith
+      go true h = few-on (orElse (first (groupTests x)) (f (d +ℤ l))) l (sums f (d +ℤ l) (left -ℤ l) gs) (length gs) h

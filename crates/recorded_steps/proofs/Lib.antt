@@ -1,3 +1,4 @@
 pub mod Windows
 pub mod Passing
 pub mod Reaching
+pub mod Limits
