@@ -321,11 +321,9 @@ uint8_t dual_ledger_trusted_run_records(uint64_t *bench, const uint8_t *file, si
 
 /* The name of a number: "STALE" for 8; "ACCEPTED" for 0; NULL for a number that no function answers. */
 static inline const char *dual_ledger_refusal_name(uint8_t number) {
-    static const char *const names[29] = {"ACCEPTED", "LINE", "BROKEN", "UNIT", "CHILD", "LENGTH", "CIRCLE", "TOUCH",   "STALE", "FOREIGN", "KIND", "INSIDE", "TOP",
-                                          "TWICE",    "FULL", "WORN",   "PAIR", "USED",  "RANGE",  "SMALL",  "ROOM", "NOTHING", "SELF",  "FILE",    "UNSOUND", @BELOW@, "MARK", @STUCK@, @SHORT@};
-    return number < 29 ? names[number] : NULL;
-    if (number == DUAL_LEDGER_MARK) return "MARK";
-    return number < 25 ? names[number] : NULL;
+    static const char *const names[27] = {"ACCEPTED", "LINE", "BROKEN", "UNIT", "CHILD",   "LENGTH", "CIRCLE", "TOUCH",   "STALE", "FOREIGN", "KIND", "INSIDE",  "TOP",   "TWICE",
+                                          "FULL",     "WORN", "PAIR",   "USED", "RANGE", "SMALL",  "ROOM",   "NOTHING", "SELF",  "FILE",    "UNSOUND", "BELOW", "MARK"};
+    return number < 27 ? names[number] : NULL;
 }
 
 /* ---- stack: the most bytes that a function needs below its caller's frame on x86-64, its return address included. The C library's memcpy

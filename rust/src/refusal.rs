@@ -14,7 +14,7 @@ macro_rules! refusals {
 
         impl Refusal {
             /// All of them, in rising order.
-            pub const ALL: [Refusal; 25] = [$(Refusal::$name),*];
+            pub const ALL: [Refusal; 26] = [$(Refusal::$name),*];
 
             /// The name in the manual's table.
             pub fn name(self) -> &'static str {

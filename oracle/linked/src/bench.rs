@@ -1,10 +1,9 @@
 //! The benchmark: the original's bare calls and the linked ledger's in one run, over the fixed list and call by call. Best of several passes, each side in turn, by
 //! processor time. Prints a table, and writes the same numbers as lines of tabs for the picture.
-use crate::{bench_groups, bench_present, bench_records, bench_runs};
 use crate::ledger::state;
 use crate::nests::{self, BY_CALLS, BY_HAND};
 use crate::words::encode;
-use crate::{bench_groups, bench_marks, bench_present, bench_records};
+use crate::{bench_groups, bench_marks, bench_present, bench_records, bench_runs};
 use dual_ledger::{lent, Bench, DualModule, GrowState, Handle, Verdict};
 use oracle::line::{read, Line};
 use oracle::timing::{self, by_kind, keep, kind, least, processor, whole, Original, Timed, KINDS};

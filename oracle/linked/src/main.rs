@@ -8,8 +8,8 @@ mod bench_runs;
 mod bend;
 mod damage;
 mod damage_groups;
-mod filling;
 mod file_runs;
+mod filling;
 mod group_words;
 mod groups;
 mod ledger;
@@ -126,6 +126,8 @@ fn ran(least: usize, seed: u64) {
 fn moved(path: &str) -> String {
     let text = std::fs::read(path).unwrap_or_else(|why| fail(format!("{path}: {why}")));
     bench_records::table(&text).unwrap_or_else(|why| fail(why))
+}
+
 fn patched(count: usize, seed: u64) {
     print!("{}no difference\n", patches::compare(count, seed).unwrap_or_else(|why| fail(why)));
 }
@@ -144,7 +146,7 @@ fn main() {
             scale(60_000, 6_000, 10_000, 1);
             pictured(2_000, 1);
             recorded(20_000, 1);
-            ran(100_000, 1)
+            ran(100_000, 1);
             patched(60, 1)
         }
         ["scale"] => scale(10_000_000, 1_000_000, 1_000_000, 1),

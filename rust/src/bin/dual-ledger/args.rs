@@ -69,9 +69,9 @@ pub struct Args {
     pub at: Option<u64>,
     /// interfaces to be marked before a record runs
     pub fills: Vec<u8>,
+    pub floors: Vec<u8>,
     pub bench: Option<PathBuf>,
     pub save: Option<PathBuf>,
-    pub floors: Vec<u8>,
 }
 
 pub enum Asked {
@@ -123,11 +123,10 @@ impl Args {
             at: None,
             fills: vec![],
             floors: vec![],
-        };
-        let runs_records = matches!(work, Work::Check | Work::Ages | Work::Picture);
             bench: None,
             save: None,
         };
+        let runs_records = matches!(work, Work::Check | Work::Ages | Work::Picture);
         let mut no_more_options = false;
         while let Some(word) = words.next() {
             match word.to_str() {
