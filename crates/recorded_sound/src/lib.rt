@@ -37,3 +37,23 @@ fn judge(b: &[u64; WORDS], unit: u8, length: i64, groups: &[u64], room: usize) -
     }
     p
 }
+
+// Grows an interface by `length`, a group of the recording a step, and writes the lengths of the steps. Refused, bench and slice stay.
+pub fn grow_recorded(
+    b: &mut [u64; WORDS],
+    unit: u8,
+    length: i64,
+    groups: &[u64],
+    out: &mut [u64],
+) -> Passed
+    requires { ⌜ SoundWords (now b) ⌝ }
+    ensures { λ r. ⌜ RecordedAs (now (b .entry)) unit length (now (groups .entry)) (now (out .entry)) r (now (b .exit)) (now (out .exit)) ⌝ }
+{
+    let p = judge(b, unit, length, groups, out.len());
+    if p.number != 0 {
+        return p;
+    }
+    call_sound::grow(b, unit, length);
+    recorded_steps::put_lengths(groups, length as u64, out);
+    p
+}
