@@ -1,3 +1,4 @@
 pub mod Putting
 pub mod Running
 pub mod Ending
+pub mod Once
