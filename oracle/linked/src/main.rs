@@ -40,6 +40,7 @@ linked runs [COUNT [SEED]]                files of byte records run whole, besid
 linked patches [COUNT [SEED]]             two patches on one bench, so many pairs of runs; by default 2000 1
 linked play FILE                          lines of a file by all three: the first difference, if there is one
 linked moves LIST                         times of moving such a list to byte records and back, beside its run
+linked times LIST                         times of its run as byte records, beside single calls and the original
 bench LIST NUMBERS                        times of both sides in one run, over such a list; the same as numbers into a file";
 
 fn fail(why: impl std::fmt::Display) -> ! {
@@ -130,6 +131,9 @@ fn moved(path: &str) -> String {
 
 fn patched(count: usize, seed: u64) {
     print!("{}no difference\n", patches::compare(count, seed).unwrap_or_else(|why| fail(why)));
+fn timed(path: &str) -> String {
+    let text = std::fs::read_to_string(path).unwrap_or_else(|why| fail(format!("{path}: {why}")));
+    oracle::timing::read(&text).and_then(|lines| bench_runs::table(text.as_bytes(), &lines)).unwrap_or_else(|why| fail(why))
 }
 
 fn play(path: &str) {
@@ -165,6 +169,7 @@ fn main() {
         ["patches", pairs] => patched(count(pairs) as usize, 1),
         ["patches", pairs, seed] => patched(count(pairs) as usize, count(seed)),
         ["play", path] => play(path),
+        ["times", list] => print!("{}", timed(list)),
         ["moves", list] => print!("{}", moved(list)),
         ["bench", list, numbers] => bench::run(list, numbers).unwrap_or_else(|why| fail(why)),
         _ => fail(HELP),
