@@ -46,27 +46,21 @@ fn row(what: &str, fills: bool, calls: Calls) -> Row {
     Row { what, nodes: ROUND, original: None, trusted, told: None, public: None }
 }
 
-/// The check of an outermost blossom that stands before its members, as only filling lets calls make it: 63 members, each touching by the defect at the bottom of the
-/// deepest of them, 192 links below. How far a nest goes is noted when a blossom inside it is looked at, so that each of these walks is made.
+/// The check of an outermost blossom that stands before everything in it but defects, as only filling lets calls make it: 32 members, each touching by the defect at
+/// the bottom of the deepest of them, 32 links below. How a nest lies is noted when a blossom inside it is looked at, which here comes after all these walks.
 fn blossom_first() -> Row {
-    const TOP: u8 = 6;
+    const TOP: u8 = 2;
     let made = "the bench has room";
     let mut bench = Bench::default();
     bench.mark_filling(TOP).expect("a new interface");
-    let bottom = bench.create_defect_node(0, 0).expect(made);
-    let mut deep = (0..63).fold(bottom, |inner, _| bench.create_blossom(0, &[inner], &[]).expect(made));
-    let mut others: Vec<Handle> = (0..63).map(|at| bench.create_defect_node(1, 1 + at).expect(made)).collect();
-    for (parent, left, right) in [(2, 0, 1), (4, 2, 3)] {
-        bench.fuse(parent, left, right).expect("new parents");
-        deep = (0..64).fold(deep, |inner, _| bench.create_blossom(parent, &[inner], &[]).expect(made));
-    }
-    bench.fuse(TOP, 4, 5).expect("a new parent");
-    let first = bench.create_blossom(TOP, &[others.remove(0)], &[]).expect(made);
-    let mut members = vec![bench.create_blossom(TOP, &[deep], &[]).expect(made)];
-    members.extend(others.iter().map(|node| bench.create_blossom(TOP, &[*node], &[]).expect(made)));
+    let defects: Vec<Handle> = (0..33).map(|vertex| bench.create_defect_node(0, vertex).expect(made)).collect();
+    bench.fuse(TOP, 0, 1).expect("a new parent");
+    let first = bench.create_blossom(TOP, &defects[32..], &[]).expect(made);
+    let mut members = vec![(0..32).fold(defects[0], |inner, _| bench.create_blossom(TOP, &[inner], &[]).expect(made))];
+    members.extend(defects[1..32].iter().map(|node| bench.create_blossom(TOP, &[*node], &[]).expect(made)));
     bench.expand_blossom(TOP, first).expect("the first blossom");
-    let around = bench.create_blossom(TOP, &members, &vec![[bottom; 2]; members.len()]).expect(made);
-    assert_eq!((around.slot(), members.len(), bench.sanity_check(TOP)), (0, 63, Ok(Verdict::Sound)));
+    let around = bench.create_blossom(TOP, &members, &vec![[defects[0]; 2]; members.len()]).expect(made);
+    assert_eq!((around.slot(), members.len(), bench.sanity_check(TOP)), (0, 32, Ok(Verdict::Sound)));
     let words = bench.words();
     Row {
         what: "check: blossom first".to_string(),
