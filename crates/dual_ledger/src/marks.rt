@@ -1,5 +1,6 @@
 // The marks of an interface, on any words and on words that hold a sound bench: the call that gives one, and the read of it, yes as 1. Assumes nothing.
 use bench_words::WORDS;
+use kinds::numbers;
 ghost use mathlib.Core.Path.{_≡_};
 ghost use Rattle.ledger_spec.specs.Bench.{filling, floor};
 ghost use Rattle.ledger_spec.specs.Calls.{Mark};
@@ -16,8 +17,10 @@ ghost use Rattle.dual_ledger.specs.Linked.{Settled, Left};
 pub extern "C" fn dual_ledger_mark_filling(bench: &mut [u64; WORDS], unit: u8) -> u8
     ensures { λ r. ⌜ Left (now (bench .entry)) (Mark unit filling) r (now (bench .exit)) ⌝ }
 {
-    let a = call_any::mark_filling(bench, unit);
-    a.number
+    if !sound_lent::is_bench(bench) {
+        return numbers::BROKEN;
+    }
+    dual_ledger_trusted_mark_filling(bench, unit)
 }
 
 #[no_mangle]
@@ -57,8 +60,10 @@ pub extern "C" fn dual_ledger_trusted_is_filling(
 pub extern "C" fn dual_ledger_mark_floored(bench: &mut [u64; WORDS], unit: u8) -> u8
     ensures { λ r. ⌜ Left (now (bench .entry)) (Mark unit floor) r (now (bench .exit)) ⌝ }
 {
-    let a = call_any::mark_floored(bench, unit);
-    a.number
+    if !sound_lent::is_bench(bench) {
+        return numbers::BROKEN;
+    }
+    dual_ledger_trusted_mark_floored(bench, unit)
 }
 
 #[no_mangle]

@@ -23,7 +23,7 @@ pub extern "C" fn dual_ledger_empty_group(group: &mut [u64; GROUP])
 pub extern "C" fn dual_ledger_group_is_sound(group: &[u64; GROUP]) -> u8
     ensures { λ r. ⌜ r ≡ flagWord (soundIn (now (group .entry))) ⌝ }
 {
-    if group_lent_sound::is_sound(group) {
+    if group_lent_any::is_group(group) {
         return 1;
     }
     0

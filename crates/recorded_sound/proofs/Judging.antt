@@ -3,11 +3,13 @@ use Prim.Native.Nat.{ℕ, zero, suc, _-_, _≤_, _<_}
 use mathlib.Core.Path.{_≡_, refl, sym, _∙_, ap, subst}
 use mathlib.Core.Bool.{true, false}
 use mathlib.Core.Option.{none}
-use mathlib.Core.List.{List}
+use mathlib.Core.List.{List, map}
 use native.Mathlib.Omega.{arith}
 use lib.ListN.{length, getD}
 use lib.IntN.{ℤ, pos, natAbs}
 use lib.Signed.{ltZ}
+use lib.Seq.{sets}
+use borrow.Author.Tests.{le-ltb}
 use Rattle.bench_words.specs.Store.{nodeAt, interfaceAt}
 use Rattle.bench_words.specs.declared.Interface.{Interface}
 use Rattle.ledger_spec.specs.Bench as plain
@@ -21,7 +23,9 @@ use Rattle.ledger_spec.proofs.Holds.{holds}
 use Rattle.ledger_spec.proofs.Passed.{Open}
 use Rattle.ledger_spec.proofs.Accepted.{clear-passed}
 use Rattle.bench_views.specs.View.{view}
-use Rattle.bench_views.specs.Fit.{Fit}
+use Rattle.kinds.specs.declared.Handle.{Handle}
+use Rattle.bench_views.specs.Fit.{Fit, SoundWords}
+use Rattle.outcomes.specs.Answered.{Answered}
 use Rattle.bench_views.proofs.Views.{interface-in}
 use Rattle.bench_floors.specs.Least.{Least}
 use Rattle.recorded_spec.specs.Recorded.{Steps, stopped, growRecorded}
@@ -30,9 +34,9 @@ use Rattle.recorded_spec.proofs.Tests.{sums-few}
 use Rattle.recorded_spec.proofs.Answers.{refused-unit, refused-back, refused-step, refused-small, accepted-all}
 use Rattle.recorded_groups.specs.Recording.{recordingOf}
 use Rattle.recorded_steps.specs.declared.Passed.{Passed}
-use Rattle.recorded_steps.specs.Passes.{limitNo, PassedAs, stepsOf}
+use Rattle.recorded_steps.specs.Passes.{limitNo, PassedAs, stepsOf, Ready}
 use Rattle.recorded_steps.proofs.Limits.{limits}
-use Rattle.recorded_sound.specs.Answers.{recordedOn, Went, JudgedAs}
+use Rattle.recorded_sound.specs.Answers.{recordedOn, Went, JudgedAs, RecordedAs}
 
 module _ (b : List ℕ) (F : Fit b) (u : ℕ) (l : ℤ) (ws : List ℕ) (room : ℕ) where
   abbrev whole : Steps
@@ -46,7 +50,7 @@ module _ (b : List ℕ) (F : Fit b) (u : ℕ) (l : ℤ) (ws : List ℕ) (room : 
     number = p ∙ ap (λ (s : Steps). s .number) (sym e);
     taken = q ∙ ap (λ (s : Steps). length (s .lengths)) (sym e);
     went = λ z. absurd (h (sym p ∙ z));
-    stays = λ _. ap (λ (s : Steps). s .bench) e;
+    stays = λ _. e ∙ ap (λ (k : ℕ). stopped k (view b)) (sym p);
   }
 
   pub by-unit : (n : ℕ) → n ≡ first (unitTests (view b) u) → (n ≡ 0 → ⊥) → whole ≡ stopped n (view b)
@@ -120,3 +124,32 @@ module _ (b : List ℕ) (F : Fit b) (u : ℕ) (l : ℤ) (ws : List ℕ) (room : 
 
           steps : stepsOf ws (natAbs l) ≡ tested
           steps = ap (λ (y : ℤ). sums (λ t. 0) (pos 0) y (recordingOf ws)) (ap pos (sym size) ∙ sym is) ∙ all .2
+
+-- ---- the whole call, from the verdict
+module _ (b : List ℕ) (u : ℕ) (l : ℤ) (ws out : List ℕ) (r : Passed) (J : JudgedAs b u l ws (length out) r) where
+  pub all-refused : SoundWords b → (r .number ≡ 0 → ⊥) → RecordedAs b u l ws out r b out
+  all-refused W h = record {
+    number = J .number;
+    taken = J .taken;
+    lengths = ap (λ (s : Steps). sets out 0 (map natAbs (s .lengths))) (sym (J .stays h));
+    words = W;
+    seen = ap (λ (s : Steps). s .bench) (sym (J .stays h));
+    refused = λ _. refl;
+  }
+
+  module _ (z : r .number ≡ 0) where
+    pub ahead : ltZ l (pos 0) ≡ false
+    ahead = ap (λ (x : ℤ). ltZ x (pos 0)) (J .went z .forward) ∙ le-ltb (natAbs l) 0 (omega arith)
+
+    pub ready : Ready ws (natAbs l) out
+    ready = record { accepted = J .went z .ready; room = J .went z .fits }
+
+    pub all-done : (n : ℕ) (h : Handle) (b′ out′ : List ℕ) → Answered b (Grow u l) n h b′ → out′ ≡ sets out 0 (map natAbs (stepsOf ws (natAbs l) .lengths)) → RecordedAs b u l ws out r b′ out′
+    all-done n h b′ out′ A e = record {
+      number = J .number;
+      taken = J .taken;
+      lengths = e ∙ ap (λ (x : List ℤ). sets out 0 (map natAbs x)) (sym (J .went z .lengths));
+      words = A .words;
+      seen = A .seen ∙ sym (J .went z .bench);
+      refused = λ q. absurd (q z);
+    }

@@ -9,7 +9,7 @@ use lib.IntN.{ℤ, pos, natAbs}
 use Rattle.ledger_spec.specs.Calls.{Grow, perform}
 use Rattle.bench_views.specs.View.{view}
 use Rattle.bench_views.specs.Fit.{SoundWords}
-use Rattle.recorded_spec.specs.Recorded.{Steps, growRecorded}
+use Rattle.recorded_spec.specs.Recorded.{Steps, stopped, growRecorded}
 use Rattle.recorded_groups.specs.Recording.{recordingOf}
 use Rattle.recorded_steps.specs.declared.Passed.{Passed}
 use Rattle.recorded_steps.specs.Passes.{stepsOf}
@@ -32,7 +32,7 @@ pub record JudgedAs (b : List ℕ) (u : ℕ) (l : ℤ) (ws : List ℕ) (room : �
   pub number : r .number ≡ recordedOn b u l ws room .number
   pub taken : r .taken ≡ length (recordedOn b u l ws room .lengths)
   pub went : r .number ≡ 0 → Went b u l ws room
-  pub stays : (r .number ≡ 0 → ⊥) → recordedOn b u l ws room .bench ≡ view b
+  pub stays : (r .number ≡ 0 → ⊥) → recordedOn b u l ws room ≡ stopped (r .number) (view b)
 
 -- the whole call
 pub record RecordedAs (b : List ℕ) (u : ℕ) (l : ℤ) (ws out : List ℕ) (r : Passed) (b′ out′ : List ℕ) : Type 0 where

@@ -12,7 +12,7 @@ is-sound-requires : tie.Need-is-sound-requires
 is-sound-requires c κs = search needs
 
 returns : tie.Need-returns
-returns c = let s = c .before .before in record { is = c .is-sound .ensures; says = λ t. sound-of (s .args .w .now) (c .before .all-words .ensures) (sym (c .is-sound .ensures) ∙ t) }
+returns c = let s = c .before .before .before in record { is = c .is-sound .ensures; says = λ t. sound-of (s .args .w .now) (c .before .before .all-words .ensures) (sym (c .is-sound .ensures) ∙ t) }
 
 pub is-group-spec : {M : Type 1} → statement M
 is-group-spec = tie.close (tie.spec all-words-requires is-sound-requires returns)
