@@ -216,12 +216,14 @@ static void lines(const char *text) {
 static void records(void) {
     static const char text[] = "D 0 4294967295\nB 255 1 22 333 4294967295\nE 0 3\nS 0 1 -1\nG 0 -9223372036854775808\nF 2 0 1\nC 0\nK 0\n";
     static uint8_t file[512], back[512];
+    static int64_t answers[32];
     static size_t size, wrote;
     int levels = 1;
     must("the records do not move", dual_ledger_to_records((const uint8_t *)text, sizeof text - 1, file, sizeof file, &size) == 0);
     P(dual_ledger_to_records, W(text), sizeof text - 1, W(back), sizeof back, W(&wrote));
     P(dual_ledger_to_text, W(file), size, W(back), sizeof back, W(&wrote));
     P(dual_ledger_records_count, W(file), size, W(&wrote));
+    BOTH(run_records, W(bench), W(file), size, W(answers), 32, W(&wrote));
 }
 
 /* A bench of a few nodes: accepted calls of each kind. */
@@ -301,10 +303,9 @@ int main(int words, char **word) {
     size_t single = 0, deep = 0;
     FILE *file;
     if (words != 2) return 2;
-    few();
-    records();
     few(0);
     few(1);
+    records();
     long_sum();
     spoiled();
     for (size_t i = 0; i < sizeof depths / sizeof *depths; i++) {
