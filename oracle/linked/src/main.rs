@@ -131,6 +131,8 @@ fn moved(path: &str) -> String {
 
 fn patched(count: usize, seed: u64) {
     print!("{}no difference\n", patches::compare(count, seed).unwrap_or_else(|why| fail(why)));
+}
+
 fn timed(path: &str) -> String {
     let text = std::fs::read_to_string(path).unwrap_or_else(|why| fail(format!("{path}: {why}")));
     oracle::timing::read(&text).and_then(|lines| bench_runs::table(text.as_bytes(), &lines)).unwrap_or_else(|why| fail(why))
