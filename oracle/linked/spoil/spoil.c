@@ -225,29 +225,29 @@ uint8_t dual_ledger_group_pop_sparing_stops(uint64_t *group, uint64_t *obstacle)
     return number;
 }
 
-/* 27: a file that does not move leaves a byte behind; 28: SMALL before SELF; 29: what is written goes one byte too far */
+/* 38: a file that does not move leaves a byte behind; 39: SMALL before SELF; 40: what is written goes one byte too far */
 uint8_t dual_ledger_to_text(const uint8_t *file, size_t file_len, uint8_t *out, size_t out_len, size_t *wrote) {
     uint8_t number = real_dual_ledger_to_text(file, file_len, out, out_len, wrote);
-    if (spoiled(27) && number == DUAL_LEDGER_FILE && out_len > 0) out[0] ^= 1;
-    if (spoiled(29) && number == 0 && out_len > *wrote) out[*wrote] ^= 1;
-    return spoiled(28) && number == DUAL_LEDGER_SELF && out_len == 0 ? DUAL_LEDGER_SMALL : number;
+    if (spoiled(38) && number == DUAL_LEDGER_FILE && out_len > 0) out[0] ^= 1;
+    if (spoiled(40) && number == 0 && out_len > *wrote) out[*wrote] ^= 1;
+    return spoiled(39) && number == DUAL_LEDGER_SELF && out_len == 0 ? DUAL_LEDGER_SMALL : number;
 }
 
-/* 30: the letters are not looked at; 31: a large file that is none is one of no records */
+/* 41: the letters are not looked at; 42: a large file that is none is one of no records */
 uint8_t dual_ledger_records_count(const uint8_t *file, size_t file_len, size_t *count) {
     static uint8_t seen[1 << 16];
-    if (spoiled(30) && file_len >= 16 && file_len <= sizeof seen) {
+    if (spoiled(41) && file_len >= 16 && file_len <= sizeof seen) {
         memcpy(seen, file, file_len), memcpy(seen + file_len - 4, "DLG2", 4);
         return real_dual_ledger_records_count(seen, file_len, count);
     }
     uint8_t number = real_dual_ledger_records_count(file, file_len, count);
-    return spoiled(31) && number == DUAL_LEDGER_FILE && file_len > 1024 && !memcmp(file + file_len - 4, "DLG2", 4) ? 0 : number;
+    return spoiled(42) && number == DUAL_LEDGER_FILE && file_len > 1024 && !memcmp(file + file_len - 4, "DLG2", 4) ? 0 : number;
 }
 
-/* 32: a last line without newline is left out */
+/* 43: a last line without newline is left out */
 uint8_t dual_ledger_to_records(const uint8_t *text, size_t text_len, uint8_t *out, size_t out_len, size_t *wrote) {
     uint8_t number = real_dual_ledger_to_records(text, text_len, out, out_len, wrote);
-    if (spoiled(32) && number == DUAL_LEDGER_FILE && text_len > 0 && text[text_len - 1] != '\n')
+    if (spoiled(43) && number == DUAL_LEDGER_FILE && text_len > 0 && text[text_len - 1] != '\n')
         while (text_len > 0 && text[text_len - 1] != '\n') number = real_dual_ledger_to_records(text, --text_len, out, out_len, wrote);
     return number;
 }
