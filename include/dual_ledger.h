@@ -331,21 +331,21 @@ static inline const char *dual_ledger_refusal_name(uint8_t number) {
  * down a nest by calling itself is counted for the deepest that a sound bench can hold. By oracle/stack; tests/linked holds
  * every row by painted stacks.
  *
- *   dual_ledger_check_ptr_belonging                     984
- *   dual_ledger_clear                                  1000
- *   dual_ledger_create_blossom                          984
- *   dual_ledger_create_defect_node                     1080
+ *   dual_ledger_check_ptr_belonging                     904
+ *   dual_ledger_clear                                   920
+ *   dual_ledger_create_blossom                          904
+ *   dual_ledger_create_defect_node                      888
  *   dual_ledger_empty_group                               8
- *   dual_ledger_expand_blossom                          968
- *   dual_ledger_fuse                                    968
+ *   dual_ledger_expand_blossom                          888
+ *   dual_ledger_fuse                                    904
  *   dual_ledger_get_all_vertices                      35912   80 a level, of 448
- *   dual_ledger_get_ancestor_blossom                    984
- *   dual_ledger_get_dual_variable                       984
+ *   dual_ledger_get_ancestor_blossom                    904
+ *   dual_ledger_get_dual_variable                       904
  *   dual_ledger_get_node                               1544
- *   dual_ledger_get_representative_vertex               952
- *   dual_ledger_get_secondary_ancestor_blossom          968
- *   dual_ledger_group_add                               952
- *   dual_ledger_group_extend                            952
+ *   dual_ledger_get_representative_vertex               872
+ *   dual_ledger_get_secondary_ancestor_blossom          888
+ *   dual_ledger_group_add                               872
+ *   dual_ledger_group_extend                            872
  *   dual_ledger_group_get_none_zero_growth               40
  *   dual_ledger_group_is_active                          40
  *   dual_ledger_group_is_empty                           40
@@ -353,32 +353,40 @@ static inline const char *dual_ledger_refusal_name(uint8_t number) {
  *   dual_ledger_group_peek                               40
  *   dual_ledger_group_pop                                88
  *   dual_ledger_group_pop_sparing_stops                  88
- *   dual_ledger_grow                                    968
- *   dual_ledger_is_sound                                936
+ *   dual_ledger_grow                                   1640
+ *   dual_ledger_is_filling                              872
+ *   dual_ledger_is_floored                              872
+ *   dual_ledger_is_sound                                856
+ *   dual_ledger_mark_filling                            872
+ *   dual_ledger_mark_floored                            872
  *   dual_ledger_next_present                           1544
  *   dual_ledger_nodes_count                            1544
  *   dual_ledger_present_count                          1528
+ *   dual_ledger_records_count                           193
+ *   dual_ledger_run_records                           21384
  *   dual_ledger_sanity_check                          18344
- *   dual_ledger_set_grow_state                         1000
+ *   dual_ledger_set_grow_state                          920
  *   dual_ledger_set_up                                   40
  *   dual_ledger_snapshot                              26728
  *   dual_ledger_strict_check                          18344
- *   dual_ledger_sum_dual_variables                      952
- *   dual_ledger_sum_grow_speed                          952
+ *   dual_ledger_sum_dual_variables                      872
+ *   dual_ledger_sum_grow_speed                          872
  *   dual_ledger_text_chunk                            19304
  *   dual_ledger_text_end                                  8
  *   dual_ledger_text_line                             19160
- *   dual_ledger_told_create_blossom                     880
- *   dual_ledger_told_create_defect_node                 192
+ *   dual_ledger_to_records                             8480
+ *   dual_ledger_to_text                                1112
+ *   dual_ledger_told_create_blossom                     888
+ *   dual_ledger_told_create_defect_node                 200
  *   dual_ledger_told_expand_blossom                     232
- *   dual_ledger_told_grow                                 8
+ *   dual_ledger_told_grow                              1624
  *   dual_ledger_told_set_grow_state                     168
  *   dual_ledger_trusted_check_ptr_belonging              56
  *   dual_ledger_trusted_clear                            88
- *   dual_ledger_trusted_create_blossom                  800
- *   dual_ledger_trusted_create_defect_node              192
+ *   dual_ledger_trusted_create_blossom                  808
+ *   dual_ledger_trusted_create_defect_node              200
  *   dual_ledger_trusted_expand_blossom                  216
- *   dual_ledger_trusted_fuse                             24
+ *   dual_ledger_trusted_fuse                             72
  *   dual_ledger_trusted_get_all_vertices              35880   80 a level, of 448
  *   dual_ledger_trusted_get_ancestor_blossom             24
  *   dual_ledger_trusted_get_dual_variable                72
@@ -393,10 +401,15 @@ static inline const char *dual_ledger_refusal_name(uint8_t number) {
  *   dual_ledger_trusted_group_peek                        8
  *   dual_ledger_trusted_group_pop                        88
  *   dual_ledger_trusted_group_pop_sparing_stops          88
- *   dual_ledger_trusted_grow                              8
+ *   dual_ledger_trusted_grow                           1608
+ *   dual_ledger_trusted_is_filling                        8
+ *   dual_ledger_trusted_is_floored                        8
+ *   dual_ledger_trusted_mark_filling                      8
+ *   dual_ledger_trusted_mark_floored                      8
  *   dual_ledger_trusted_next_present                   1544
  *   dual_ledger_trusted_nodes_count                    1528
  *   dual_ledger_trusted_present_count                  1528
+ *   dual_ledger_trusted_run_records                   21384
  *   dual_ledger_trusted_sanity_check                  18328
  *   dual_ledger_trusted_set_grow_state                  152
  *   dual_ledger_trusted_snapshot                      26680
