@@ -33,7 +33,7 @@ fn not_file() -> Scanned
 }
 
 // Whether the trailer's numbers fit a file of so many bytes.
-fn is_fitting(size: usize, start: usize, count: usize, before: usize, letters: u64) -> bool
+pub fn is_fitting(size: usize, start: usize, count: usize, before: usize, letters: u64) -> bool
     requires { ⌜ (16 ≤ size) × ((start < 4294967296) × (count < 4294967296)) ⌝ }
     ensures { λ r. ⌜ r ≡ fitting size start count before letters ⌝ }
 {

@@ -1,1 +1,6 @@
+pub mod Whole
+pub mod Finding
+pub mod Writing
 pub mod Getting
+pub mod Laws
+pub mod Examples
