@@ -134,6 +134,13 @@ module _ (out : List ℕ) (f : Front) where
   pub front-four : f .many ≡ 4 → set (set (set (set out 0 (f .letter)) 1 (f .unit)) 2 (f .third)) 3 (f .fourth) ≡ sets out 0 (frontWords f)
   front-four e = ap (λ (n : ℕ). sets out 0 (take n (f .letter ∷ f .unit ∷ f .third ∷ f .fourth ∷ []))) (sym e)
 
+-- three words from a place on
+pub put-three : (out : List ℕ) (i a b c a′ b′ c′ : ℕ) → a ≡ a′ → b ≡ b′ → c ≡ c′ → set (set (set out i a) (i + 1) b) (i + 2) c ≡ sets out i (a′ ∷ b′ ∷ c′ ∷ [])
+put-three out i a b c a′ b′ c′ p q r =
+    let j : i + 1 ≡ suc i = omega arith in
+    let k : i + 2 ≡ suc (suc i) = omega arith in
+    λ n. set (set (set out i (p n)) (j n) (q n)) (k n) (r n)
+
 pub sets-both : (a b l : List ℕ) (i : ℕ) → sets (sets l i a) (i + length a) b ≡ sets l i (a ++ b)
 sets-both [] b l i = let e : i + 0 ≡ i = omega arith in ap (λ (j : ℕ). sets l j b) e
 sets-both (x ∷ a) b l i = let e : i + suc (length a) ≡ suc i + length a = omega arith in ap (λ (j : ℕ). sets (sets (set l i x) (suc i) a) j b) e ∙ sets-both a b (set l i x) (suc i)

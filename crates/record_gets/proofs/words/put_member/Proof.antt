@@ -1,9 +1,7 @@
 -- Three words, one after the other. Assumes nothing.
 use native.Mathlib.Omega.{arith}
-use mathlib.Core.Path.{_≡_}
-use Prim.Native.Nat.{_+_, suc}
-use lib.ListN.{set, length-set}
-use lib.Seq.{sets}
+use lib.ListN.{length-set}
+use Rattle.record_gets.proofs.Writing.{put-three}
 use borrow.Author.Needs.{needs}
 use Rattle.record_gets.proofs.words.put_member.Statement.{statement}
 use Rattle.record_gets.proofs.words.put_member.Tie as tie
@@ -51,7 +49,7 @@ same-length : tie.Need-same-length
 same-length c = search needs
 
 returns : tie.Need-returns
-returns c = let a = c .before .before .before .before .before .args in let o = a .out .now in let i : a .at + 1 ≡ suc (a .at) = omega arith in let j : a .at + 2 ≡ suc (suc (a .at)) = omega arith in λ k. set (set (set o (a .at) (c .before .before .four-at .ensures .0 k)) (i k) (c .before .four-at2 .ensures .0 k)) (j k) (c .four-at3 .ensures .0 k)
+returns c = let a = c .before .before .before .before .before .args in put-three (a .out .now) (a .at) _ _ _ _ _ _ (c .before .before .four-at .ensures .0) (c .before .four-at2 .ensures .0) (c .four-at3 .ensures .0)
 
 pub put-member-spec : {M : Type 1} → statement M
 put-member-spec =
