@@ -369,8 +369,8 @@ static inline const char *dual_ledger_refusal_name(uint8_t number) {
  *   dual_ledger_next_present                           1544
  *   dual_ledger_nodes_count                            1544
  *   dual_ledger_present_count                          1528
- *   dual_ledger_records_count                           193
- *   dual_ledger_records_get                             000
+ *   dual_ledger_records_count                           272
+ *   dual_ledger_records_get                             176
  *   dual_ledger_run_records                           21384
  *   dual_ledger_sanity_check                          18344
  *   dual_ledger_set_grow_state                          920
