@@ -14,20 +14,21 @@ use Rattle.record_spec.specs.Numbers.{Bytes}
 use Rattle.record_spec.specs.Operations.{Operation}
 use Rattle.record_spec.specs.Records.{bytesOf}
 use Rattle.record_spec.specs.Reader.{pick, recordIn}
-use Rattle.record_spec.specs.Files.{fitting}
 use Rattle.record_spec.specs.Places.{at}
 use Rattle.record_spec.proofs.Numbers.{then-back}
-use Rattle.record_spec.proofs.Files.{fitting-true}
 use Rattle.record_spec.proofs.Places.{record-ends}
 use Rattle.record_spec.proofs.Records.{record-back, record-only}
 use Rattle.record_measures.specs.declared.Measured.{Measured}
 use Rattle.record_measures.specs.Measures.{measuredOf}
+use Rattle.record_files.specs.declared.Trailer.{Trailer}
+use Rattle.record_files.specs.Scans.{trailerOf}
 use Rattle.record_files.proofs.Walking.{stands-not}
+use Rattle.record_files.proofs.Trailers.{Trailed, trailed, untrailed}
 use Rattle.record_reads.specs.Reads.{Recorded}
 use Rattle.record_reads.proofs.Reading.{two}
 use Rattle.record_unpacks.proofs.Steps.{take-bytes, drop-bytes}
 use Rattle.record_gets.specs.declared.Found.{Found}
-use Rattle.record_gets.specs.Kth.{Asked, refusal, says, begins, endOf, recordAt, standing, listed, trailed, kthOf}
+use Rattle.record_gets.specs.Kth.{Asked, refusal, says, begins, endOf, recordAt, standing, listed, kthOf}
 use Rattle.record_gets.specs.Gets.{Holds, Finds}
 use Rattle.record_gets.proofs.Whole.{record-fills, said-by, past-range, from-trailer, from-list, no-trailer}
 
@@ -157,27 +158,30 @@ module _ (s : List ℕ) (list count k : ℕ) (h : Bytes s) (room : list + 4 * co
 
 -- ---- and of the trailer
 
-pub too-short : (s : List ℕ) (k : ℕ) → length s < 16 → Finds (kthOf s k) s (record { number = FILE; place = 0 })
+short-file : (s : List ℕ) (k : ℕ) → length s < 16 → kthOf s k ≡ refusal FILE
 unfolding kthOf
-too-short s k h = refuses (kthOf s k) s FILE (λ y. omega (arith, y)) (rw (lt-ltb (length s) 16 h) refl)
+short-file s k h = rw (lt-ltb (length s) 16 h) refl
 
-module _ (s : List ℕ) (k n : ℕ) (long : length s ≡ n + 16) (list count before letters : ℕ)
-    (a : list ≡ at 4 s n) (b : count ≡ at 4 s (n + 4)) (c : before ≡ at 4 s (n + 8)) (d : letters ≡ at 4 s (n + 12)) where
-  fits : (x : Bool) → fitting (length s) list count before letters ≡ x → fitting (length s) (at 4 s n) (at 4 s (n + 4)) (at 4 s (n + 8)) (at 4 s (n + 12)) ≡ x
-  fits x e = (λ i. fitting (length s) (sym a i) (sym b i) (sym c i) (sym d i)) ∙ e
+module _ (s : List ℕ) (k : ℕ) (t : Trailer) (is : t ≡ trailerOf s) where
+  pub unfit : t .fits ≡ false → Finds (kthOf s k) s (record { number = FILE; place = 0 })
+  unfit e =
+      refuses (kthOf s k) s FILE (λ y. omega (arith, y))
+      (untrailed s t is e (kthOf s k ≡ refusal FILE) (short-file s k) (λ n l q. from-trailer s k n l ∙ no-trailer s n k q))
 
-  pub unfit : fitting (length s) list count before letters ≡ false → Finds (kthOf s k) s (record { number = FILE; place = 0 })
-  unfit e = refuses (kthOf s k) s FILE (λ y. omega (arith, y)) (from-trailer s k n long ∙ no-trailer s n k (fits false e))
+  module _ (e : t .fits ≡ true) where
+    there-is : Trailed s t
+    there-is = trailed s t is e
 
-  module _ (e : fitting (length s) list count before letters ≡ true) where
-    pub by-list : kthOf s k ≡ listed s list count k
-    by-list = from-trailer s k n long ∙ from-list s n k (fits true e) ∙ (λ i. listed s (sym a i) (sym b i) k)
+    pub list-room : t .start + 4 * t .count + 16 ≤ length s
+    list-room = there-is .room
 
-    pub list-room : list + 4 * count + 16 ≤ length s
-    list-room = let f = fitting-true (length s) list count before letters e in omega (arith, f .lists, f .ends, long)
+    by-list : kthOf s k ≡ listed s (t .start) (t .count) k
+    by-list =
+        let x = there-is in
+        from-trailer s k (x .place) (x .long) ∙ from-list s (x .place) k (x .fits) ∙ (λ i. listed s (sym (x .start) i) (sym (x .count) i) k)
 
-    pub no-such : count ≤ k → Finds (kthOf s k) s (record { number = RANGE; place = 0 })
-    no-such l = refuses (kthOf s k) s RANGE (λ y. omega (arith, y)) (by-list ∙ past-range s list count k l)
+    pub no-such : t .count ≤ k → Finds (kthOf s k) s (record { number = RANGE; place = 0 })
+    no-such l = refuses (kthOf s k) s RANGE (λ y. omega (arith, y)) (by-list ∙ past-range s (t .start) (t .count) k l)
 
-    pub found : (r : Found) → Finds (listed s list count k) s r → Finds (kthOf s k) s r
+    pub found : (r : Found) → Finds (listed s (t .start) (t .count) k) s r → Finds (kthOf s k) s r
     found r x = subst (λ (y : Asked). Finds y s r) (sym by-list) x

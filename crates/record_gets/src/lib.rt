@@ -75,31 +75,20 @@ fn stand(s: &[u8], list: usize, count: usize, k: usize) -> Found
 fn find(s: &[u8], k: usize) -> Found
     ensures { λ r. ⌜ Finds (kthOf (now (s .entry)) k) (now (s .entry)) r ⌝ }
 {
-    let size = s.len();
-    if size < 16 {
+    let t = record_files::read_trailer(s);
+    if !t.fits {
         return Found {
             number: numbers::FILE,
             place: 0,
         };
     }
-    let trailer = size - 16;
-    let list = record_numbers::four_at(s, trailer) as usize;
-    let count = record_numbers::four_at(s, trailer + 4) as usize;
-    let before = record_numbers::four_at(s, trailer + 8) as usize;
-    let letters = record_numbers::four_at(s, trailer + 12);
-    if !record_files::is_fitting(size, list, count, before, letters) {
-        return Found {
-            number: numbers::FILE,
-            place: 0,
-        };
-    }
-    if count <= k {
+    if t.count <= k {
         return Found {
             number: numbers::RANGE,
             place: 0,
         };
     }
-    stand(s, list, count, k)
+    stand(s, t.start, t.count, k)
 }
 
 // The words of record k, the first being 0; answers how many were written.
