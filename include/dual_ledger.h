@@ -369,9 +369,9 @@ static inline const char *dual_ledger_refusal_name(uint8_t number) {
  *   dual_ledger_next_present                           1544
  *   dual_ledger_nodes_count                            1544
  *   dual_ledger_present_count                          1528
- *   dual_ledger_records_count                           272
+ *   dual_ledger_records_count                           176
  *   dual_ledger_records_get                             176
- *   dual_ledger_run_records                           21384
+ *   dual_ledger_run_records                           21432
  *   dual_ledger_sanity_check                          18344
  *   dual_ledger_set_grow_state                          920
  *   dual_ledger_set_up                                   40
@@ -383,7 +383,7 @@ static inline const char *dual_ledger_refusal_name(uint8_t number) {
  *   dual_ledger_text_end                                  8
  *   dual_ledger_text_line                             19160
  *   dual_ledger_to_records                             8480
- *   dual_ledger_to_text                                1112
+ *   dual_ledger_to_text                                1080
  *   dual_ledger_told_create_blossom                     888
  *   dual_ledger_told_create_defect_node                 200
  *   dual_ledger_told_expand_blossom                     232
@@ -417,7 +417,7 @@ static inline const char *dual_ledger_refusal_name(uint8_t number) {
  *   dual_ledger_trusted_next_present                   1544
  *   dual_ledger_trusted_nodes_count                    1528
  *   dual_ledger_trusted_present_count                  1528
- *   dual_ledger_trusted_run_records                   21384
+ *   dual_ledger_trusted_run_records                   21432
  *   dual_ledger_trusted_sanity_check                  18328
  *   dual_ledger_trusted_set_grow_state                  152
  *   dual_ledger_trusted_snapshot                      26680

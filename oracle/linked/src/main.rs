@@ -38,7 +38,7 @@ linked scale [ACCEPTED REFUSED DAMAGED [SEED]]   until so many of each were comp
 linked pictures [COUNT [SEED]]            pictures beside the original's, until so many benches with check 0; by default 30000 1
 linked records [COUNT [SEED]]             files of byte records, whole and spoiled, beside the model's reader, until so many; by default 1000000 1
 linked runs [COUNT [SEED]]                files of byte records run whole, beside single calls and the original, until so many operations; by default 10000000 1
-linked recordings [FOLDER..]              recordings and scenes as files of byte records, run whole beside what is recorded and the original
+linked recordings [FOLDER..]              recordings as files of byte records, run whole beside what is recorded and the original
 linked patches [COUNT [SEED]]             two patches on one bench, so many pairs of runs; by default 2000 1
 linked play FILE                          lines of a file by all three: the first difference, if there is one
 linked moves LIST                         times of moving such a list to byte records and back, beside its run
@@ -126,8 +126,8 @@ fn ran(least: usize, seed: u64) {
     print!("{}no difference\n", file_runs::compare(least, seed, nth).unwrap_or_else(|why| fail(why)));
 }
 
-/// Where recordings and scenes are.
-const FOLDERS: [&str; 2] = [concat!(env!("CARGO_MANIFEST_DIR"), "/../recordings"), concat!(env!("CARGO_MANIFEST_DIR"), "/../scenes")];
+/// Where the recordings are, in which the scenes are too.
+const RECORDINGS: &str = concat!(env!("CARGO_MANIFEST_DIR"), "/../recordings");
 
 /// The texts of folders, but for benches written by hand, which no calls make.
 fn replayed(folders: &[&str]) {
@@ -174,7 +174,7 @@ fn main() {
             pictured(2_000, 1);
             recorded(20_000, 1);
             ran(100_000, 1);
-            replayed(&FOLDERS);
+            replayed(&[RECORDINGS]);
             patched(60, 1)
         }
         ["scale"] => scale(10_000_000, 1_000_000, 1_000_000, 1),
@@ -189,7 +189,7 @@ fn main() {
         ["runs"] => ran(10_000_000, 1),
         ["runs", least] => ran(count(least) as usize, 1),
         ["runs", least, seed] => ran(count(least) as usize, count(seed)),
-        ["recordings"] => replayed(&FOLDERS),
+        ["recordings"] => replayed(&[RECORDINGS]),
         ["recordings", ref folders @ ..] => replayed(folders),
         ["patches"] => patched(2_000, 1),
         ["patches", pairs] => patched(count(pairs) as usize, 1),

@@ -1,4 +1,4 @@
-//! The calls of recordings and scenes written as files of byte records, blossoms with their touching pairs, by the crate's writer, and run: each answer beside
+//! The calls of recordings written as files of byte records, blossoms with their touching pairs, by the crate's writer, and run: each answer beside
 //! the one that is recorded and beside the original's own. Where every pair is the member the file is moved to text, and that is run too.
 use crate::file_runs::operation;
 use crate::ledger::state;
@@ -28,7 +28,7 @@ pub struct Seen {
 
 impl std::fmt::Display for Seen {
     fn fmt(&self, f: &mut std::fmt::Formatter) -> std::fmt::Result {
-        writeln!(f, "{} recordings and scenes as {} files: {} operations, {} refused", self.texts, self.files, self.operations, self.refused)?;
+        writeln!(f, "{} recordings as {} files: {} operations, {} refused", self.texts, self.files, self.operations, self.refused)?;
         let Seen { original, blossoms, pairs, made, lines, left, .. } = self;
         writeln!(f, "{original} answers the original's own; {blossoms} blossoms, {pairs} touching by others, {made} of them made")?;
         writeln!(f, "{lines} of the operations run as text too; {left} refused calls without a record left out")
@@ -151,7 +151,7 @@ impl Part {
     }
 }
 
-/// A recording, or a scene, whose answers are the model's.
+/// A recording, or lines without answers, which are then the model's.
 fn play(text: &str, seen: &mut Seen) -> Result<(), String> {
     let mut part = Ok(Part::new(Bench::default()));
     let step = |at: usize, call: &str, turn: &Turn, written: Option<&str>| {
