@@ -1,7 +1,7 @@
 -- The manual's file, asked record by record, and each refusal. Each holds by running the definitions. Assumes nothing.
 use Prim.Native.Nat.{ℕ}
 use mathlib.Core.Path.{_≡_, refl}
-use mathlib.Core.List.{List, [], _∷_, _++_}
+use mathlib.Core.List.{List, [], _∷_}
 use lib.ListN.{replicate}
 use Rattle.ledger_spec.specs.Decimals.{digits, decimal, signed}
 use Rattle.text_lines.specs.Texts.{spaced, fieldsOf, letterOf}

@@ -5,10 +5,10 @@ use mathlib.Core.Path.{_≡_, refl, sym, _∙_, ap, subst}
 use mathlib.Core.Bool.{Bool, true, false}
 use mathlib.Core.Option.{Option, none, some}
 use mathlib.Core.List.{List, _++_, append-assoc}
-use lib.Dec.{eqb, ltb}
+use lib.Dec.{eqb}
 use lib.ListN.{length, take, drop, length-drop, take-append-drop}
 use lib.Seq.{length-take-le, drop-append-le}
-use borrow.Author.Tests.{lt-ltb, eq-eqb, ne-eqb}
+use borrow.Author.Tests.{lt-ltb, ne-eqb}
 use Rattle.ledger_spec.specs.Numbers.{FILE, RANGE}
 use Rattle.record_spec.specs.Numbers.{Bytes}
 use Rattle.record_spec.specs.Operations.{Operation}
@@ -24,12 +24,11 @@ use Rattle.record_files.specs.declared.Trailer.{Trailer}
 use Rattle.record_files.specs.Scans.{trailerOf}
 use Rattle.record_files.proofs.Walking.{stands-not}
 use Rattle.record_files.proofs.Trailers.{Trailed, trailed, untrailed}
-use Rattle.record_reads.specs.Reads.{Recorded}
 use Rattle.record_reads.proofs.Reading.{two}
 use Rattle.record_unpacks.proofs.Steps.{take-bytes, drop-bytes}
 use Rattle.record_gets.specs.declared.Found.{Found}
-use Rattle.record_gets.specs.Kth.{Asked, refusal, says, begins, endOf, recordAt, standing, listed, kthOf}
-use Rattle.record_gets.specs.Gets.{Holds, Finds}
+use Rattle.record_gets.specs.Kth.{Asked, refusal, begins, endOf, recordAt, standing, listed, kthOf}
+use Rattle.record_gets.specs.Gets.{Finds}
 use Rattle.record_gets.proofs.Whole.{record-fills, said-by, past-range, from-trailer, from-list, no-trailer}
 
 -- a refusal stands nowhere

@@ -2,20 +2,19 @@
 use Prim.Native.Nat.{ℕ, _+_, _*_, _≤_, _<_}
 use native.Mathlib.Omega.{arith}
 use mathlib.Core.Path.{_≡_, refl, sym, _∙_, ap}
-use mathlib.Core.List.{List, _++_}
+use mathlib.Core.List.{List}
 use lib.ListN.{length, drop}
 use lib.Seq.{sets}
 use Rattle.ledger_spec.specs.Numbers.{SMALL}
 use Rattle.text_lines.specs.declared.Line.{Line}
 use Rattle.record_spec.specs.Numbers.{Bytes}
-use Rattle.record_spec.specs.Operations.{Operation}
 use Rattle.record_spec.specs.Reader.{recordIn}
-use Rattle.record_spec.specs.Moves.{Moved as Answer, refused, written}
+use Rattle.record_spec.specs.Moves.{Moved as Answer, refused}
 use Rattle.record_spec.proofs.Moves.{accepted, room, no-room}
 use Rattle.record_measures.specs.Measures.{membersAt}
 use Rattle.record_packs.specs.Packs.{MovedAs}
 use Rattle.record_packs.proofs.Stores.{sets-front}
-use Rattle.record_reads.specs.Reads.{Recorded, lineOfRecord, lineFound}
+use Rattle.record_reads.specs.Reads.{Recorded, lineFound}
 use Rattle.record_gets.specs.declared.Found.{Found}
 use Rattle.record_gets.specs.declared.words.Front.{Front}
 use Rattle.record_gets.specs.Kth.{Asked, refusal, says, kthOf}

@@ -2,7 +2,7 @@
 use Prim.Native.Nat.{ℕ, _≤_}
 use native.Mathlib.Omega.{arith}
 use native.Mathlib.Decide.{decLe}
-use mathlib.Core.Path.{_≡_, refl, sym, _∙_, ap}
+use mathlib.Core.Path.{_≡_, refl, _∙_, ap}
 use mathlib.Core.Option.{some}
 use mathlib.Core.List.{List}
 use lib.ListN.{length}
@@ -10,8 +10,8 @@ use Rattle.ledger_spec.specs.Numbers.{SMALL}
 use Rattle.record_spec.specs.Numbers.{Bytes}
 use Rattle.record_spec.specs.Operations.{Operation}
 use Rattle.record_spec.specs.Files.{fileOps}
-use Rattle.record_spec.specs.Moves.{Moved as Answer, refused, written}
-use Rattle.record_spec.proofs.Moves.{accepted, room, no-room}
+use Rattle.record_spec.specs.Moves.{Moved as Answer, refused}
+use Rattle.record_spec.proofs.Moves.{room, no-room}
 use Rattle.record_packs.specs.declared.Moved.{Moved}
 use Rattle.record_packs.specs.Packs.{MovedAs}
 use Rattle.record_gets.specs.Kth.{Asked, refusal, says, kthIn, kthOf}

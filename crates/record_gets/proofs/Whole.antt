@@ -4,9 +4,9 @@ use native.Mathlib.Omega.{arith}
 use native.Mathlib.Decide.{decLt}
 use mathlib.Core.Path.{_≡_, refl, sym, _∙_, ap}
 use mathlib.Core.Bool.{Bool, true, false}
-use mathlib.Core.Option.{Option, none, some, Option·some-ne-none}
+use mathlib.Core.Option.{none, some, Option·some-ne-none}
 use mathlib.Core.List.{List, [], _∷_}
-use lib.Dec.{eqb, ltb}
+use lib.Dec.{eqb}
 use lib.ListN.{length, take, drop}
 use lib.Seq.{length-take-le}
 use borrow.Author.Tests.{lt-ltb, le-ltb, eq-eqb}
@@ -21,7 +21,7 @@ use Rattle.record_spec.proofs.Numbers.{then-back}
 use Rattle.record_spec.proofs.Files.{fitting-true}
 use Rattle.record_spec.proofs.Places.{file-short, file-unfit, file-walk}
 use Rattle.record_unpacks.proofs.Steps.{take-bytes, step, counts}
-use Rattle.record_gets.specs.Kth.{Asked, refusal, says, asked, kthIn, begins, endOf, recordAt, standing, listed, trailed, kthOf}
+use Rattle.record_gets.specs.Kth.{refusal, says, kthIn, begins, endOf, recordAt, standing, listed, trailed, kthOf}
 
 -- ---- record k of those that a list of starts says
 

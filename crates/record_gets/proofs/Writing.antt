@@ -4,17 +4,17 @@ use native.Mathlib.Omega.{arith}
 use mathlib.Core.Path.{_≡_, refl, sym, _∙_, ap}
 use mathlib.Core.Option.{some}
 use mathlib.Core.List.{List, [], _∷_, _++_, map}
-use lib.ListN.{length, take, drop, getD, set, length-append, length-set}
+use lib.ListN.{length, take, drop, getD, set, length-append}
 use lib.Seq.{sets, length-sets, getD-drop}
-use Rattle.ledger_spec.specs.Bench.{State, grows, stays, shrinks}
+use Rattle.ledger_spec.specs.Bench.{grows, stays, shrinks}
 use Rattle.text_lines.specs.Texts.{letterOf}
-use Rattle.record_spec.specs.Numbers.{Bytes, complement}
+use Rattle.record_spec.specs.Numbers.{Bytes}
 use Rattle.record_spec.specs.Operations.{Member, Operation, D, B, E, S, G, F, C, K, serialOf}
 use Rattle.record_spec.specs.Records.{bytesOf}
 use Rattle.record_spec.specs.Reader.{recordIn}
 use Rattle.record_spec.specs.Places.{at}
 use Rattle.record_spec.proofs.Records.{record-only}
-use Rattle.record_measures.specs.Measures.{memberAt, membersAt}
+use Rattle.record_measures.specs.Measures.{membersAt}
 use Rattle.record_measures.proofs.Members.{members-many}
 use Rattle.record_reads.specs.Reads.{Recorded, lineOfRecord}
 use Rattle.record_reads.proofs.Reading.{room-B, op-B}

@@ -1,10 +1,10 @@
 -- The k-th record of any bytes, by the trailer and the list alone: two starts and one record are looked at, however many there are. Of a whole file it is the
 -- file's k-th operation (proofs/Whole.antt); whether the other records fit is not asked. Assumes nothing.
 use Prim.Native.Nat.{ℕ, zero, suc, _+_, _-_, _*_}
-use mathlib.Core.Bool.{Bool, true, _&&_}
+use mathlib.Core.Bool.{Bool, true}
 use mathlib.Core.Option.{Option, none, some}
 use mathlib.Core.List.{List, [], _∷_}
-use lib.Dec.{eqb, leb, ltb}
+use lib.Dec.{eqb, ltb}
 use lib.ListN.{length, take, drop}
 use Rattle.ledger_spec.specs.Numbers.{RANGE, FILE}
 use Rattle.record_spec.specs.Numbers.{then}

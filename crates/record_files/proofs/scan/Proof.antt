@@ -13,19 +13,34 @@ read-trailer-requires : tie.Need-read-trailer-requires
 read-trailer-requires c κs = search needs
 
 slice-aggregate-walk : tie.Need-slice-aggregate-walk
-slice-aggregate-walk c = let s = c .before .before .before .before .args .s .now in let t = c .before .before .read-trailer in let x = trailed s (t .result) (t .ensures) (c .before .if1 .taken) in let h : t .result .start ≤ length s = omega (arith, x .room) in sym (length-take-le _ _ h)
+slice-aggregate-walk c =
+    let s = c .before .before .before .before .args .s .now in
+    let t = c .before .before .read-trailer in
+    let x = trailed s (t .result) (t .ensures) (c .before .if1 .taken) in
+    let h : t .result .start ≤ length s = omega (arith, x .room) in
+    sym (length-take-le _ _ h)
 
 walk-requires : tie.Need-walk-requires
-walk-requires c κs = let s = c .before .before .before .before .args .s .now in let t = c .before .before .read-trailer in let x = trailed s (t .result) (t .ensures) (c .before .if1 .taken) in (omega (arith, x .room), x .few)
+walk-requires c κs =
+    let s = c .before .before .before .before .args .s .now in
+    let t = c .before .before .read-trailer in
+    let x = trailed s (t .result) (t .ensures) (c .before .if1 .taken) in
+    (omega (arith, x .room), x .few)
 
 returns : tie.Need-returns
-returns c = let s = c .before .before .before .before .before .args .s .now in let t = c .before .before .before .read-trailer in c .walk .ensures ∙ file-there s (t .result) (t .ensures) (c .before .before .if1 .taken)
+returns c =
+    let s = c .before .before .before .before .before .args .s .now in
+    let t = c .before .before .before .read-trailer in
+    c .walk .ensures ∙ file-there s (t .result) (t .ensures) (c .before .before .if1 .taken)
 
 not-file-requires : tie.Need-not-file-requires
 not-file-requires c κs = search needs
 
 returns-2 : tie.Need-returns-2
-returns-2 c = let s = c .before .before .before .before .args .s .now in let t = c .before .before .read-trailer in c .not-file .ensures ∙ no-file s (t .result) (t .ensures) (c .before .if1 .left)
+returns-2 c =
+    let s = c .before .before .before .before .args .s .now in
+    let t = c .before .before .read-trailer in
+    c .not-file .ensures ∙ no-file s (t .result) (t .ensures) (c .before .if1 .left)
 
 pub scan-spec : {M : Type 1} → statement M
 scan-spec =

@@ -24,7 +24,10 @@ four-at-requires : tie.Need-four-at-requires
 four-at-requires c κs = search needs
 
 returns : tie.Need-returns
-returns c = let a = c .before .before .before .args in let e : a .list + 4 * (a .k + 1) ≡ a .list + 4 * suc (a .k) = omega arith in c .four-at .ensures .0 ∙ ap (at 4 (a .s .now)) e ∙ sym (end-next (a .s .now) (a .list) (a .count) (a .k) (omega (arith, c .before .if1 .taken)))
+returns c =
+    let a = c .before .before .before .args in
+    let e : a .list + 4 * (a .k + 1) ≡ a .list + 4 * suc (a .k) = omega arith in
+    c .four-at .ensures .0 ∙ ap (at 4 (a .s .now)) e ∙ sym (end-next (a .s .now) (a .list) (a .count) (a .k) (omega (arith, c .before .if1 .taken)))
 
 returns-2 : tie.Need-returns-2
 returns-2 c = let a = c .before .before .args in sym (end-last (a .s .now) (a .list) (a .count) (a .k) (omega (arith, c .if1 .left)))

@@ -34,7 +34,9 @@ same-length-3 : tie.Need-same-length-3
 same-length-3 c = search needs
 
 returns-3 : tie.Need-returns-3
-returns-3 c = let z = c .before .before .before .before in front-four (z .args .out .now) (z .args .f) (omega (arith, z .pre .0, z .pre .1 .0, c .before .before .if1 .left, c .if2 .left))
+returns-3 c =
+    let z = c .before .before .before .before in
+    front-four (z .args .out .now) (z .args .f) (omega (arith, z .pre .0, z .pre .1 .0, c .before .before .if1 .left, c .if2 .left))
 
 pub put-front-spec : {M : Type 1} → statement M
 put-front-spec =

@@ -49,7 +49,9 @@ same-length : tie.Need-same-length
 same-length c = search needs
 
 returns : tie.Need-returns
-returns c = let a = c .before .before .before .before .before .args in put-three (a .out .now) (a .at) _ _ _ _ _ _ (c .before .before .four-at .ensures .0) (c .before .four-at2 .ensures .0) (c .four-at3 .ensures .0)
+returns c =
+    let a = c .before .before .before .before .before .args in
+    put-three (a .out .now) (a .at) _ _ _ _ _ _ (c .before .before .four-at .ensures .0) (c .before .four-at2 .ensures .0) (c .four-at3 .ensures .0)
 
 pub put-member-spec : {M : Type 1} → statement M
 put-member-spec =

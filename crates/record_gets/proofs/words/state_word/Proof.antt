@@ -1,6 +1,5 @@
 -- Each state in turn. Assumes nothing.
-use mathlib.Core.Path.{_≡_, refl, sym, ap}
-use Rattle.kinds.specs.declared.GrowState.{GrowState}
+use mathlib.Core.Path.{_≡_, sym, ap}
 use Rattle.kinds.specs.declared.GrowState.the-variants.{Grow, Stay, Shrink}
 use Rattle.record_spec.specs.Numbers.{complement}
 use Rattle.record_gets.specs.Gets.{stateWord}
