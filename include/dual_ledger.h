@@ -275,6 +275,13 @@ uint8_t dual_ledger_text_end(size_t held, uint8_t *out, size_t out_len, size_t *
 
 /* How many records a file has, if it is whole: every number of the trailer and the list, and every record, is looked at. Else FILE and 0. */
 uint8_t dual_ledger_records_count(const uint8_t *file, size_t file_len, size_t *count);
+/* What record `at` says, the first being 0, as words at the front of out, wrote of them; words past them stay. They are its letter, its unit and its other fields in
+ * order: D vertex; B the number of members, then of each its serial, first and second; E serial; S serial, state; G length; F left, right. A state and a length are
+ * signed numbers in two's complement. Found by the trailer and the list, in the same time wherever it stands: these, two starts and the record are looked at, not the
+ * file (which dual_ledger_records_count does). Of a whole file it is the file's operation; of others FILE where what was looked at does not fit. RANGE where `at` is
+ * at or past the number of records; SMALL, last, where out is too short: DUAL_LEDGER_RECORD_WORDS are enough. Refused, *wrote is 0 and out is as it was. */
+#define DUAL_LEDGER_RECORD_WORDS 1533
+uint8_t dual_ledger_records_get(const uint8_t *file, size_t file_len, size_t at, uint64_t *out, size_t out_len, size_t *wrote);
 /* Moves a text record to a file of byte records, every pair the member itself: wrote bytes at the front of out; bytes past them stay. FILE where a line is not
  * of the grammar or has no newline, or the file would pass 4,294,967,295 bytes; SMALL, last, where out is too short: 6 bytes for each of the text and 16 are
  * enough. Refused, *wrote is 0 and out is as it was. */
@@ -362,8 +369,9 @@ static inline const char *dual_ledger_refusal_name(uint8_t number) {
  *   dual_ledger_next_present                           1544
  *   dual_ledger_nodes_count                            1544
  *   dual_ledger_present_count                          1528
- *   dual_ledger_records_count                           193
- *   dual_ledger_run_records                           21384
+ *   dual_ledger_records_count                           176
+ *   dual_ledger_records_get                             176
+ *   dual_ledger_run_records                           21432
  *   dual_ledger_sanity_check                          18344
  *   dual_ledger_set_grow_state                          920
  *   dual_ledger_set_up                                   40
@@ -375,7 +383,7 @@ static inline const char *dual_ledger_refusal_name(uint8_t number) {
  *   dual_ledger_text_end                                  8
  *   dual_ledger_text_line                             19160
  *   dual_ledger_to_records                             8480
- *   dual_ledger_to_text                                1112
+ *   dual_ledger_to_text                                1080
  *   dual_ledger_told_create_blossom                     888
  *   dual_ledger_told_create_defect_node                 200
  *   dual_ledger_told_expand_blossom                     232
@@ -409,7 +417,7 @@ static inline const char *dual_ledger_refusal_name(uint8_t number) {
  *   dual_ledger_trusted_next_present                   1544
  *   dual_ledger_trusted_nodes_count                    1528
  *   dual_ledger_trusted_present_count                  1528
- *   dual_ledger_trusted_run_records                   21384
+ *   dual_ledger_trusted_run_records                   21432
  *   dual_ledger_trusted_sanity_check                  18328
  *   dual_ledger_trusted_set_grow_state                  152
  *   dual_ledger_trusted_snapshot                      26680

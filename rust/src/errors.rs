@@ -57,6 +57,8 @@ table! {
     pop: Kind;
     pop_sparing_stops: Kind;
     peek: Kind;
+    get: Range File;
+    get_into: Range Small File;
     to_bytes: File;
     to_bytes_into: Small File;
     to_text: SelfPair File;

@@ -375,6 +375,15 @@ pub mod records {
         unsafe { linked(file.as_ptr(), file.len(), count) }
     }
 
+    pub fn get(file: &[u8], at: usize, out: &mut [u64], wrote: &mut usize) -> u8 {
+        extern "C" {
+            #[link_name = "dual_ledger_records_get"]
+            fn linked(file: *const u8, bytes: usize, at: usize, out: *mut u64, room: usize, wrote: &mut usize) -> u8;
+        }
+        // SAFETY: as above; both slices are of the lengths said, and `out` is lent alone
+        unsafe { linked(file.as_ptr(), file.len(), at, out.as_mut_ptr(), out.len(), wrote) }
+    }
+
     macro_rules! link_move {
         ($name:ident $link:literal) => {
             pub fn $name(from: &[u8], out: &mut [u8], wrote: &mut usize) -> u8 {

@@ -1,5 +1,5 @@
 //! Byte records: the file of the manual's example byte by byte, there and back, every refusal, a writer beside a bench, a reader.
-use dual_ledger::records::{to_bytes, to_bytes_into, to_text, to_text_into, Member, Operation, Records, Writer};
+use dual_ledger::records::{get, get_into, to_bytes, to_bytes_into, to_text, to_text_into, Member, Operation, Records, Writer};
 use dual_ledger::{Bench, GrowState, Handle, Refusal};
 
 const TEXT: &str = "D 0 3\nB 0 1 2\nE 0 3\nS 0 1 -1\nG 0 -2\nF 2 0 1\nC 255\nK 7\n";
@@ -107,6 +107,36 @@ fn a_reader() {
     let mut writer = Writer::new();
     all.iter().for_each(|operation| writer.push(operation).unwrap());
     assert_eq!((writer.len(), writer.finish()), (8, file));
+}
+
+#[test]
+fn one_record_of_any_bytes() {
+    let file = file();
+    let whole: Vec<Operation> = Records::new(&file).unwrap().iter().collect();
+    (0..8).for_each(|at| assert_eq!(get(&file, at), Ok(whole[at].clone())));
+    assert_eq!((get(&file, 8), get(&file, usize::MAX), get([], 0)), (Err(Refusal::Range), Err(Refusal::Range), Err(Refusal::File)));
+    // its words, and no others
+    let mut out = [7; 10];
+    assert_eq!((get_into(&file, 1, &mut out), out), (Ok(9), [66, 0, 2, 1, 1, 1, 2, 2, 2, 7]));
+    assert_eq!((get_into(&file, 4, &mut out[..3]), &out[..4]), (Ok(3), &[71, 0, -2i64 as u64, 1][..]));
+    assert_eq!((get_into(&file, 3, &mut out), out[3]), (Ok(4), u64::MAX));
+    let before = out;
+    assert_eq!((get_into(&file, 1, &mut out[..8]), get_into(&file, 8, &mut []), out), (Err(Refusal::Small), Err(Refusal::Range), before));
+    // what is looked at must fit, before SMALL; the rest may be anything
+    for (what, at, others, file) in [
+        ("its start", 2, 6, spoiled(|file| file[65 + 8] += 1)),
+        ("the next start", 1, 6, spoiled(|file| file[65 + 8] += 1)),
+        ("the first start", 0, 7, spoiled(|file| file[65] += 1)),
+        ("the record", 3, 7, spoiled(|file| file[46] = 2)),
+        ("the trailer", 0, 0, spoiled(|file| *file.last_mut().unwrap() = b'3')),
+    ] {
+        assert_eq!((get(&file, at), get_into(&file, at, &mut [])), (Err(Refusal::File), Err(Refusal::File)), "{what}");
+        assert_eq!((0..8).filter(|other| get(&file, *other).as_ref() == Ok(&whole[*other])).count(), others, "{what}");
+    }
+    // as many members as a line has room for
+    let many = to_bytes(format!("B 0{}\n", " 1".repeat(510))).unwrap();
+    assert!(matches!(get(&many, 0), Ok(Operation::Blossom { unit: 0, members }) if members.len() == 510));
+    assert_eq!((get_into(&many, 0, &mut [0; 1532]), get_into(&many, 0, &mut [0; 1533])), (Err(Refusal::Small), Ok(1533)));
 }
 
 #[test]

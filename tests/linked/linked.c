@@ -652,6 +652,50 @@ static void counts(const char *what, const uint8_t *file, size_t length, int num
     same(what, dual_ledger_records_count(file, length, &said), number), same(what, (int64_t)said, (int64_t)count);
 }
 
+/* a record by its number: its number of the table, its words and none past them */
+static void numbered(const char *what, const uint8_t *file, size_t length, size_t at, size_t room, int number, const uint64_t *expected, size_t size) {
+    uint64_t out[16];
+    size_t wrote = 77;
+    memset(out, 7, sizeof out);
+    same(what, dual_ledger_records_get(file, length, at, out, room, &wrote), number), same(what, (int64_t)wrote, (int64_t)size);
+    if (size) same(what, memcmp(out, expected, 8 * size), 0);
+    for (size_t i = size; i < 16; i++) same("a word past a record", out[i] == 0x0707070707070707u, 1);
+}
+
+/* each letter's words; RANGE at the count; FILE where trailer, starts or the record do not fit, before SMALL; what is not looked at may be anything */
+static void by_number(const uint8_t *whole) {
+    static const uint64_t said[4][6] = {{'D', 0, 3}, {'B', 0, 1, 1, 1, 1}, {'S', 0, 1, UINT64_MAX}, {'G', 0, UINT64_MAX - 1}};
+    static const size_t size[4] = {3, 6, 4, 3};
+    static const uint8_t empty[16] = {0, 0, 0, 0, 0, 0, 0, 0, 0, 0, 0, 0, 'D', 'L', 'G', '2'};
+    static const char rest[] = "E 7 4294967295\nF 2 0 1\nC 255\nK 7\n";
+    static const uint64_t other[4][4] = {{'E', 7, 4294967295u}, {'F', 2, 0, 1}, {'C', 255}, {'K', 7}};
+    static const size_t size_of_other[4] = {3, 4, 2, 2};
+    uint8_t file[71];
+    size_t n;
+    for (size_t at = 0; at < 4; at++) {
+        numbered("a record", whole, 71, at, 16, 0, said[at], size[at]), numbered("a record", whole, 71, at, size[at], 0, said[at], size[at]);
+        numbered("a slice too short", whole, 71, at, size[at] - 1, DUAL_LEDGER_SMALL, NULL, 0);
+    }
+    same("the other letters", dual_ledger_to_records((const uint8_t *)rest, sizeof rest - 1, file, 71, &n), 0);
+    for (size_t at = 0; at < 4; at++) numbered("another letter", file, n, at, 16, 0, other[at], size_of_other[at]);
+    numbered("past the last", whole, 71, 4, 0, DUAL_LEDGER_RANGE, NULL, 0), numbered("far past", whole, 71, SIZE_MAX, 16, DUAL_LEDGER_RANGE, NULL, 0);
+    numbered("of no records", empty, 16, 0, 0, DUAL_LEDGER_RANGE, NULL, 0), numbered("no bytes", NULL, 0, 0, 0, DUAL_LEDGER_FILE, NULL, 0);
+    numbered("cut", whole, 70, 0, 16, DUAL_LEDGER_FILE, NULL, 0), numbered("cut", whole + 1, 70, 9, 0, DUAL_LEDGER_FILE, NULL, 0);
+    for (size_t byte = 55; byte < 71; byte++) /* the trailer */
+        memcpy(file, whole, 71), file[byte] ^= 1, numbered("a number of the trailer", file, 71, 0, 0, DUAL_LEDGER_FILE, NULL, 0);
+    for (size_t at = 0; at < 4; at++) { /* a start: of the record and of the one before it, not of the others */
+        memcpy(file, whole, 71), file[39 + 4 * at] ^= 1;
+        for (size_t k = 0; k < 4; k++) {
+            int looked = k == at || k + 1 == at;
+            numbered("a start", file, 71, k, looked ? 0 : 16, looked ? DUAL_LEDGER_FILE : 0, said[k], looked ? 0 : size[k]);
+        }
+    }
+    memcpy(file, whole, 71), file[28] = 2; /* a state that is none */
+    numbered("a record that does not fit", file, 71, 2, 0, DUAL_LEDGER_FILE, NULL, 0), numbered("another than that", file, 71, 3, 16, 0, said[3], 3);
+    memcpy(file, whole, 71), file[46] = 255; /* far past the end */
+    numbered("a start past the list", file, 71, 1, 16, DUAL_LEDGER_FILE, NULL, 0);
+}
+
 /* the manual's example there and back; each refusal at its edge, FILE before SELF before SMALL */
 static void records(void) {
     static const char text[] = "D 0 3\nB 0 1\nS 0 1 -1\nG 0 -2\n";
@@ -670,6 +714,7 @@ static void records(void) {
     memcpy(file, whole, 71), file[14] = 2;
     counts("another's pair", file, 71, 0, 4), moved("another's pair", 1, file, 71, 0, DUAL_LEDGER_SELF, "", 0);
     file[28] = 2, counts("a state", file, 71, DUAL_LEDGER_FILE, 0), moved("FILE before SELF", 1, file, 71, 0, DUAL_LEDGER_FILE, "", 0);
+    by_number(whole);
     for (size_t at = 39; at < 71; at++) /* the list and the trailer: no byte can be another */
         memcpy(file, whole, 71), file[at] ^= 1, counts("a number of the list or the trailer", file, 71, DUAL_LEDGER_FILE, 0);
 }

@@ -217,12 +217,14 @@ static void records(void) {
     static const char text[] = "D 0 4294967295\nB 255 1 22 333 4294967295\nE 0 3\nS 0 1 -1\nG 0 -9223372036854775808\nF 2 0 1\nC 0\nK 0\n";
     static uint8_t file[512], back[512];
     static int64_t answers[32];
+    static uint64_t said[16];
     static size_t size, wrote;
     int levels = 1;
     must("the records do not move", dual_ledger_to_records((const uint8_t *)text, sizeof text - 1, file, sizeof file, &size) == 0);
     P(dual_ledger_to_records, W(text), sizeof text - 1, W(back), sizeof back, W(&wrote));
     P(dual_ledger_to_text, W(file), size, W(back), sizeof back, W(&wrote));
     P(dual_ledger_records_count, W(file), size, W(&wrote));
+    for (int at = 0; at < 9; at++) P(dual_ledger_records_get, W(file), size, at, W(said), 16, W(&wrote));
     BOTH(run_records, W(bench), W(file), size, W(answers), 32, W(&wrote));
 }
 

@@ -6,6 +6,7 @@ use Rattle.record_spec.specs.Files.{fileOps}
 use Rattle.record_spec.specs.Moves.{Moved as Answer, toRecords, toText}
 use Rattle.record_packs.specs.declared.Moved.{Moved}
 use Rattle.record_unpacks.proofs.Laws.{only-moved}
+use Rattle.record_gets.specs.Words.{getInto}
 use Rattle.link_records.specs.Answers.{counted, MovedBy}
 
 pub counted-once : (file : List ℕ) (x y : ℕ × ℕ) → x ≡ counted (fileOps file) → y ≡ counted (fileOps file) → x ≡ y
@@ -22,3 +23,7 @@ module _ (source out : List ℕ) {o o′ : List ℕ} {n k n₂ k₂ : ℕ} where
 
   pub to-text-once : MovedBy (toText source out) o n k → MovedBy (toText source out) o′ n₂ k₂ → (n ≡ n₂) × (k ≡ k₂) × (o ≡ o′)
   to-text-once x y = once (toText source out) x y
+
+  -- `out` is words here
+  pub get-once : (i : ℕ) → MovedBy (getInto source i out) o n k → MovedBy (getInto source i out) o′ n₂ k₂ → (n ≡ n₂) × (k ≡ k₂) × (o ≡ o′)
+  get-once i x y = once (getInto source i out) x y

@@ -5,7 +5,7 @@ ghost use Prim.Native.Nat.{_+_, _*_, _≤_, _<_};
 ghost use lib.ListN.{length};
 ghost use Rattle.record_spec.specs.Files.{recordsIn, fitting, fileOps};
 ghost use Rattle.record_spec.specs.Places.{foursAt};
-ghost use Rattle.record_files.specs.Scans.{scannedOf, notFile as «not-file»};
+ghost use Rattle.record_files.specs.Scans.{scannedOf, notFile as «not-file», trailerOf, noTrailer as «no-trailer»};
 
 // The letters DLG2, as a number of 4 bytes, and the most bytes of a file: starts and trailer numbers take 4.
 pub const MARK: u64 = 843533380;
@@ -18,6 +18,13 @@ pub struct Scanned {
     pub start: usize,
     pub text: usize,
     pub own: bool,
+}
+
+// A trailer's start of the list and number of records, if its numbers fit the slice.
+pub struct Trailer {
+    pub fits: bool,
+    pub start: usize,
+    pub count: usize,
 }
 
 fn not_file() -> Scanned
@@ -85,21 +92,47 @@ fn walk(s: &[u8], t: &[u8], list: usize, count: usize) -> Scanned
     }
 }
 
+fn no_trailer() -> Trailer
+    ensures { λ r. ⌜ r ≡ «no-trailer» ⌝ }
+{
+    Trailer {
+        fits: false,
+        start: 0,
+        count: 0,
+    }
+}
+
+// What the last 16 bytes say; the records and the list are not looked at.
+pub fn read_trailer(s: &[u8]) -> Trailer
+    ensures { λ r. ⌜ r ≡ trailerOf (now (s .entry)) ⌝ }
+{
+    let size = s.len();
+    if size < 16 {
+        return no_trailer();
+    }
+    let place = size - 16;
+    let start = record_numbers::four_at(s, place) as usize;
+    let count = record_numbers::four_at(s, place + 4) as usize;
+    let before = record_numbers::four_at(s, place + 8) as usize;
+    let letters = record_numbers::four_at(s, place + 12);
+    if is_fitting(size, start, count, before, letters) {
+        return Trailer {
+            fits: true,
+            start,
+            count,
+        };
+    }
+    no_trailer()
+}
+
 // What a slice holds, if it is a file.
 pub fn scan(s: &[u8]) -> Scanned
     ensures { λ r. ⌜ r ≡ scannedOf (fileOps (now (s .entry))) ⌝ }
 {
-    let size = s.len();
-    if size < 16 {
-        return not_file();
-    }
-    let trailer = size - 16;
-    let start = record_numbers::four_at(s, trailer) as usize;
-    let count = record_numbers::four_at(s, trailer + 4) as usize;
-    let before = record_numbers::four_at(s, trailer + 8) as usize;
-    let letters = record_numbers::four_at(s, trailer + 12);
-    if is_fitting(size, start, count, before, letters) {
-        return walk(s, &s[..start], start, count);
+    let t = read_trailer(s);
+    if t.fits {
+        let start = t.start;
+        return walk(s, &s[..start], start, t.count);
     }
     not_file()
 }

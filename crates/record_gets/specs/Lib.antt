@@ -1,1 +1,3 @@
+pub mod Kth
+pub mod Words
 pub mod Gets

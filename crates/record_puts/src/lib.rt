@@ -15,7 +15,7 @@ ghost use Rattle.record_spec.specs.Records.{memberFields, spelled, stateByte};
 ghost use Rattle.record_puts.specs.Puts.{recordBy, headOf, Enough};
 
 // A length's number in 8 bytes: two's complement.
-fn complement_of(z: i64) -> u64
+pub fn complement_of(z: i64) -> u64
     ensures { λ r. ⌜ r ≡ complement z ⌝ }
 {
     if z < 0 {

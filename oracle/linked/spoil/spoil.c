@@ -251,3 +251,15 @@ uint8_t dual_ledger_to_records(const uint8_t *text, size_t text_len, uint8_t *ou
         while (text_len > 0 && text[text_len - 1] != '\n') number = real_dual_ledger_to_records(text, --text_len, out, out_len, wrote);
     return number;
 }
+
+/* 44: of a record that does not fit it says that there is none; 45: refused, it leaves a word behind; 46: what is written goes one word too far;
+ * 47: FILE is found after SMALL; 48: a member's second serial is its first */
+uint8_t dual_ledger_records_get(const uint8_t *file, size_t file_len, size_t at, uint64_t *out, size_t out_len, size_t *wrote) {
+    uint8_t number = real_dual_ledger_records_get(file, file_len, at, out, out_len, wrote);
+    if (spoiled(44) && number == DUAL_LEDGER_FILE && file_len > 16 && !memcmp(file + file_len - 4, "DLG2", 4)) return DUAL_LEDGER_RANGE;
+    if (spoiled(45) && number != 0 && out_len > 0) out[0] ^= 1;
+    if (spoiled(46) && number == 0 && out_len > *wrote) out[*wrote] ^= 1;
+    if (spoiled(47) && number == DUAL_LEDGER_FILE && out_len == 0) return DUAL_LEDGER_SMALL;
+    if (spoiled(48) && number == 0 && out[0] == 'B') out[5] = out[4];
+    return number;
+}

@@ -77,7 +77,7 @@ impl Single {
 }
 
 /// The operation of a line, if it has a record.
-fn operation(line: &Line) -> Option<Line> {
+pub fn operation(line: &Line) -> Option<Line> {
     let in_byte = |units: &[u32]| units.iter().all(|unit| *unit < 256);
     let fits = match line {
         Line::Defect(u, _) | Line::Grow(u, _) | Line::Clear(u) | Line::Check(u) => in_byte(&[*u]),

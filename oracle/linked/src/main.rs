@@ -18,6 +18,7 @@ mod openings;
 mod patches;
 mod pictures;
 mod reads;
+mod recorded;
 mod records;
 mod runs;
 mod sparing;
@@ -37,6 +38,7 @@ linked scale [ACCEPTED REFUSED DAMAGED [SEED]]   until so many of each were comp
 linked pictures [COUNT [SEED]]            pictures beside the original's, until so many benches with check 0; by default 30000 1
 linked records [COUNT [SEED]]             files of byte records, whole and spoiled, beside the model's reader, until so many; by default 1000000 1
 linked runs [COUNT [SEED]]                files of byte records run whole, beside single calls and the original, until so many operations; by default 10000000 1
+linked recordings [FOLDER..]              recordings as files of byte records, run whole beside what is recorded and the original
 linked patches [COUNT [SEED]]             two patches on one bench, so many pairs of runs; by default 2000 1
 linked play FILE                          lines of a file by all three: the first difference, if there is one
 linked moves LIST                         times of moving such a list to byte records and back, beside its run
@@ -124,6 +126,25 @@ fn ran(least: usize, seed: u64) {
     print!("{}no difference\n", file_runs::compare(least, seed, nth).unwrap_or_else(|why| fail(why)));
 }
 
+/// Where the recordings are, in which the scenes are too.
+const RECORDINGS: &str = concat!(env!("CARGO_MANIFEST_DIR"), "/../recordings");
+
+/// The texts of folders, but for benches written by hand, which no calls make.
+fn replayed(folders: &[&str]) {
+    let mut texts = vec![];
+    for folder in folders {
+        for entry in std::fs::read_dir(folder).unwrap_or_else(|why| fail(format!("{folder}: {why}"))).flatten() {
+            let path = entry.path();
+            if path.extension().is_some_and(|end| end == "txt") && !path.ends_with("damage.txt") {
+                let text = std::fs::read_to_string(&path).unwrap_or_else(|why| fail(format!("{}: {why}", path.display())));
+                texts.push((path.display().to_string(), text));
+            }
+        }
+    }
+    texts.sort();
+    print!("{}no difference\n", recorded::compare(&texts).unwrap_or_else(|why| fail(why)));
+}
+
 fn moved(path: &str) -> String {
     let text = std::fs::read(path).unwrap_or_else(|why| fail(format!("{path}: {why}")));
     bench_records::table(&text).unwrap_or_else(|why| fail(why))
@@ -153,6 +174,7 @@ fn main() {
             pictured(2_000, 1);
             recorded(20_000, 1);
             ran(100_000, 1);
+            replayed(&[RECORDINGS]);
             patched(60, 1)
         }
         ["scale"] => scale(10_000_000, 1_000_000, 1_000_000, 1),
@@ -167,6 +189,8 @@ fn main() {
         ["runs"] => ran(10_000_000, 1),
         ["runs", least] => ran(count(least) as usize, 1),
         ["runs", least, seed] => ran(count(least) as usize, count(seed)),
+        ["recordings"] => replayed(&[RECORDINGS]),
+        ["recordings", ref folders @ ..] => replayed(folders),
         ["patches"] => patched(2_000, 1),
         ["patches", pairs] => patched(count(pairs) as usize, 1),
         ["patches", pairs, seed] => patched(count(pairs) as usize, count(seed)),

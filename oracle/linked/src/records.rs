@@ -1,6 +1,6 @@
 //! Files of byte records beside the model's reader: made by chance, spoiled in many ways, and moved both ways into slices of every room that matters. Verdict,
 //! count, answers and every byte of the lent slice are compared.
-use dual_ledger::records::{to_bytes, to_bytes_into, to_text, to_text_into, Records, Writer};
+use dual_ledger::records::{get, get_into, to_bytes, to_bytes_into, to_text, to_text_into, Records, Writer};
 use dual_ledger::Refusal;
 use oracle::generator::rng::Rng;
 use oracle::line::Line;
@@ -16,6 +16,9 @@ pub struct Seen {
     texts: usize,
     moved: usize,
     long: usize,
+    asked: usize,
+    answered: usize,
+    apart: usize,
 }
 
 impl std::fmt::Display for Seen {
@@ -31,6 +34,7 @@ impl std::fmt::Display for Seen {
         for (at, kind) in KINDS.iter().enumerate() {
             writeln!(f, "  {kind:<36} {:>9}, {:>9} whole all the same", self.kinds[at], self.whole[at])?;
         }
+        writeln!(f, "{} records asked by number: {} answered, {} of them of files that are not whole", self.asked, self.answered, self.apart)?;
         writeln!(f, "{} texts, some with a bad line, {} with one too long: {} moved there and back", self.texts, self.long, self.moved)
     }
 }
@@ -225,6 +229,34 @@ fn moves(
     Ok(whole.ok())
 }
 
+/// Records of a file by their numbers, some past the last, into slices of several lengths: number, words written, and what stands past them.
+fn compare_numbers(file: &[u8], whole: Option<usize>, seen: &mut Seen) -> Result<(), String> {
+    let last = whole.unwrap_or(12) + 1;
+    for at in (0..=last).chain([usize::MAX]) {
+        let wanted = model::kth(file, at);
+        let said = get(file, at).map(|operation| format!("{operation:?}")).map_err(Refusal::number);
+        if said != wanted.as_ref().map(shown).map_err(|number| *number) {
+            return Err(format!("record {at}: {said:?}, and the model {wanted:?}"));
+        }
+        let words = wanted.as_ref().map(model::words);
+        let size = words.as_ref().map_or(6, Vec::len);
+        for room in [size - 1, size, size + 2, 0] {
+            let before: Vec<u64> = (0..room as u64).map(|at| at * 37 + 11).collect();
+            let mut out = before.clone();
+            let said = refusal(get_into(file, at, &mut out));
+            let wanted = words.as_ref().map_err(|number| **number).and_then(|words| if words.len() <= room { Ok(words) } else { Err(model::SMALL) });
+            let front = wanted.map_or(0, |words| words.len());
+            if said != wanted.map(|words| words.len()) || wanted.is_ok_and(|words| words[..] != out[..front]) || out[front..] != before[front..] {
+                return Err(format!("record {at} into {room} words: {said:?}, {out:?}"));
+            }
+        }
+        seen.asked += 1;
+        seen.answered += usize::from(wanted.is_ok());
+        seen.apart += usize::from(wanted.is_ok() && whole.is_none());
+    }
+    Ok(())
+}
+
 /// A file, whatever it is; whether it is whole.
 fn compare_file(file: &[u8], seen: &mut Seen) -> Result<bool, String> {
     let read = model::read(file);
@@ -241,6 +273,7 @@ fn compare_file(file: &[u8], seen: &mut Seen) -> Result<bool, String> {
         }
         (said, wanted) => return Err(format!("{:?} records, and the model {:?}", said.map(|records| records.len()), wanted.as_ref().map(Vec::len))),
     }
+    compare_numbers(file, read.as_ref().map(Vec::len), seen)?;
     let text = moves("to text", |room| model::to_text(file, room), |out| to_text_into(file, out))?;
     if to_text(file).map(String::into_bytes).map_err(Refusal::number) != model::to_text(file, usize::MAX) {
         return Err("to text into a buffer of its own: another than the model's".to_string());

@@ -3,7 +3,8 @@
 use crate::line::Line;
 use crate::text;
 
-/// The numbers of the manual's table that a move can be refused by.
+/// The numbers of the manual's table that a move or a read can be refused by.
+pub const RANGE: u8 = 18;
 pub const SMALL: u8 = 19;
 pub const SELF: u8 = 22;
 pub const FILE: u8 = 23;
@@ -97,6 +98,44 @@ pub fn read(file: &[u8]) -> Option<Vec<Line>> {
         lines.push(records.record()?);
     }
     records.0.is_empty().then_some(lines)
+}
+
+/// Record `at` of any bytes, by the trailer and the list alone: the record between its start and the next one's, or the list's.
+pub fn kth(file: &[u8], at: usize) -> Result<Line, u8> {
+    let number = |from: usize| Rest(file.get(from..)?).word().map(|number| number as usize);
+    let before = file.len().checked_sub(16).ok_or(FILE)?;
+    let (start, count, said) = (number(before).ok_or(FILE)?, number(before + 4).ok_or(FILE)?, number(before + 8).ok_or(FILE)?);
+    if !file.ends_with(b"DLG2") || said != before || start + 4 * count != before || file.len() > u32::MAX as usize {
+        return Err(FILE);
+    }
+    if at >= count {
+        return Err(RANGE);
+    }
+    let from = number(start + 4 * at).ok_or(FILE)?;
+    let to = if at + 1 < count { number(start + 4 * at + 4).ok_or(FILE)? } else { start };
+    if (at == 0 && from != 0) || to > start {
+        return Err(FILE);
+    }
+    let mut record = Rest(file.get(from..to).ok_or(FILE)?);
+    record.record().filter(|_| record.0.is_empty()).ok_or(FILE)
+}
+
+/// A line's words: its letter, then its record's fields, signed ones in two's complement.
+pub fn words(line: &Line) -> Vec<u64> {
+    let letter = u64::from(spelled(line).as_bytes()[0]);
+    let fields: Vec<i64> = match line {
+        Line::Defect(u, v) | Line::Expand(u, v) => vec![i64::from(*u), i64::from(*v)],
+        Line::Blossom(u, members, pairs) => {
+            let each = members.iter().zip(pairs).flat_map(|(serial, (first, second))| [i64::from(*serial), i64::from(*first), i64::from(*second)]);
+            [i64::from(*u), members.len() as i64].into_iter().chain(each).collect()
+        }
+        Line::SetState(u, s, state) => vec![i64::from(*u), i64::from(*s), *state],
+        Line::Grow(u, length) => vec![i64::from(*u), *length],
+        Line::Fuse(p, l, r) => vec![i64::from(*p), i64::from(*l), i64::from(*r)],
+        Line::Clear(u) | Line::Check(u) => vec![i64::from(*u)],
+        other => unreachable!("{other:?} has no record"),
+    };
+    std::iter::once(letter).chain(fields.into_iter().map(|field| field as u64)).collect()
 }
 
 /// The file of lines, pairs as they say; a blossom without pairs touches by its members.

@@ -1,7 +1,7 @@
 //! Byte records: the second form of a record, which has a pair of touching serials beside each member of a blossom (docs/MANUAL.md, Byte records).
 //!
 //! [`to_bytes`] and [`to_text`] move between the forms by the proved functions. A [`Writer`] records a decoder's calls where they are made; [`Records`] reads
-//! a file, which the proved functions have tested first.
+//! a file record by record, by the proved functions too; [`get`] one record of bytes that were not tested.
 //!
 //! ```
 //! use dual_ledger::records::{self, Operation, Records, Writer};
@@ -46,6 +46,9 @@ const LARGEST: usize = u32::MAX as usize;
 /// The bytes of a trailer, and the letters that it ends in.
 const TRAILER: usize = 16;
 const MARK: &[u8; 4] = b"DLG2";
+/// The words of a record: of a blossom of seven members, and of the 510 that a line has room for.
+const SHORT: usize = 3 + 3 * 7;
+const LONGEST: usize = 3 + 3 * 510;
 
 /// What a move wrote into a slice that it was lent, of which so many bytes are enough.
 fn moved(room: usize, call: impl FnOnce(&mut [u8], &mut usize) -> u8) -> Result<Vec<u8>, Refusal> {
@@ -67,6 +70,41 @@ fn file_size(text: &[u8]) -> usize {
         _ => 2,
     };
     text.split_inclusive(|byte| *byte == b'\n').map(|line| size(line) + 4).sum::<usize>().saturating_add(TRAILER).min(LARGEST)
+}
+
+/// What record `at` of a file says, the first being 0, of any bytes: found by the trailer and the list alone, however many there are. The trailer, the record's
+/// start and the next one's, and the record itself must fit; whether all of the file does is what [`Records::new`] asks.
+///
+/// ```
+/// use dual_ledger::records::{self, Operation};
+/// use dual_ledger::Refusal;
+/// let file = records::to_bytes("D 0 3\nG 0 -5\n")?;
+/// assert_eq!(records::get(&file, 1)?, Operation::Grow { unit: 0, length: -5 });
+/// assert_eq!(records::get(&file, 2), Err(Refusal::Range));
+/// assert_eq!(records::get(&file[1..], 0), Err(Refusal::File));
+/// # Ok::<(), Refusal>(())
+/// ```
+#[doc = errors!(get)]
+pub fn get(file: impl AsRef<[u8]>, at: usize) -> Result<Operation, Refusal> {
+    let (file, mut words) = (file.as_ref(), [0; SHORT]);
+    match get_into(file, at, &mut words) {
+        Ok(wrote) => Ok(Operation::of_words(&words[..wrote])),
+        Err(Refusal::Small) => {
+            let mut words = vec![0; LONGEST];
+            let wrote = get_into(file, at, &mut words)?;
+            Ok(Operation::of_words(&words[..wrote]))
+        }
+        Err(refusal) => Err(refusal),
+    }
+}
+
+/// The same as words into a lent slice: the letter, then the record's fields in order, a state and a length in two's complement; how many were written. Words past
+/// them stay, and so do all where it is refused. 1,533 are always enough.
+#[doc = errors!(get_into)]
+pub fn get_into(file: impl AsRef<[u8]>, at: usize, out: &mut [u64]) -> Result<usize, Refusal> {
+    let mut wrote = 0;
+    let number = linked::get(file.as_ref(), at, out, &mut wrote);
+    settled(number, wrote)
 }
 
 /// Moves a text record to a file of byte records, every pair the member itself. Lines that a run would refuse do move.

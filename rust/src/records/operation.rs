@@ -89,6 +89,31 @@ fn digits(number: u32) -> usize {
 }
 
 impl Operation {
+    /// From the words of a record: letter, fields.
+    pub(super) fn of_words(words: &[u64]) -> Operation {
+        let (unit, four, byte) = (words[1] as u8, |at: usize| words[at] as u32, |at: usize| words[at] as u8);
+        match words[0] as u8 {
+            b'D' => Operation::Defect { unit, vertex: four(2) },
+            b'B' => {
+                let members = words[3..].chunks_exact(3).map(|w| Member { serial: w[0] as u32, first: w[1] as u32, second: w[2] as u32 });
+                Operation::Blossom { unit, members: members.collect() }
+            }
+            b'E' => Operation::Expand { unit, serial: four(2) },
+            b'S' => {
+                let state = match words[3] as i64 {
+                    0 => GrowState::Stay,
+                    1 => GrowState::Grow,
+                    _ => GrowState::Shrink,
+                };
+                Operation::SetState { unit, serial: four(2), state }
+            }
+            b'G' => Operation::Grow { unit, length: words[2] as i64 },
+            b'F' => Operation::Fuse { parent: unit, left: byte(2), right: byte(3) },
+            b'C' => Operation::Clear { unit },
+            _ => Operation::Check { unit },
+        }
+    }
+
     /// Whether it has a record: serials are from 1, a blossom has members, and its line has at most 1,024 bytes with the newline.
     pub(super) fn is_writable(&self) -> bool {
         match self {
