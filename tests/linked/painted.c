@@ -157,6 +157,7 @@ static void calls(uint64_t unit, uint64_t node, int levels) {
     CALL(expand_blossom, b, unit, node, a);
     CALL(set_grow_state, b, unit, node, 0, a);
     CALL(grow, b, unit, 2, a);
+    BOTH(grow_recorded, b, unit, 2, W(recording), sizeof recording / 8, W(out), 2, W(vertices));
     BOTH(fuse, b, 7, unit, 3);
     BOTH(clear, b, unit);
     BOTH(mark_filling, b, 7);
