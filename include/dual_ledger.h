@@ -362,16 +362,17 @@ static inline const char *dual_ledger_refusal_name(uint8_t number) {
  *   dual_ledger_get_node                               1544
  *   dual_ledger_get_representative_vertex               872
  *   dual_ledger_get_secondary_ancestor_blossom          888
- *   dual_ledger_group_add                               872
- *   dual_ledger_group_extend                            872
- *   dual_ledger_group_get_none_zero_growth               40
- *   dual_ledger_group_is_active                          40
- *   dual_ledger_group_is_empty                           40
- *   dual_ledger_group_is_sound                           24
- *   dual_ledger_group_peek                               40
- *   dual_ledger_group_pop                                88
- *   dual_ledger_group_pop_sparing_stops                  88
+ *   dual_ledger_group_add                               888
+ *   dual_ledger_group_extend                            888
+ *   dual_ledger_group_get_none_zero_growth               56
+ *   dual_ledger_group_is_active                          56
+ *   dual_ledger_group_is_empty                           56
+ *   dual_ledger_group_is_sound                           40
+ *   dual_ledger_group_peek                               56
+ *   dual_ledger_group_pop                               104
+ *   dual_ledger_group_pop_sparing_stops                 104
  *   dual_ledger_grow                                   1640
+ *   dual_ledger_grow_recorded                          1944
  *   dual_ledger_is_filling                              872
  *   dual_ledger_is_floored                              872
  *   dual_ledger_is_sound                                856
@@ -420,6 +421,7 @@ static inline const char *dual_ledger_refusal_name(uint8_t number) {
  *   dual_ledger_trusted_group_pop                        88
  *   dual_ledger_trusted_group_pop_sparing_stops          88
  *   dual_ledger_trusted_grow                           1608
+ *   dual_ledger_trusted_grow_recorded                  1912
  *   dual_ledger_trusted_is_filling                        8
  *   dual_ledger_trusted_is_floored                        8
  *   dual_ledger_trusted_mark_filling                      8

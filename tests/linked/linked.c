@@ -899,7 +899,7 @@ static void recorded(int is_trusted) {
     grown(is_trusted, "a step below the floor", 3, 6, 2 * each, 2, DUAL_LEDGER_BELOW, 0, NULL);
     grown(is_trusted, "a step to the floor", 3, 3, each, 1, 0, 1, three);
     if (is_trusted) return;
-    bench[3]++, grown(0, "a broken bench", 8, -1, 6 * each, 0, DUAL_LEDGER_BROKEN, 0, NULL);
+    bench[0] = 0, grown(0, "a broken bench", 8, -1, 6 * each, 0, DUAL_LEDGER_BROKEN, 0, NULL);
 }
 
 int main(void) {

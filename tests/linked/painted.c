@@ -78,6 +78,8 @@ static uint64_t group[DUAL_LEDGER_GROUP_WORDS], other[DUAL_LEDGER_GROUP_WORDS], 
 static uint64_t members[64], touching[128], out[8];
 static uint32_t vertices[512];
 static uint8_t drawn[1 << 17];
+/* two growths by 1 */
+static uint64_t recording[2 * DUAL_LEDGER_GROUP_WORDS] = {1, 1, [DUAL_LEDGER_GROUP_WORDS] = 1, [DUAL_LEDGER_GROUP_WORDS + 1] = 1};
 
 static void must(const char *what, int holds) {
     if (holds) return;
