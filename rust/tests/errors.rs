@@ -79,7 +79,8 @@ fn as_recorded() {
             assert_eq!(listed, &table["pop"]);
         // the recordings ask for vertices with a slice, and have no pictures (tests/picture.rs), no moves of records (tests/records.rs) and
         // no recorded growth (tests/recorded.rs)
-        } else if !["get_all_vertices", "snapshot", "snapshot_into"].contains(name) && !name.starts_with("to_") && !name.starts_with("grow_recorded") {
+        } else if !["get_all_vertices", "snapshot", "snapshot_into"].contains(name) && !name.starts_with("to_") && !name.starts_with("grow_recorded")
+        {
             assert_eq!(Some(listed), seen.get(name), "{name}");
         }
     }

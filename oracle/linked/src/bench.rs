@@ -346,7 +346,9 @@ pub fn run(list_file: &str, numbers: &str) -> Result<(), String> {
     println!("get_ancestor_blossom: links in place of nodes, {BY_CALLS} the most by calls, {BY_HAND} the most of a sound bench; a link takes {link:.2} ns, trusted.");
     println!("defect, blossom: one made in an interface that has used its slots one after another, and in one that fills emptied slots; expand: made and taken apart.");
     println!("grow, floored: of a tree in seven interfaces, all of whose nodes grow or all shrink; without a floor beside it.");
-    println!("grow_recorded: nanoseconds a step, of so many groups in place of nodes; the original's grow_iterative over a module that plays them back.");
+    println!(
+        "grow_recorded: nanoseconds a step, of so many groups in place of nodes; the original's grow_iterative over a module that plays them back."
+    );
     println!("check and strict: both checks. nest: each blossom in the next, touching by the defect at the bottom; one bucket: vertices that are multiples of 512.");
     print!("{}", bench_records::table(text.as_bytes())?);
     print!("{}", bench_runs::table(text.as_bytes(), &timing::read(&text)?)?);

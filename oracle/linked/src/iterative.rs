@@ -93,7 +93,7 @@ fn position(rng: &mut Rng, wrong: usize, known: &[dual_ledger::Group]) -> GroupW
 }
 
 fn recording(rng: &mut Rng, known: &[dual_ledger::Group]) -> Recording {
-    let count = if rng.below(300) == 0 { 200 } else { rng.below(12) };
+    let count = if rng.below(300) == 0 { 200 } else { rng.below(20) };
     let wrong = rng.pick(&[0, 0, 0, 8, 30]).expect("some");
     let groups: Vec<GroupWords> = (0..count).map(|_| position(rng, wrong, known)).collect();
     let cut = if count > 0 && rng.chance(10) { 1 + rng.below(GROUP_WORDS - 1) } else { 0 };
@@ -103,7 +103,7 @@ fn recording(rng: &mut Rng, known: &[dual_ledger::Group]) -> Recording {
 /// Mostly what the first groups come to, or nearly; else a limit.
 fn length(rng: &mut Rng, groups: &[Option<Plain>], progress: i64) -> i64 {
     let growth = |group: &Option<Plain>| if let Some(Plain::Growth(length, _)) = group { (*length).clamp(0, PROGRESS) } else { 0 };
-    let first = rng.below(groups.len() + 1);
+    let first = groups.len() - rng.below(groups.len() + 1) * rng.below(2);
     match rng.below(12) {
         0 => 0,
         1 => rng.pick(&[-1, i64::MIN, i64::MAX, PROGRESS, PROGRESS - progress, PROGRESS - progress + 1]).expect("some"),
