@@ -251,3 +251,21 @@ uint8_t dual_ledger_to_records(const uint8_t *text, size_t text_len, uint8_t *ou
         while (text_len > 0 && text[text_len - 1] != '\n') number = real_dual_ledger_to_records(text, --text_len, out, out_len, wrote);
     return number;
 }
+
+/* 44: the last step is told with its group's whole growth; 45: the group past the last step is tested; 46: a refused call leaves a length behind; 47: SHORT for STUCK */
+uint8_t dual_ledger_grow_recorded(uint64_t *bench, uint8_t unit, int64_t length, const uint64_t *groups, size_t groups_len, uint64_t *lengths, size_t lengths_len,
+                                  size_t *taken) {
+    uint8_t number = real_dual_ledger_grow_recorded(bench, unit, length, groups, groups_len, lengths, lengths_len, taken);
+    size_t past = *taken * DUAL_LEDGER_GROUP_WORDS;
+    if (spoiled(44) && number == 0 && *taken > 0) lengths[*taken - 1] = groups[past - DUAL_LEDGER_GROUP_WORDS + 1];
+    if (spoiled(45) && number == 0 && past + DUAL_LEDGER_GROUP_WORDS <= groups_len && !dual_ledger_group_is_sound(groups + past)) return DUAL_LEDGER_BROKEN;
+    if (spoiled(46) && number != 0 && lengths_len > 0) lengths[0] ^= 1;
+    return spoiled(47) && number == DUAL_LEDGER_STUCK ? DUAL_LEDGER_SHORT : number;
+}
+
+/* 48: LENGTH for BELOW, trusted form */
+uint8_t dual_ledger_trusted_grow_recorded(uint64_t *bench, uint8_t unit, int64_t length, const uint64_t *groups, size_t groups_len, uint64_t *lengths,
+                                          size_t lengths_len, size_t *taken) {
+    uint8_t number = real_dual_ledger_trusted_grow_recorded(bench, unit, length, groups, groups_len, lengths, lengths_len, taken);
+    return spoiled(48) && number == DUAL_LEDGER_BELOW ? DUAL_LEDGER_LENGTH : number;
+}
