@@ -18,7 +18,7 @@ fn row((groups, large): (usize, bool)) -> Row {
     let (by, mut original) = (groups as i64, Played::new(1, groups));
     let step = |call: f64| call / groups as f64;
     Row {
-        what: "grow_recorded, a step".to_string(),
+        what: format!("grow_recorded, a step{}", if large { ", large pages" } else { "" }),
         nodes: groups,
         original: Some(step(once(|_| original.grow_iterative(by)))),
         trusted: step(once(|_| keep(bench.grow_recorded_into(0, by, &recording, &mut lengths).is_ok()))),
@@ -28,5 +28,5 @@ fn row((groups, large): (usize, bool)) -> Row {
 }
 
 pub fn rows() -> Vec<Row> {
-    [(16, false), (10_000, false), (10_000, true)].map(row).into()
+    [(16, false), (1000, false), (10_000, false), (10_000, true)].map(row).into()
 }
