@@ -1,4 +1,4 @@
-//! `grow_iterative` of the original over a dual module that plays a recording back: what it does where the ledger refuses (docs/DIFFERENCES.md, Recorded growth),
+//! `grow_iterative` of the original over a dual module that plays a recording back: what it does where the ledger refuses (docs/DIFFERENCES.md, 2),
 //! and the model's recorded growth beside it.
 use oracle::driver::{Driver, Trouble};
 use oracle::line::{read, Line};
