@@ -251,6 +251,21 @@ uint8_t dual_ledger_trusted_group_pop_sparing_stops(uint64_t *group, uint64_t *o
 uint8_t dual_ledger_trusted_group_add(const uint64_t *bench, uint64_t *group, const uint64_t *obstacle);
 uint8_t dual_ledger_trusted_group_extend(const uint64_t *bench, uint64_t *group, const uint64_t *other);
 
+/* ---- growing against a recorded list of groups [Recorded growth]. groups_len counts words: the groups stand one after the other, DUAL_LEDGER_GROUP_WORDS each,
+ * and words left over at the end are a broken group. They are read, never changed. */
+
+/* Grows interface unit, and what is fused into it, by length, a group a step: while length is left the next group is taken, and the step goes as far as the smaller
+ * of its growth and what is left. The bench is then that of one growth by length. The lengths of the steps stand at the front of lengths, which has an entry for
+ * each group; *taken says how many, and entries past them stay. Length 0 takes no group; what is left of the last one's growth is lost.
+ * BROKEN for the bench, UNIT, CHILD, LENGTH where length is negative; then position by position, the lowest at which a step is refused: BROKEN where the group is
+ * not sound, NOTHING where it is empty, STUCK where it is conflicts or a growth of 0 or less, LENGTH and BELOW as a growth by the step is, SHORT past the last
+ * group; then SMALL, where lengths_len is below the number of groups, one that is cut short counted. Groups that are not reached are not tested. Refused, neither
+ * bench nor lengths have changed, and *taken is 0. */
+uint8_t dual_ledger_grow_recorded(uint64_t *bench, uint8_t unit, int64_t length, const uint64_t *groups, size_t groups_len, uint64_t *lengths, size_t lengths_len,
+                                  size_t *taken);
+uint8_t dual_ledger_trusted_grow_recorded(uint64_t *bench, uint8_t unit, int64_t length, const uint64_t *groups, size_t groups_len, uint64_t *lengths,
+                                          size_t lengths_len, size_t *taken);
+
 /* ---- text records [Lines] [Answers]. hints are 512 numbers that the caller keeps from line to line; they may hold anything, no answer depends on them, and
  * zeros are right to begin with. The bench of a record is set up from serial 1. */
 
@@ -317,7 +332,7 @@ uint8_t dual_ledger_trusted_run_records(uint64_t *bench, const uint8_t *file, si
 #define DUAL_LEDGER_PAIR 16 /* fuse: left is right, or parent's number not above both */
 #define DUAL_LEDGER_USED 17 /* fuse: parent has slots used, progress or children */
 #define DUAL_LEDGER_RANGE 18 /* index at or past the count */
-#define DUAL_LEDGER_SMALL 19 /* slice shorter than the defect size, than the picture, or than what is moved */
+#define DUAL_LEDGER_SMALL 19 /* slice shorter than the defect size, than the picture, than what is moved, or than the recording has groups */
 #define DUAL_LEDGER_ROOM 20 /* list or stops would pass 128 at any step */
 #define DUAL_LEDGER_NOTHING 21 /* growth asked of (largest weight, any flag) */
 #define DUAL_LEDGER_SELF 22 /* moving back a record whose pair is not the member itself */
@@ -325,12 +340,15 @@ uint8_t dual_ledger_trusted_run_records(uint64_t *bench, const uint8_t *file, si
 #define DUAL_LEDGER_UNSOUND 24 /* the check of the interface says other than 0 */
 #define DUAL_LEDGER_BELOW 25 /* growth: a shrinking node of a floored tree would fall below zero */
 #define DUAL_LEDGER_MARK 26 /* an interface marked that has slots used, or halves; fuse: one half floored and the other not */
+#define DUAL_LEDGER_STUCK 27 /* recorded growth: conflicts, or a growth of 0 or less */
+#define DUAL_LEDGER_SHORT 28 /* recorded growth: no group left */
 
 /* The name of a number: "STALE" for 8; "ACCEPTED" for 0; NULL for a number that no function answers. */
 static inline const char *dual_ledger_refusal_name(uint8_t number) {
-    static const char *const names[27] = {"ACCEPTED", "LINE", "BROKEN", "UNIT", "CHILD",   "LENGTH", "CIRCLE", "TOUCH",   "STALE", "FOREIGN", "KIND", "INSIDE",  "TOP",   "TWICE",
-                                          "FULL",     "WORN", "PAIR",   "USED", "RANGE", "SMALL",  "ROOM",   "NOTHING", "SELF",  "FILE",    "UNSOUND", "BELOW", "MARK"};
-    return number < 27 ? names[number] : NULL;
+    static const char *const names[29] = {"ACCEPTED", "LINE", "BROKEN", "UNIT", "CHILD",   "LENGTH", "CIRCLE", "TOUCH",   "STALE", "FOREIGN", "KIND", "INSIDE",  "TOP",   "TWICE",
+                                          "FULL",     "WORN", "PAIR",   "USED", "RANGE", "SMALL",  "ROOM",   "NOTHING", "SELF",  "FILE",    "UNSOUND", "BELOW", "MARK",
+                                          "STUCK",    "SHORT"};
+    return number < 29 ? names[number] : NULL;
 }
 
 /* ---- stack: the most bytes that a function needs below its caller's frame on x86-64, its return address included. The C library's memcpy
@@ -351,16 +369,17 @@ static inline const char *dual_ledger_refusal_name(uint8_t number) {
  *   dual_ledger_get_node                               1544
  *   dual_ledger_get_representative_vertex               872
  *   dual_ledger_get_secondary_ancestor_blossom          888
- *   dual_ledger_group_add                               872
- *   dual_ledger_group_extend                            872
- *   dual_ledger_group_get_none_zero_growth               40
- *   dual_ledger_group_is_active                          40
- *   dual_ledger_group_is_empty                           40
- *   dual_ledger_group_is_sound                           24
- *   dual_ledger_group_peek                               40
- *   dual_ledger_group_pop                                88
- *   dual_ledger_group_pop_sparing_stops                  88
+ *   dual_ledger_group_add                               888
+ *   dual_ledger_group_extend                            888
+ *   dual_ledger_group_get_none_zero_growth               56
+ *   dual_ledger_group_is_active                          56
+ *   dual_ledger_group_is_empty                           56
+ *   dual_ledger_group_is_sound                           40
+ *   dual_ledger_group_peek                               56
+ *   dual_ledger_group_pop                               104
+ *   dual_ledger_group_pop_sparing_stops                 104
  *   dual_ledger_grow                                   1640
+ *   dual_ledger_grow_recorded                          1944
  *   dual_ledger_is_filling                              872
  *   dual_ledger_is_floored                              872
  *   dual_ledger_is_sound                                856
@@ -410,6 +429,7 @@ static inline const char *dual_ledger_refusal_name(uint8_t number) {
  *   dual_ledger_trusted_group_pop                        88
  *   dual_ledger_trusted_group_pop_sparing_stops          88
  *   dual_ledger_trusted_grow                           1608
+ *   dual_ledger_trusted_grow_recorded                  1912
  *   dual_ledger_trusted_is_filling                        8
  *   dual_ledger_trusted_is_floored                        8
  *   dual_ledger_trusted_mark_filling                      8

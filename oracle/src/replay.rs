@@ -2,6 +2,7 @@
 //! differences that the manual names. Refused lines are the model's alone: the original cannot say their numbers.
 use crate::driver::{Answer, Driver};
 use crate::line::{Line, GROUPS};
+use crate::model::groups::Group;
 use crate::model::Model;
 
 /// Why an answer is the manual's and not the original's.
@@ -71,6 +72,21 @@ impl Replay {
         let original = self.driver.answer(line);
         let mark = if original.as_ref() == Ok(&answer) { None } else { self.excuse(line, &answer, &original) };
         Turn { answer, original: Some(original), mark }
+    }
+
+    /// Growing against a recording, by the model; accepted, by the original's `grow_iterative` over the groups that were taken and those past them, which it does
+    /// not reach. Number and lengths, on which both agree.
+    pub fn grow_recorded(&mut self, unit: u32, length: i64, groups: &[Option<Group>], room: usize) -> Result<(i64, Vec<i64>), String> {
+        let (number, steps) = self.model.bench.grow_recorded(unit, length, groups, room);
+        if number == 0 {
+            let growth = |group: &Option<Group>| if let Some(Group::Growth(length, flag)) = group { Some((*length, *flag)) } else { None };
+            let growths: Vec<Option<(i64, bool)>> = groups.iter().map(growth).collect();
+            let original = self.driver.grow_iterative(unit, length, &growths);
+            if original.as_ref() != Ok(&steps) {
+                return Err(format!("original {original:?}, model {steps:?}"));
+            }
+        }
+        Ok((number, steps))
     }
 
     /// The original's picture of an interface.

@@ -28,6 +28,8 @@ table! {
     expand_blossom: Unit Child Stale Foreign Kind Inside;
     set_grow_state: Unit Child Stale Foreign Inside;
     grow: Unit Child Length Below;
+    grow_recorded: Broken Unit Child Length Nothing Below Stuck Short;
+    grow_recorded_into: Broken Unit Child Length Small Nothing Below Stuck Short;
     fuse: Unit Child Pair Used Mark;
     clear: Unit Child;
     mark_filling: Unit Child Mark;

@@ -12,7 +12,7 @@
 //! words[0] = 0; // no serial comes next: not a sound bench
 //! assert_eq!(lent::get_dual_variable(&words, node), Err(Refusal::Broken));
 //! ```
-use crate::linked::{any, AnswerWords, Words};
+use crate::linked::{any, recorded, AnswerWords, Words};
 use crate::reads::{reads, MOST_VERTICES, PICTURE_FRAME, PICTURE_SLOT};
 use crate::refusal::settled;
 use crate::text::any_line;
@@ -75,6 +75,15 @@ pub fn set_grow_state(words: &mut Words, interface: u8, node: Handle, state: Gro
 #[doc = " [`Broken`](Refusal::Broken)"]
 pub fn grow(words: &mut Words, interface: u8, length: i64) -> Result<Told, Refusal> {
     told(|answer| any::grow(words, interface, length, answer))
+}
+
+/// Grows an interface against a recording, as [`Bench::grow_recorded_into`](crate::Bench::grow_recorded_into) does. The recording is its words as they lie: a last
+/// group that is cut short is a broken one at its position.
+#[doc = errors!(grow_recorded_into)]
+pub fn grow_recorded(words: &mut Words, interface: u8, length: i64, groups: &[u64], lengths: &mut [u64]) -> Result<usize, Refusal> {
+    let mut taken = 0;
+    settled(recorded::grow_any(words, interface, length, groups, lengths, &mut taken), ())?;
+    Ok(taken)
 }
 
 /// Makes two interfaces the halves of a third of higher number. Tells nothing.

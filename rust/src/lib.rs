@@ -41,6 +41,7 @@ pub mod lent;
 mod linked;
 mod notice;
 mod reads;
+mod recorded;
 pub mod records;
 mod refusal;
 pub mod runs;

@@ -400,6 +400,28 @@ pub mod records {
     link_move!(to_text "dual_ledger_to_text");
 }
 
+/// Growing against a recording: its groups' words one after the other.
+pub mod recorded {
+    use super::*;
+
+    macro_rules! link_recorded {
+        ($name:ident $link:literal $bench:ty, $group:ty, $words:expr) => {
+            pub fn $name(bench: &mut $bench, unit: u8, length: i64, groups: &[$group], lengths: &mut [u64], taken: &mut usize) -> u8 {
+                #[rustfmt::skip]
+                extern "C" {
+                    #[link_name = $link]
+                    fn linked(bench: &mut $bench, unit: u8, length: i64, groups: *const u64, words: usize, lengths: *mut u64, room: usize, taken: &mut usize) -> u8;
+                }
+                let words = $words * groups.len();
+                // SAFETY: as above; both slices are of the lengths said, so many words an entry of the first, and `lengths` is lent alone
+                unsafe { linked(bench, unit, length, groups.as_ptr().cast(), words, lengths.as_mut_ptr(), lengths.len(), taken) }
+            }
+        };
+    }
+    link_recorded!(grow "dual_ledger_trusted_grow_recorded" Sound, GroupWords, GROUP_WORDS);
+    link_recorded!(grow_any "dual_ledger_grow_recorded" Words, u64, 1);
+}
+
 /// Runs over a file of byte records.
 pub mod runs {
     use super::*;

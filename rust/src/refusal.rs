@@ -4,7 +4,8 @@ use core::fmt;
 macro_rules! refusals {
     ($($name:ident = $number:literal, $words:literal, $about:literal;)*) => {
         /// Why a call was refused. The names and numbers are the manual's (docs/MANUAL.md, Refusals); where several apply, the lowest is given (of a picture
-        /// SMALL after UNSOUND, since only a picture that may be written has a length; of a move FILE, then SELF, then SMALL). More may come.
+        /// SMALL after UNSOUND, since only a picture that may be written has a length; of a move FILE, then SELF, then SMALL; of a recorded growth
+        /// what comes at the lowest position, then SMALL). More may come.
         #[derive(Clone, Copy, Debug, PartialEq, Eq, PartialOrd, Ord, Hash)]
         #[repr(u8)]
         #[non_exhaustive]
@@ -14,7 +15,7 @@ macro_rules! refusals {
 
         impl Refusal {
             /// All of them, in rising order.
-            pub const ALL: [Refusal; 26] = [$(Refusal::$name),*];
+            pub const ALL: [Refusal; 28] = [$(Refusal::$name),*];
 
             /// The name in the manual's table.
             pub fn name(self) -> &'static str {
@@ -52,7 +53,7 @@ refusals! {
     Pair = 16, "PAIR", "the halves are one interface, or the parent's number is not above both";
     Used = 17, "USED", "the parent has slots used, progress or halves";
     Range = 18, "RANGE", "the index is at or past the count";
-    Small = 19, "SMALL", "the slice is shorter than the node's vertices, than the picture, or than what is moved";
+    Small = 19, "SMALL", "the slice is shorter than the node's vertices, than the picture, than what is moved, or than the recording has groups";
     Room = 20, "ROOM", "the list or the stops would pass 128";
     Nothing = 21, "NOTHING", "the group holds no growth to ask for";
     SelfPair = 22, "SELF", "a record's pair is not the member itself, which a line of text cannot say";
@@ -60,6 +61,8 @@ refusals! {
     Unsound = 24, "UNSOUND", "the check of the interface finds something";
     Below = 25, "BELOW", "a shrinking node of a floored tree would fall below zero";
     Mark = 26, "MARK", "the interface is marked too late: it has slots used, or halves; or one half of a fuse is floored and the other is not";
+    Stuck = 27, "STUCK", "a group of the recording holds conflicts, or a growth of 0 or less";
+    Short = 28, "SHORT", "no group of the recording is left, and length is";
 }
 
 impl Refusal {

@@ -376,7 +376,7 @@ fn every_refusal_has_its_number_and_name() {
         assert!(refusal.to_string().starts_with(&format!("{} ({})", refusal.name(), refusal.number())));
     }
     assert!(Refusal::ALL.windows(2).all(|two| two[0].number() < two[1].number()));
-    assert_eq!((Refusal::from_number(0), Refusal::from_number(27)), (None, None));
+    assert_eq!((Refusal::from_number(0), Refusal::from_number(29)), (None, None));
 }
 
 #[test]

@@ -77,8 +77,12 @@ fn as_recorded() {
         // the original has no pop that spares the stops, and it answers the numbers of the other (ledger_sparing, same-answer)
         if *name == "pop_sparing_stops" {
             assert_eq!(listed, &table["pop"]);
-        // the recordings ask for vertices with a slice, and have no pictures (tests/picture.rs) and no byte records (tests/records.rs)
-        } else if !["get_all_vertices", "snapshot", "snapshot_into", "get", "get_into"].contains(name) && !name.starts_with("to_") {
+        // the recordings ask for vertices with a slice, and have no pictures (tests/picture.rs), no byte records (tests/records.rs) and no recorded
+        // growth (tests/recorded.rs)
+        } else if !["get_all_vertices", "snapshot", "snapshot_into", "get", "get_into"].contains(name)
+            && !name.starts_with("to_")
+            && !name.starts_with("grow_recorded")
+        {
             assert_eq!(Some(listed), seen.get(name), "{name}");
         }
     }

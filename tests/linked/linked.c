@@ -573,7 +573,9 @@ static void names(void) {
     same("the name of 26", strcmp(dual_ledger_refusal_name(DUAL_LEDGER_MARK), "MARK"), 0);
     same("the name of 22", strcmp(dual_ledger_refusal_name(DUAL_LEDGER_SELF), "SELF"), 0);
     same("the name of 23", strcmp(dual_ledger_refusal_name(DUAL_LEDGER_FILE), "FILE"), 0);
-    same("the name of 27", dual_ledger_refusal_name(27) == NULL, 1), same("the name of 0", strcmp(dual_ledger_refusal_name(0), "ACCEPTED"), 0);
+    same("the name of 27", strcmp(dual_ledger_refusal_name(DUAL_LEDGER_STUCK), "STUCK"), 0);
+    same("the name of 28", strcmp(dual_ledger_refusal_name(DUAL_LEDGER_SHORT), "SHORT"), 0);
+    same("the name of 29", dual_ledger_refusal_name(29) == NULL, 1), same("the name of 0", strcmp(dual_ledger_refusal_name(0), "ACCEPTED"), 0);
 }
 
 /* ---- refusals: the number, no value, and every word as it was */
@@ -871,6 +873,80 @@ static void groups(void) {
     unchanged("a group of a broken bench", dual_ledger_group_extend(bench, group, before), DUAL_LEDGER_BROKEN);
 }
 
+/* ---- growing against a recording */
+
+enum { RECORDED = 6 };
+static uint64_t recording[RECORDED * DUAL_LEDGER_GROUP_WORDS], lengths[RECORDED + 1], kept_lengths[RECORDED + 1];
+
+/* A position of the recording: its first words, and none of the others 0. */
+static void position(size_t at, uint64_t kind, int64_t length, uint64_t flag) {
+    uint64_t *words = recording + at * DUAL_LEDGER_GROUP_WORDS;
+    memset(words, 0x5a, DUAL_LEDGER_GROUP_WORDS * sizeof *words);
+    words[0] = kind, words[1] = (uint64_t)length, words[2] = flag;
+    if (kind == 2) words[3] = words[4] = 0;
+}
+
+/* One call over so many words of the recording, with so much room: accepted, the steps stand in the slice and the bench is that of one growth; refused, all stays. */
+static void grown(int is_trusted, const char *what, uint8_t unit, int64_t length, size_t words, size_t room, int number, size_t count, const uint64_t *steps) {
+    size_t taken = 77;
+    memcpy(kept, bench, sizeof bench), memset(lengths, 0xa5, sizeof lengths), memset(kept_lengths, 0xa5, sizeof kept_lengths);
+    same(what, (is_trusted ? dual_ledger_trusted_grow_recorded : dual_ledger_grow_recorded)(bench, unit, length, words ? recording : NULL, words, lengths, room, &taken), number);
+    same(what, (int64_t)taken, (int64_t)count);
+    for (size_t i = 0; i < count; i++) kept_lengths[i] = steps[i];
+    same_words(what, lengths, kept_lengths, RECORDED + 1);
+    if (number == 0) same(what, dual_ledger_trusted_grow(kept, unit, length), 0);
+    same_words(what, bench, kept, DUAL_LEDGER_WORDS);
+}
+
+static void recorded(int is_trusted) {
+    static const uint64_t steps[] = {4, 3, 2}, whole[] = {4, 3, 5}, three[] = {3}, five[] = {5};
+    const size_t each = DUAL_LEDGER_GROUP_WORDS;
+    uint64_t node;
+    same("set-up", dual_ledger_set_up(bench, 1), 0);
+    same("a floor", dual_ledger_trusted_mark_floored(bench, 3), 0);
+    for (uint8_t unit = 0; unit < 4; unit++) same("a node", dual_ledger_trusted_create_defect_node(bench, unit, unit, &node), 0);
+    same("a fuse", dual_ledger_trusted_fuse(bench, 2, 0, 1), DUAL_LEDGER_USED), same("a fuse", dual_ledger_trusted_fuse(bench, 4, 0, 1), 0);
+    position(0, 1, 4, 0), position(1, 1, 3, 1), position(2, 1, 5, 0), position(3, 2, 0, 0), position(4, 1, INT64_MAX, 1), position(5, 3, 1, 0);
+    grown(is_trusted, "a recording", 4, 9, 6 * each, 6, 0, 3, steps);
+    grown(is_trusted, "a recording's first groups", 4, 12, 3 * each, 3, 0, 3, whole);
+    grown(is_trusted, "conflicts", 4, 13, 6 * each, 6, DUAL_LEDGER_STUCK, 0, NULL);
+    grown(is_trusted, "no group left", 4, 13, 3 * each, 3, DUAL_LEDGER_SHORT, 0, NULL);
+    grown(is_trusted, "a group cut short", 4, 13, 3 * each + 1, 4, DUAL_LEDGER_BROKEN, 0, NULL);
+    grown(is_trusted, "a group cut short that is not reached", 4, 12, 3 * each + 1, 4, 0, 3, whole);
+    grown(is_trusted, "no room for the group cut short", 4, 12, 3 * each + 1, 3, DUAL_LEDGER_SMALL, 0, NULL);
+    grown(is_trusted, "no room", 4, 9, 6 * each, 5, DUAL_LEDGER_SMALL, 0, NULL);
+    grown(is_trusted, "no room, and conflicts", 4, 13, 6 * each, 5, DUAL_LEDGER_STUCK, 0, NULL);
+    grown(is_trusted, "length 0", 4, 0, 6 * each, 6, 0, 0, NULL);
+    grown(is_trusted, "length 0, and no room", 4, 0, 6 * each, 5, DUAL_LEDGER_SMALL, 0, NULL);
+    grown(is_trusted, "length 0, and no recording", 4, 0, 0, 0, 0, 0, NULL);
+    grown(is_trusted, "no recording", 4, 1, 0, 0, DUAL_LEDGER_SHORT, 0, NULL);
+    position(0, 3, 4, 0);
+    grown(is_trusted, "interface 8", 8, -1, 6 * each, 0, DUAL_LEDGER_UNIT, 0, NULL);
+    grown(is_trusted, "a half", 0, -1, 6 * each, 0, DUAL_LEDGER_CHILD, 0, NULL);
+    grown(is_trusted, "a length below 0", 4, -1, 6 * each, 0, DUAL_LEDGER_LENGTH, 0, NULL);
+    grown(is_trusted, "the least length", 4, INT64_MIN, 6 * each, 0, DUAL_LEDGER_LENGTH, 0, NULL);
+    grown(is_trusted, "a group of no kind", 4, 1, 6 * each, 6, DUAL_LEDGER_BROKEN, 0, NULL);
+    position(0, 1, 4, 2), grown(is_trusted, "a flag of 2", 4, 1, 6 * each, 6, DUAL_LEDGER_BROKEN, 0, NULL);
+    position(0, 2, 0, 0), recording[3] = 129, grown(is_trusted, "conflicts that are not sound", 4, 1, 6 * each, 6, DUAL_LEDGER_BROKEN, 0, NULL);
+    position(0, 1, 0, 0), grown(is_trusted, "a growth of 0", 4, 1, 6 * each, 6, DUAL_LEDGER_STUCK, 0, NULL);
+    position(0, 1, -7, 0), grown(is_trusted, "a growth below 0", 4, 1, 6 * each, 6, DUAL_LEDGER_STUCK, 0, NULL);
+    position(0, 1, INT64_MAX, 0), grown(is_trusted, "an empty group", 4, 1, 6 * each, 6, DUAL_LEDGER_NOTHING, 0, NULL);
+    position(0, 1, INT64_MAX - 1, 0), grown(is_trusted, "a long growth", 4, 3, 6 * each, 6, 0, 1, three);
+    grown(is_trusted, "a step past the progress", 4, (int64_t)1 << 40, 6 * each, 6, DUAL_LEDGER_LENGTH, 0, NULL);
+    grown(is_trusted, "the longest length", 4, INT64_MAX, 6 * each, 6, DUAL_LEDGER_LENGTH, 0, NULL);
+    position(0, 1, 5, 0), position(1, 2, 0, 0);
+    grown(is_trusted, "conflicts before the progress", 4, (int64_t)1 << 40, 6 * each, 6, DUAL_LEDGER_STUCK, 0, NULL);
+    grown(is_trusted, "a floored interface", 3, 5, 6 * each, 6, 0, 1, five);
+    same("a node that shrinks", dual_ledger_trusted_set_grow_state(bench, 3, node, -1), 0);
+    grown(is_trusted, "conflicts before the floor", 3, 6, 6 * each, 6, DUAL_LEDGER_STUCK, 0, NULL);
+    grown(is_trusted, "no group left before the floor", 3, 6, each, 1, DUAL_LEDGER_SHORT, 0, NULL);
+    position(0, 1, 3, 0), position(1, 1, 3, 0);
+    grown(is_trusted, "a step below the floor", 3, 6, 2 * each, 2, DUAL_LEDGER_BELOW, 0, NULL);
+    grown(is_trusted, "a step to the floor", 3, 3, each, 1, 0, 1, three);
+    if (is_trusted) return;
+    bench[0] = 0, grown(0, "a broken bench", 8, -1, 6 * each, 0, DUAL_LEDGER_BROKEN, 0, NULL);
+}
+
 int main(void) {
     for (int form = OPEN; form <= TRUSTED; form++) halves((enum form)form), whole_case((enum form)form);
     notices();
@@ -885,6 +961,7 @@ int main(void) {
     refusals();
     broken();
     groups();
+    recorded(0), recorded(1);
     printf("linked: all %ld comparisons agree\n", compared);
     return 0;
 }

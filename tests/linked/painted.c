@@ -78,6 +78,8 @@ static uint64_t group[DUAL_LEDGER_GROUP_WORDS], other[DUAL_LEDGER_GROUP_WORDS], 
 static uint64_t members[64], touching[128], out[8];
 static uint32_t vertices[512];
 static uint8_t drawn[1 << 17];
+/* two growths by 1 */
+static uint64_t recording[2 * DUAL_LEDGER_GROUP_WORDS] = {1, 1, [DUAL_LEDGER_GROUP_WORDS] = 1, [DUAL_LEDGER_GROUP_WORDS + 1] = 1};
 
 static void must(const char *what, int holds) {
     if (holds) return;
@@ -157,6 +159,7 @@ static void calls(uint64_t unit, uint64_t node, int levels) {
     CALL(expand_blossom, b, unit, node, a);
     CALL(set_grow_state, b, unit, node, 0, a);
     CALL(grow, b, unit, 2, a);
+    BOTH(grow_recorded, b, unit, 2, W(recording), sizeof recording / 8, W(out), 2, W(vertices));
     BOTH(fuse, b, 7, unit, 3);
     BOTH(clear, b, unit);
     BOTH(mark_filling, b, 7);

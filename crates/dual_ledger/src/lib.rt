@@ -6,6 +6,7 @@ pub mod open_calls; // the calls on any words
 pub mod open_reads; // the reads and checks on any words
 mod pictures; // the picture for the viewer
 pub mod present; // the reads of present nodes
+mod recorded; // growing against a recording
 mod records; // files of byte records
 mod runs; // a run over a file of byte records
 mod text; // the text program's lines and chunks

@@ -263,3 +263,21 @@ uint8_t dual_ledger_records_get(const uint8_t *file, size_t file_len, size_t at,
     if (spoiled(48) && number == 0 && out[0] == 'B') out[5] = out[4];
     return number;
 }
+
+/* 49: the last step is told with its group's whole growth; 50: the group past the last step is tested; 51: a refused call leaves a length behind; 52: SHORT for STUCK */
+uint8_t dual_ledger_grow_recorded(uint64_t *bench, uint8_t unit, int64_t length, const uint64_t *groups, size_t groups_len, uint64_t *lengths, size_t lengths_len,
+                                  size_t *taken) {
+    uint8_t number = real_dual_ledger_grow_recorded(bench, unit, length, groups, groups_len, lengths, lengths_len, taken);
+    size_t past = *taken * DUAL_LEDGER_GROUP_WORDS;
+    if (spoiled(49) && number == 0 && *taken > 0) lengths[*taken - 1] = groups[past - DUAL_LEDGER_GROUP_WORDS + 1];
+    if (spoiled(50) && number == 0 && past + DUAL_LEDGER_GROUP_WORDS <= groups_len && !dual_ledger_group_is_sound(groups + past)) return DUAL_LEDGER_BROKEN;
+    if (spoiled(51) && number != 0 && lengths_len > 0) lengths[0] ^= 1;
+    return spoiled(52) && number == DUAL_LEDGER_STUCK ? DUAL_LEDGER_SHORT : number;
+}
+
+/* 53: LENGTH for BELOW, trusted form */
+uint8_t dual_ledger_trusted_grow_recorded(uint64_t *bench, uint8_t unit, int64_t length, const uint64_t *groups, size_t groups_len, uint64_t *lengths,
+                                          size_t lengths_len, size_t *taken) {
+    uint8_t number = real_dual_ledger_trusted_grow_recorded(bench, unit, length, groups, groups_len, lengths, lengths_len, taken);
+    return spoiled(53) && number == DUAL_LEDGER_BELOW ? DUAL_LEDGER_LENGTH : number;
+}

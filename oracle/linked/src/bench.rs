@@ -3,7 +3,7 @@
 use crate::ledger::state;
 use crate::nests::{self, BY_CALLS, BY_HAND};
 use crate::words::encode;
-use crate::{bench_groups, bench_marks, bench_present, bench_records, bench_runs};
+use crate::{bench_groups, bench_marks, bench_present, bench_recorded, bench_records, bench_runs};
 use dual_ledger::{lent, Bench, DualModule, GrowState, Handle, Verdict};
 use oracle::line::{read, Line};
 use oracle::timing::{self, by_kind, keep, kind, least, processor, whole, Original, Timed, KINDS};
@@ -23,7 +23,7 @@ pub struct Linked {
 }
 
 #[derive(Default)]
-struct Counting(usize);
+pub struct Counting(usize);
 
 impl DualModule for Counting {
     fn add_defect_node(&mut self, _: &Bench, _: Handle) {
@@ -309,7 +309,7 @@ fn shown(time: Option<f64>) -> String {
     time.map_or("-".to_string(), |time| format!("{time:.1}"))
 }
 
-fn table(rows: &[Row]) -> String {
+pub fn table(rows: &[Row]) -> String {
     let mut out = format!("{:20} {:>9} {:>9} {:>9} {:>9} {:>9} {:>7}\n", "ns", "nodes", "original", "trusted", "told", "public", "ratio");
     for row in rows {
         let ratio = row.original.map_or("-".to_string(), |original| format!("{:.1}", original / row.trusted));
@@ -332,6 +332,7 @@ pub fn run(list_file: &str, numbers: &str) -> Result<(), String> {
     rows.extend(bench_present::rows());
     rows.extend(bench_marks::rows());
     rows.extend(bench_groups::rows());
+    rows.extend(bench_recorded::rows());
     let tabs: String = rows
         .iter()
         .map(|r| format!("{}\t{}\t{}\t{:.1}\t{}\t{}\n", r.what, r.nodes, shown(r.original), r.trusted, shown(r.told), shown(r.public)))
@@ -345,6 +346,9 @@ pub fn run(list_file: &str, numbers: &str) -> Result<(), String> {
     println!("get_ancestor_blossom: links in place of nodes, {BY_CALLS} the most by calls, {BY_HAND} the most of a sound bench; a link takes {link:.2} ns, trusted.");
     println!("defect, blossom: one made in an interface that has used its slots one after another, and in one that fills emptied slots; expand: made and taken apart.");
     println!("grow, floored: of a tree in seven interfaces, all of whose nodes grow or all shrink; without a floor beside it.");
+    println!(
+        "grow_recorded: nanoseconds a step, of so many groups in place of nodes; the original's grow_iterative over a module that plays them back."
+    );
     println!("check and strict: both checks. nest: each blossom in the next, touching by the defect at the bottom; one bucket: vertices that are multiples of 512.");
     print!("{}", bench_records::table(text.as_bytes())?);
     print!("{}", bench_runs::table(text.as_bytes(), &timing::read(&text)?)?);

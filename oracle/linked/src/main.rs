@@ -3,6 +3,7 @@ mod bench;
 mod bench_groups;
 mod bench_marks;
 mod bench_present;
+mod bench_recorded;
 mod bench_records;
 mod bench_runs;
 mod bend;
@@ -12,6 +13,7 @@ mod file_runs;
 mod filling;
 mod group_words;
 mod groups;
+mod iterative;
 mod ledger;
 mod nests;
 mod openings;
@@ -39,8 +41,10 @@ linked pictures [COUNT [SEED]]            pictures beside the original's, until 
 linked records [COUNT [SEED]]             files of byte records, whole and spoiled, beside the model's reader, until so many; by default 1000000 1
 linked runs [COUNT [SEED]]                files of byte records run whole, beside single calls and the original, until so many operations; by default 10000000 1
 linked recordings [FOLDER..]              recordings as files of byte records, run whole beside what is recorded and the original
+linked iterative [COUNT [SEED]]           growing against recordings of groups, beside the model and the original, so many; by default 1000000 1
 linked patches [COUNT [SEED]]             two patches on one bench, so many pairs of runs; by default 2000 1
 linked play FILE                          lines of a file by all three: the first difference, if there is one
+linked steps                              times of growing against a recording, a step
 linked moves LIST                         times of moving such a list to byte records and back, beside its run
 linked times LIST                         times of its run as byte records, beside single calls and the original
 bench LIST NUMBERS                        times of both sides in one run, over such a list; the same as numbers into a file";
@@ -104,7 +108,8 @@ fn scale(accepted: usize, refused: usize, damaged: usize, seed: u64) {
         sparing::run(seed + at, 400, &mut table).unwrap_or_else(|why| fail(why));
         at += 1;
     }
-    print!("{table}no difference; {} s\n", began.elapsed().as_secs());
+    let grown = iterative::compare(damaged / 4, seed, nth).unwrap_or_else(|why| fail(why));
+    print!("{table}{grown}no difference; {} s\n", began.elapsed().as_secs());
 }
 
 /// The lines of a text by all three, comments and recorded answers left out; how many.
@@ -143,6 +148,10 @@ fn replayed(folders: &[&str]) {
     }
     texts.sort();
     print!("{}no difference\n", recorded::compare(&texts).unwrap_or_else(|why| fail(why)));
+}
+
+fn iterated(least: usize, seed: u64) {
+    print!("{}no difference\n", iterative::compare(least, seed, nth).unwrap_or_else(|why| fail(why)));
 }
 
 fn moved(path: &str) -> String {
@@ -191,11 +200,15 @@ fn main() {
         ["runs", least, seed] => ran(count(least) as usize, count(seed)),
         ["recordings"] => replayed(&[RECORDINGS]),
         ["recordings", ref folders @ ..] => replayed(folders),
+        ["iterative"] => iterated(1_000_000, 1),
+        ["iterative", least] => iterated(count(least) as usize, 1),
+        ["iterative", least, seed] => iterated(count(least) as usize, count(seed)),
         ["patches"] => patched(2_000, 1),
         ["patches", pairs] => patched(count(pairs) as usize, 1),
         ["patches", pairs, seed] => patched(count(pairs) as usize, count(seed)),
         ["play", path] => play(path),
         ["times", list] => print!("{}", timed(list)),
+        ["steps"] => print!("{}", bench::table(&bench_recorded::rows())),
         ["moves", list] => print!("{}", moved(list)),
         ["bench", list, numbers] => bench::run(list, numbers).unwrap_or_else(|why| fail(why)),
         _ => fail(HELP),

@@ -2,7 +2,7 @@
 //! calls of patch A and from another first serial. All that B sees must be the same: numbers, names, notices, groups, and every read after every call; and
 //! its lines, played as text, but for the serial. A fuse that joins the patches, and serials that wear out, must be told: so the comparison can fail.
 use crate::ledger::number;
-use dual_ledger::{lent, Bench, DualModule, Group, GrowState, Handle, Obstacle, Refusal};
+use dual_ledger::{lent, Bench, DualModule, Group, GroupWords, GrowState, Handle, Obstacle, Refusal, GROUP_WORDS};
 use oracle::generator::rng::Rng;
 use std::fmt;
 
@@ -14,6 +14,8 @@ enum Call {
     Expand(u8, usize),
     SetState(u8, usize, GrowState),
     Grow(u8, i64),
+    /// over a recording of such growths, with the patch's own group after them
+    Recorded(u8, i64, Vec<i64>),
     Fuse(u8, u8, u8),
     Clear(u8),
     Filling(u8),
@@ -23,6 +25,13 @@ enum Call {
     Extend,
     Pop,
     Spare,
+}
+
+/// A growth's words.
+fn recorded(length: i64) -> GroupWords {
+    let mut words = [0; GROUP_WORDS];
+    words[..2].copy_from_slice(&[1, length as u64]);
+    words
 }
 
 /// What a call told, by handles.
@@ -104,6 +113,11 @@ impl Patch {
             Call::Expand(unit, number) => node(telling.expand_blossom(*unit, self.handle(*number)), *number),
             Call::SetState(unit, number, state) => node(telling.set_grow_state(*unit, self.handle(*number), *state), *number),
             Call::Grow(unit, length) => none(telling.grow(*unit, *length)),
+            Call::Recorded(unit, length, growths) => {
+                let mut groups: Vec<GroupWords> = growths.iter().map(|growth| recorded(*growth)).collect();
+                groups.push(*self.group.words());
+                none(telling.grow_recorded(*unit, *length, &groups).map(|_| ()))
+            }
             Call::Fuse(parent, left, right) => none(telling.fuse(*parent, *left, *right)),
             Call::Clear(unit) => none(telling.clear(*unit)),
             Call::Filling(unit) => none(telling.mark_filling(*unit)),
@@ -204,7 +218,8 @@ impl Patch {
             }
             11..=12 => Call::Expand(unit, one(rng)),
             13..=14 => Call::SetState(unit, one(rng), [GrowState::Grow, GrowState::Stay, GrowState::Shrink][rng.below(3)]),
-            15..=17 => Call::Grow(unit, rng.between(-1, 40)),
+            15..=16 => Call::Grow(unit, rng.between(-1, 40)),
+            17 => Call::Recorded(unit, rng.between(0, 20), (0..rng.below(6)).map(|_| rng.between(0, 9)).collect()),
             18 => {
                 let mut three: Vec<u8> = (0..3).map(|_| rng.pick(&free).unwrap_or(9)).collect();
                 three.sort_unstable();

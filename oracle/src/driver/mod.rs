@@ -4,6 +4,7 @@
 mod check;
 mod groups;
 mod nodes;
+mod playback;
 mod reads;
 
 use crate::line::{Line, GROUPS};

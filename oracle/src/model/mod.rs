@@ -3,6 +3,7 @@ pub mod bench;
 mod calls;
 mod check;
 pub mod groups;
+mod recorded;
 pub mod records;
 pub mod refusals;
 pub mod sound;

@@ -24,6 +24,8 @@ pub const ROOM: i64 = 20;
 pub const NOTHING: i64 = 21;
 pub const BELOW: i64 = 25;
 pub const MARK: i64 = 26;
+pub const STUCK: i64 = 27;
+pub const SHORT: i64 = 28;
 
 impl Bench {
     /// UNIT, then CHILD, of the interfaces a call names.

@@ -1,10 +1,12 @@
 //! Timing over a list of accepted text lines, in whole passes and by kind, of whatever can make the calls. Meant for the release build, where debug
 //! assertions and overflow checks are off. Whole passes are measured in processor time, so that other work on the machine does not count.
 mod original;
+mod played;
 
 use crate::line::Line;
 use crate::text;
 pub use original::Original;
+pub use played::Played;
 use std::time::Instant;
 
 pub const KINDS: &str = "DBESGFCK";
@@ -51,6 +53,19 @@ pub fn processor() -> f64 {
     let done = unsafe { libc::clock_gettime(libc::CLOCK_THREAD_CPUTIME_ID, &mut time) };
     assert_eq!(done, 0, "no processor clock");
     time.tv_sec as f64 * 1e9 + time.tv_nsec as f64
+}
+
+/// Room for so many, in pages of 2 MB where asked for and the machine gives them.
+pub fn roomy<T>(count: usize, large: bool) -> Vec<T> {
+    const LARGE: usize = 1 << 21;
+    let room = Vec::with_capacity(count);
+    let (begin, end) = (room.as_ptr() as usize, room.as_ptr() as usize + count * std::mem::size_of::<T>());
+    let (first, last) = (begin.next_multiple_of(LARGE), end / LARGE * LARGE);
+    if large && first < last {
+        // advice alone: what the memory holds is not touched, and a machine without such pages says no
+        unsafe { libc::madvise(first as *mut libc::c_void, last - first, libc::MADV_HUGEPAGE) };
+    }
+    room
 }
 
 /// What an empty measurement takes.

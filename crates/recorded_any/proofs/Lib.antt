@@ -1,0 +1,3 @@
+pub mod Verdicts
+pub mod Once
+pub mod One
