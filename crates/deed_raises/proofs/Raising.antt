@@ -13,6 +13,7 @@ use lib.ListN.{length, getD, List·getD-eq-default}
 use Rattle.bench_words.specs.Codec.{pick}
 use Rattle.bench_words.specs.Store.{nodeAt, interfaceAt, storeNode, storeBias, setBias}
 use Rattle.bench_words.proofs.Laws.{Good, good-node, length-store, store-out, load-same, load-other, store-node-interface}
+use Rattle.bench_words.proofs.Maps.{store-node-map}
 use Rattle.bench_words.specs.declared.Node.{Node}
 use Rattle.bench_words.specs.declared.Interface.{Interface}
 use Rattle.ledger_spec.specs.Bench.{Bench, fresh}
@@ -40,7 +41,7 @@ node-steady b k n lk s =
     }
 
 pub raised-none : (b : List ℕ) (v l : ℕ) → Steady b → Coded b → RaisedIn b v l b 0
-raised-none b v l st co = record { steady = st; coded = co; next = refl; interfaces = λ w lw. refl; done = λ s ls. absurd (omega arith); kept = λ k o. refl }
+raised-none b v l st co = record { steady = st; coded = co; next = refl; interfaces = λ w lw. refl; maps = λ w lw. refl; done = λ s ls. absurd (omega arith); kept = λ k o. refl }
 
 module _ (b : List ℕ) (v l : ℕ) (lv : v < 8) (b₁ : List ℕ) (n : ℕ) (R : RaisedIn b v l b₁ n) (ln : n < 64) where
   abbrev k₁ : ℕ
@@ -65,6 +66,7 @@ module _ (b : List ℕ) (v l : ℕ) (lv : v < 8) (b₁ : List ℕ) (n : ℕ) (R 
         coded = coded-node b₁ k₁ m₁ len lk g (R .coded);
         next = store-out b₁ k₁ m₁ len lk 0 (λ i li e. omega arith) ∙ R .next;
         interfaces = λ w lw. store-node-interface b₁ k₁ m₁ len lk w lw ∙ R .interfaces w lw;
+        maps = λ w lw. store-node-map b₁ k₁ m₁ len lk w lw ∙ R .maps w lw;
         done = λ s ls. by-cases (ℕ-discrete s n)
             (λ (z : s ≡ n). rw z (load-same b₁ k₁ m₁ len lk g ∙ ap (raised l) here))
             (λ (ne : s ≡ n → ⊥). load-other b₁ k₁ m₁ len lk (v * 64 + s) (λ e. ne (omega arith)) ∙ R .done s (omega (arith, ne)));
@@ -99,7 +101,7 @@ tops-kept b b₁ same u = climb-like (view b) (view b₁) (λ v. go v (decLt v 8
 
 -- ---- one interface
 pub begun : (b : List ℕ) (u l : ℕ) → Steady b → Coded b → Raised b u l b 0
-begun b u l st co = record { steady = st; coded = co; next = refl; interfaces = λ v lv. refl; done = λ k lk. absurd (omega arith); kept = λ k lk. refl }
+begun b u l st co = record { steady = st; coded = co; next = refl; interfaces = λ v lv. refl; maps = λ v lv. refl; done = λ k lk. absurd (omega arith); kept = λ k lk. refl }
 
 module _ (b : List ℕ) (u l : ℕ) (bare : Bare b) (b₁ : List ℕ) (v : ℕ) (R : Raised b u l b₁ (v * 64)) (lv : v < 8) where
   pub still-movable : AllMovable b l v → AllMovable b₁ l v
@@ -120,6 +122,7 @@ module _ (b : List ℕ) (u l : ℕ) (bare : Bare b) (b₁ : List ℕ) (v : ℕ) 
         coded = R .coded;
         next = R .next;
         interfaces = R .interfaces;
+        maps = R .maps;
         done = λ k lk. by-cases (decLt k (v * 64))
             (λ (h : k < v * 64). R .done k h)
             (λ (h : k < v * 64 → ⊥).
@@ -135,6 +138,7 @@ module _ (b : List ℕ) (u l : ℕ) (bare : Bare b) (b₁ : List ℕ) (v : ℕ) 
         coded = I .coded;
         next = I .next ∙ R .next;
         interfaces = λ w lw. I .interfaces w lw ∙ R .interfaces w lw;
+        maps = λ w lw. I .maps w lw ∙ R .maps w lw;
         done = λ k lk. by-cases (decLt k (v * 64))
             (λ (h : k < v * 64). I .kept k (λ s ls q. omega arith) ∙ R .done k h)
             (λ (h : k < v * 64 → ⊥). now (k - v * 64) k (omega (arith, h)) (omega (arith, h)));

@@ -7,7 +7,7 @@ use lib.ListN.{getD}
 use Rattle.kinds.specs.declared.GrowState.{GrowState}
 use Rattle.kinds.specs.declared.GrowState.the-variants.{Grow as Growing, Shrink}
 use Rattle.bench_words.specs.Codec.{pick}
-use Rattle.bench_words.specs.Store.{nodeAt, interfaceAt}
+use Rattle.bench_words.specs.Store.{nodeAt, interfaceAt, mapAt}
 use Rattle.ledger_spec.specs.Look.{climb}
 use Rattle.bench_views.specs.Records.{Steady, noNode}
 use Rattle.bench_views.specs.View.{view, raised}
@@ -35,6 +35,7 @@ pub record RaisedIn (b : List ℕ) (v l : ℕ) (b′ : List ℕ) (n : ℕ) : Typ
   pub coded : Coded b′
   pub next : getD b′ 0 0 ≡ getD b 0 0
   pub interfaces : (w : ℕ) → w < 8 → interfaceAt b′ w ≡ interfaceAt b w
+  pub maps : (w : ℕ) → w < 8 → mapAt b′ w ≡ mapAt b w
   pub done : (s : ℕ) → s < n → nodeAt b′ (v * 64 + s) ≡ raised l (nodeAt b (v * 64 + s))
   pub kept : (k : ℕ) → ((s : ℕ) → s < n → k ≡ v * 64 + s → ⊥) → nodeAt b′ k ≡ nodeAt b k
 
@@ -49,5 +50,6 @@ pub record Raised (b : List ℕ) (u l : ℕ) (b′ : List ℕ) (n : ℕ) : Type 
   pub coded : Coded b′
   pub next : getD b′ 0 0 ≡ getD b 0 0
   pub interfaces : (v : ℕ) → v < 8 → interfaceAt b′ v ≡ interfaceAt b v
+  pub maps : (v : ℕ) → v < 8 → mapAt b′ v ≡ mapAt b v
   pub done : (k : ℕ) → k < n → nodeAt b′ k ≡ pick (eqb (climb 8 (view b) (k / 64)) u) (raised l (nodeAt b k)) (nodeAt b k)
   pub kept : (k : ℕ) → n ≤ k → nodeAt b′ k ≡ nodeAt b k
