@@ -3,3 +3,4 @@ pub mod Feeding
 pub mod Answering
 pub mod Circles
 pub mod Going
+pub mod Opening
