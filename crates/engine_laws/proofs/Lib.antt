@@ -1,0 +1,10 @@
+pub mod Looks
+pub mod Tests
+pub mod Deeds
+pub mod Calls
+pub mod Walks
+pub mod Checks
+pub mod Sound
+pub mod Asked
+pub mod Groups
+pub mod Lines
