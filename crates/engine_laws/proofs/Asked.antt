@@ -1,104 +1,130 @@
--- THEOREM. Every call and every read answers the same in either engine, on any bench, sound or not, BROKEN among the numbers. Assumes nothing.
-use Prim.Native.Nat.{ℕ, zero, suc}
-use mathlib.Core.Path.{_≡_, refl, ap, _∙_}
+-- THEOREM. Every question is answered the same in either engine, of any bench, sound or not, BROKEN among the numbers. Assumes nothing.
+use Prim.Native.Nat.{ℕ}
+use mathlib.Core.Path.{_≡_, refl}
 use mathlib.Core.Bool.{Bool, true, false, not, _&&_}
 use mathlib.Core.Option.{Option, none}
-use mathlib.Core.List.{List, [], _∷_}
-use lib.Dec.{leb}
-use lib.ListN.{length, getD}
-use lib.IntN.{ℤ, pos}
-use Rattle.ledger_spec.specs.Numbers.{BROKEN, UNIT, CHILD, RANGE}
+use mathlib.Core.List.{List, [], _∷_, _++_, map}
+use lib.Dec.{eqb, leb, ltb}
+use lib.ListN.{length, getD, drop}
+use Rattle.ledger_spec.specs.Numbers.{BROKEN, UNIT, CHILD, RANGE, UNSOUND, SMALL}
 use Rattle.ledger_spec.specs.Bench.{Handle, Bench}
 use Rattle.ledger_spec.specs.Look.{interface, nodeNamed}
-use Rattle.ledger_spec.specs.Tests.{first, outside, child, stale, floored}
+use Rattle.ledger_spec.specs.Tests.{first, outside, child}
 use Rattle.ledger_spec.specs.Refuse.{unitTests}
-use Rattle.ledger_spec.specs.Calls.{Reply, Call, perform}
-use Rattle.ledger_spec.specs.Notices.{Notice, tells}
-use Rattle.ledger_spec.specs.Reads.{said, slotsOf, asHandle, sumOf, speedOf, countOf, fillsOf, flooredOf, indexTests, handleAtIndex, nodeTests, valueOf, belongs}
-use Rattle.ledger_spec.specs.Sound.{sound}
-use Rattle.ledger_spec.specs.Answers.{Answer, told, whole, broken, answer, ask, Read, read, sumRead, speedRead, countRead, fillsRead, flooredRead, indexRead, belongsRead, valueRead, outerRead, belowRead, firstRead, verticesRead, checkRead, strictRead}
-use Rattle.engine_laws.specs.Engines.{inEngine, replyIn, answerIn}
+use Rattle.ledger_spec.specs.Reads.{said, asHandle, sumOf, speedOf, countOf, fillsOf, flooredOf, indexTests, handleAtIndex, nodeTests, valueOf, belongs}
+use Rattle.ledger_spec.specs.Check.{indexIn}
+use Rattle.ledger_spec.specs.Answers.{ask, Read, read}
+use Rattle.picture_spec.specs.Sketch.{Sketch, seenOf, sketchOf}
+use Rattle.picture_spec.specs.Text.{namesBy, textOf}
+use Rattle.picture_spec.specs.Picture.{picture, pictureTests, pictureInto}
+use Rattle.engine_laws.specs.Engines.{inEngine}
+use Rattle.engine_laws.specs.Questions.{Question, Sum, Speed, Count, Fills, Floored, Check, Strict, At, Belongs, Value, Outer, Below, First, Vertices, Picture, Add, Extend, Given, asking}
 use Rattle.engine_laws.proofs.Looks.{slots-in}
 use Rattle.engine_laws.proofs.Tests.{stale-in, foreign-in, unit-tests}
-use Rattle.engine_laws.proofs.Calls.{perform-engine, tells-engine}
 use Rattle.engine_laws.proofs.Walks.{outer-in, below-in, first-in, vertices-into}
-use Rattle.engine_laws.proofs.Checks.{check-in, strict-in}
+use Rattle.engine_laws.proofs.Checks.{verdict-in, check-in, strict-in}
 use Rattle.engine_laws.proofs.Sound.{sound-engine}
+use Rattle.engine_laws.proofs.Groups.{add-engine, extend-engine}
 
 module _ (m : Bool) (b : Bench) where
-  -- ---- every call
-  pub answer-engine : (c : Call) → answer (inEngine m b) c ≡ answerIn m (answer b c)
-  unfolding answer whole broken
-  answer-engine c = (λ i. pick (sound-engine m b i) (whole (perform-engine m b c i) (tells-engine m b c i))) ∙ picked (sound b)
-    where
-      pick : Bool → Answer → Answer
-      pick s a = elim s [ true ↦ a | false ↦ broken (inEngine m b) ]
-
-      picked : (s : Bool) → pick s (whole (replyIn m (perform b c)) (tells b c)) ≡ answerIn m (elim s [ true ↦ whole (perform b c) (tells b c) | false ↦ broken b ])
-      picked true = refl
-      picked false = refl
-
-  -- ---- a read that is the same on sound benches
-  read-in : {A : Type 0} (r r′ : Read A) → r ≡ r′ → read (inEngine m b) r ≡ read b r′
-  unfolding ask
-  read-in r r′ e = λ i. elim (sound-engine m b i) [ true ↦ e i .own | false ↦ (BROKEN, e i .zero) ]
-
   -- ---- reads of an interface
-  pub sum-engine : (u : ℕ) → read (inEngine m b) (sumRead (inEngine m b) u) ≡ read b (sumRead b u)
+  sum-in : (u : ℕ) → sumOf (inEngine m b) u ≡ sumOf b u
   unfolding sumOf unitTests
-  sum-engine u = read-in (sumRead (inEngine m b) u) (sumRead b u) refl
+  sum-in u = refl
 
-  pub speed-engine : (u : ℕ) → read (inEngine m b) (speedRead (inEngine m b) u) ≡ read b (speedRead b u)
+  speed-in : (u : ℕ) → speedOf (inEngine m b) u ≡ speedOf b u
   unfolding speedOf unitTests
-  speed-engine u = read-in (speedRead (inEngine m b) u) (speedRead b u) refl
+  speed-in u = refl
 
-  pub fills-engine : (u : ℕ) → read (inEngine m b) (fillsRead (inEngine m b) u) ≡ read b (fillsRead b u)
+  count-in : (u : ℕ) → countOf (inEngine m b) u ≡ countOf b u
+  unfolding countOf
+  count-in u = λ i. said (first (unit-tests m b u i)) (length (slots-in m b u i)) 0
+
+  fills-in : (u : ℕ) → fillsOf (inEngine m b) u ≡ fillsOf b u
   unfolding fillsOf unitTests
-  fills-engine u = read-in (fillsRead (inEngine m b) u) (fillsRead b u) refl
+  fills-in u = refl
 
-  pub floored-engine : (u : ℕ) → read (inEngine m b) (flooredRead (inEngine m b) u) ≡ read b (flooredRead b u)
+  floored-in : (u : ℕ) → flooredOf (inEngine m b) u ≡ flooredOf b u
   unfolding flooredOf unitTests
-  floored-engine u = read-in (flooredRead (inEngine m b) u) (flooredRead b u) refl
-
-  pub count-engine : (u : ℕ) → read (inEngine m b) (countRead (inEngine m b) u) ≡ read b (countRead b u)
-  unfolding countOf unitTests
-  count-engine u = read-in (countRead (inEngine m b) u) (countRead b u)
-      (λ i. record { own = said (first (unitTests b u)) (length (slots-in m b u i)) 0; zero = 0 })
+  floored-in u = refl
 
   pub index-tests : (u k : ℕ) → indexTests (inEngine m b) u k ≡ indexTests b u k
   unfolding indexTests
   index-tests u k = λ i. (outside u, UNIT) ∷ (child b u, CHILD) ∷ (leb (length (slots-in m b u i)) k, RANGE) ∷ []
 
-  pub index-engine : (u k : ℕ) → read (inEngine m b) (indexRead (inEngine m b) u k) ≡ read b (indexRead b u k)
+  index-in : (u k : ℕ) → handleAtIndex (inEngine m b) u k ≡ handleAtIndex b u k
   unfolding handleAtIndex
-  index-engine u k = read-in (indexRead (inEngine m b) u k) (indexRead b u k)
-      (λ i. record { own = said (first (index-tests u k i)) (asHandle (getD (slots-in m b u i) k (0, 0, none))) none; zero = none })
+  index-in u k = λ i. said (first (index-tests u k i)) (asHandle (getD (slots-in m b u i) k (0, 0, none))) none
 
   -- ---- reads of a node
-  pub belongs-engine : (u : ℕ) (h : Handle) → read (inEngine m b) (belongsRead (inEngine m b) u h) ≡ read b (belongsRead b u h)
+  belongs-in : (u : ℕ) (h : Handle) → belongs (inEngine m b) u h ≡ belongs b u h
   unfolding belongs
-  belongs-engine u h = read-in (belongsRead (inEngine m b) u h) (belongsRead b u h)
-      (λ i. record { own = said (first (unit-tests m b u i)) (not (stale-in m b h i) && not (foreign-in m b u h i)) false; zero = false })
+  belongs-in u h = λ i. said (first (unit-tests m b u i)) (not (stale-in m b h i) && not (foreign-in m b u h i)) false
 
-  pub value-engine : (h : Handle) → read (inEngine m b) (valueRead (inEngine m b) h) ≡ read b (valueRead b h)
+  value-in : (h : Handle) → valueOf (inEngine m b) h ≡ valueOf b h
   unfolding valueOf nodeTests nodeNamed
-  value-engine h = read-in (valueRead (inEngine m b) h) (valueRead b h) refl
+  value-in h = refl
 
-  pub outer-engine : (h : Handle) → read (inEngine m b) (outerRead (inEngine m b) h) ≡ read b (outerRead b h)
-  outer-engine h = read-in (outerRead (inEngine m b) h) (outerRead b h) (λ i. record { own = outer-in m b h i; zero = outerRead b h .zero })
+  -- ---- the picture
+  sketch-in : (u : ℕ) → sketchOf (inEngine m b) u ≡ sketchOf b u
+  unfolding sketchOf
+  sketch-in u = λ i. record { speed = interface b u .speed; sum = interface b u .sum; nodes = map (λ t. seenOf (λ h. indexIn (slots-in m b u i) 0 h) (t .2)) (slots-in m b u i) }
 
-  pub below-engine : (h : Handle) → read (inEngine m b) (belowRead (inEngine m b) h) ≡ read b (belowRead b h)
-  below-engine h = read-in (belowRead (inEngine m b) h) (belowRead b h) (λ i. record { own = below-in m b h i; zero = belowRead b h .zero })
+  picture-in : (u : ℕ) (a : Bool) → picture (inEngine m b) u a ≡ picture b u a
+  unfolding picture
+  picture-in u a = λ i. textOf (namesBy a) (sketch-in u i)
 
-  pub first-engine : (h : Handle) → read (inEngine m b) (firstRead (inEngine m b) h) ≡ read b (firstRead b h)
-  first-engine h = read-in (firstRead (inEngine m b) h) (firstRead b h) (λ i. record { own = first-in m b h i; zero = 0 })
+  picture-into : (u : ℕ) (a : Bool) (out : List ℕ) → pictureInto (inEngine m b) u a out ≡ pictureInto b u a out
+  unfolding pictureInto pictureTests
+  picture-into u a out = λ i.
+      said
+      (first ((outside u, UNIT) ∷ (child b u, CHILD) ∷ (not (eqb (verdict-in m b u i .0) 0), UNSOUND) ∷ (ltb (length out) (length (picture-in u a i)), SMALL) ∷ []))
+      (length (picture-in u a i), picture-in u a i ++ drop (length (picture-in u a i)) out)
+      (0, out)
 
-  pub vertices-engine : (h : Handle) (out : List ℕ) → read (inEngine m b) (verticesRead (inEngine m b) h out) ≡ read b (verticesRead b h out)
-  vertices-engine h out = read-in (verticesRead (inEngine m b) h out) (verticesRead b h out) (λ i. record { own = vertices-into m b h out i; zero = (0, out) })
+  -- ---- every question
+  own-in : (q : Question) → asking (inEngine m b) q .own ≡ asking b q .own
+  own-in (Sum u) = sum-in u
+  own-in (Speed u) = speed-in u
+  own-in (Count u) = count-in u
+  own-in (Fills u) = fills-in u
+  own-in (Floored u) = floored-in u
+  own-in (Check u) = check-in m b u
+  own-in (Strict u) = strict-in m b u
+  own-in (At u k) = index-in u k
+  own-in (Belongs u h) = belongs-in u h
+  own-in (Value h) = value-in h
+  own-in (Outer h) = outer-in m b h
+  own-in (Below h) = below-in m b h
+  own-in (First h) = first-in m b h
+  own-in (Vertices h out) = vertices-into m b h out
+  own-in (Picture u a out) = picture-into u a out
+  own-in (Add g o) = add-engine m b g o
+  own-in (Extend g h) = extend-engine m b g h
 
-  -- ---- both checks
-  pub check-engine : (u : ℕ) → read (inEngine m b) (checkRead (inEngine m b) u) ≡ read b (checkRead b u)
-  check-engine u = read-in (checkRead (inEngine m b) u) (checkRead b u) (λ i. record { own = check-in m b u i; zero = (0, 0) })
+  zero-in : (q : Question) → asking (inEngine m b) q .zero ≡ asking b q .zero
+  zero-in (Sum u) = refl
+  zero-in (Speed u) = refl
+  zero-in (Count u) = refl
+  zero-in (Fills u) = refl
+  zero-in (Floored u) = refl
+  zero-in (Check u) = refl
+  zero-in (Strict u) = refl
+  zero-in (At u k) = refl
+  zero-in (Belongs u h) = refl
+  zero-in (Value h) = refl
+  zero-in (Outer h) = refl
+  zero-in (Below h) = refl
+  zero-in (First h) = refl
+  zero-in (Vertices h out) = refl
+  zero-in (Picture u a out) = refl
+  zero-in (Add g o) = refl
+  zero-in (Extend g h) = refl
 
-  pub strict-engine : (u : ℕ) → read (inEngine m b) (strictRead (inEngine m b) u) ≡ read b (strictRead b u)
-  strict-engine u = read-in (strictRead (inEngine m b) u) (strictRead b u) (λ i. record { own = strict-in m b u i; zero = (0, 0) })
+  -- of a sound bench and of one that is not; of any words, what their contracts speak of
+  pub asking-engine : (q : Question) → asking (inEngine m b) q ≡ asking b q
+  asking-engine q = λ i. record { own = own-in q i; zero = zero-in q i }
+
+  pub read-engine : (q : Question) → read (inEngine m b) (asking (inEngine m b) q) ≡ read b (asking b q)
+  unfolding ask
+  read-engine q = λ i. elim (sound-engine m b i) [ true ↦ own-in q i | false ↦ (BROKEN, zero-in q i) ]

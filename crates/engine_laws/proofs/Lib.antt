@@ -5,6 +5,9 @@ pub mod Calls
 pub mod Walks
 pub mod Checks
 pub mod Sound
-pub mod Asked
 pub mod Groups
+pub mod Asked
+pub mod Answered
 pub mod Lines
+pub mod Recorded
+pub mod Both

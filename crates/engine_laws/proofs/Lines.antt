@@ -13,7 +13,9 @@ use Rattle.ledger_spec.specs.Lines.{LineAnswer, seek, named, shown, calls, chec
 use Rattle.ledger_spec.specs.Program.{answers, afterLines, texts}
 use Rattle.engine_laws.specs.Engines.{inEngine, answerIn, lineIn}
 use Rattle.engine_laws.proofs.Looks.{gather-in}
-use Rattle.engine_laws.proofs.Asked.{answer-engine, check-engine}
+use Rattle.engine_laws.specs.Questions.{Check}
+use Rattle.engine_laws.proofs.Answered.{answer-engine}
+use Rattle.engine_laws.proofs.Asked.{read-engine}
 
 module _ (m : Bool) where
   shown-in : (n k : ℕ) (b : Bench) (u : ℕ) → shown n k (inEngine m b) u ≡ shown n k b u
@@ -34,7 +36,7 @@ module _ (m : Bool) where
 
     checks-in : (u : ℕ) → checks (inEngine m b) u ≡ lineIn m (checks b u)
     unfolding checks shown
-    checks-in u = λ i. record { numbers = shown (check-engine m b u i .0) (check-engine m b u i .1 .0) b u; bench = inEngine m b }
+    checks-in u = λ i. record { numbers = shown (read-engine m b (Check u) i .0) (read-engine m b (Check u) i .1 .0) b u; bench = inEngine m b }
 
     pub says-engine : (l : Line) → says (inEngine m b) l ≡ lineIn m (says b l)
     unfolding says
