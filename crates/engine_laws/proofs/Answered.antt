@@ -1,13 +1,12 @@
 -- THEOREM. Every call answers the same in either engine, on any bench, sound or not, and leaves the same bench in the engine; no call changes the engine.
 -- Assumes nothing.
-use Prim.Native.Nat.{ℕ}
 use mathlib.Core.Path.{_≡_, refl, ap, _∙_}
 use mathlib.Core.Bool.{Bool, true, false}
 use Rattle.ledger_spec.specs.Bench.{Bench}
 use Rattle.ledger_spec.specs.Calls.{Call, perform}
 use Rattle.ledger_spec.specs.Notices.{tells}
 use Rattle.ledger_spec.specs.Sound.{sound}
-use Rattle.ledger_spec.specs.Answers.{Answer, told, whole, broken, answer}
+use Rattle.ledger_spec.specs.Answers.{Answer, whole, broken, answer}
 use Rattle.engine_laws.specs.Engines.{inEngine, replyIn, answerIn}
 use Rattle.engine_laws.proofs.Calls.{perform-engine, tells-engine}
 use Rattle.engine_laws.proofs.Sound.{sound-engine}

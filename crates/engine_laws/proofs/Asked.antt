@@ -2,7 +2,7 @@
 use Prim.Native.Nat.{ℕ}
 use mathlib.Core.Path.{_≡_, refl}
 use mathlib.Core.Bool.{Bool, true, false, not, _&&_}
-use mathlib.Core.Option.{Option, none}
+use mathlib.Core.Option.{none}
 use mathlib.Core.List.{List, [], _∷_, _++_, map}
 use lib.Dec.{eqb, leb, ltb}
 use lib.ListN.{length, getD, drop}
@@ -13,12 +13,12 @@ use Rattle.ledger_spec.specs.Tests.{first, outside, child}
 use Rattle.ledger_spec.specs.Refuse.{unitTests}
 use Rattle.ledger_spec.specs.Reads.{said, asHandle, sumOf, speedOf, countOf, fillsOf, flooredOf, indexTests, handleAtIndex, nodeTests, valueOf, belongs}
 use Rattle.ledger_spec.specs.Check.{indexIn}
-use Rattle.ledger_spec.specs.Answers.{ask, Read, read}
-use Rattle.picture_spec.specs.Sketch.{Sketch, seenOf, sketchOf}
+use Rattle.ledger_spec.specs.Answers.{ask, read}
+use Rattle.picture_spec.specs.Sketch.{seenOf, sketchOf}
 use Rattle.picture_spec.specs.Text.{namesBy, textOf}
 use Rattle.picture_spec.specs.Picture.{picture, pictureTests, pictureInto}
 use Rattle.engine_laws.specs.Engines.{inEngine}
-use Rattle.engine_laws.specs.Questions.{Question, Sum, Speed, Count, Fills, Floored, Check, Strict, At, Belongs, Value, Outer, Below, First, Vertices, Picture, Add, Extend, Given, asking}
+use Rattle.engine_laws.specs.Questions.{Question, Sum, Speed, Count, Fills, Floored, Check, Strict, At, Belongs, Value, Outer, Below, First, Vertices, Picture, Add, Extend, asking}
 use Rattle.engine_laws.proofs.Looks.{slots-in}
 use Rattle.engine_laws.proofs.Tests.{stale-in, foreign-in, unit-tests}
 use Rattle.engine_laws.proofs.Walks.{outer-in, below-in, first-in, vertices-into}

@@ -1,5 +1,5 @@
 -- THEOREM. The same calls from set-up in both engines: the same answers, and benches that nobody can tell apart; the same lines: the same bytes. Assumes nothing.
-use Prim.Native.Nat.{ℕ, zero, suc}
+use Prim.Native.Nat.{ℕ}
 use mathlib.Core.Path.{_≡_, refl, sym, ap, subst, _∙_}
 use mathlib.Core.Bool.{Bool, true, false}
 use mathlib.Core.List.{List, [], _∷_}
@@ -10,8 +10,8 @@ use Rattle.ledger_spec.specs.Calls.{Call, Defect, Blossom, Expand, SetState, Gr
 use Rattle.ledger_spec.specs.Answers.{Answer, answer}
 use Rattle.ledger_spec.specs.Grammar.{Line}
 use Rattle.ledger_spec.specs.Program.{answers, texts}
-use Rattle.ledger_spec.specs.Book.{Gone, noted, forgotten, wrote, writes, Book, turn, turns}
-use Rattle.engine_laws.specs.Engines.{inEngine, answerIn, bookIn}
+use Rattle.ledger_spec.specs.Book.{Gone, wrote, writes, Book, turn, turns}
+use Rattle.engine_laws.specs.Engines.{inEngine, bookIn}
 use Rattle.engine_laws.specs.Alike.{Heard, heard, after, Twins, BothEngines}
 use Rattle.engine_laws.proofs.Looks.{top-in}
 use Rattle.engine_laws.proofs.Answered.{answer-engine}

@@ -1,16 +1,15 @@
 -- A call answers the same number, node and notices in either engine, and leaves the same bench in the engine. Assumes nothing.
 use Prim.Native.Nat.{ℕ, zero, suc}
-use mathlib.Core.Path.{_≡_, refl, ap, _∙_}
+use mathlib.Core.Path.{_≡_, refl, _∙_}
 use mathlib.Core.Bool.{Bool}
-use mathlib.Core.Option.{Option, none}
-use mathlib.Core.List.{List, [], _∷_, _++_, map}
-use Rattle.ledger_spec.specs.Bench.{Handle, grows, stays, Bench}
+use mathlib.Core.Option.{none}
+use mathlib.Core.List.{List}
+use Rattle.ledger_spec.specs.Bench.{Handle, Bench}
 use Rattle.ledger_spec.specs.Look.{freeSlot, nodeNamed}
 use Rattle.ledger_spec.specs.Change.{mark}
 use Rattle.ledger_spec.specs.Tests.{first}
-use Rattle.ledger_spec.specs.Refuse.{unitTests, defectTests, blossomTests, expandTests, stateTests, growTests, fuseTests, markTests}
-use Rattle.ledger_spec.specs.Deeds.{newHandle, addDefect, addBlossom, removeBlossom, growBy, join, wipe, choose}
-use Rattle.ledger_spec.specs.Calls.{Reply, nobody, settle, defectCall, blossomCall, expandCall, stateCall, growCall, fuseCall, clearCall, markCall, Call, Defect, Blossom, Expand, SetState, Grow, Fuse, Clear, Mark, perform}
+use Rattle.ledger_spec.specs.Deeds.{addDefect, addBlossom, removeBlossom, growBy, join, wipe, choose}
+use Rattle.ledger_spec.specs.Calls.{settle, defectCall, blossomCall, expandCall, stateCall, growCall, fuseCall, clearCall, markCall, Call, Defect, Blossom, Expand, SetState, Grow, Fuse, Clear, Mark, perform}
 use Rattle.ledger_spec.specs.Notices.{tells}
 use Rattle.engine_laws.specs.Engines.{inEngine, replyIn}
 use Rattle.engine_laws.proofs.Tests.{unit-tests, defect-tests, blossom-tests, expand-tests, state-tests, grow-tests, mark-tests, fuse-tests}

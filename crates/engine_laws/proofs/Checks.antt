@@ -1,16 +1,16 @@
 -- Both checks find the same in either engine: verdict and index. Assumes nothing.
 use Prim.Native.Nat.{ℕ, zero, suc}
-use mathlib.Core.Path.{_≡_, refl, ap, _∙_}
+use mathlib.Core.Path.{_≡_, refl, _∙_}
 use mathlib.Core.Bool.{Bool, true, false, _||_, _&&_}
 use mathlib.Core.Option.{Option, none, some}
 use mathlib.Core.List.{List, [], _∷_}
 use lib.Dec.{eqb}
-use lib.IntN.{ℤ, _-ℤ_, natAbs}
+use lib.IntN.{_-ℤ_, natAbs}
 use Rattle.ledger_spec.specs.Bench.{Handle, Member, defect, blossom, Node, Bench}
 use Rattle.ledger_spec.specs.Look.{interface, nodeNamed, sameHandle}
 use Rattle.ledger_spec.specs.Tests.{first, any, stale, isDefect}
 use Rattle.ledger_spec.specs.Reads.{said, slotsOf}
-use Rattle.ledger_spec.specs.Walk.{parentIn, outermost}
+use Rattle.ledger_spec.specs.Walk.{parentIn}
 use Rattle.ledger_spec.specs.Check.{indexIn, memberVerdict, circleVerdict, finding, totalOf, verdict, arrives, isUnder, strictMember, strictCircle, strictFinding, strictVerdict, checkOf, strictOf}
 use Rattle.engine_laws.specs.Engines.{inEngine}
 use Rattle.engine_laws.proofs.Looks.{slots-in}

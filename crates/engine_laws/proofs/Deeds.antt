@@ -7,12 +7,12 @@ use mathlib.Core.List.{List, [], _∷_, map}
 use lib.Dec.{eqb}
 use lib.ListN.{set}
 use lib.IntN.{ℤ, pos, _-ℤ_}
-use Rattle.ledger_spec.specs.Bench.{Handle, State, grows, stays, Class, blossom, Node, Marking, Interface, Bench, fresh, withSlots}
-use Rattle.ledger_spec.specs.Look.{interface, slotOf, freeSlot, nodeNamed, top}
+use Rattle.ledger_spec.specs.Bench.{Handle, State, grows, stays, blossom, Node, Marking, Interface, Bench, fresh, withSlots}
+use Rattle.ledger_spec.specs.Look.{interface, slotOf, freeSlot, nodeNamed}
 use Rattle.ledger_spec.specs.Change.{share, withInterface, faster, place, push, restate, mark, markAll}
 use Rattle.ledger_spec.specs.Deeds.{newHandle, addDefect, circle, sizes, addBlossom, members, removeBlossom, growSlot, across, booked, growBy, join, choose, wipe}
 use Rattle.engine_laws.specs.Engines.{inEngine}
-use Rattle.engine_laws.proofs.Looks.{top-in, node-in, free-in, sizes-in}
+use Rattle.engine_laws.proofs.Looks.{top-in, node-in, sizes-in}
 
 -- ---- the changes that deeds are made of
 module _ (m : Bool) where

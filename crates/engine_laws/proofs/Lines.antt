@@ -3,38 +3,37 @@ use Prim.Native.Nat.{ℕ}
 use mathlib.Core.Path.{_≡_, refl, ap, _∙_}
 use mathlib.Core.Bool.{Bool}
 use mathlib.Core.List.{List, [], _∷_, map}
-use lib.IntN.{ℤ}
-use Rattle.ledger_spec.specs.Bench.{Handle, Bench}
+use Rattle.ledger_spec.specs.Bench.{Bench}
 use Rattle.ledger_spec.specs.Calls.{Call, Defect, Blossom, Expand, SetState, Grow, Fuse, Clear}
 use Rattle.ledger_spec.specs.SoundTree.{units}
-use Rattle.ledger_spec.specs.Answers.{Answer, answer, read, checkRead}
+use Rattle.ledger_spec.specs.Answers.{Answer, answer}
 use Rattle.ledger_spec.specs.Grammar.{Line, D, B, E, S, G, F, C, K, wrong}
 use Rattle.ledger_spec.specs.Lines.{LineAnswer, seek, named, shown, calls, checks, says}
 use Rattle.ledger_spec.specs.Program.{answers, afterLines, texts}
-use Rattle.engine_laws.specs.Engines.{inEngine, answerIn, lineIn}
+use Rattle.engine_laws.specs.Engines.{inEngine, lineIn}
 use Rattle.engine_laws.proofs.Looks.{gather-in}
 use Rattle.engine_laws.specs.Questions.{Check}
 use Rattle.engine_laws.proofs.Answered.{answer-engine}
 use Rattle.engine_laws.proofs.Asked.{read-engine}
 
 module _ (m : Bool) where
-  shown-in : (n k : ℕ) (b : Bench) (u : ℕ) → shown n k (inEngine m b) u ≡ shown n k b u
+  pub shown-in : (n k : ℕ) (b : Bench) (u : ℕ) → shown n k (inEngine m b) u ≡ shown n k b u
   unfolding shown
   shown-in n k b u = refl
 
   module _ (b : Bench) where
-    named-in : (k : ℕ) → named (inEngine m b) k ≡ named b k
+    pub named-in : (k : ℕ) → named (inEngine m b) k ≡ named b k
     unfolding named
     named-in k = λ i. seek k (gather-in m b units i)
 
-    calls-in : (u : ℕ) (c c′ : Call) → c ≡ c′ → calls (inEngine m b) u c ≡ lineIn m (calls b u c′)
+    pub calls-in : (u : ℕ) (c c′ : Call) → c ≡ c′ → calls (inEngine m b) u c ≡ lineIn m (calls b u c′)
     unfolding calls shown
     calls-in u c c′ e = (λ i. wrote (answer (inEngine m b) (e i))) ∙ ap wrote (answer-engine m b c′)
       where
         wrote : Answer → LineAnswer
         wrote a = record { numbers = shown (a .number) (a .node .serial) (a .bench) u; bench = a .bench }
 
-    checks-in : (u : ℕ) → checks (inEngine m b) u ≡ lineIn m (checks b u)
+    pub checks-in : (u : ℕ) → checks (inEngine m b) u ≡ lineIn m (checks b u)
     unfolding checks shown
     checks-in u = λ i. record { numbers = shown (read-engine m b (Check u) i .0) (read-engine m b (Check u) i .1 .0) b u; bench = inEngine m b }
 

@@ -2,10 +2,10 @@
 use Prim.Native.Nat.{ℕ, zero, suc, _+_}
 use mathlib.Core.Path.{_≡_, refl, ap, _∙_}
 use mathlib.Core.Bool.{Bool}
-use mathlib.Core.Option.{Option, none, some}
+use mathlib.Core.Option.{none, some}
 use mathlib.Core.List.{List, [], _∷_, _++_}
-use Rattle.ledger_spec.specs.Bench.{Handle, Node, Bench}
-use Rattle.ledger_spec.specs.Look.{interface, freeSlot, ifSerial, nodeNamed, climb, top, tree}
+use Rattle.ledger_spec.specs.Bench.{Handle, Bench}
+use Rattle.ledger_spec.specs.Look.{interface, freeSlot, nodeNamed, climb, top, tree}
 use Rattle.ledger_spec.specs.Deeds.{sizeOf, sizes}
 use Rattle.ledger_spec.specs.Reads.{slotsFrom, gather, slotsOf}
 use Rattle.engine_laws.specs.Engines.{inEngine}

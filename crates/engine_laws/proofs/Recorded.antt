@@ -11,7 +11,7 @@ use lib.Signed.{ltZ}
 use Rattle.ledger_spec.specs.Numbers.{BROKEN, LENGTH, SMALL, SHORT}
 use Rattle.ledger_spec.specs.Bench.{Bench}
 use Rattle.ledger_spec.specs.Tests.{first}
-use Rattle.ledger_spec.specs.Refuse.{unitTests, growTests}
+use Rattle.ledger_spec.specs.Refuse.{growTests}
 use Rattle.ledger_spec.specs.Deeds.{growBy}
 use Rattle.ledger_spec.specs.Sound.{sound}
 use Rattle.ledger_spec.specs.Groups.{Group}

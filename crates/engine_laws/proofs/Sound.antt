@@ -1,22 +1,20 @@
 -- A bench is sound in either engine or in none. Assumes nothing.
 use Prim.Native.Nat.{ℕ, _+_, _*_}
 use mathlib.Core.Path.{_≡_, refl, ap, _∙_}
-use mathlib.Core.Bool.{Bool, true, false, not, _&&_, _||_}
+use mathlib.Core.Bool.{Bool, true, _&&_}
 use mathlib.Core.Option.{Option, none, some}
 use mathlib.Core.List.{List, [], _∷_, map}
 use lib.ListN.{length}
 use lib.Dec.{eqb, leb, ltb}
-use lib.IntN.{ℤ, _-ℤ_, natAbs}
+use lib.IntN.{_-ℤ_, natAbs}
 use Rattle.ledger_spec.specs.Numbers.{serialLimit, circleLimit}
 use Rattle.ledger_spec.specs.Bench.{Handle, Member, Class, defect, blossom, Node, Bench}
-use Rattle.ledger_spec.specs.Look.{interface, nodeNamed, top, tree, sameHandle}
-use Rattle.ledger_spec.specs.Tests.{floored}
-use Rattle.ledger_spec.specs.Deeds.{sizes, members}
-use Rattle.ledger_spec.specs.Reads.{gather, slotsOf}
+use Rattle.ledger_spec.specs.Look.{interface, nodeNamed, tree, sameHandle}
+use Rattle.ledger_spec.specs.Deeds.{members}
 use Rattle.ledger_spec.specs.SoundTree.{all, units, tally, linksUp, linksDown, soundInterface, reach}
 use Rattle.ledger_spec.specs.Sound.{isStay, sameParent, soundTouch, soundClass, soundParent, soundSlot, rates, soundTop, serials, different, soundFloor, soundPlain, sound}
 use Rattle.engine_laws.specs.Engines.{inEngine}
-use Rattle.engine_laws.proofs.Looks.{top-in, tree-in, node-in, sizes-in, gather-in, slots-in}
+use Rattle.engine_laws.proofs.Looks.{top-in, tree-in, sizes-in, gather-in, slots-in}
 
 module _ (m : Bool) (b : Bench) where
   class-in : (h : Handle) (c : Class) (n : ℕ) → soundClass (inEngine m b) h c n ≡ soundClass b h c n

@@ -3,13 +3,13 @@ use Prim.Native.Nat.{ℕ}
 use mathlib.Core.Path.{_≡_, refl}
 use mathlib.Core.Bool.{Bool, _&&_, _||_, not}
 use mathlib.Core.List.{List, [], _∷_, _++_}
-use lib.Dec.{eqb, leb, ltb}
+use lib.Dec.{eqb, ltb}
 use lib.ListN.{length}
 use lib.IntN.{ℤ, pos, _+ℤ_}
 use lib.Signed.{ltZ}
 use Rattle.ledger_spec.specs.Numbers.{progressLimit, circleLimit, UNIT, CHILD, LENGTH, CIRCLE, TOUCH, STALE, FOREIGN, KIND, INSIDE, TWICE, FULL, WORN, BELOW}
 use Rattle.ledger_spec.specs.Bench.{Handle, Bench}
-use Rattle.ledger_spec.specs.Look.{interface, freeSlot, nodeNamed, top}
+use Rattle.ledger_spec.specs.Look.{interface, freeSlot, nodeNamed}
 use Rattle.ledger_spec.specs.Tests.{any, empty, outside, child, stale, foreign, isDefect, hasParent, twice, full, worn, floored, sinks, below, both}
 use Rattle.ledger_spec.specs.Refuse.{unitTests, defectTests, blossomTests, expandTests, stateTests, growTests, markTests, fuseTests}
 use Rattle.ledger_spec.specs.SoundTree.{units}

@@ -1,5 +1,4 @@
 -- The same bench in an engine, and what leaves a bench with that bench in the engine. Assumes nothing.
-use Prim.Native.Nat.{ℕ}
 use mathlib.Core.Bool.{Bool}
 use Rattle.ledger_spec.specs.Bench.{Bench}
 use Rattle.ledger_spec.specs.Calls.{Reply}
