@@ -43,4 +43,4 @@ linkAt b u = leb (getD b (ibase u + 5) 0) 8
 
 -- the word of its marks: no bit that is no mark's
 unfoldable pub flagsAt : List ℕ → ℕ → Bool
-flagsAt b u = leb (getD b (ibase u + 9) 0) 3
+flagsAt b u = leb (getD b (ibase u + 9) 0) 7

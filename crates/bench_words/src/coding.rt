@@ -65,5 +65,5 @@ pub fn is_flags(b: &[u64; WORDS], u: usize) -> bool
     ensures { λ r. ⌜ r ≡ flagsAt (now (b .entry)) u ⌝ }
 {
     let at = u * 16;
-    b[at + 9] <= 3
+    b[at + 9] <= 7
 }
