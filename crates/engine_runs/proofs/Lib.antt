@@ -1,0 +1,5 @@
+pub mod Asks
+pub mod Runs
+pub mod Recorded
+pub mod Files
+pub mod Sessions
