@@ -32,7 +32,7 @@ after-more : (b : Bench) (l : Line) (ls : List Line) → afterLines b (l ∷ ls)
 unfolding afterLines
 after-more b l ls = refl
 
-texts-none : texts [] ≡ []
+pub texts-none : texts [] ≡ []
 unfolding texts
 texts-none = refl
 

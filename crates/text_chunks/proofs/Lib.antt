@@ -4,3 +4,5 @@ pub mod Answering
 pub mod Circles
 pub mod Going
 pub mod Opening
+pub mod Opened
+pub mod Choices
