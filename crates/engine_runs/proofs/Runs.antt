@@ -16,7 +16,8 @@ use Rattle.run_laws.specs.Ran.{Ran, stop, next}
 use Rattle.run_laws.proofs.Running.{says, shows, stays-sound}
 use Rattle.engine_laws.specs.Engines.{inEngine, answerIn}
 use Rattle.engine_laws.proofs.Answered.{answer-engine}
-use Rattle.engine_runs.specs.Alike.{OpenedIn, Twins, Alike}
+use Rattle.call_set_up.specs.Opened.{OpenedIn}
+use Rattle.engine_runs.specs.Alike.{Twins, Alike}
 use Rattle.engine_runs.proofs.Asks.{asked-alike}
 
 -- ---- one call
