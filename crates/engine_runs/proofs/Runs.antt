@@ -16,7 +16,9 @@ use Rattle.run_laws.specs.Ran.{Ran, stop, next}
 use Rattle.run_laws.proofs.Running.{says, shows, stays-sound}
 use Rattle.engine_laws.specs.Engines.{inEngine, answerIn}
 use Rattle.engine_laws.proofs.Answered.{answer-engine}
-use Rattle.engine_runs.specs.Alike.{OpenedIn, Twins, Alike}
+use Rattle.call_set_up.specs.Opened.{OpenedIn}
+use Rattle.call_set_up.proofs.Opening.{opened-in}
+use Rattle.engine_runs.specs.Alike.{Twins, Alike}
 use Rattle.engine_runs.proofs.Asks.{asked-alike}
 
 -- ---- one call
@@ -42,7 +44,7 @@ engines-run T (next x R) (next y S) =
 
 -- ---- from set-up, with any first serial
 pub opened-twins : {n : ℕ} {p l : List ℕ} → OpenedIn true n p → OpenedIn false n l → Twins true p l
-opened-twins P L = record { one = P .words; other = L .words; seen = P .seen ∙ sym (ap (inEngine true) (L .seen)) }
+opened-twins {n} P L = record { one = P .words; other = L .words; seen = P .seen ∙ opened-in true n ∙ sym (ap (inEngine true) (L .seen)) }
 
 module _ {n : ℕ} {p l : List ℕ} (P : OpenedIn true n p) (L : OpenedIn false n l) {cs : List Call} {rs ss : List Answer} {p′ l′ : List ℕ} (R : Ran p cs rs p′) (S : Ran l cs ss l′) where
   pub runs-alike : Alike true rs ss p′ l′

@@ -5,7 +5,8 @@ use mathlib.Core.Path.{_≡_, refl, ap, ap₂}
 use mathlib.Core.Bool.{Bool, true, false}
 use mathlib.Core.List.{List, _∷_}
 use Rattle.engine_runs.specs.Session.{Step, Seen, called, grown, ran, told, Session, stop, calls, grows, files, asks}
-use Rattle.engine_runs.specs.Alike.{OpenedIn, Twins, Alike}
+use Rattle.call_set_up.specs.Opened.{OpenedIn}
+use Rattle.engine_runs.specs.Alike.{Twins, Alike}
 use Rattle.engine_runs.proofs.Asks.{asked-alike}
 use Rattle.engine_runs.proofs.Runs.{called-alike, called-twins, opened-twins}
 use Rattle.engine_runs.proofs.Recorded.{recorded-alike, recorded-twins}

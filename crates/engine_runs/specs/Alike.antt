@@ -3,16 +3,10 @@ use Prim.Native.Nat.{ℕ}
 use mathlib.Core.Path.{_≡_}
 use mathlib.Core.Bool.{Bool}
 use mathlib.Core.List.{List}
-use Rattle.ledger_spec.specs.Bench.{setUpIn}
 use Rattle.bench_views.specs.View.{view}
 use Rattle.bench_views.specs.Fit.{SoundWords}
 use Rattle.engine_laws.specs.Engines.{inEngine}
 use Rattle.engine_runs.specs.Asked.{Question, asked}
-
--- the words that set-up leaves in an engine, from serial n
-pub record OpenedIn (m : Bool) (n : ℕ) (b : List ℕ) : Type 0 where
-  pub words : SoundWords b
-  pub seen : view b ≡ setUpIn m n
 
 -- sound words p and l whose benches differ in the engine alone, p's being m
 pub record Twins (m : Bool) (p l : List ℕ) : Type 0 where
