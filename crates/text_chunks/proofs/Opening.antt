@@ -58,8 +58,10 @@ first-met (x ∷ c) p = go (ℕ-discrete x 10) (first-met c (p ++ (x ∷ [])))
   where
     on : (e : x ≡ 10 → ⊥) → firstLine (take 1024 p) (x ∷ c) ≡ firstLine (take 1024 (p ++ (x ∷ []))) c
     on e = first-on (take 1024 p) x c e ∙ ap (λ (q : List ℕ). firstLine q c) (keep-more p x)
+
     left-more : (e : x ≡ 10 → ⊥) → left (take 1024 p) (x ∷ c) ≡ left (take 1024 (p ++ (x ∷ []))) c
     left-more e = left-on (take 1024 p) x c e ∙ ap (λ (q : List ℕ). left q c) (keep-more p x)
+
     go : Dec (x ≡ 10) → Met (p ++ (x ∷ [])) c → Met p (x ∷ c)
     go (yes e) m =
         ends [] c (first-end (take 1024 p) x c e ∙ ap (λ (q : List ℕ). some (take 1024 q, c)) (sym (append-nil p))) (left-end (take 1024 p) x c e)
@@ -169,6 +171,7 @@ opens-leaves s = go (first-met s [])
     -- s and nothing after it
     bare : (u : List ℕ) (vs : List (List ℕ)) → upto 10 (s ++ []) ≡ u → partsAfter 10 (s ++ []) ≡ vs → openAfter (upto 10 s ∷ partsAfter 10 s) ≡ openAfter (u ∷ vs)
     bare u vs e f = (λ i. openAfter ((ap (upto 10) (sym (append-nil s)) ∙ e) i ∷ (ap (partsAfter 10) (sym (append-nil s)) ∙ f) i))
+
     go : Met [] s → openBench (firstLine [] s) ≡ openAfter (upto 10 s ∷ partsAfter 10 s)
     go (goes f k w) = ap openBench f ∙ sym (bare (s ++ upto 10 []) [] (w [] .0) (w [] .1 ∙ after-none 10) ∙ one-after (s ++ upto 10 []))
     go (ends l t f k w) =
