@@ -4,6 +4,7 @@ use mathlib.Core.Bool.{Bool, true, false}
 use mathlib.Core.Path.{_≡_}
 use mathlib.Core.Option.{Option, none, some}
 use mathlib.Core.List.{List, [], _∷_, _++_}
+use lib.Dec.{eqb}
 use lib.IntN.{ℤ}
 use lib.ListN.{length, take}
 use Rattle.text_decimals.specs.Wrote.{Wrote}
@@ -24,7 +25,6 @@ abbrev pub openBench : Option (List ℕ × List ℕ) → Bench
 openBench none = setUp 1
 openBench (some x) = afterLines (opening (x .0) .bench) (lines [] (x .1))
 
--- whether the next chunk opens too
 abbrev pub isNone : Option (List ℕ × List ℕ) → Bool
 isNone none = true
 isNone (some x) = false
@@ -37,12 +37,13 @@ pub record FirstAnswered (o : LineAnswer) (b′ : Bench) (out out′ : List ℕ)
   pub text : Wrote out 0 (textOf (o .numbers)) out′ r
   pub few : length (textOf (o .numbers)) ≤ 57
 
--- a chunk was answered at the front, where p was held of the first line before it, and the front of buf′ is held after it
-pub record OpeningAnswered (chunk p out : List ℕ) (b′ : Bench) (buf′ out′ : List ℕ) (held wrote : ℕ) (fresh : Bool) : Type 0 where
+-- a chunk was answered at the front, where p was held of the first line before it, and the front of buf′ is held after it; nothing was written exactly where
+-- the first line is not ended yet
+pub record OpeningAnswered (chunk p out : List ℕ) (b′ : Bench) (buf′ out′ : List ℕ) (held wrote : ℕ) : Type 0 where
   pub bench : b′ ≡ openBench (firstLine p chunk)
   pub text : Wrote out 0 (texts (openSaid (firstLine p chunk))) out′ wrote
   pub kept : take held buf′ ≡ left p chunk
-  pub opens : fresh ≡ isNone (firstLine p chunk)
+  pub unended : eqb wrote 0 ≡ isNone (firstLine p chunk)
   pub short : held ≤ 1024
   pub long : length buf′ ≡ 1024
 

@@ -1,6 +1,5 @@
 -- A whole input is one chunk and its end. Assumes nothing.
 use Prim.Native.Nat.{ℕ}
-use mathlib.Core.Bool.{Bool}
 use mathlib.Core.Path.{_≡_, refl, sym, _∙_, ap}
 use mathlib.Core.Option.{Option, none, some}
 use mathlib.Core.List.{List, [], _∷_, _++_, append-nil}
@@ -26,9 +25,9 @@ one-chunk : (s : List ℕ) → texts (openSaid (firstLine [] s)) ++ texts (answe
 unfolding openReplies joined
 one-chunk s = ends-there (firstLine [] s) (left [] s) ∙ opens-program (s ∷ []) ∙ ap program (append-nil s)
 
-pub all-done : (s buf out b′ buf′ out′ : List ℕ) (held wrote : ℕ) (fresh : Bool) → OpeningDone s (take 0 buf) out b′ buf′ out′ held wrote fresh
+pub all-done : (s buf out b′ buf′ out′ : List ℕ) (held wrote : ℕ) → OpeningDone s (take 0 buf) out b′ buf′ out′ held wrote
     → (out″ : List ℕ) (r : ℕ) → Finished held out′ wrote out″ r → AllDone s out b′ out″ r
-all-done s buf out b′ buf′ out′ held wrote fresh C out″ r F =
+all-done s buf out b′ buf′ out′ held wrote C out″ r F =
     let a = C .answered in
     let x = firstLine [] s in
     let l : length (take held buf′) ≡ held = length-take-le held buf′ (omega (arith, a .short, a .long)) in

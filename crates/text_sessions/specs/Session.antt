@@ -43,15 +43,15 @@ pub record FirstDone (line b′ out out′ : List ℕ) (r : ℕ) : Type 0 where
   pub answered : FirstAnswered (opening line) (view b′) out out′ r
 
 -- a chunk, where p is held of the first line
-pub record OpeningDone (chunk p out b′ buf′ out′ : List ℕ) (held wrote : ℕ) (fresh : Bool) : Type 0 where
+pub record OpeningDone (chunk p out b′ buf′ out′ : List ℕ) (held wrote : ℕ) : Type 0 where
   pub words : SoundWords b′
-  pub answered : OpeningAnswered chunk p out (view b′) buf′ out′ held wrote fresh
+  pub answered : OpeningAnswered chunk p out (view b′) buf′ out′ held wrote
   pub few : wrote ≤ 57 * length chunk
 
 -- a chunk in turn: it may end the first line, or that is past
-pub record NextDone (opens : Bool) (b chunk p out b′ buf′ out′ : List ℕ) (held wrote : ℕ) (fresh : Bool) : Type 0 where
-  pub first : opens ≡ true → OpeningDone chunk p out b′ buf′ out′ held wrote fresh
-  pub later : opens ≡ false → ChunkDone b chunk p out b′ buf′ out′ held wrote × (fresh ≡ false)
+pub record NextDone (opens : Bool) (b chunk p out b′ buf′ out′ : List ℕ) (held wrote : ℕ) : Type 0 where
+  pub first : opens ≡ true → OpeningDone chunk p out b′ buf′ out′ held wrote
+  pub later : opens ≡ false → ChunkDone b chunk p out b′ buf′ out′ held wrote
 
 -- ---- its end
 

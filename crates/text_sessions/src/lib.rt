@@ -15,13 +15,6 @@ pub struct Taken {
     pub wrote: usize,
 }
 
-// The same of a chunk that may begin an input, and whether the next one does: the first line is not ended yet.
-pub struct Begun {
-    pub held: usize,
-    pub wrote: usize,
-    pub fresh: bool,
-}
-
 // Makes any words the bench that the text program starts with.
 pub fn start(b: &mut [u64; WORDS])
     ensures { λ _. ⌜ Started (now (b .exit)) ⌝ }
@@ -117,7 +110,7 @@ fn answer_first(
 }
 
 // Answers a chunk that begins an input, or goes on with its first line: from any words, which become the bench that the input starts with. `before` bytes of
-// the first line are held already.
+// the first line are held already. Nothing is written exactly where the first line is not ended yet: then the next chunk opens too.
 pub fn answer_opening(
     b: &mut [u64; WORDS],
     chunk: &[u8],
@@ -126,27 +119,18 @@ pub fn answer_opening(
     serials: &mut [u64],
     hints: &mut [u16; HINTS],
     out: &mut [u8],
-) -> Begun
+) -> Taken
     requires { ⌜ (65 ≤ length (now serials)) × (length (now buf) ≡ 1024) × (before ≤ 1024) × (57 * length (now chunk) ≤ length (now out)) ⌝ }
-    ensures { λ r. ⌜ OpeningDone (now (chunk .entry)) (take before (now (buf .entry))) (now (out .entry)) (now (b .exit)) (now (buf .exit)) (now (out .exit)) (r .held) (r .wrote) (r .fresh) ⌝ }
+    ensures { λ r. ⌜ OpeningDone (now (chunk .entry)) (take before (now (buf .entry))) (now (out .entry)) (now (b .exit)) (now (buf .exit)) (now (out .exit)) (r .held) (r .wrote) ⌝ }
 {
     start(b);
     let f = text_chunks::feed(chunk, 0, buf, before);
     let n = f.held;
     if !f.ended {
-        return Begun {
-            held: n,
-            wrote: 0,
-            fresh: true,
-        };
+        return Taken { held: n, wrote: 0 };
     }
     let first = answer_first(b, &buf[..n], serials, hints, out);
-    let t = answer_rest(b, chunk, f.at, buf, 0, serials, hints, out, first);
-    Begun {
-        held: t.held,
-        wrote: t.wrote,
-        fresh: false,
-    }
+    answer_rest(b, chunk, f.at, buf, 0, serials, hints, out, first)
 }
 
 // Answers an input's next chunk: `fresh` where its first line is not ended yet.
@@ -159,19 +143,14 @@ pub fn answer_next(
     serials: &mut [u64],
     hints: &mut [u16; HINTS],
     out: &mut [u8],
-) -> Begun
+) -> Taken
     requires { ⌜ SoundWords (now b) × (65 ≤ length (now serials)) × (length (now buf) ≡ 1024) × (before ≤ 1024) × (57 * length (now chunk) ≤ length (now out)) ⌝ }
-    ensures { λ r. ⌜ NextDone fresh (now (b .entry)) (now (chunk .entry)) (take before (now (buf .entry))) (now (out .entry)) (now (b .exit)) (now (buf .exit)) (now (out .exit)) (r .held) (r .wrote) (r .fresh) ⌝ }
+    ensures { λ r. ⌜ NextDone fresh (now (b .entry)) (now (chunk .entry)) (take before (now (buf .entry))) (now (out .entry)) (now (b .exit)) (now (buf .exit)) (now (out .exit)) (r .held) (r .wrote) ⌝ }
 {
     if fresh {
         return answer_opening(b, chunk, buf, before, serials, hints, out);
     }
-    let t = answer_chunk(b, chunk, buf, before, serials, hints, out);
-    Begun {
-        held: t.held,
-        wrote: t.wrote,
-        fresh: false,
-    }
+    answer_chunk(b, chunk, buf, before, serials, hints, out)
 }
 
 // The input ends: a last line without newline is one LINE.
