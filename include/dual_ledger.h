@@ -87,6 +87,11 @@ extern "C" {
 /* Makes the words a bench of eight empty interfaces whose next serial is first. Answers 0, or WORN for first = 0: then it is as from serial 1. */
 uint8_t dual_ledger_set_up(uint64_t *bench, uint32_t first);
 
+/* The same for the plain engine: every growth adds to each value of the tree, fused halves included, so that word 128 + 12 k + 9 of a node is its value + 2^60 at any
+ * time. Every call, read and check then answers as in the lazy engine; a growth takes time that goes with the nodes of its tree. The engine is the bench's: kept by
+ * every call, clears included. */
+uint8_t dual_ledger_set_up_plain(uint64_t *bench, uint32_t first);
+
 /* 1 where the words are a sound bench, else 0. Any words may be lent. Word 16 u + 8 is the map of interface u, bit s for slot s: words stored before there was
  * one have 0 there, and are no sound bench if they hold a node (docs/MIGRATING.md says how to take them over). Word 16 u + 9 has its marks: 1 where it fills
  * emptied slots, 2 where it is floored, 3 where both, and no other bit. */

@@ -89,6 +89,13 @@ impl Sound {
         (bench, number)
     }
 
+    /// The same in the plain engine.
+    pub fn set_up_plain(first: u32) -> (Box<Self>, u8) {
+        let mut bench = Box::new(Sound([0; WORDS]));
+        let number = any::set_up_plain(&mut bench.0, first);
+        (bench, number)
+    }
+
     /// The words, if they are sound.
     pub fn tested(words: &Words) -> Option<Box<Self>> {
         (any::is_sound(words) == 1).then(|| Box::new(Sound(*words)))
@@ -246,6 +253,7 @@ pub mod any {
 
     link! { ""
         set_up(bench: &mut Words, first: u32) -> u8;
+        set_up_plain(bench: &mut Words, first: u32) -> u8;
         is_sound(bench: &Words) -> u8;
         create_defect_node(bench: &mut Words, unit: u8, vertex: u32, answer: &mut AnswerWords) -> u8;
         expand_blossom(bench: &mut Words, unit: u8, node: Handle, answer: &mut AnswerWords) -> u8;

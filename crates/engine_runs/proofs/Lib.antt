@@ -3,3 +3,4 @@ pub mod Runs
 pub mod Recorded
 pub mod Files
 pub mod Sessions
+pub mod Stored

@@ -2,3 +2,4 @@
 pub mod Asked
 pub mod Session
 pub mod Alike
+pub mod Stored
