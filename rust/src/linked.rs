@@ -362,6 +362,17 @@ pub mod text {
         unsafe { linked(bench, chunk.as_ptr(), chunk.len(), buf, held, hints, out.as_mut_ptr(), out.len(), wrote) }
     }
 
+    /// It sets the words up, whatever they hold.
+    pub fn opening(bench: &mut Sound, chunk: &[u8], buf: &mut Held, held: &mut usize, hints: &mut Hints, out: &mut [u8], wrote: &mut usize) -> u8 {
+        #[rustfmt::skip]
+        extern "C" {
+            #[link_name = "dual_ledger_text_opening"]
+            fn linked(bench: &mut Sound, chunk: *const u8, bytes: usize, buf: &mut Held, held: &mut usize, hints: &mut Hints, out: *mut u8, room: usize, wrote: &mut usize) -> u8;
+        }
+        // SAFETY: as above; both slices are of the lengths said, and `out` is lent alone
+        unsafe { linked(bench, chunk.as_ptr(), chunk.len(), buf, held, hints, out.as_mut_ptr(), out.len(), wrote) }
+    }
+
     pub fn end(held: usize, out: &mut [u8], wrote: &mut usize) -> u8 {
         extern "C" {
             #[link_name = "dual_ledger_text_end"]

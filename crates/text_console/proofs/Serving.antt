@@ -1,6 +1,7 @@
 -- From piece to piece: what a session needs holds, and no slice changes its length. Assumes nothing.
 use Prim.Native.Nat.{ℕ, _≤_}
 use mathlib.Core.Path.{_≡_, refl, _∙_, ap}
+use mathlib.Core.Bool.{Bool}
 use mathlib.Core.List.{List}
 use native.Mathlib.Omega.{arith}
 use lib.ListN.{length, replicate, length-replicate}
@@ -21,10 +22,10 @@ pub serving-start : (b piece buf serials out : List ℕ) → Ready b piece buf 0
 serving-start b piece buf serials out r e = record { ready = r; end = e; same-piece = refl; same-buf = refl; same-serials = refl; same-out = refl }
 
 pub serving-on : (piece₀ buf₀ serials₀ out₀ b piece buf : List ℕ) (held : ℕ) (serials out : List ℕ) → Serving piece₀ buf₀ serials₀ out₀ b piece buf held serials out
-    → (b′ piece′ buf′ serials′ out′ : List ℕ) (r : Next) → Served b′ r → (h : ℕ) → r ≡ More h
+    → (b′ piece′ buf′ serials′ out′ : List ℕ) (r : Next) → Served b′ r → (h : ℕ) (f : Bool) → r ≡ More h f
     → length piece′ ≡ length piece → length buf′ ≡ length buf → length serials′ ≡ length serials → length out′ ≡ length out
     → Serving piece₀ buf₀ serials₀ out₀ b′ piece′ buf′ h serials′ out′
-serving-on piece₀ buf₀ serials₀ out₀ b piece buf held serials out s b′ piece′ buf′ serials′ out′ r v h e p q k o =
+serving-on piece₀ buf₀ serials₀ out₀ b piece buf held serials out s b′ piece′ buf′ serials′ out′ r v h f e p q k o =
     let y = s .ready in
     record {
       ready = record {
