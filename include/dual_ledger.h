@@ -94,7 +94,7 @@ uint8_t dual_ledger_set_up_plain(uint64_t *bench, uint32_t first);
 
 /* 1 where the words are a sound bench, else 0. Any words may be lent. Word 16 u + 8 is the map of interface u, bit s for slot s: words stored before there was
  * one have 0 there, and are no sound bench if they hold a node (docs/MIGRATING.md says how to take them over). Word 16 u + 9 has its marks: 1 where it fills
- * emptied slots, 2 where it is floored, 3 where both, and no other bit. */
+ * emptied slots, 2 where it is floored, 4 in all eight where the bench is of the plain engine, these added, and no other bit. */
 uint8_t dual_ledger_is_sound(const uint64_t *bench);
 
 /* ---- calls, on any words */

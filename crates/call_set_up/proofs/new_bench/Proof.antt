@@ -1,4 +1,5 @@
 -- As set-up. Assumes nothing.
+use mathlib.Core.Bool.{false}
 use borrow.Author.Needs.{needs}
 use Rattle.call_set_up.proofs.Opening.{opens, opens-worn, lazily}
 use Rattle.call_set_up.proofs.new_bench.Statement.{statement}
