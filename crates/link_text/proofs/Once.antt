@@ -4,7 +4,7 @@ use Prim.Native.Nat.{ℕ, _≤_}
 use mathlib.Core.Path.{_≡_, refl, sym, ap, _∙_}
 use mathlib.Core.Logic.{by-cases}
 use mathlib.Core.Bool.{Bool, true, false}
-use mathlib.Core.List.{List, []}
+use mathlib.Core.List.{List}
 use native.Mathlib.Decide.{ℕ-discrete}
 use native.Mathlib.Omega.{arith}
 use lib.ListN.{length, take, replicate, length-replicate}
@@ -55,6 +55,7 @@ module _ {b chunk p out b′ buf′ out′ b″ buf″ out″ : List ℕ} {n hel
         bytes = a .kept ∙ sym (c .kept);
       }
 
+module _ {chunk p out b′ buf′ out′ b″ buf″ out″ : List ℕ} {n held′ wrote m held″ wrote″ : ℕ} where
   opened-once : OpeningDone chunk p out b′ buf′ out′ held′ wrote → OpeningDone chunk p out b″ buf″ out″ held″ wrote″ → n ≡ m
       → Same b′ buf′ out′ b″ buf″ out″ n held′ wrote m held″ wrote″
   opened-once x y e =
@@ -93,7 +94,7 @@ module _ {b chunk buf : List ℕ} {held : ℕ} {out b′ buf′ out′ b″ buf�
   pub opening-once : OpeningBy b chunk buf held out b′ buf′ out′ n held′ wrote → OpeningBy b chunk buf held out b″ buf″ out″ m held″ wrote″
       → Same b′ buf′ out′ b″ buf″ out″ n held′ wrote m held″ wrote″
   opening-once x y = by-cases (ℕ-discrete n 0)
-      (λ (z : n ≡ 0). opened-once {b = []} (x .done z) (y .done (sym one ∙ z)) one)
+      (λ (z : n ≡ 0). opened-once (x .done z) (y .done (sym one ∙ z)) one)
       (λ (z : n ≡ 0 → ⊥).
       let r = x .refused z in
       let s = y .refused (λ w. z (one ∙ w)) in

@@ -53,7 +53,7 @@ fn step(
     let taken = text_sessions::answer_next(b, &piece[..n], buf, held, fresh, serials, hints, out);
     let wrote = taken.wrote;
     if send(&out[..wrote]) {
-        return Next::More(taken.held, fresh && wrote == 0);
+        return Next::More(taken.held, fresh & (wrote == 0));
     }
     Next::Failed
 }
