@@ -257,7 +257,8 @@ uint8_t dual_ledger_trusted_group_add(const uint64_t *bench, uint64_t *group, co
 uint8_t dual_ledger_trusted_group_extend(const uint64_t *bench, uint64_t *group, const uint64_t *other);
 
 /* ---- text records [Lines] [Answers]. hints are 512 numbers that the caller keeps from line to line; they may hold anything, no answer depends on them, and
- * zeros are right to begin with. The bench of a record is set up from serial 1. */
+ * zeros are right to begin with. The bench of a record is set up from serial 1. A record whose first line may be an M, which chooses the engine, is begun by
+ * dual_ledger_text_opening; to the other functions an M is LINE. */
 
 #define DUAL_LEDGER_HINTS 512
 #define DUAL_LEDGER_HELD 1024
@@ -273,6 +274,11 @@ uint8_t dual_ledger_text_chunk(uint64_t *bench, const uint8_t *chunk, size_t chu
                                size_t out_len, size_t *wrote);
 uint8_t dual_ledger_trusted_text_chunk(uint64_t *bench, const uint8_t *chunk, size_t chunk_len, uint8_t *line, size_t *held, uint16_t *hints, uint8_t *out,
                                        size_t out_len, size_t *wrote);
+/* The same for the chunk that begins a record: it sets the bench up, whatever the words hold, in the engine that the first line chooses, else in the lazy one.
+ * Nothing is written exactly where that line is not ended yet: then the next chunk is given to this function too. BROKEN only where *held is above
+ * DUAL_LEDGER_HELD. */
+uint8_t dual_ledger_text_opening(uint64_t *bench, const uint8_t *chunk, size_t chunk_len, uint8_t *line, size_t *held, uint16_t *hints, uint8_t *out,
+                                 size_t out_len, size_t *wrote);
 /* The record ends: where something is held, a line without newline, its answer LINE is written. SMALL where out has less than DUAL_LEDGER_ANSWER_BYTES bytes. */
 uint8_t dual_ledger_text_end(size_t held, uint8_t *out, size_t out_len, size_t *wrote);
 

@@ -532,6 +532,24 @@ static void text_chunks(int is_trusted, size_t piece) {
     same("answers", (int64_t)total, (int64_t)strlen(replies)), same("answers", memcmp(all, replies, total), 0);
 }
 
+/* The record behind a first line, in pieces of so many bytes, from words that hold nothing: its answer, and the record's. */
+static void text_openings(const char *first, const char *answer, size_t piece) {
+    static uint8_t held_line[DUAL_LEDGER_HELD], out[DUAL_LEDGER_ANSWER_BYTES * 64], all[1024], bytes[1024];
+    size_t held = 0, wrote = 0, total = 0, before = strlen(first), length = before + strlen(record);
+    memcpy(bytes, first, before), memcpy(bytes + before, record, length - before), memset(bench, 255, sizeof bench);
+    for (size_t at = 0; at < length; at += piece) {
+        size_t n = length - at < piece ? length - at : piece;
+        uint8_t number = total ? dual_ledger_trusted_text_chunk(bench, bytes + at, n, held_line, &held, hints, out, sizeof out, &wrote)
+                               : dual_ledger_text_opening(bench, bytes + at, n, held_line, &held, hints, out, sizeof out, &wrote);
+        same("an opening", number, 0);
+        memcpy(all + total, out, wrote), total += wrote;
+    }
+    same("the end", dual_ledger_text_end(held, out, DUAL_LEDGER_ANSWER_BYTES, &wrote), 0);
+    memcpy(all + total, out, wrote), total += wrote;
+    same("the first answer", memcmp(all, answer, strlen(answer)), 0);
+    same("answers", (int64_t)(total - strlen(answer)), (int64_t)strlen(replies)), same("answers", memcmp(all + strlen(answer), replies, strlen(replies)), 0);
+}
+
 /* Too little room, too much held: refused, and all is as it was. */
 static void text_refusals(int is_trusted) {
     uint8_t chunk[2] = {0}, line[DUAL_LEDGER_HELD] = {0}, out[DUAL_LEDGER_ANSWER_BYTES * 2] = {0};
@@ -557,6 +575,10 @@ static void text(void) {
     for (int is_trusted = 0; is_trusted < 2; is_trusted++) {
         text_lines(is_trusted), text_refusals(is_trusted);
         for (size_t piece = 1; piece <= 64; piece++) text_chunks(is_trusted, piece);
+    }
+    for (size_t piece = 1; piece <= 64; piece++) {
+        text_openings("", "", piece), text_openings("M 1\n", "0 0 0 0\n", piece), text_openings("M 0\n", "0 0 0 0\n", piece);
+        text_openings("M 2\nM 1\n", "1 0 0 0\n1 0 0 0\n", piece), text_openings("\nM 1\n", "1 0 0 0\n1 0 0 0\n", piece);
     }
 }
 

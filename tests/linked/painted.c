@@ -209,6 +209,8 @@ static void lines(const char *text) {
     P(dual_ledger_text_chunk, b, t, n, W(held_line), W(&held), W(hints), W(written), sizeof written, W(&wrote));
     held = 0;
     P(dual_ledger_trusted_text_chunk, b, t, n, W(held_line), W(&held), W(hints), W(written), sizeof written, W(&wrote));
+    held = 0;
+    P(dual_ledger_text_opening, b, t, n, W(held_line), W(&held), W(hints), W(written), sizeof written, W(&wrote));
     P(dual_ledger_text_end, 3, W(written), sizeof written, W(&wrote));
 }
 

@@ -4,3 +4,4 @@ pub mod Recorded
 pub mod Files
 pub mod Sessions
 pub mod Stored
+pub mod Programs

@@ -115,7 +115,8 @@ pub fn opening(
             wrote: 0,
         };
     }
-    if out.len() / 57 < chunk.len() {
+    let answers = out.len() / 57;
+    if answers < chunk.len() {
         return Chunked {
             number: numbers::SMALL,
             held,
