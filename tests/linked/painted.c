@@ -150,6 +150,7 @@ static void small(uint64_t *words, int floored) {
 static void calls(uint64_t unit, uint64_t node, int levels) {
     uint64_t b = W(bench), a = W(answer);
     P(dual_ledger_set_up, b, 1);
+    P(dual_ledger_set_up_plain, b, 1);
     P(dual_ledger_is_sound, b);
     CALL(create_defect_node, b, unit, 9, a);
     CALL(create_blossom, b, unit, W(members), 2, W(touching), 4, a);
