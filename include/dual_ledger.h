@@ -87,9 +87,14 @@ extern "C" {
 /* Makes the words a bench of eight empty interfaces whose next serial is first. Answers 0, or WORN for first = 0: then it is as from serial 1. */
 uint8_t dual_ledger_set_up(uint64_t *bench, uint32_t first);
 
+/* The same for the plain engine: every growth adds to each value of the tree, fused halves included, so that word 128 + 12 k + 9 of a node is its value + 2^60 at any
+ * time. Every call, read and check then answers as in the lazy engine; a growth takes time that goes with the nodes of its tree. The engine is the bench's: kept by
+ * every call, clears included. */
+uint8_t dual_ledger_set_up_plain(uint64_t *bench, uint32_t first);
+
 /* 1 where the words are a sound bench, else 0. Any words may be lent. Word 16 u + 8 is the map of interface u, bit s for slot s: words stored before there was
  * one have 0 there, and are no sound bench if they hold a node (docs/MIGRATING.md says how to take them over). Word 16 u + 9 has its marks: 1 where it fills
- * emptied slots, 2 where it is floored, 3 where both, and no other bit. */
+ * emptied slots, 2 where it is floored, 4 in all eight where the bench is of the plain engine, these added, and no other bit. */
 uint8_t dual_ledger_is_sound(const uint64_t *bench);
 
 /* ---- calls, on any words */
@@ -267,7 +272,8 @@ uint8_t dual_ledger_trusted_grow_recorded(uint64_t *bench, uint8_t unit, int64_t
                                           size_t lengths_len, size_t *taken);
 
 /* ---- text records [Lines] [Answers]. hints are 512 numbers that the caller keeps from line to line; they may hold anything, no answer depends on them, and
- * zeros are right to begin with. The bench of a record is set up from serial 1. */
+ * zeros are right to begin with. The bench of a record is set up from serial 1. A record whose first line may be an M, which chooses the engine, is begun by
+ * dual_ledger_text_opening; to the other functions an M is LINE. */
 
 #define DUAL_LEDGER_HINTS 512
 #define DUAL_LEDGER_HELD 1024
@@ -283,6 +289,11 @@ uint8_t dual_ledger_text_chunk(uint64_t *bench, const uint8_t *chunk, size_t chu
                                size_t out_len, size_t *wrote);
 uint8_t dual_ledger_trusted_text_chunk(uint64_t *bench, const uint8_t *chunk, size_t chunk_len, uint8_t *line, size_t *held, uint16_t *hints, uint8_t *out,
                                        size_t out_len, size_t *wrote);
+/* The same for the chunk that begins a record: it sets the bench up, whatever the words hold, in the engine that the first line chooses, else in the lazy one.
+ * Nothing is written exactly where that line is not ended yet: then the next chunk is given to this function too. BROKEN only where *held is above
+ * DUAL_LEDGER_HELD. */
+uint8_t dual_ledger_text_opening(uint64_t *bench, const uint8_t *chunk, size_t chunk_len, uint8_t *line, size_t *held, uint16_t *hints, uint8_t *out,
+                                 size_t out_len, size_t *wrote);
 /* The record ends: where something is held, a line without newline, its answer LINE is written. SMALL where out has less than DUAL_LEDGER_ANSWER_BYTES bytes. */
 uint8_t dual_ledger_text_end(size_t held, uint8_t *out, size_t out_len, size_t *wrote);
 
@@ -394,6 +405,7 @@ static inline const char *dual_ledger_refusal_name(uint8_t number) {
  *   dual_ledger_sanity_check                          18344
  *   dual_ledger_set_grow_state                          920
  *   dual_ledger_set_up                                   40
+ *   dual_ledger_set_up_plain                             40
  *   dual_ledger_snapshot                              26728
  *   dual_ledger_strict_check                          18344
  *   dual_ledger_sum_dual_variables                      872
@@ -401,6 +413,7 @@ static inline const char *dual_ledger_refusal_name(uint8_t number) {
  *   dual_ledger_text_chunk                            19304
  *   dual_ledger_text_end                                  8
  *   dual_ledger_text_line                             19160
+ *   dual_ledger_text_opening                          19208
  *   dual_ledger_to_records                             8480
  *   dual_ledger_to_text                                1080
  *   dual_ledger_told_create_blossom                     888

@@ -52,6 +52,21 @@ impl Bench {
         settled(number, Bench(bench))
     }
 
+    /// The same in the plain engine: every growth adds to each value of the tree, so that the values can be seen in the words; every answer is as in the
+    /// lazy engine of [`Bench::new`]. The engine is kept by every call, clears included.
+    ///
+    /// # Errors
+    /// [`Refusal::Worn`] for 0.
+    pub fn plain(first_serial: u32) -> Result<Bench, Refusal> {
+        let (bench, number) = Sound::set_up_plain(first_serial);
+        settled(number, Bench(bench))
+    }
+
+    /// Whether the bench is of the plain engine.
+    pub fn is_plain(&self) -> bool {
+        self.words()[9] & 4 != 0
+    }
+
     /// The bench that words hold, tested once.
     ///
     /// # Errors

@@ -37,6 +37,14 @@ pub fn set_up(words: &mut Words, first_serial: u32) -> Result<(), Refusal> {
     settled(any::set_up(words, first_serial), ())
 }
 
+/// Makes the words an empty bench of the plain engine (see [`Bench::plain`](crate::Bench::plain)) whose first node gets this serial.
+///
+/// # Errors
+/// [`Refusal::Worn`] for 0: then the words are a bench as from serial 1.
+pub fn set_up_plain(words: &mut Words, first_serial: u32) -> Result<(), Refusal> {
+    settled(any::set_up_plain(words, first_serial), ())
+}
+
 /// Whether the words hold a sound bench.
 pub fn is_sound(words: &Words) -> bool {
     any::is_sound(words) == 1

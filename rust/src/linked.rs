@@ -89,6 +89,13 @@ impl Sound {
         (bench, number)
     }
 
+    /// The same in the plain engine.
+    pub fn set_up_plain(first: u32) -> (Box<Self>, u8) {
+        let mut bench = Box::new(Sound([0; WORDS]));
+        let number = any::set_up_plain(&mut bench.0, first);
+        (bench, number)
+    }
+
     /// The words, if they are sound.
     pub fn tested(words: &Words) -> Option<Box<Self>> {
         (any::is_sound(words) == 1).then(|| Box::new(Sound(*words)))
@@ -246,6 +253,7 @@ pub mod any {
 
     link! { ""
         set_up(bench: &mut Words, first: u32) -> u8;
+        set_up_plain(bench: &mut Words, first: u32) -> u8;
         is_sound(bench: &Words) -> u8;
         create_defect_node(bench: &mut Words, unit: u8, vertex: u32, answer: &mut AnswerWords) -> u8;
         expand_blossom(bench: &mut Words, unit: u8, node: Handle, answer: &mut AnswerWords) -> u8;
@@ -348,6 +356,17 @@ pub mod text {
         #[rustfmt::skip]
         extern "C" {
             #[link_name = "dual_ledger_trusted_text_chunk"]
+            fn linked(bench: &mut Sound, chunk: *const u8, bytes: usize, buf: &mut Held, held: &mut usize, hints: &mut Hints, out: *mut u8, room: usize, wrote: &mut usize) -> u8;
+        }
+        // SAFETY: as above; both slices are of the lengths said, and `out` is lent alone
+        unsafe { linked(bench, chunk.as_ptr(), chunk.len(), buf, held, hints, out.as_mut_ptr(), out.len(), wrote) }
+    }
+
+    /// It sets the words up, whatever they hold.
+    pub fn opening(bench: &mut Sound, chunk: &[u8], buf: &mut Held, held: &mut usize, hints: &mut Hints, out: &mut [u8], wrote: &mut usize) -> u8 {
+        #[rustfmt::skip]
+        extern "C" {
+            #[link_name = "dual_ledger_text_opening"]
             fn linked(bench: &mut Sound, chunk: *const u8, bytes: usize, buf: &mut Held, held: &mut usize, hints: &mut Hints, out: *mut u8, room: usize, wrote: &mut usize) -> u8;
         }
         // SAFETY: as above; both slices are of the lengths said, and `out` is lent alone

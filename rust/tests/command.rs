@@ -329,3 +329,52 @@ fn what_does_not_move_has_a_message_and_leaves_nothing() {
         assert_eq!(folder.run(words).0, 2, "{words:?}");
     }
 }
+
+const AN_M: &str = "an M is the first line of a text or nowhere, M 0 or M 1, and no byte record has it";
+
+#[test]
+fn a_first_line_that_chooses_the_engine() {
+    let folder =
+        Folder::new("engines").with("lazy.txt", RECORD).with("plain.txt", &format!("M 1\n{RECORD}")).with("nought.txt", &format!("M 0\n{RECORD}"));
+    for name in ["plain.txt", "nought.txt"] {
+        assert_eq!(folder.run(&["check", name]), (0, format!("{name}: 11 lines, 0 refused\n"), "".into()));
+        assert_eq!(folder.run(&["check", "--quiet", "--answers", "-", name]), (0, format!("0 0 0 0\n{ANSWERS}"), "".into()));
+        let why = format!("dual-ledger: {name}:1: 23 FILE: the line is LINE: {AN_M}\n");
+        assert_eq!(folder.run(&["pack", name, "out"]), (1, "".into(), why));
+        assert_eq!(folder.run(&["picture", "--at", "7", name]), folder.run(&["picture", "--at", "6", "lazy.txt"]));
+    }
+    // marks go with either engine: the second defect fills the blossom's slot
+    let folder = folder.with("fills.txt", "M 1\nD 0 3\nB 0 1\nE 0 2\nD 0 4\nK 0\n");
+    let filled = folder.run(&["check", "--quiet", "--answers", "-", "--fill", "0", "fills.txt"]);
+    assert_eq!(filled, (0, "0 0 0 0\n0 1 1 0\n0 2 1 0\n0 2 1 0\n0 3 2 0\n0 0 2 0\n".into(), "".into()));
+    let (_, ages, _) = folder.run(&["ages", "--fill", "0", "--plain", "fills.txt"]);
+    assert_eq!(ages, folder.run(&["ages", "--fill", "0", "fills.txt"]).1);
+    assert!(ages.contains("vertex 4"), "{ages}");
+}
+
+#[test]
+fn an_m_elsewhere() {
+    for (first, line) in [("", 1), ("X\n", 2), ("M 0\n", 2), ("K 0\n", 2)] {
+        let wrong = if first.is_empty() { "M 2" } else { "M 1" };
+        let folder = Folder::new("elsewhere").with("a.txt", &format!("{first}{wrong}\n{RECORD}"));
+        let (status, shown, _) = folder.run(&["check", "a.txt"]);
+        assert!(status == 0 && shown.contains(&format!("a.txt:{line}: 1 LINE: {AN_M}\n")), "{shown}");
+    }
+    for first in ["M 2", "M 01", "M -1", "M", "M ", "M  1", "M 1 ", "m 1", "M1", "\nM 1"] {
+        let folder = Folder::new("forms").with("a.txt", &format!("{first}\n{RECORD}"));
+        let (status, answers, _) = folder.run(&["check", "--quiet", "--answers", "-", "a.txt"]);
+        let lines = 1 + first.matches('\n').count();
+        assert_eq!((status, answers), (0, format!("{}{ANSWERS}", "1 0 0 0\n".repeat(lines))), "{first:?}");
+    }
+    let folder = Folder::new("unended").with("a.txt", "M 1");
+    assert_eq!(folder.run(&["check", "--quiet", "--answers", "-", "a.txt"]).0, 1);
+}
+
+#[test]
+fn ages_in_both_engines() {
+    let lazy = Folder::new("both").with("a.txt", RECORD).with("b.txt", &format!("M 0\n{RECORD}")).with("c.txt", &format!("M 2\n{RECORD}"));
+    for name in ["a.txt", "b.txt", "c.txt"] {
+        assert_eq!(lazy.run(&["ages", "--plain", name]), lazy.run(&["ages", name]));
+    }
+    assert_eq!(lazy.run(&["check", "--plain", "a.txt"]).0, 2);
+}

@@ -1,5 +1,5 @@
 /* The linked library from C, by its header alone: the manual's worked cases, a blossom with its notices word by word, every read and check in both forms,
- * interfaces that fill emptied slots and floored ones, text records in lines and in chunks of every size, groups of obstacles, and refusals with all that was lent compared before and after. Ends with 0 and one line, or names the first difference. */
+ * interfaces that fill emptied slots and floored ones, text records in lines and in chunks of every size, groups of obstacles, and refusals with all that was lent compared before and after; all of it in both engines. Ends with 0 and one line, or names the first difference. */
 #include "dual_ledger.h"
 
 #include <inttypes.h>
@@ -11,6 +11,11 @@ static uint64_t bench[DUAL_LEDGER_WORDS];
 static uint64_t kept[DUAL_LEDGER_WORDS];
 static uint64_t answer[DUAL_LEDGER_ANSWER_WORDS];
 static long compared;
+
+/* The engine that all below is made in: the lazy one, then the plain one. */
+static int plain;
+
+static uint8_t set_up(uint64_t *words, uint32_t first) { return plain ? dual_ledger_set_up_plain(words, first) : dual_ledger_set_up(words, first); }
 
 static void same(const char *what, int64_t got, int64_t expected) {
     compared++;
@@ -93,7 +98,7 @@ struct step {
 
 static void play(const char *name, enum form form, const struct step *steps, size_t count) {
     char what[80];
-    same("set-up", dual_ledger_set_up(bench, 1), 0);
+    same("set-up", set_up(bench, 1), 0);
     for (size_t i = 0; i < count; i++) {
         int64_t speed = 0, sum = 0;
         uint8_t unit = (uint8_t)atoi(steps[i].line + 2);
@@ -151,7 +156,7 @@ static void notices(void) {
     members[0] = b, members[1] = a;
     touching[0] = b, touching[1] = b, touching[2] = a, touching[3] = a;
     memset(answer, 0xa5, sizeof answer);
-    same("set-up from 9", dual_ledger_set_up(bench, 9), 0);
+    same("set-up from 9", set_up(bench, 9), 0);
     same("add", dual_ledger_create_defect_node(bench, 5, 70, answer), 0);
     expect(a, 1, 0), notice(0, DUAL_LEDGER_DEFECT_ADDED, a), told("a defect's answer");
     same("add", dual_ledger_told_create_defect_node(bench, 5, 4000000000u, answer), 0);
@@ -176,7 +181,7 @@ static void notices(void) {
 /* A circle of 64, the largest, tells 66 notices. */
 static void largest_circle(void) {
     uint64_t members[64], q = handle(65, 0, 2);
-    same("set-up", dual_ledger_set_up(bench, 1), 0);
+    same("set-up", set_up(bench, 1), 0);
     for (uint32_t i = 0; i < 64; i++) same("add", dual_ledger_trusted_create_defect_node(bench, (uint8_t)(i / 32), i, members + i), 0);
     same("fuse", dual_ledger_fuse(bench, 2, 0, 1), 0);
     memset(answer, 0xa5, sizeof answer);
@@ -274,7 +279,7 @@ static void check_strictly(uint8_t unit, int number, int verdict, int index) {
 /* "Under" means under: a nephew in the next member is not, a node two levels down is; and, written into the words, a member's own parent is not. */
 static void under(void) {
     uint64_t node[7], circle[2], touching[4];
-    same("set-up", dual_ledger_set_up(bench, 1), 0);
+    same("set-up", set_up(bench, 1), 0);
     dual_ledger_trusted_create_defect_node(bench, 0, 1, node), dual_ledger_trusted_create_defect_node(bench, 0, 2, node + 1);
     dual_ledger_trusted_create_blossom(bench, 0, node, 1, NULL, 0, node + 2), dual_ledger_trusted_create_blossom(bench, 0, node + 1, 1, NULL, 0, node + 3);
     circle[0] = node[2], circle[1] = node[3];
@@ -312,7 +317,7 @@ static void pictures(void) {
     static const char gone[] = "{\"interface\":{\"sum_grow_speed\":1,\"sum_dual_variables\":0},\"dual_nodes\":[{\"blossom\":null,\"touching_children\":null,"
                                "\"defect_vertex\":20,\"grow_state\":\"grow\",\"unit_growth\":1,\"parent_blossom\":null},null]}";
     uint64_t node[4];
-    same("set-up", dual_ledger_set_up(bench, 1), 0);
+    same("set-up", set_up(bench, 1), 0);
     picture(0, 1, 1024, 0, "{\"interface\":{\"s\":0,\"d\":0},\"dual_nodes\":[]}"), picture(8, 1, 1024, DUAL_LEDGER_UNIT, "");
     dual_ledger_trusted_create_defect_node(bench, 0, 20, node), dual_ledger_trusted_create_defect_node(bench, 0, 30, node + 1);
     dual_ledger_trusted_grow(bench, 0, 3), node[2] = node[0], node[0] = node[1], node[1] = node[2];
@@ -323,7 +328,7 @@ static void pictures(void) {
     same("expand", dual_ledger_trusted_expand_blossom(bench, 0, node[3]), 0); /* with value 3 - 10 still in the sum: verdict 5 */
     picture(0, 1, 1024, DUAL_LEDGER_UNSOUND, ""), picture(0, 1, 0, DUAL_LEDGER_UNSOUND, "");
     dual_ledger_trusted_fuse(bench, 2, 0, 1), picture(0, 1, 1024, DUAL_LEDGER_CHILD, "");
-    same("set-up", dual_ledger_set_up(bench, 1), 0), dual_ledger_trusted_create_defect_node(bench, 0, 20, node);
+    same("set-up", set_up(bench, 1), 0), dual_ledger_trusted_create_defect_node(bench, 0, 20, node);
     same("blossom", dual_ledger_trusted_create_blossom(bench, 0, node, 1, NULL, 0, node + 3), 0);
     same("expand", dual_ledger_trusted_expand_blossom(bench, 0, node[3]), 0), picture(0, 0, 1024, 0, gone);
 }
@@ -331,7 +336,7 @@ static void pictures(void) {
 static void reads(void) {
     uint64_t node[4], count = 77;
     static const uint32_t two[5] = {30, 20, 1, 1, 1}, none[5] = {1, 1, 1, 1, 1};
-    same("set-up", dual_ledger_set_up(bench, 1), 0);
+    same("set-up", set_up(bench, 1), 0);
     dual_ledger_trusted_create_defect_node(bench, 0, 20, node), dual_ledger_trusted_create_defect_node(bench, 0, 30, node + 1);
     dual_ledger_trusted_create_defect_node(bench, 1, 40, node + 2), dual_ledger_trusted_grow(bench, 0, 3);
     count = node[0], node[0] = node[1], node[1] = count; /* the later one first */
@@ -391,7 +396,7 @@ static void expand(enum form form, uint8_t unit, uint64_t node) {
 static void filling(enum form form) {
     uint64_t a, b, node;
     int64_t value = 77;
-    same("set-up", dual_ledger_set_up(bench, 1), 0);
+    same("set-up", set_up(bench, 1), 0);
     read_filling(0, 0, 0), mark_filling(form, 0, 0), mark_filling(form, 0, 0), read_filling(0, 0, 1), read_filling(1, 0, 0);
     mark_filling(form, 8, DUAL_LEDGER_UNIT), mark_filling(form, 255, DUAL_LEDGER_UNIT), read_filling(8, DUAL_LEDGER_UNIT, 0);
     a = make(form, 0, 0, 0), mark_filling(form, 0, DUAL_LEDGER_MARK);
@@ -413,9 +418,9 @@ static void filling(enum form form) {
     same("the parent's lowest", (int64_t)DUAL_LEDGER_HANDLE_SLOT(make(form, 2, b, 0)), 0), read_node(2, 4, 0, answer[0]);
     same("clear", form == OPEN ? dual_ledger_clear(bench, 2) : dual_ledger_trusted_clear(bench, 2), 0);
     read_filling(0, 0, 0), read_filling(2, 0, 0), read_filling(3, 0, 1);
-    /* bits that no mark has */
+    /* bits that no mark has, and the engine in one interface alone */
     for (int bit = 2; bit < 64; bit++) {
-        bench[16 * 5 + 9] = (uint64_t)1 << bit, same("a stray bit", dual_ledger_is_sound(bench), 0), memcpy(kept, bench, sizeof bench);
+        bench[16 * 5 + 9] = (uint64_t)1 << bit ^ (plain ? 4 : 0), same("a stray bit", dual_ledger_is_sound(bench), 0), memcpy(kept, bench, sizeof bench);
         same("a stray bit", dual_ledger_mark_filling(bench, 5), DUAL_LEDGER_BROKEN), same_words("a stray bit", bench, kept, DUAL_LEDGER_WORDS);
         node = 77, same("a stray bit", dual_ledger_is_filling(bench, 5, &node), DUAL_LEDGER_BROKEN), same("a stray bit", (int64_t)node, 0);
     }
@@ -457,7 +462,7 @@ static void fuse(enum form form, uint8_t parent, uint8_t left, uint8_t right, in
 static void floors(enum form form) {
     uint64_t a, b;
     int64_t value = 77;
-    same("set-up", dual_ledger_set_up(bench, 1), 0);
+    same("set-up", set_up(bench, 1), 0);
     read_floored(0, 0, 0), mark_floored(form, 0, 0), mark_floored(form, 0, 0), mark_filling(form, 0, 0), read_floored(0, 0, 1), read_floored(1, 0, 0);
     mark_floored(form, 8, DUAL_LEDGER_UNIT), read_floored(255, DUAL_LEDGER_UNIT, 0);
     a = make(form, 0, 0, 0), mark_floored(form, 0, DUAL_LEDGER_MARK), grow(form, 0, 5, 0);
@@ -472,13 +477,14 @@ static void floors(enum form form) {
     same("grow again", dual_ledger_trusted_set_grow_state(bench, 0, a, 1), 0), fuse(form, 4, 3, 0, 0), read_floored(4, 0, 1), read_floored(3, DUAL_LEDGER_CHILD, 0);
     mark_floored(form, 3, DUAL_LEDGER_CHILD), mark_floored(form, 4, DUAL_LEDGER_MARK);
     grow(form, 4, 3, DUAL_LEDGER_BELOW), grow(form, 4, 2, 0), grow(form, 4, 1, DUAL_LEDGER_BELOW);
-    bench[16 * 3 + 9] = 0, same("a floor in one half only", dual_ledger_is_sound(bench), 0);
-    bench[16 * 3 + 9] = 2, bench[16 * 4 + 9] = 0, same("a floor in the halves only", dual_ledger_is_sound(bench), 0);
-    bench[16 * 4 + 9] = 2, same("all three", dual_ledger_is_sound(bench), 1);
+    const uint64_t engine = plain ? 4 : 0;
+    bench[16 * 3 + 9] = engine, same("a floor in one half only", dual_ledger_is_sound(bench), 0);
+    bench[16 * 3 + 9] = engine + 2, bench[16 * 4 + 9] = engine, same("a floor in the halves only", dual_ledger_is_sound(bench), 0);
+    bench[16 * 4 + 9] = engine + 2, same("all three", dual_ledger_is_sound(bench), 1);
     bench[128 + 12 * 64 * 3 + 9]--, same("a value of -1 above a floor", dual_ledger_is_sound(bench), 0);
-    bench[16 * 0 + 9] = 1, bench[16 * 3 + 9] = bench[16 * 4 + 9] = 0, same("the same without floors", dual_ledger_is_sound(bench), 1);
+    bench[16 * 0 + 9] = engine + 1, bench[16 * 3 + 9] = bench[16 * 4 + 9] = engine, same("the same without floors", dual_ledger_is_sound(bench), 1);
     /* a floored parent over halves that are not */
-    same("set-up", dual_ledger_set_up(bench, 1), 0), mark_floored(form, 2, 0), mark_filling(form, 2, 0), fuse(form, 2, 0, 1, 0);
+    same("set-up", set_up(bench, 1), 0), mark_floored(form, 2, 0), mark_filling(form, 2, 0), fuse(form, 2, 0, 1, 0);
     read_floored(2, 0, 0), read_filling(2, 0, 1);
     mark_floored(form, 5, 0), mark_floored(form, 6, 0), fuse(form, 7, 5, 6, 0), read_floored(7, 0, 1);
     same("clear", form == OPEN ? dual_ledger_clear(bench, 7) : dual_ledger_trusted_clear(bench, 7), 0), read_floored(5, 0, 0), read_floored(7, 0, 0);
@@ -503,7 +509,7 @@ static void one_line(int is_trusted, const char *line, int number, uint64_t seri
 }
 
 static void text_lines(int is_trusted) {
-    same("set-up", dual_ledger_set_up(bench, 1), 0);
+    same("set-up", set_up(bench, 1), 0);
     one_line(is_trusted, "D 0 3", 0, 1, 1, 0);
     one_line(is_trusted, "G 0 5", 0, 0, 1, 5);
     one_line(is_trusted, "S 0 1 -1", 0, 1, -1, 5);
@@ -518,7 +524,7 @@ static void text_chunks(int is_trusted, size_t piece) {
     static uint8_t held_line[DUAL_LEDGER_HELD], out[DUAL_LEDGER_ANSWER_BYTES * 64], all[1024];
     const uint8_t *bytes = (const uint8_t *)record;
     size_t held = 0, wrote = 0, total = 0, length = strlen(record);
-    same("set-up", dual_ledger_set_up(bench, 1), 0);
+    same("set-up", set_up(bench, 1), 0);
     for (size_t at = 0; at < length; at += piece) {
         size_t n = length - at < piece ? length - at : piece;
         uint8_t number = is_trusted ? dual_ledger_trusted_text_chunk(bench, bytes + at, n, held_line, &held, hints, out, sizeof out, &wrote)
@@ -532,11 +538,29 @@ static void text_chunks(int is_trusted, size_t piece) {
     same("answers", (int64_t)total, (int64_t)strlen(replies)), same("answers", memcmp(all, replies, total), 0);
 }
 
+/* The record behind a first line, in pieces of so many bytes, from words that hold nothing: its answer, and the record's. */
+static void text_openings(const char *first, const char *answer, size_t piece) {
+    static uint8_t held_line[DUAL_LEDGER_HELD], out[DUAL_LEDGER_ANSWER_BYTES * 64], all[1024], bytes[1024];
+    size_t held = 0, wrote = 0, total = 0, before = strlen(first), length = before + strlen(record);
+    memcpy(bytes, first, before), memcpy(bytes + before, record, length - before), memset(bench, 255, sizeof bench);
+    for (size_t at = 0; at < length; at += piece) {
+        size_t n = length - at < piece ? length - at : piece;
+        uint8_t number = total ? dual_ledger_trusted_text_chunk(bench, bytes + at, n, held_line, &held, hints, out, sizeof out, &wrote)
+                               : dual_ledger_text_opening(bench, bytes + at, n, held_line, &held, hints, out, sizeof out, &wrote);
+        same("an opening", number, 0);
+        memcpy(all + total, out, wrote), total += wrote;
+    }
+    same("the end", dual_ledger_text_end(held, out, DUAL_LEDGER_ANSWER_BYTES, &wrote), 0);
+    memcpy(all + total, out, wrote), total += wrote;
+    same("the first answer", memcmp(all, answer, strlen(answer)), 0);
+    same("answers", (int64_t)(total - strlen(answer)), (int64_t)strlen(replies)), same("answers", memcmp(all + strlen(answer), replies, strlen(replies)), 0);
+}
+
 /* Too little room, too much held: refused, and all is as it was. */
 static void text_refusals(int is_trusted) {
     uint8_t chunk[2] = {0}, line[DUAL_LEDGER_HELD] = {0}, out[DUAL_LEDGER_ANSWER_BYTES * 2] = {0};
     size_t held = 3, wrote = 77;
-    same("set-up", dual_ledger_set_up(bench, 1), 0), memcpy(kept, bench, sizeof bench);
+    same("set-up", set_up(bench, 1), 0), memcpy(kept, bench, sizeof bench);
     for (int k = 0; k < 2; k++) {
         size_t room = k ? sizeof out : sizeof out - 1;
         held = k ? DUAL_LEDGER_HELD + 1 : 3;
@@ -557,6 +581,10 @@ static void text(void) {
     for (int is_trusted = 0; is_trusted < 2; is_trusted++) {
         text_lines(is_trusted), text_refusals(is_trusted);
         for (size_t piece = 1; piece <= 64; piece++) text_chunks(is_trusted, piece);
+    }
+    for (size_t piece = 1; piece <= 64; piece++) {
+        text_openings("", "", piece), text_openings("M 1\n", "0 0 0 0\n", piece), text_openings("M 0\n", "0 0 0 0\n", piece);
+        text_openings("M 2\nM 1\n", "1 0 0 0\n1 0 0 0\n", piece), text_openings("\nM 1\n", "1 0 0 0\n1 0 0 0\n", piece);
     }
 }
 
@@ -588,7 +616,7 @@ static void refused(const char *what, uint8_t got, int number) {
 
 static void refusals(void) {
     uint64_t node[3], far, q;
-    same("set-up from 0", dual_ledger_set_up(bench, 0), DUAL_LEDGER_WORN), same("set-up from 0", (int64_t)bench[0], 1);
+    same("set-up from 0", set_up(bench, 0), DUAL_LEDGER_WORN), same("set-up from 0", (int64_t)bench[0], 1);
     for (uint32_t i = 0; i < 3; i++) dual_ledger_trusted_create_defect_node(bench, 0, i, node + i);
     dual_ledger_trusted_create_defect_node(bench, 3, 9, &q), dual_ledger_trusted_create_defect_node(bench, 1, 9, &far);
     dual_ledger_trusted_create_blossom(bench, 0, node, 2, NULL, 0, &q);
@@ -751,6 +779,7 @@ static void next(const char *what, uint64_t kind, uint64_t a, uint64_t b, uint64
 static void growths(void) {
     uint64_t yes = 77, asked = 77;
     int64_t length = 77;
+    memset(group, 0, sizeof group), memset(other, 0, sizeof other);
     dual_ledger_empty_group(group), growth("the empty group", group, INT64_MAX, 0), dual_ledger_empty_group(other);
     same("the empty group", dual_ledger_group_is_empty(group, &yes), 0), same("is empty", (int64_t)yes, 1);
     same("the empty group", dual_ledger_group_is_active(group, &yes), 0), same("is active", (int64_t)yes, 0);
@@ -864,7 +893,7 @@ static void trusted_groups(uint64_t n, uint64_t m) {
 
 static void groups(void) {
     uint64_t n = 0, m = 0;
-    same("set-up", dual_ledger_set_up(bench, 1), 0);
+    same("set-up", set_up(bench, 1), 0);
     dual_ledger_trusted_create_defect_node(bench, 0, 9, &n), dual_ledger_trusted_create_defect_node(bench, 0, 4, &m);
     memcpy(kept, bench, sizeof bench);
     growths(), conflicts(n, m), sparing(n, m), trusted_groups(n, m), refused_groups(n);
@@ -902,7 +931,7 @@ static void recorded(int is_trusted) {
     static const uint64_t steps[] = {4, 3, 2}, whole[] = {4, 3, 5}, three[] = {3}, five[] = {5};
     const size_t each = DUAL_LEDGER_GROUP_WORDS;
     uint64_t node;
-    same("set-up", dual_ledger_set_up(bench, 1), 0);
+    same("set-up", set_up(bench, 1), 0);
     same("a floor", dual_ledger_trusted_mark_floored(bench, 3), 0);
     for (uint8_t unit = 0; unit < 4; unit++) same("a node", dual_ledger_trusted_create_defect_node(bench, unit, unit, &node), 0);
     same("a fuse", dual_ledger_trusted_fuse(bench, 2, 0, 1), DUAL_LEDGER_USED), same("a fuse", dual_ledger_trusted_fuse(bench, 4, 0, 1), 0);
@@ -947,7 +976,7 @@ static void recorded(int is_trusted) {
     bench[0] = 0, grown(0, "a broken bench", 8, -1, 6 * each, 0, DUAL_LEDGER_BROKEN, 0, NULL);
 }
 
-int main(void) {
+static void in_one_engine(void) {
     for (int form = OPEN; form <= TRUSTED; form++) halves((enum form)form), whole_case((enum form)form);
     notices();
     largest_circle();
@@ -962,6 +991,30 @@ int main(void) {
     broken();
     groups();
     recorded(0), recorded(1);
+}
+
+/* In the plain engine the stored number of a node is its value and 2^60: after each growth it is L more, as it was, or L less, in a fused half as in its top. */
+static void stored(void) {
+    uint64_t a = 0, b = 0, c = 0, *node = answer;
+    same("set-up, plain", dual_ledger_set_up_plain(bench, 1), 0), same("the mark", (int64_t)bench[9], 4), same("the last mark", (int64_t)bench[121], 4);
+    dual_ledger_create_defect_node(bench, 0, 3, node), a = node[0];
+    dual_ledger_create_defect_node(bench, 1, 4, node), b = node[0];
+    dual_ledger_create_defect_node(bench, 1, 5, node), c = node[0];
+    dual_ledger_grow(bench, 0, 5, node), dual_ledger_grow(bench, 1, 9, node);
+    dual_ledger_fuse(bench, 2, 0, 1);
+    dual_ledger_set_grow_state(bench, 2, b, -1, node), dual_ledger_set_grow_state(bench, 2, c, 0, node);
+    same("grow, plain", dual_ledger_grow(bench, 2, 4, node), 0);
+    same("a growing node", (int64_t)(bench[128 + 12 * 0 + 9] - (1ull << 60)), 9);
+    same("a shrinking node", (int64_t)(bench[128 + 12 * 64 + 9] - (1ull << 60)), 5);
+    same("a node that stays", (int64_t)(bench[128 + 12 * 65 + 9] - (1ull << 60)), 9);
+    dual_ledger_clear(bench, 2), same("after a clear", (int64_t)bench[16 * 2 + 9], 4);
+    same("sound", dual_ledger_is_sound(bench), 1), bench[16 * 3 + 9] = 0, same("one interface lazy", dual_ledger_is_sound(bench), 0);
+    (void)a;
+}
+
+int main(void) {
+    for (plain = 0; plain < 2; plain++) in_one_engine();
+    stored();
     printf("linked: all %ld comparisons agree\n", compared);
     return 0;
 }

@@ -152,6 +152,7 @@ static void small(uint64_t *words, int floored) {
 static void calls(uint64_t unit, uint64_t node, int levels) {
     uint64_t b = W(bench), a = W(answer);
     P(dual_ledger_set_up, b, 1);
+    P(dual_ledger_set_up_plain, b, 1);
     P(dual_ledger_is_sound, b);
     CALL(create_defect_node, b, unit, 9, a);
     CALL(create_blossom, b, unit, W(members), 2, W(touching), 4, a);
@@ -212,6 +213,8 @@ static void lines(const char *text) {
     P(dual_ledger_text_chunk, b, t, n, W(held_line), W(&held), W(hints), W(written), sizeof written, W(&wrote));
     held = 0;
     P(dual_ledger_trusted_text_chunk, b, t, n, W(held_line), W(&held), W(hints), W(written), sizeof written, W(&wrote));
+    held = 0;
+    P(dual_ledger_text_opening, b, t, n, W(held_line), W(&held), W(hints), W(written), sizeof written, W(&wrote));
     P(dual_ledger_text_end, 3, W(written), sizeof written, W(&wrote));
 }
 

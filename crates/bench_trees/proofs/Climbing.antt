@@ -9,9 +9,9 @@ use Rattle.bench_words.specs.declared.Interface.{Interface}
 use Rattle.bench_words.specs.declared.Up.the-variants.{Top, Under}
 use Rattle.ledger_spec.specs.Look.{climb}
 use Rattle.ledger_spec.proofs.Tops.{climb-none, climb-some}
-use Rattle.bench_views.specs.View.{sumUp, view, upSeen}
+use Rattle.bench_views.specs.View.{sumUp, lagOf, view, upSeen}
 use Rattle.bench_views.specs.Records.{Steady}
-use Rattle.bench_views.proofs.Sums.{sumUp-none, bounded, under-eight, ends, goes-on}
+use Rattle.bench_views.proofs.Sums.{sumUp-none, lag-le, bounded, under-eight, ends, goes-on}
 use Rattle.bench_views.proofs.Views.{view-parent}
 use Rattle.bench_trees.specs.Climb.{Climbs}
 
@@ -25,22 +25,22 @@ pub record Going (b : List ℕ) (unit t u n : ℕ) : Type 0 where
   pub steady : Steady b
 
 module _ (b : List ℕ) (unit t u n : ℕ) (G : Going b unit t u n) (more : 0 < n) (f : Interface) (e : f ≡ interfaceAt b u) where
-  pub little : f .progress ≤ 1099511627776
-  little = bounded u (G .steady) (G .low) e
+  pub little : lagOf f ≤ 1099511627776
+  little = omega (arith, bounded u (G .steady) (G .low) e, lag-le f)
 
-  pub going-ends : f .parent ≡ Top → Climbs b unit u (t + f .progress)
-  going-ends q =
+  pub going-ends : {x : ℕ} → x ≡ lagOf f → f .parent ≡ Top → Climbs b unit u (t + x)
+  going-ends {x} ex q =
       let free = view-parent (getD b 0 0) (interfaceAt b) (nodeAt b) u (G .low) ∙ ap (λ (x : Interface). upSeen (x .parent)) (sym e) ∙ ap upSeen q in
       let m = little in
       record {
         top = sym (climb-none n (view b) u free) ∙ G .top;
         low = G .low;
-        total = ends n t u (interfaceAt b) (G .sum) more e q;
+        total = ap (λ (y : ℕ). t + y) ex ∙ ends n t u (interfaceAt b) (G .sum) more e q;
         small = omega arith;
       }
 
-  pub going-on : (p : ℕ) → f .parent ≡ Under p → Going b unit (t + f .progress) p (n - 1)
-  going-on p q =
+  pub going-on : {x : ℕ} → x ≡ lagOf f → (p : ℕ) → f .parent ≡ Under p → Going b unit (t + x) p (n - 1)
+  going-on {x} ex p q =
       let under = view-parent (getD b 0 0) (interfaceAt b) (nodeAt b) u (G .low) ∙ ap (λ (x : Interface). upSeen (x .parent)) (sym e) ∙ ap upSeen q in
       let back : suc (n - 1) ≡ n = omega arith in
       let m = little in
@@ -48,7 +48,7 @@ module _ (b : List ℕ) (unit t u n : ℕ) (G : Going b unit t u n) (more : 0 < 
         low = under-eight b u e q;
         left = omega arith;
         small = omega arith;
-        sum = goes-on n t u (interfaceAt b) (G .sum) more e q;
+        sum = ap (λ (y : ℕ). t + y + sumUp (n - 1) (interfaceAt b) p) ex ∙ goes-on n t u (interfaceAt b) (G .sum) more e q;
         top = sym (climb-some (n - 1) (view b) u p under) ∙ ap (λ (k : ℕ). climb k (view b) u) back ∙ G .top;
         steady = G .steady;
       }

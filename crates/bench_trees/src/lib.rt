@@ -1,10 +1,11 @@
-// Up the tree of fused interfaces: its top, and T, the progress of an interface and of all above it; and a node's value by its bias and T.
+// Up the tree of fused interfaces: its top, and T, the progress of an interface and of all above it (0 in the plain engine); and a node's value by its bias and T.
 // Everything here only reads. Assumes nothing.
 use bench_words::Up;
 use bench_words::WORDS;
 use kinds::GrowState;
 ghost use mathlib.Core.Path.{_≡_};
 ghost use Prim.Native.Nat.{_+_, _<_, _≤_};
+ghost use Rattle.bench_words.specs.Codec.{pick};
 ghost use Rattle.ledger_spec.specs.Look.{top};
 ghost use Rattle.bench_views.specs.Records.{rateOf, Steady};
 ghost use Rattle.bench_views.specs.View.{valueBy, biasOf};
@@ -45,6 +46,16 @@ pub fn rate_of(g: GrowState) -> u64
     }
 }
 
+// What the values under an interface are behind by: its progress, or nothing in the plain engine.
+pub fn lag(plain: bool, progress: u64) -> u64
+    ensures { λ r. ⌜ r ≡ pick plain 0 progress ⌝ }
+{
+    if plain {
+        return 0;
+    }
+    progress
+}
+
 // The interface without a parent at the top of a tree, and T on the way to it.
 pub struct Climbed {
     pub top: usize,
@@ -62,7 +73,7 @@ pub fn climb(b: &[u64; WORDS], unit: usize) -> Climbed
     let mut n: usize = 8;
     while 0 < n {
         let f = bench_words::load_interface(b, u);
-        t = t + f.progress;
+        t = t + lag(f.marks.plain, f.progress);
         n = n - 1;
         let up = f.parent;
         match up {

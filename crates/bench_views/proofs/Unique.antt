@@ -29,13 +29,13 @@ use Rattle.ledger_spec.specs.Bench as plain
 use Rattle.ledger_spec.specs.Look.{interface, slotOf}
 use Rattle.ledger_spec.proofs.Knit.{none-some}
 use Rattle.bench_words.proofs.Laws.{good-interface}
-use Rattle.bench_views.specs.View.{off, upSeen, halvesSeen, valueBy, sumUp, follow, circleOf, memberAt, slotSeen, nodeSeen, byClass, interfaceIn, view}
+use Rattle.bench_views.specs.View.{lagOf, off, upSeen, halvesSeen, valueBy, sumUp, follow, circleOf, memberAt, slotSeen, nodeSeen, byClass, interfaceIn, view}
 use Rattle.ledger_spec.specs.Named.{stateNamed, handleNamed, parentNamed}
 use Rattle.bench_views.specs.Canon.{Within, walk, Seated, Canon}
 use Rattle.bench_views.proofs.Sums.{sumUp-le, sumUp-same}
 use Rattle.bench_views.proofs.Ranges.{ranged}
 use Rattle.bench_views.proofs.Maps.{maps-same}
-use Rattle.bench_views.proofs.Views.{interface-in, view-next, view-slot, view-count}
+use Rattle.bench_views.proofs.Views.{interface-in, view-next, view-plain, view-slot, view-count}
 
 -- ---- what is seen decides what is held
 pos-inj : {m n : ℕ} → pos m ≡ pos n → m ≡ n
@@ -210,6 +210,9 @@ module _ (b b' : List ℕ) (C : Canon b) (C' : Canon b') (near : Within (view b)
   fields : (v : ℕ) → v < 8 → {X : Type 0} (φ : plain.Interface → X) → φ (interfaceIn (interfaceAt b) (nodeAt b) v) ≡ φ (interfaceIn (interfaceAt b') (nodeAt b') v)
   fields v lv φ = sym (ap φ (interface-in (getD b 0 0) (interfaceAt b) (nodeAt b) v lv)) ∙ interfaces v lv φ ∙ ap φ (interface-in (getD b' 0 0) (interfaceAt b') (nodeAt b') v lv)
 
+  engines : interfaceAt b 0 .marks .plain ≡ interfaceAt b' 0 .marks .plain
+  engines = sym (view-plain (getD b 0 0) (interfaceAt b) (nodeAt b)) ∙ ap (λ (B : Bench). B .plain) e ∙ view-plain (getD b' 0 0) (interfaceAt b') (nodeAt b')
+
   interface-same : (v : ℕ) → v < 8 → interfaceAt b v ≡ interfaceAt b' v
   interface-same v lv =
       let us : interfaceAt b v .used ≡ interfaceAt b' v .used = sym (view-count (getD b 0 0) (interfaceAt b) (nodeAt b) v lv) ∙ interfaces v lv (λ f. length (f .slots)) ∙ view-count (getD b' 0 0) (interfaceAt b') (nodeAt b') v lv in
@@ -220,10 +223,11 @@ module _ (b b' : List ℕ) (C : Canon b) (C' : Canon b') (near : Within (view b)
       let ha = left-inj (interfaceAt b v .left) (interfaceAt b v .right) (interfaceAt b' v .left) (interfaceAt b' v .right) (C .whole v lv) (C .both v lv) (C' .whole v lv) (C' .both v lv) (fields v lv (λ f. f .halves)) in
       let fi : interfaceAt b v .marks .fills ≡ interfaceAt b' v .marks .fills = fields v lv (λ f. f .marks .fills) in
       let fl : interfaceAt b v .marks .floored ≡ interfaceAt b' v .marks .floored = fields v lv (λ f. f .marks .floored) in
-      λ i. record { used = us i; progress = pr i; sum = su i; speed = sp i; parent = pa i; left = ha .0 i; right = ha .1 i; marks = record { fills = fi i; floored = fl i } }
+      let en : interfaceAt b v .marks .plain ≡ interfaceAt b' v .marks .plain = C .modes v lv ∙ engines ∙ sym (C' .modes v lv) in
+      λ i. record { used = us i; progress = pr i; sum = su i; speed = sp i; parent = pa i; left = ha .0 i; right = ha .1 i; marks = record { fills = fi i; floored = fl i; plain = en i } }
 
   sum-same : (v : ℕ) → v < 8 → sumUp 8 (interfaceAt b) v ≡ sumUp 8 (interfaceAt b') v
-  sum-same v lv = sumUp-same (interfaceAt b') (interfaceAt b) (λ w lw. good-interface b' w) (λ w lw. ap (λ (x : Interface). x .parent) (interface-same w lw)) (λ w lw. ap (λ (x : Interface). x .progress) (interface-same w lw)) 8 v lv
+  sum-same v lv = sumUp-same (interfaceAt b') (interfaceAt b) (λ w lw. good-interface b' w) (λ w lw. ap (λ (x : Interface). x .parent) (interface-same w lw)) (λ w lw. ap (λ (x : Interface). lagOf x) (interface-same w lw)) 8 v lv
 
   slot-same : (v s : ℕ) → v < 8 → s < interfaceAt b v .used → slotSeen (nodeAt b (v * 64 + s)) (sumUp 8 (interfaceAt b) v) (circleOf (nodeAt b) (v * 64 + s)) ≡ slotSeen (nodeAt b' (v * 64 + s)) (sumUp 8 (interfaceAt b) v) (circleOf (nodeAt b') (v * 64 + s))
   slot-same v s lv ls =

@@ -4,7 +4,7 @@ use mathlib.Core.Path.{_≡_, refl, ap, ap₂, sym, _∙_}
 use mathlib.Core.Logic.{_≢_, by-cases}
 use mathlib.Core.Option.{Option, none, some}
 use mathlib.Core.List.{List, [], _∷_, _++_, map}
-use mathlib.Core.Bool.{Bool}
+use mathlib.Core.Bool.{Bool, true, false}
 use native.Mathlib.Decide.{ℕ-discrete}
 use native.Mathlib.Omega.{arith}
 use lib.Dec.{eqb}
@@ -25,16 +25,19 @@ use Rattle.ledger_spec.specs.Bench.{rate, Member, Bench, fresh}
 use Rattle.ledger_spec.specs.Bench as plain
 use Rattle.ledger_spec.specs.Look.{interface, slotOf, top, climb}
 use Rattle.ledger_spec.specs.Change.{share, place, put, push, faster}
-use Rattle.ledger_spec.specs.Deeds.{growBy, growSlot, choose}
+use Rattle.ledger_spec.specs.Deeds.{booked, growBy, growSlot, choose}
 use Rattle.ledger_spec.proofs.Tops.{climb-none, climb-some}
 use Rattle.ledger_spec.proofs.Slots.{put-at, put-off, put-count}
-use Rattle.ledger_spec.proofs.Readings.{place-field, place-else, place-here, place-slow, place-fast, place-length, push-field, push-else, push-here, push-slow, push-fast, push-length}
-use Rattle.ledger_spec.proofs.TreeReadings.{grow-field, grow-under, grow-else, grow-sum, grow-sum-else, grow-length, grow-progress, grow-progress-else, choose-field, choose-here, choose-else, choose-length}
+use Rattle.ledger_spec.proofs.Readings.{place-field, place-else, place-here, place-slow, place-fast, place-length, place-plain, push-field, push-else, push-here, push-slow, push-fast, push-length, push-plain}
+use Rattle.ledger_spec.proofs.TreeReadings.{grow-field, grow-under, grow-else, grow-sum, grow-sum-else, grow-length, grow-plain, grow-progress, grow-progress-else, choose-field, choose-here, choose-else, choose-length, choose-plain}
 use Rattle.bench_views.specs.Tab.{tab}
-use Rattle.bench_views.specs.View.{off, upSeen, halvesSeen, marksSeen, sumUp, over, slotSeen, slotIn, interfaceIn, viewIn, circleOf}
+use Rattle.bench_views.specs.View.{off, upSeen, halvesSeen, marksSeen, lagOf, raised, valueBy, sumUp, over, slotSeen, slotIn, interfaceIn, viewIn, circleOf}
 use Rattle.bench_views.specs.Records.{withUsed, withGrowth}
 use Rattle.bench_views.proofs.Tabs.{length-tab, getD-tab, tab-same, tab-set, tab-map}
 use Rattle.bench_views.proofs.Offsets.{value-grown}
+use Rattle.bench_views.proofs.Sums.{sumUp-same}
+use Rattle.kinds.specs.declared.GrowState.{GrowState}
+use Rattle.kinds.specs.declared.GrowState.the-variants.{Grow as Growing, Stay, Shrink}
 use Rattle.bench_words.specs.Store.{setSpeed, setMarks}
 
 -- ---- the parts of a view
@@ -70,14 +73,18 @@ module _ (n : ℕ) (U : ℕ → Interface) (A : ℕ → Node) where
   pub view-parent : (v : ℕ) → v < 8 → interface (viewIn n U A) v .parent ≡ upSeen (U v .parent)
   view-parent v l = ap (λ (f : plain.Interface). f .parent) (interface-in v l)
 
-  -- a bench with the same parts
-  pub view-is : (B : Bench) → B .next ≡ n → length (B .interfaces) ≡ 8 → ((v : ℕ) → v < 8 → interfaceIn U A v ≡ interface B v) → viewIn n U A ≡ B
+  pub view-plain : viewIn n U A .plain ≡ U 0 .marks .plain
   unfolding viewIn
-  view-is B e l h =
+  view-plain = refl
+
+  -- a bench with the same parts
+  pub view-is : (B : Bench) → B .next ≡ n → length (B .interfaces) ≡ 8 → B .plain ≡ U 0 .marks .plain → ((v : ℕ) → v < 8 → interfaceIn U A v ≡ interface B v) → viewIn n U A ≡ B
+  unfolding viewIn
+  view-is B e l p h =
       let fs : tab (interfaceIn U A) 0 8 ≡ B .interfaces =
       ext-getD fresh (tab (interfaceIn U A) 0 8) (B .interfaces) (length-tab (interfaceIn U A) 0 8 ∙ sym l)
       (λ v lv. let l8 : v < 8 = rw (length-tab (interfaceIn U A) 0 8) at lv in getD-tab (interfaceIn U A) 8 v fresh l8 ∙ h v l8) in
-      λ i. record { next = sym e i; interfaces = fs i }
+      λ i. record { next = sym e i; interfaces = fs i; plain = sym p i }
 
 pub interface-is : (f g : plain.Interface) → f .slots ≡ g .slots → f .progress ≡ g .progress → f .sum ≡ g .sum → f .speed ≡ g .speed → f .parent ≡ g .parent → f .halves ≡ g .halves → f .marks ≡ g .marks → f ≡ g
 interface-is f g a b c d e h m = λ i. record { slots = a i; progress = b i; sum = c i; speed = d i; parent = e i; halves = h i; marks = m i }
@@ -119,7 +126,7 @@ module _ (n : ℕ) (U U' : ℕ → Interface) (A A' : ℕ → Node) (u s t sp : 
 
     pub place-view : viewIn n U' A' ≡ place B₀ u s y
     unfolding place faster
-    place-view = view-is n U' A' (place B₀ u s y) (view-next n U A) (place-length B₀ u s y ∙ view-eight n U A)
+    place-view = view-is n U' A' (place B₀ u s y) (view-next n U A) (place-length B₀ u s y ∙ view-eight n U A) (place-plain B₀ u s y ∙ view-plain n U A ∙ sym (unit-kept (λ x. x .marks .plain) (λ x z. refl) 0 (omega arith)))
         (λ v lv. interface-is (interfaceIn U' A' v) (interface (place B₀ u s y) v)
         (slots-now v lv)
         (ap (λ (x : ℕ). pos x) (unit-kept (λ x. x .progress) (λ x z. refl) v lv) ∙ field (λ f. f .progress) v lv (λ f l. refl) (λ f x. refl))
@@ -175,7 +182,7 @@ module _ (n : ℕ) (U U' : ℕ → Interface) (A A' : ℕ → Node) (u s sp : �
 
     pub push-view : viewIn (suc n) U' A' ≡ push W u s x
     unfolding push faster
-    push-view = view-is (suc n) U' A' (push W u s x) (ap suc (view-next n U A)) (push-length W u s x ∙ view-eight n U A)
+    push-view = view-is (suc n) U' A' (push W u s x) (ap suc (view-next n U A)) (push-length W u s x ∙ view-eight n U A) (push-plain W u s x ∙ view-plain n U A ∙ sym (unit-held (λ y. y .marks .plain) (λ y m z. refl) 0 (omega arith)))
         (λ v lv. interface-is (interfaceIn U' A' v) (interface (push W u s x) v)
         (slots-more v lv)
         (ap (λ (y : ℕ). pos y) (unit-held (λ y. y .progress) (λ y m z. refl) v lv) ∙ held (λ f. f .progress) v lv (λ f l. refl) (λ f y. refl))
@@ -186,7 +193,7 @@ module _ (n : ℕ) (U U' : ℕ → Interface) (A A' : ℕ → Node) (u s sp : �
         (ap marksSeen (unit-held (λ y. y .marks) (λ y m z. refl) v lv) ∙ held (λ f. f .marks) v lv (λ f l. refl) (λ f y. refl)))
 
 -- ---- an interface marked
-module _ (n : ℕ) (U U' : ℕ → Interface) (A : ℕ → Node) (u : ℕ) (k : plain.Marking) (m : Marks) (lu : u < 8) (with : marksSeen m ≡ plain.withMark k (marksSeen (U u .marks)))
+module _ (n : ℕ) (U U' : ℕ → Interface) (A : ℕ → Node) (u : ℕ) (k : plain.Marking) (m : Marks) (lu : u < 8) (with : marksSeen m ≡ plain.withMark k (marksSeen (U u .marks))) (same-engine : m .plain ≡ U u .marks .plain)
     (here : U' u ≡ setMarks (U u) m) (there : (v : ℕ) → v < 8 → v ≢ u → U' v ≡ U v)
     (sums : (v : ℕ) → v < 8 → sumUp 8 U' v ≡ sumUp 8 U v) where
   abbrev M₀ : Bench
@@ -203,9 +210,12 @@ module _ (n : ℕ) (U U' : ℕ → Interface) (A : ℕ → Node) (u : ℕ) (k : 
       (λ (e : v ≡ u). rw (e, here) (with ∙ sym (choose-here M₀ u k (omega (arith, view-eight n U A)) ∙ ap (λ (f : plain.Interface). plain.withMark k (f .marks)) (interface-in n U A u lu))))
       (λ (ne : v ≡ u → ⊥). rw (there v lv ne) (sym (ap (λ (f : plain.Interface). f .marks) (choose-else M₀ u k v ne ∙ interface-in n U A v lv))))
 
+  plain-now : (v : ℕ) → v < 8 → U' v .marks .plain ≡ U v .marks .plain
+  plain-now v lv = by-cases (ℕ-discrete v u) (λ (q : v ≡ u). rw (q, here) same-engine) (λ (q : v ≡ u → ⊥). rw (there v lv q))
+
   pub choose-view : viewIn n U' A ≡ choose M₀ u k
   unfolding choose
-  choose-view = view-is n U' A (choose M₀ u k) (view-next n U A) (choose-length M₀ u k ∙ view-eight n U A)
+  choose-view = view-is n U' A (choose M₀ u k) (view-next n U A) (choose-length M₀ u k ∙ view-eight n U A) (choose-plain M₀ u k ∙ view-plain n U A ∙ sym (plain-now 0 (omega arith)))
       (λ v lv. interface-is (interfaceIn U' A v) (interface (choose M₀ u k) v)
       (ap₂ (λ (t j : ℕ). tab (λ r. slotSeen (A (v * 64 + r)) t (circleOf A (v * 64 + r))) 0 j) (sums v lv) (unit-marked (λ y. y .used) (λ y z. refl) v lv) ∙ kept-by (λ f. f .slots) v lv (λ f z. refl))
       (ap (λ (y : ℕ). pos y) (unit-marked (λ y. y .progress) (λ y z. refl) v lv) ∙ kept-by (λ f. f .progress) v lv (λ f z. refl))
@@ -225,53 +235,27 @@ slot-grown k t l ms h = go (k .class) refl
     go Blossom e = rw e (rw (value-grown 1152921504606846976 (k .state) (k .bias) t l (h (λ a. let z : Absent ≡ Blossom = sym a ∙ e in let z2 : _≡_ {A = ℕ} 0 1 = cc in omega arith))))
     go (Defect v) e = rw e (rw (value-grown 1152921504606846976 (k .state) (k .bias) t l (h (λ a. let z : Absent ≡ Defect v = sym a ∙ e in let z2 : _≡_ {A = ℕ} 0 1 = cc in omega arith))))
 
-module _ (n : ℕ) (U U' : ℕ → Interface) (A : ℕ → Node) (u l s' : ℕ) (lu : u < 8)
-    (root : U u .parent ≡ Top)
-    (good : (v : ℕ) → v < 8 → GoodUp (U v .parent)) (rising : (v p : ℕ) → v < 8 → U v .parent ≡ Under p → v < p)
+module _ (n : ℕ) (U U' : ℕ → Interface) (A A' : ℕ → Node) (u l s' : ℕ) (lu : u < 8)
     (here : U' u ≡ withGrowth (U u) (U u .progress + l) s') (there : (v : ℕ) → v < 8 → v ≢ u → U' v ≡ U v) where
   abbrev G : Bench
   G = viewIn n U A
 
-  -- the sum above a unit grows if it stands under u
-  pub sums-grow : (m v : ℕ) → v < 8 → 8 ≤ m + v → sumUp m U' v ≡ sumUp m U v + pick (eqb (climb m G v) u) l 0
-  unfolding sumUp
-  sums-grow zero v lv h = absurd (omega arith)
-  sums-grow (suc m) v lv h =
-      by-cases (ℕ-discrete v u)
-      (λ (e : v ≡ u).
-      let c : climb (suc m) G u ≡ u = climb-none (suc m) G u (view-parent n U A u lu ∙ ap upSeen root) in
-      rw (e, here, root, c, eq-eqb u u refl) (omega arith))
-      (λ (ne : v ≡ u → ⊥). rw (there v lv ne) (go (U v .parent) refl ne (sums-grow m)))
-    where
-      go : (p : Up) → U v .parent ≡ p → (v ≡ u → ⊥) → ((w : ℕ) → w < 8 → 8 ≤ m + w → sumUp m U' w ≡ sumUp m U w + pick (eqb (climb m G w) u) l 0)
-          → U v .progress + over (U v .parent) 0 (sumUp m U') ≡ U v .progress + over (U v .parent) 0 (sumUp m U) + pick (eqb (climb (suc m) G v) u) l 0
-      go Top e ne ih =
-          let c : climb (suc m) G v ≡ v = climb-none (suc m) G v (view-parent n U A v lv ∙ ap upSeen e) in
-          rw (e, c, ne-eqb v u ne) (omega arith)
-      go (Under p) e ne ih =
-          let c : climb (suc m) G v ≡ climb m G p = climb-some m G v p (view-parent n U A v lv ∙ ap upSeen e) in
-          let g : GoodUp (Under p) = rw e at (good v lv) in
-          let r : v < p = rising v p lv e in
-          rw (e, c) (omega (arith, ih p g (omega arith)))
-
   unit-grown : {X : Type 0} (φ : Interface → X) → ((x : Interface) (p z : ℕ) → φ (withGrowth x p z) ≡ φ x) → (v : ℕ) → v < 8 → φ (U' v) ≡ φ (U v)
   unit-grown φ e v lv = by-cases (ℕ-discrete v u) (λ (q : v ≡ u). rw (q, here) (e (U u) (U u .progress + l) s')) (λ (q : v ≡ u → ⊥). rw (there v lv q))
 
+  -- whatever holds the values: each slot of the tree grows, and no other
   module _ (sums : off 4611686018427387904 s' ≡ off 4611686018427387904 (U u .sum) +ℤ pos l *ℤ off 1024 (U u .speed))
-      (room : (v r : ℕ) → v < 8 → r < U v .used → (A (v * 64 + r) .class ≡ Absent → ⊥) → sumUp 8 U v + l ≤ A (v * 64 + r) .bias) where
-    slots-grown : (v : ℕ) → v < 8 → tab (slotIn U' A v) 0 (U' v .used) ≡ interface (growBy G u (pos l)) v .slots
-    slots-grown v lv = ap (λ (k : ℕ). tab (slotIn U' A v) 0 k) (unit-grown (λ x. x .used) (λ x p z. refl) v lv)
+      (under : (v r : ℕ) → v < 8 → r < U v .used → climb 8 G v ≡ u → slotIn U' A' v r ≡ growSlot (pos l) (slotIn U A v r))
+      (apart : (v r : ℕ) → v < 8 → r < U v .used → (climb 8 G v ≡ u → ⊥) → slotIn U' A' v r ≡ slotIn U A v r) where
+    slots-grown : (v : ℕ) → v < 8 → tab (slotIn U' A' v) 0 (U' v .used) ≡ interface (growBy G u (pos l)) v .slots
+    slots-grown v lv = ap (λ (k : ℕ). tab (slotIn U' A' v) 0 k) (unit-grown (λ x. x .used) (λ x p z. refl) v lv)
         ∙ by-cases (ℕ-discrete (climb 8 G v) u)
         (λ (e : climb 8 G v ≡ u).
-        let q : sumUp 8 U' v ≡ sumUp 8 U v + l = sums-grow 8 v lv (omega arith) ∙ ap (λ (c : Bool). sumUp 8 U v + pick c l 0) (eq-eqb (climb 8 G v) u e) in
-        tab-same (slotIn U' A v) (λ r. growSlot (pos l) (slotIn U A v r)) (U v .used) none
-        (λ r lr. ap (λ (t : ℕ). slotSeen (A (v * 64 + r)) t (circleOf A (v * 64 + r))) q ∙ slot-grown (A (v * 64 + r)) (sumUp 8 U v) l (circleOf A (v * 64 + r)) (room v r lv lr))
+        tab-same (slotIn U' A' v) (λ r. growSlot (pos l) (slotIn U A v r)) (U v .used) none (λ r lr. under v r lv lr e)
         ∙ sym (tab-map (growSlot (pos l)) (slotIn U A v) (U v .used))
         ∙ sym (grow-under G u (pos l) v (omega (arith, view-eight n U A)) e ∙ ap (λ (f : plain.Interface). map (growSlot (pos l)) (f .slots)) (interface-in n U A v lv)))
         (λ (ne : climb 8 G v ≡ u → ⊥).
-        let z : sumUp 8 U v + 0 ≡ sumUp 8 U v = omega arith in
-        let q : sumUp 8 U' v ≡ sumUp 8 U v = sums-grow 8 v lv (omega arith) ∙ ap (λ (c : Bool). sumUp 8 U v + pick c l 0) (ne-eqb (climb 8 G v) u ne) ∙ z in
-        ap (λ (t : ℕ). tab (λ r. slotSeen (A (v * 64 + r)) t (circleOf A (v * 64 + r))) 0 (U v .used)) q
+        tab-same (slotIn U' A' v) (slotIn U A v) (U v .used) none (λ r lr. apart v r lv lr ne)
         ∙ sym (grow-else G u (pos l) v (omega (arith, view-eight n U A)) ne ∙ ap (λ (f : plain.Interface). f .slots) (interface-in n U A v lv)))
 
     sum-now : (v : ℕ) → v < 8 → off 4611686018427387904 (U' v .sum) ≡ interface (growBy G u (pos l)) v .sum
@@ -284,14 +268,101 @@ module _ (n : ℕ) (U U' : ℕ → Interface) (A : ℕ → Node) (u l s' : ℕ) 
         (λ (e : v ≡ u). rw (e, here) (sym (grow-progress G u (pos l) (omega (arith, view-eight n U A)) ∙ ap (λ (f : plain.Interface). f .progress +ℤ pos l) (interface-in n U A u lu))))
         (λ (ne : v ≡ u → ⊥). rw (there v lv ne) (sym (grow-progress-else G u (pos l) v ne ∙ ap (λ (f : plain.Interface). f .progress) (interface-in n U A v lv))))
 
-    pub grow-view : viewIn n U' A ≡ growBy G u (pos l)
+    field-grown : {X : Type 0} (φ : plain.Interface → X) (v : ℕ) → v < 8 → ((f : plain.Interface) (s : List (Option plain.Node)) → φ (plain.withSlots f s) ≡ φ f) → ((f : plain.Interface) → φ (booked f (pos l)) ≡ φ f)
+        → φ (interfaceIn U A v) ≡ φ (interface (growBy G u (pos l)) v)
+    field-grown φ v lv p q = sym (grow-field G u (pos l) φ p q v ∙ ap φ (interface-in n U A v lv))
+
+    pub grown-view : viewIn n U' A' ≡ growBy G u (pos l)
     unfolding growBy
-    grow-view = view-is n U' A (growBy G u (pos l)) (view-next n U A) (grow-length G u (pos l) ∙ view-eight n U A)
-        (λ v lv. interface-is (interfaceIn U' A v) (interface (growBy G u (pos l)) v)
+    grown-view = view-is n U' A' (growBy G u (pos l)) (view-next n U A) (grow-length G u (pos l) ∙ view-eight n U A) (grow-plain G u (pos l) ∙ view-plain n U A ∙ sym (unit-grown (λ x. x .marks .plain) (λ x p z. refl) 0 (omega arith)))
+        (λ v lv. interface-is (interfaceIn U' A' v) (interface (growBy G u (pos l)) v)
         (slots-grown v lv)
         (progress-now v lv)
         (sum-now v lv)
-        (ap (off 1024) (unit-grown (λ x. x .speed) (λ x p z. refl) v lv) ∙ sym (grow-field G u (pos l) (λ f. f .speed) (λ f s. refl) (λ f. refl) v ∙ ap (λ (f : plain.Interface). f .speed) (interface-in n U A v lv)))
-        (ap upSeen (unit-grown (λ x. x .parent) (λ x p z. refl) v lv) ∙ sym (grow-field G u (pos l) (λ f. f .parent) (λ f s. refl) (λ f. refl) v ∙ ap (λ (f : plain.Interface). f .parent) (interface-in n U A v lv)))
-        (ap₂ halvesSeen (unit-grown (λ x. x .left) (λ x p z. refl) v lv) (unit-grown (λ x. x .right) (λ x p z. refl) v lv) ∙ sym (grow-field G u (pos l) (λ f. f .halves) (λ f s. refl) (λ f. refl) v ∙ ap (λ (f : plain.Interface). f .halves) (interface-in n U A v lv)))
-        (ap marksSeen (unit-grown (λ x. x .marks) (λ x p z. refl) v lv) ∙ sym (grow-field G u (pos l) (λ f. f .marks) (λ f s. refl) (λ f. refl) v ∙ ap (λ (f : plain.Interface). f .marks) (interface-in n U A v lv))))
+        (ap (off 1024) (unit-grown (λ x. x .speed) (λ x p z. refl) v lv) ∙ field-grown (λ f. f .speed) v lv (λ f s. refl) (λ f. refl))
+        (ap upSeen (unit-grown (λ x. x .parent) (λ x p z. refl) v lv) ∙ field-grown (λ f. f .parent) v lv (λ f s. refl) (λ f. refl))
+        (ap₂ halvesSeen (unit-grown (λ x. x .left) (λ x p z. refl) v lv) (unit-grown (λ x. x .right) (λ x p z. refl) v lv) ∙ field-grown (λ f. f .halves) v lv (λ f s. refl) (λ f. refl))
+        (ap marksSeen (unit-grown (λ x. x .marks) (λ x p z. refl) v lv) ∙ field-grown (λ f. f .marks) v lv (λ f s. refl) (λ f. refl)))
+
+-- ---- growth where values are behind: one unit's progress
+module _ (n : ℕ) (U U' : ℕ → Interface) (A : ℕ → Node) (u l s' : ℕ) (lu : u < 8)
+    (root : U u .parent ≡ Top) (lazy : U u .marks .plain ≡ false)
+    (good : (v : ℕ) → v < 8 → GoodUp (U v .parent)) (rising : (v p : ℕ) → v < 8 → U v .parent ≡ Under p → v < p)
+    (here : U' u ≡ withGrowth (U u) (U u .progress + l) s') (there : (v : ℕ) → v < 8 → v ≢ u → U' v ≡ U v) where
+  abbrev L : Bench
+  L = viewIn n U A
+
+  -- the sum above a unit grows if it stands under u
+  pub sums-grow : (m v : ℕ) → v < 8 → 8 ≤ m + v → sumUp m U' v ≡ sumUp m U v + pick (eqb (climb m L v) u) l 0
+  unfolding sumUp
+  sums-grow zero v lv h = absurd (omega arith)
+  sums-grow (suc m) v lv h =
+      by-cases (ℕ-discrete v u)
+      (λ (e : v ≡ u).
+      let c : climb (suc m) L u ≡ u = climb-none (suc m) L u (view-parent n U A u lu ∙ ap upSeen root) in
+      rw (e, here, root, lazy, c, eq-eqb u u refl) (omega arith))
+      (λ (ne : v ≡ u → ⊥). rw (there v lv ne) (go (U v .parent) refl ne (sums-grow m)))
+    where
+      go : (p : Up) → U v .parent ≡ p → (v ≡ u → ⊥) → ((w : ℕ) → w < 8 → 8 ≤ m + w → sumUp m U' w ≡ sumUp m U w + pick (eqb (climb m L w) u) l 0)
+          → lagOf (U v) + over (U v .parent) 0 (sumUp m U') ≡ lagOf (U v) + over (U v .parent) 0 (sumUp m U) + pick (eqb (climb (suc m) L v) u) l 0
+      go Top e ne ih =
+          let c : climb (suc m) L v ≡ v = climb-none (suc m) L v (view-parent n U A v lv ∙ ap upSeen e) in
+          rw (e, c, ne-eqb v u ne) (omega arith)
+      go (Under p) e ne ih =
+          let c : climb (suc m) L v ≡ climb m L p = climb-some m L v p (view-parent n U A v lv ∙ ap upSeen e) in
+          let g : GoodUp (Under p) = rw e at (good v lv) in
+          let r : v < p = rising v p lv e in
+          rw (e, c) (omega (arith, ih p g (omega arith)))
+
+  module _ (sums : off 4611686018427387904 s' ≡ off 4611686018427387904 (U u .sum) +ℤ pos l *ℤ off 1024 (U u .speed))
+      (room : (v r : ℕ) → v < 8 → r < U v .used → (A (v * 64 + r) .class ≡ Absent → ⊥) → sumUp 8 U v + l ≤ A (v * 64 + r) .bias) where
+    pub grow-view : viewIn n U' A ≡ growBy L u (pos l)
+    grow-view = grown-view n U U' A A u l s' lu here there sums
+        (λ v r lv lr e.
+        let q : sumUp 8 U' v ≡ sumUp 8 U v + l = sums-grow 8 v lv (omega arith) ∙ ap (λ (c : Bool). sumUp 8 U v + pick c l 0) (eq-eqb (climb 8 L v) u e) in
+        ap (λ (t : ℕ). slotSeen (A (v * 64 + r)) t (circleOf A (v * 64 + r))) q ∙ slot-grown (A (v * 64 + r)) (sumUp 8 U v) l (circleOf A (v * 64 + r)) (room v r lv lr))
+        (λ v r lv lr ne.
+        let z : sumUp 8 U v + 0 ≡ sumUp 8 U v = omega arith in
+        let q : sumUp 8 U' v ≡ sumUp 8 U v = sums-grow 8 v lv (omega arith) ∙ ap (λ (c : Bool). sumUp 8 U v + pick c l 0) (ne-eqb (climb 8 L v) u ne) ∙ z in
+        ap (λ (t : ℕ). slotSeen (A (v * 64 + r)) t (circleOf A (v * 64 + r))) q)
+
+-- ---- growth in the plain engine: every node of the tree
+value-raised : (g : GrowState) (b t l : ℕ) → valueBy g (valueBy g b l) t ≡ valueBy g b (t + l)
+value-raised Growing b t l = omega arith
+value-raised Stay b t l = refl
+value-raised Shrink b t l = omega arith
+
+pub slot-raised : (k : Node) (t l : ℕ) (ms : List Member) → slotSeen (raised l k) t ms ≡ slotSeen k (t + l) ms
+unfolding slotSeen
+slot-raised k t l ms = go (k .class) refl
+  where
+    go : (c : Class) → k .class ≡ c → slotSeen (raised l k) t ms ≡ slotSeen k (t + l) ms
+    go Absent e = rw e
+    go Blossom e = rw (e, value-raised (k .state) (k .bias) t l)
+    go (Defect v) e = rw (e, value-raised (k .state) (k .bias) t l)
+
+module _ (n : ℕ) (U U' : ℕ → Interface) (A A' : ℕ → Node) (u l s' : ℕ) (lu : u < 8) (held : U u .marks .plain ≡ true)
+    (good : (v : ℕ) → v < 8 → GoodUp (U v .parent))
+    (here : U' u ≡ withGrowth (U u) (U u .progress + l) s') (there : (v : ℕ) → v < 8 → v ≢ u → U' v ≡ U v) where
+  abbrev H : Bench
+  H = viewIn n U A
+
+  sums-held : (v : ℕ) → v < 8 → sumUp 8 U' v ≡ sumUp 8 U v
+  sums-held v lv = sumUp-same U U' good (unit-grown n U U' A A' u l s' lu here there (λ x. x .parent) (λ x p z. refl))
+      (λ w lw. by-cases (ℕ-discrete w u) (λ (q : w ≡ u). rw (q, here, held)) (λ (q : w ≡ u → ⊥). rw (there w lw q))) 8 v lv
+
+  module _ (sums : off 4611686018427387904 s' ≡ off 4611686018427387904 (U u .sum) +ℤ pos l *ℤ off 1024 (U u .speed))
+      (room : (v r : ℕ) → v < 8 → r < U v .used → (A (v * 64 + r) .class ≡ Absent → ⊥) → sumUp 8 U v + l ≤ A (v * 64 + r) .bias)
+      (circles : (k : ℕ) → circleOf A' k ≡ circleOf A k)
+      (up : (v r : ℕ) → v < 8 → r < U v .used → climb 8 H v ≡ u → A' (v * 64 + r) ≡ raised l (A (v * 64 + r)))
+      (off-tree : (v r : ℕ) → v < 8 → r < U v .used → (climb 8 H v ≡ u → ⊥) → A' (v * 64 + r) ≡ A (v * 64 + r)) where
+    pub held-view : viewIn n U' A' ≡ growBy H u (pos l)
+    held-view = grown-view n U U' A A' u l s' lu here there sums
+        (λ v r lv lr e.
+        ap₂ (λ (k : Node) (t : ℕ). slotSeen k t (circleOf A' (v * 64 + r))) (up v r lv lr e) (sums-held v lv)
+        ∙ ap (λ (ms : List Member). slotSeen (raised l (A (v * 64 + r))) (sumUp 8 U v) ms) (circles (v * 64 + r))
+        ∙ slot-raised (A (v * 64 + r)) (sumUp 8 U v) l (circleOf A (v * 64 + r))
+        ∙ slot-grown (A (v * 64 + r)) (sumUp 8 U v) l (circleOf A (v * 64 + r)) (room v r lv lr))
+        (λ v r lv lr ne.
+        ap₂ (λ (k : Node) (t : ℕ). slotSeen k t (circleOf A' (v * 64 + r))) (off-tree v r lv lr ne) (sums-held v lv)
+        ∙ ap (λ (ms : List Member). slotSeen (A (v * 64 + r)) (sumUp 8 U v) ms) (circles (v * 64 + r)))

@@ -63,6 +63,8 @@ pub record Coded (b : List ℕ) : Type 0 where
 pub record Canon (b : List ℕ) : Type 0 where
   pub steady : Steady b
   pub coded : Coded b
+  -- the engine is the bench's
+  pub modes : (u : ℕ) → u < 8 → interfaceAt b u .marks .plain ≡ interfaceAt b 0 .marks .plain
   pub whole : (u : ℕ) → u < 8 → interfaceAt b u .left ≡ 0 → interfaceAt b u .right ≡ 0
   pub both : (u : ℕ) → u < 8 → (interfaceAt b u .left ≡ 0 → ⊥) → 0 < interfaceAt b u .right
   pub past : (u s : ℕ) → u < 8 → s < 64 → interfaceAt b u .used ≤ s → nodeAt b (u * 64 + s) ≡ noNode

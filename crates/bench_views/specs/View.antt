@@ -6,7 +6,7 @@ use lib.Dec.{eqb}
 use lib.ListN.{getD}
 use lib.IntN.{ℤ, pos, _-ℤ_}
 use Rattle.bench_words.specs.Codec.{valueOffset, sumOffset, speedOffset, pick}
-use Rattle.bench_words.specs.Store.{nodeAt, interfaceAt}
+use Rattle.bench_words.specs.Store.{nodeAt, interfaceAt, setBias}
 use Rattle.kinds.specs.declared.GrowState.{GrowState}
 use Rattle.kinds.specs.declared.GrowState.the-variants.{Grow as Growing, Stay, Shrink}
 use Rattle.kinds.specs.declared.Class.{Class}
@@ -47,14 +47,22 @@ biasOf Growing v t = v - t
 biasOf Stay v t = v
 biasOf Shrink v t = v + t
 
+-- a node whose value is l more, or less, by its state: what a growth does to each node in the plain engine
+abbrev pub raised : ℕ → Node → Node
+raised l n = setBias n (valueBy (n .state) (n .bias) l)
+
 abbrev pub over : {A : Type 0} → Up → A → (ℕ → A) → A
 over Top a f = a
 over (Under p) a f = f p
 
--- the progress of a unit and of those above it, n at most
+-- what the values in a unit's tree are behind by: its progress, or nothing in the plain engine
+abbrev pub lagOf : Interface → ℕ
+lagOf f = pick (f .marks .plain) 0 (f .progress)
+
+-- what values are behind by, of a unit and of those above it, n at most
 unfoldable pub sumUp : ℕ → (ℕ → Interface) → ℕ → ℕ
 sumUp zero A u = 0
-sumUp (suc n) A u = A u .progress + over (A u .parent) 0 (sumUp n A)
+sumUp (suc n) A u = lagOf (A u) + over (A u .parent) 0 (sumUp n A)
 
 -- ---- circles
 abbrev pub handleAt : (ℕ → Node) → ℕ → Handle
@@ -99,7 +107,7 @@ interfaceIn U A u =
     }
 
 unfoldable pub viewIn : ℕ → (ℕ → Interface) → (ℕ → Node) → Bench
-viewIn n U A = record { next = n; interfaces = tab (interfaceIn U A) 0 8 }
+viewIn n U A = record { next = n; interfaces = tab (interfaceIn U A) 0 8; plain = U 0 .marks .plain }
 
 abbrev pub view : List ℕ → Bench
 view b = viewIn (getD b 0 0) (interfaceAt b) (nodeAt b)

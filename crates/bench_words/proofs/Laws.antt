@@ -194,13 +194,17 @@ up-back (Under p) g =
     simp (ne-eqb (p + 1) 0 (λ e. omega arith), a)
 
 pub marks-back : (m : Marks) → marksOf (marksWord m) ≡ m
-marks-back m = bits-back (m .fills) (m .floored)
+marks-back m = bits-back (m .fills) (m .floored) (m .plain)
   where
-    bits-back : (p q : Bool) → marksOf (pick p 1 0 + pick q 2 0) ≡ record { fills = p; floored = q }
-    bits-back true true = refl
-    bits-back true false = refl
-    bits-back false true = refl
-    bits-back false false = refl
+    bits-back : (p q r : Bool) → marksOf (pick p 1 0 + pick q 2 0 + pick r 4 0) ≡ record { fills = p; floored = q; plain = r }
+    bits-back true true true = refl
+    bits-back true true false = refl
+    bits-back true false true = refl
+    bits-back true false false = refl
+    bits-back false true true = refl
+    bits-back false true false = refl
+    bits-back false false true = refl
+    bits-back false false false = refl
 
 good-up : (p : Bool) (w : ℕ) → w < 8 → GoodUp (pick p Top (Under w))
 good-up true w l = tt

@@ -77,9 +77,9 @@ abbrev pub upWord : Up → ℕ
 upWord Top = 0
 upWord (Under p) = p + 1
 
--- the marks of an interface, a bit each: 1 fills, 2 floored
+-- the marks of an interface, a bit each: 1 fills, 2 floored, 4 plain
 abbrev pub marksOf : ℕ → Marks
-marksOf w = record { fills = eqb (w % 2) 1; floored = eqb (w / 2 % 2) 1 }
+marksOf w = record { fills = eqb (w % 2) 1; floored = eqb (w / 2 % 2) 1; plain = eqb (w / 4 % 2) 1 }
 
 abbrev pub marksWord : Marks → ℕ
-marksWord m = pick (m .fills) 1 0 + pick (m .floored) 2 0
+marksWord m = pick (m .fills) 1 0 + pick (m .floored) 2 0 + pick (m .plain) 4 0

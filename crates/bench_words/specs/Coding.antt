@@ -1,5 +1,5 @@
 -- Tests that words are the code of what is loaded from them (`Coded` of crate bench_views), and that a slot's words are all zero. Assumes nothing.
-use Prim.Native.Nat.{ℕ, _+_}
+use Prim.Native.Nat.{ℕ, _+_, _/_}
 use mathlib.Core.Bool.{Bool, _&&_}
 use mathlib.Core.List.{List}
 use lib.Dec.{eqb, leb, ltb}
@@ -41,6 +41,6 @@ spareAt b u =
 unfoldable pub linkAt : List ℕ → ℕ → Bool
 linkAt b u = leb (getD b (ibase u + 5) 0) 8
 
--- the word of its marks: no bit that is no mark's
+-- the word of its marks: no bit that is no mark's, and the engine of interface 0
 unfoldable pub flagsAt : List ℕ → ℕ → Bool
-flagsAt b u = leb (getD b (ibase u + 9) 0) 3
+flagsAt b u = leb (getD b (ibase u + 9) 0) 7 && eqb (getD b (ibase u + 9) 0 / 4) (getD b 9 0 / 4)

@@ -117,18 +117,40 @@ setHalves f x y = record { used = f .used; progress = f .progress; sum = f .sum;
 abbrev pub setMarks : Interface → Marks → Interface
 setMarks f x = record { used = f .used; progress = f .progress; sum = f .sum; speed = f .speed; parent = f .parent; left = f .left; right = f .right; marks = x }
 
--- the same marks, floored or not; and none
+-- the same marks, floored or not; and none but the engine
 abbrev pub setFloored : Marks → Bool → Marks
-setFloored m x = record { fills = m .fills; floored = x }
+setFloored m x = record { fills = m .fills; floored = x; plain = m .plain }
 
-abbrev pub noMarks : Marks
-noMarks = record { fills = false; floored = false }
+abbrev pub noMarks : Bool → Marks
+noMarks plain = record { fills = false; floored = false; plain = plain }
 
-abbrev pub noInterface : Interface
-noInterface = record { used = 0; progress = 0; sum = sumOffset; speed = speedOffset; parent = Top; left = 0; right = 0; marks = noMarks }
+abbrev pub noInterface : Bool → Interface
+noInterface plain = record { used = 0; progress = 0; sum = sumOffset; speed = speedOffset; parent = Top; left = 0; right = 0; marks = noMarks plain }
 
 unfoldable pub storeInterface : List ℕ → ℕ → Interface → List ℕ
 storeInterface b u n = set (writes b (ibase u) 1 (interfaceWords n)) (ibase u + 9) (marksWord (n .marks))
+
+-- ---- the bias of a node, by itself
+
+abbrev pub setBias : Node → ℕ → Node
+setBias n x =
+    record {
+      serial = n .serial;
+      class = n .class;
+      state = n .state;
+      parent = n .parent;
+      place = n .place;
+      next = n .next;
+      left = n .left;
+      right = n .right;
+      bias = x;
+      size = n .size;
+      first = n .first;
+      count = n .count;
+    }
+
+unfoldable pub storeBias : List ℕ → ℕ → ℕ → List ℕ
+storeBias b k w = set b (base k + 9) w
 
 -- ---- the map of an interface's slots, beside its record
 

@@ -59,11 +59,12 @@ pub fn is_link(b: &[u64; WORDS], u: usize) -> bool
     b[at + 5] <= 8
 }
 
-// The word of an interface's marks has no stray bit.
+// The word of an interface's marks has no stray bit, and the engine is that of interface 0.
 pub fn is_flags(b: &[u64; WORDS], u: usize) -> bool
     requires { ⌜ u < 8 ⌝ }
     ensures { λ r. ⌜ r ≡ flagsAt (now (b .entry)) u ⌝ }
 {
     let at = u * 16;
-    b[at + 9] <= 3
+    let w = b[at + 9];
+    (w <= 7) & (w / 4 == b[9] / 4)
 }

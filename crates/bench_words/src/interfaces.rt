@@ -29,6 +29,7 @@ pub fn marks_of(w: u64) -> Marks
     Marks {
         fills: w % 2 == 1,
         floored: w / 2 % 2 == 1,
+        plain: w / 4 % 2 == 1,
     }
 }
 
@@ -45,5 +46,5 @@ fn bit(there: bool, w: u64) -> u64
 pub fn marks_word(m: Marks) -> u64
     ensures { λ r. ⌜ r ≡ marksWord m ⌝ }
 {
-    bit(m.fills, 1) + bit(m.floored, 2)
+    bit(m.fills, 1) + bit(m.floored, 2) + bit(m.plain, 4)
 }

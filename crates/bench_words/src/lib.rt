@@ -4,10 +4,12 @@
 //   word 0                    the next serial
 //   words 16 u + 1 .. + 7     interface u: used slots, progress, sum + 2^62, speed + 1024, parent, left half, right half
 //   word 16 u + 8             the map of interface u: bit s is 1 where slot s holds a node
-//   word 16 u + 9             the marks of interface u: 1 where a new node takes the lowest empty slot, and 2 where no value may fall below zero
+//   word 16 u + 9             the marks of interface u: 1 where a new node takes the lowest empty slot, 2 where no value may fall below zero, and 4
+//                             in every interface of a bench whose values are held by the plain engine
 //   words 16 u + 10 .. + 16   zero: room for later fields of interface u
 //   words 128 + 12 k + 1 ..   node k = 64 * interface + slot: serial, class, state, parent, place, next, two touching handles,
 //                    .. + 12  bias + 2^60, size, first member, members
+pub mod biases; // state and bias of a node by themselves
 pub mod coding; // whether words are the code of what is loaded from them
 pub mod interfaces; // an interface's parent and its marks, as words
 
@@ -56,10 +58,11 @@ pub enum Up {
 }
 
 // What an interface was marked with while it was empty. One that `fills` gives a new node its lowest empty slot; in the tree of one that is
-// `floored` no growth takes a value below zero.
+// `floored` no growth takes a value below zero. `plain` is the bench's: a growth adds to every value of the tree, and T is 0.
 pub struct Marks {
     pub fills: bool,
     pub floored: bool,
+    pub plain: bool,
 }
 
 // `left` and `right` are a half's number and one more, or 0 without halves.

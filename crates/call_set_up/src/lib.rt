@@ -2,17 +2,24 @@
 // Assumes nothing.
 use bench_words::WORDS;
 use kinds::numbers;
-ghost use Rattle.call_set_up.specs.Opened.{Opened, OpenedBy};
+ghost use Rattle.call_set_up.specs.Opened.{Opened, OpenedBy, OpenedInBy};
+
+// In either engine: the plain one touches each value at every growth.
+pub fn set_up_in(b: &mut [u64; WORDS], plain: bool, first: u32) -> u8
+    ensures { λ r. ⌜ OpenedInBy plain first r (now (b .exit)) ⌝ }
+{
+    if first == 0 {
+        deed_trees::set_up_in(b, plain, 1);
+        return numbers::WORN;
+    }
+    deed_trees::set_up_in(b, plain, first);
+    0
+}
 
 pub fn set_up(b: &mut [u64; WORDS], first: u32) -> u8
     ensures { λ r. ⌜ OpenedBy first r (now (b .exit)) ⌝ }
 {
-    if first == 0 {
-        deed_trees::set_up(b, 1);
-        return numbers::WORN;
-    }
-    deed_trees::set_up(b, first);
-    0
+    set_up_in(b, false, first)
 }
 
 // The same bench, handed out whole.

@@ -29,11 +29,11 @@ use Rattle.ledger_spec.specs.Change.{push, markAll}
 use Rattle.ledger_spec.specs.Deeds.{newHandle, addBlossom, circle, sizes}
 use Rattle.ledger_spec.specs.Named.{handleNamed}
 use Rattle.bench_views.specs.Records.{withUsed, noNode}
-use Rattle.bench_views.specs.View.{view, viewIn, sumUp, slotSeen, circleOf, follow}
+use Rattle.bench_views.specs.View.{view, viewIn, lagOf, sumUp, slotSeen, circleOf, follow}
 use Rattle.bench_views.specs.Canon.{walk, Seated, Alone, Canon}
 use Rattle.bench_views.specs.Fit.{Fit, Done}
 use Rattle.bench_views.proofs.Offsets.{off-zero}
-use Rattle.bench_views.proofs.Sums.{sumUp-same}
+use Rattle.bench_views.proofs.Sums.{lag-le, sumUp-same}
 use Rattle.bench_views.proofs.Views.{view-next}
 use Rattle.bench_views.proofs.Circles.{same-eq, circle-same}
 use Rattle.bench_views.proofs.Rings.{Ringed, ringed}
@@ -41,7 +41,7 @@ use Rattle.bench_views.proofs.Maps.{held-present, mapped-put}
 use Rattle.deed_nodes.specs.Steps.{remarked, pushed}
 use Rattle.deed_nodes.proofs.Needs.{open-total}
 use Rattle.deed_nodes.proofs.Stores.{push-next, push-unit, push-unit-here, push-unit-there, push-node-here, push-node-there, push-map-here, push-map-there, push-steady, push-coded}
-use Rattle.deed_nodes.proofs.Keeps.{not-blossom, ringed-walk, Intact, intact-chain, intact-seat, halves-kept}
+use Rattle.deed_nodes.proofs.Keeps.{modes-kept, not-blossom, ringed-walk, Intact, intact-chain, intact-seat, halves-kept}
 use Rattle.deed_nodes.proofs.Adds.{slot-old, ring-at, ring-old, push-in}
 use Rattle.deed_nodes.proofs.Adding.{new-handle}
 use Rattle.deed_circles.specs.Given.{handsGiven, pairsGiven, spotAt}
@@ -87,7 +87,7 @@ module _ (b : List ℕ) (u : ℕ) (ms ts : List ℕ) (F : Fit b) (R : Ringable b
   sp = speedTo b u ms ts q₁ (length ms)
 
   abbrev n₁ : Node
-  n₁ = blossomNode (getD b 0 0) (spotAt ms 0) (length ms) (sizeTo b ms ts q₁ (length ms)) (interfaceAt b u .progress)
+  n₁ = blossomNode (getD b 0 0) (spotAt ms 0) (length ms) (sizeTo b ms ts q₁ (length ms)) (lagOf (interfaceAt b u))
 
   abbrev b₂ : List ℕ
   b₂ = pushed b₁ u s₀ n₁ (sp + 1)
@@ -180,8 +180,8 @@ module _ (b : List ℕ) (u : ℕ) (ms ts : List ℕ) (F : Fit b) (R : Ringable b
   used : (v : ℕ) → U₁ v .used ≡ interfaceAt b v .used
   used = pacing-part (interfaceAt b) u sp (λ x. x .used) (λ x z. refl)
 
-  total : sumUp 8 U₁ u ≡ interfaceAt b u .progress
-  total = sumUp-same (interfaceAt b) U₁ (λ v lv. good-interface b v) (λ v lv. parents v) (λ v lv. pacing-part (interfaceAt b) u sp (λ x. x .progress) (λ x z. refl) v) 8 u lu ∙ open-total b F u (R .root)
+  total : sumUp 8 U₁ u ≡ lagOf (interfaceAt b u)
+  total = sumUp-same (interfaceAt b) U₁ (λ v lv. good-interface b v) (λ v lv. parents v) (λ v lv. pacing-part (interfaceAt b) u sp (λ x. lagOf x) (λ x z. refl) v) 8 u lu ∙ open-total b F u (R .root)
 
   circles₂ : (v r : ℕ) → v < 8 → r < U₁ v .used → taking b ms ts q₁ (length ms) (v * 64 + r) .class ≡ Blossom → circleOf A₂ (v * 64 + r) ≡ circleOf (taking b ms ts q₁ (length ms)) (v * 64 + r)
   circles₂ v r lv lr e =
@@ -202,7 +202,7 @@ module _ (b : List ℕ) (u : ℕ) (ms ts : List ℕ) (F : Fit b) (R : Ringable b
       (λ v lv ne. unit-there v lv ne ∙ sym (pacing-else (interfaceAt b) u sp v ne))
       node-off circles₂ refl
       (ap₂ (λ (n : Node) (t : ℕ). slotSeen n t (circleOf A₂ K)) node-new total
-      ∙ blossom-seen (getD b 0 0) (spotAt ms 0) (length ms) (sizeTo b ms ts q₁ (length ms)) (interfaceAt b u .progress) (circleOf A₂ K) (omega (arith, F .canon .steady .progress u lu))
+      ∙ blossom-seen (getD b 0 0) (spotAt ms 0) (length ms) (sizeTo b ms ts q₁ (length ms)) (lagOf (interfaceAt b u)) (circleOf A₂ K) (omega (arith, F .canon .steady .progress u lu, lag-le (interfaceAt b u)))
       ∙ ap (λ (ns : List Member). some (record { serial = getD b 0 0; class = blossom ns; state = grows; parent = none; value = pos 0; size = sizeTo b ms ts q₁ (length ms) })) circle-new)
       ∙ ap₂ (λ (B : Bench) (x : plain.Node). push B u s₀ x)
       (taken-view b u ms ts F R ∙ ap (λ (h : Handle). markAll (view b) (handsGiven ms) stays (some h)) new-is) x-is
@@ -241,6 +241,7 @@ module _ (b : List ℕ) (u : ℕ) (ms ts : List ℕ) (F : Fit b) (R : Ringable b
       record {
         steady = push-steady b₁ u s₀ n₁ (sp + 1) (G .steady) lu room good₁;
         coded = push-coded b₁ u s₀ n₁ (sp + 1) (G .steady) lu room good₁ (G .coded);
+        modes = modes-kept b b₂ C (part (λ x. x .marks .plain) (λ x m z. refl));
         whole = hv .0;
         both = hv .1;
         past = λ v r lv l h. node-old (v * 64 + r) (far v r l h (ℕ-discrete v u)) (apart v r lv l h) ∙ C .past v r lv l (omega (arith, more v lv));

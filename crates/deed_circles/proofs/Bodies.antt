@@ -20,7 +20,7 @@ use Rattle.ledger_spec.specs.Refuse.{blossomTests, expandTests}
 use Rattle.ledger_spec.specs.Deeds.{newHandle, addBlossom, removeBlossom}
 use Rattle.ledger_spec.specs.Named.{handleNamed}
 use Rattle.bench_views.specs.Records.{Steady, Ranged, rateOf, noNode}
-use Rattle.bench_views.specs.View.{view}
+use Rattle.bench_views.specs.View.{lagOf, view}
 use Rattle.bench_views.specs.Fit.{Fit, Done}
 use Rattle.bench_trees.specs.Climb.{Climbs}
 use Rattle.deed_nodes.specs.Steps.{noSeat, remarked, paced, pushed}
@@ -111,9 +111,9 @@ module _ {b : List ℕ} {u : ℕ} {ms ts : List ℕ} {q : Packed} {b₁ : List �
   pub loop-ready : (s : ℕ) → s ≡ freeSlot (view b) u → (s < 64) × (getD b₁ 0 0 < 4294967296)
   loop-ready s es = (rw es (L .ring .slot .room), rw (L .taking .next) (L .ring .next))
 
-  pub loop-ends : (f : Interface) {s x k : ℕ} {n : Node} {b' : List ℕ} → length ms ≤ i → f ≡ interfaceAt b u → s ≡ freeSlot (view b) u → x ≡ getD b 0 0 → k ≡ spotOf (getD ms 0 0) → n ≡ blossomNode x k i size (f .progress)
+  pub loop-ends : (f : Interface) {s x k y : ℕ} {n : Node} {b' : List ℕ} → length ms ≤ i → f ≡ interfaceAt b u → s ≡ freeSlot (view b) u → x ≡ getD b 0 0 → k ≡ spotOf (getD ms 0 0) → y ≡ lagOf f → n ≡ blossomNode x k i size y
       → b' ≡ pushed b₁ u s n (speed + 1) → Done b' (addBlossom (view b) u (handsGiven ms) (pairsGiven ts)) × (handleNamed q ≡ newHandle (view b) u)
-  loop-ends f {s} {x} {k} {b' = b'} l ef es ex ek en e' =
+  loop-ends f {s} {x} {k} {b' = b'} l ef es ex ek ey en e' =
       let F = L .fit in
       let R = L .ring in
       let Q = q₀ b u ms ts F R in
@@ -122,7 +122,7 @@ module _ {b : List ℕ} {u : ℕ} {ms ts : List ℕ} {q : Packed} {b₁ : List �
       let all : i ≡ length ms = omega arith in
       let z : size ≡ sizeTo b ms ts Q (length ms) = G .sized ∙ ap (sizeTo b ms ts Q) all in
       let p : speed ≡ speedTo b u ms ts Q (length ms) = G .paced ∙ ap (speedTo b u ms ts Q) all in
-      let e : b' ≡ pushed b₁ u (freeSlot (view b) u) (blossomNode (getD b 0 0) (spotAt ms 0) (length ms) (sizeTo b ms ts Q (length ms)) (interfaceAt b u .progress)) (speedTo b u ms ts Q (length ms) + 1) = simp (e', en, es, ex, ek, ef, z, p, all) in
+      let e : b' ≡ pushed b₁ u (freeSlot (view b) u) (blossomNode (getD b 0 0) (spotAt ms 0) (length ms) (sizeTo b ms ts Q (length ms)) (lagOf (interfaceAt b u))) (speedTo b u ms ts Q (length ms) + 1) = simp (e', en, ey, es, ex, ek, ef, z, p, all) in
       let G' : Taking b u ms ts Q b₁ (sizeTo b ms ts Q (length ms)) (speedTo b u ms ts Q (length ms)) (length ms) = taking-at G z p all in
       (rw e (blossomed b u ms ts F R b₁ G'), ap handleNamed (L .mine) ∙ new-handle b u Q refl refl refl)
 

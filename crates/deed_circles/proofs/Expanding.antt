@@ -31,7 +31,7 @@ use Rattle.bench_views.proofs.Codes.{coded-map}
 use Rattle.bench_views.proofs.Maps.{held-absent, mapped-put}
 use Rattle.deed_nodes.specs.Steps.{noSeat, remarked, paced}
 use Rattle.deed_nodes.proofs.Stores.{put-next, put-unit, put-unit-here, put-unit-there, put-node-here, put-node-there, put-map, put-steady, put-coded, map-next, map-steady}
-use Rattle.deed_nodes.proofs.Keeps.{not-blossom, ringed-walk, Intact, intact-chain, intact-seat, halves-kept}
+use Rattle.deed_nodes.proofs.Keeps.{modes-kept, not-blossom, ringed-walk, Intact, intact-chain, intact-seat, halves-kept}
 use Rattle.deed_circles.proofs.Rounds.{Among, yes-at, not-at, among, Head, view-interfaces, pacing, pacing-here, pacing-else, pacing-part, turn-off, turn-head, turn-done}
 use Rattle.deed_circles.proofs.Blossoming.{not-inside}
 use Rattle.deed_circles.proofs.Freeing.{Expandable, Freeing, freeing, f₁, m₁, at₁, member, apart, not-top, not-member}
@@ -166,6 +166,7 @@ module _ (b : List ℕ) (t : ℕ) (h : Handle) (F : Fit b) (X : Expandable b t h
       record {
         steady = map-steady c₂ (h .unit) w₂ lu st₂;
         coded = coded-map c₂ (h .unit) w₂ (st₂ .len) lu (put-coded b₁ k noNode t s (G .steady) lk lt good-none (G .coded));
+        modes = modes-kept b b₂ C (part (λ x. x .marks .plain) (λ x z. refl));
         whole = hv .0;
         both = hv .1;
         past = λ v r lv l q.

@@ -30,7 +30,7 @@ use Rattle.ledger_spec.proofs.Knit.{none-some, some-eq}
 use Rattle.ledger_spec.proofs.Passed.{Open}
 use Rattle.ledger_spec.proofs.Accepted.{expand-passed}
 use Rattle.bench_views.specs.Records.{Steady, Ranged}
-use Rattle.bench_views.specs.View.{view, sumUp, slotSeen, circleOf, follow}
+use Rattle.bench_views.specs.View.{view, lagOf, sumUp, slotSeen, circleOf, follow}
 use Rattle.bench_views.specs.Canon.{walk, Coded}
 use Rattle.bench_views.specs.Fit.{Fit}
 use Rattle.bench_views.proofs.Sums.{sumUp-same}
@@ -200,7 +200,7 @@ module _ (b : List ℕ) (t : ℕ) (h : Handle) (F : Fit b) (X : Expandable b t h
         let good : Good x = record { serial = old .serial; class = old .class; parent = tt; left = (omega arith, omega arith, omega arith); right = (omega arith, omega arith, omega arith) } in
         let q : b₂ ≡ storeNode b₁ k x = e ∙ ap (λ (z : ℕ). storeNode b₁ z (freedNode (interfaceAt b₁) (nodeAt b₁) z)) (G .at) in
         let sum : sumUp 8 (interfaceAt b₁) (k / 64) ≡ T₁ i =
-        sumUp-same (interfaceAt b) (interfaceAt b₁) (λ v lv. good-interface b v) (λ v lv. ap (λ (f : Interface). f .parent) (G .interfaces v lv)) (λ v lv. ap (λ (f : Interface). f .progress) (G .interfaces v lv)) 8 (k / 64) (omega arith) in
+        sumUp-same (interfaceAt b) (interfaceAt b₁) (λ v lv. good-interface b v) (λ v lv. ap (λ (f : Interface). f .parent) (G .interfaces v lv)) (λ v lv. ap (λ (f : Interface). lagOf f) (G .interfaces v lv)) 8 (k / 64) (omega arith) in
         rw q
         (record {
           at = ep ∙ ap (λ (n : Node). n .next) node-now;

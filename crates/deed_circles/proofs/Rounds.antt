@@ -25,9 +25,9 @@ use Rattle.ledger_spec.specs.Named.{stateNamed, parentNamed}
 use Rattle.ledger_spec.proofs.Tops.{climb-same}
 use Rattle.bench_views.specs.Records.{rateOf}
 use Rattle.bench_views.specs.Tab.{tab}
-use Rattle.bench_views.specs.View.{off, upSeen, halvesSeen, marksSeen, sumUp, slotSeen, interfaceIn, viewIn, circleOf, valueBy}
+use Rattle.bench_views.specs.View.{off, upSeen, halvesSeen, marksSeen, lagOf, sumUp, slotSeen, interfaceIn, viewIn, circleOf, valueBy}
 use Rattle.bench_views.proofs.Sums.{sumUp-same}
-use Rattle.bench_views.proofs.Views.{interface-in, view-next, view-parent, view-eight, view-is}
+use Rattle.bench_views.proofs.Views.{interface-in, view-next, view-plain, view-parent, view-eight, view-is}
 use Rattle.deed_nodes.specs.Steps.{remarked}
 use Rattle.deed_nodes.specs.declared.Seat.{Seat}
 use Rattle.deed_nodes.proofs.Puts.{mark-in}
@@ -79,10 +79,10 @@ among at k (suc n) = go (among at k n) (ℕ-discrete k (at n))
 
 -- the same interfaces below 8, the same view
 pub view-interfaces : (n : ℕ) (U U' : ℕ → Interface) (A : ℕ → Node) → ((v : ℕ) → v < 8 → GoodUp (U v .parent)) → ((v : ℕ) → v < 8 → U' v ≡ U v) → viewIn n U' A ≡ viewIn n U A
-view-interfaces n U U' A good same = view-is n U' A (viewIn n U A) (view-next n U A) (view-eight n U A) (λ v lv. shown v lv ∙ sym (interface-in n U A v lv))
+view-interfaces n U U' A good same = view-is n U' A (viewIn n U A) (view-next n U A) (view-eight n U A) (view-plain n U A ∙ sym (ap (λ (f : Interface). f .marks .plain) (same 0 (omega arith)))) (λ v lv. shown v lv ∙ sym (interface-in n U A v lv))
   where
     sums : (v : ℕ) → v < 8 → sumUp 8 U' v ≡ sumUp 8 U v
-    sums v lv = sumUp-same U U' good (λ w lw. ap (λ (f : Interface). f .parent) (same w lw)) (λ w lw. ap (λ (f : Interface). f .progress) (same w lw)) 8 v lv
+    sums v lv = sumUp-same U U' good (λ w lw. ap (λ (f : Interface). f .parent) (same w lw)) (λ w lw. ap (λ (f : Interface). lagOf f) (same w lw)) 8 v lv
 
     shown : (v : ℕ) → v < 8 → interfaceIn U' A v ≡ interfaceIn U A v
     shown v lv =
@@ -194,7 +194,7 @@ module _ (at T : ℕ → ℕ) (g : GrowState) (seat : ℕ → Seat) (A : ℕ →
           let nowb : to i (k / 64 * 64 + k % 64) ≡ A k = ap (to i) back ∙ now in
           let parents = pacing-part U t (sp i) (λ x. x .parent) (λ x z. refl) in
           let used = pacing-part U t (sp i) (λ x. x .used) (λ x z. refl) in
-          let sum : sumUp 8 W (k / 64) ≡ T i = sumUp-same U W good (λ v lv. parents v) (λ v lv. pacing-part U t (sp i) (λ x. x .progress) (λ x z. refl) v) 8 (k / 64) (low i l) ∙ sym (total i l) in
+          let sum : sumUp 8 W (k / 64) ≡ T i = sumUp-same U W good (λ v lv. parents v) (λ v lv. pacing-part U t (sp i) (λ x. lagOf x) (λ x z. refl) v) 8 (k / 64) (low i l) ∙ sym (total i l) in
           mark-in n W (pacing U t (sp (suc i))) (to i) (to (suc i)) (k / 64) (k % 64) t (sp (suc i))
           (λ v lv. rw (parents v) (good v lv)) (λ v lv. rw (used v) (few v lv)) (low i l) (rw (used (k / 64)) (slot i l)) lt
           (climb-in n n U W A (to i) (λ v lv. parents v) 8 (k / 64) ∙ under i l)

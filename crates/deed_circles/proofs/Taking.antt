@@ -25,7 +25,7 @@ use Rattle.ledger_spec.specs.Deeds.{sizes, sizeOf}
 use Rattle.ledger_spec.specs.Named.{handleNamed, parentNamed}
 use Rattle.ledger_spec.proofs.Knit.{none-some}
 use Rattle.bench_views.specs.Records.{Steady, Ranged, rateOf}
-use Rattle.bench_views.specs.View.{view, viewIn, sumUp, circleOf}
+use Rattle.bench_views.specs.View.{view, viewIn, lagOf, sumUp, circleOf}
 use Rattle.bench_views.specs.Canon.{Coded}
 use Rattle.bench_views.specs.Fit.{Fit}
 use Rattle.bench_views.proofs.Sums.{sumUp-le, sumUp-same}
@@ -164,7 +164,7 @@ module _ (b : List ℕ) (u : ℕ) (ms ts : List ℕ) (F : Fit b) (R : Ringable b
         let good : Good x = record { serial = old .serial; class = old .class; parent = good-q; left = good-handle _; right = good-handle _ } in
         let len = G .steady .len in
         let sum : sumUp 8 (interfaceAt b₁) (k / 64) ≡ T₀ i =
-        sumUp-same (interfaceAt b) (interfaceAt b₁) (λ v lv. good-interface b v) (λ v lv. ap (λ (f : Interface). f .parent) (G .interfaces v lv)) (λ v lv. ap (λ (f : Interface). f .progress) (G .interfaces v lv)) 8 (k / 64) (omega arith) in
+        sumUp-same (interfaceAt b) (interfaceAt b₁) (λ v lv. good-interface b v) (λ v lv. ap (λ (f : Interface). f .parent) (G .interfaces v lv)) (λ v lv. ap (λ (f : Interface). lagOf f) (G .interfaces v lv)) 8 (k / 64) (omega arith) in
         rw e
         (record {
           within = l;

@@ -138,7 +138,8 @@ pub fn add_blossom(b: &mut [u64; WORDS], unit: usize, members: &[u64], touching:
         i = i + 1;
     }
     let first = spot(members[0]) as u64;
-    let n = new_blossom(serial, first, i as u64, size, f.progress);
+    let t = bench_trees::lag(f.marks.plain, f.progress);
+    let n = new_blossom(serial, first, i as u64, size, t);
     deed_nodes::push(b, unit, slot, n, speed + 1);
     q
 }

@@ -33,6 +33,7 @@ pub fn mark_filling(b: &mut [u64; WORDS], unit: usize)
             marks: Marks {
                 fills: true,
                 floored: old.floored,
+                plain: old.plain,
             },
         },
     );
@@ -60,6 +61,7 @@ pub fn mark_floored(b: &mut [u64; WORDS], unit: usize)
             marks: Marks {
                 fills: old.fills,
                 floored: true,
+                plain: old.plain,
             },
         },
     );

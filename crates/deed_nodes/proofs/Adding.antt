@@ -25,7 +25,7 @@ use Rattle.ledger_spec.specs.Change.{push}
 use Rattle.ledger_spec.specs.Deeds.{newHandle, addDefect}
 use Rattle.ledger_spec.specs.Named.{handleNamed}
 use Rattle.bench_views.specs.Records.{withUsed}
-use Rattle.bench_views.specs.View.{viewIn, view, slotSeen, circleOf}
+use Rattle.bench_views.specs.View.{lagOf, viewIn, view, slotSeen, circleOf}
 use Rattle.bench_views.specs.Canon.{walk, Seated, Alone, Canon}
 use Rattle.bench_views.specs.Fit.{Fit, Done}
 use Rattle.bench_views.proofs.Offsets.{off-zero}
@@ -37,7 +37,7 @@ use Rattle.bench_views.proofs.Maps.{held-present, mapped-put}
 use Rattle.deed_nodes.specs.Steps.{defectNode, pushed}
 use Rattle.deed_nodes.proofs.Needs.{Pushable, open-total}
 use Rattle.deed_nodes.proofs.Stores.{push-next, push-unit, push-unit-here, push-unit-there, push-node-here, push-node-there, push-map-here, push-map-there, push-steady, push-coded}
-use Rattle.deed_nodes.proofs.Keeps.{ringed-walk, Intact, intact-chain, intact-seat, halves-kept}
+use Rattle.deed_nodes.proofs.Keeps.{modes-kept, ringed-walk, Intact, intact-chain, intact-seat, halves-kept}
 use Rattle.deed_nodes.proofs.Adds.{ring-at, ring-old, push-in}
 
 -- the handle of the node that is added next
@@ -64,7 +64,7 @@ not-inside {q} e = let z2 : _≡_ {A = ℕ} 0 1 = cc in omega arith
 
 module _ (b : List ℕ) (u : ℕ) (v : Vertex) (F : Fit b) (P : Pushable b u) (fits : v .0 < 4294967296) where
   abbrev t₀ : ℕ
-  t₀ = interfaceAt b u .progress
+  t₀ = lagOf (interfaceAt b u)
 
   abbrev s₀ : ℕ
   s₀ = freeSlot (view b) u
@@ -144,6 +144,7 @@ module _ (b : List ℕ) (u : ℕ) (v : Vertex) (F : Fit b) (P : Pushable b u) (f
       record {
         steady = push-steady b u s₀ n₁ (interfaceAt b u .speed + 1) st (P .root .low) (P .slot .room) good₁;
         coded = push-coded b u s₀ n₁ (interfaceAt b u .speed + 1) st (P .root .low) (P .slot .room) good₁ (C .coded);
+        modes = modes-kept b b₁ C (part (λ x. x .marks .plain) (λ x m z. refl));
         whole = hv .0;
         both = hv .1;
         past = λ w r lw l h. node-there (w * 64 + r) (far w r l h (ℕ-discrete w u)) ∙ C .past w r lw l (omega (arith, more w lw));

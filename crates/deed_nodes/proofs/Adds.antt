@@ -17,7 +17,7 @@ use Rattle.ledger_spec.specs.Bench as plain
 use Rattle.ledger_spec.specs.Change.{push}
 use Rattle.ledger_spec.specs.Knit.{Sewn}
 use Rattle.bench_views.specs.Records.{withUsed}
-use Rattle.bench_views.specs.View.{off, sumUp, slotSeen, viewIn, view, circleOf}
+use Rattle.bench_views.specs.View.{lagOf, off, sumUp, slotSeen, viewIn, view, circleOf}
 use Rattle.bench_views.proofs.Offsets.{off-add}
 use Rattle.bench_views.proofs.Sums.{sumUp-same}
 use Rattle.bench_views.proofs.Views.{unit-held, push-view}
@@ -47,7 +47,7 @@ module _ (n : ℕ) (U U' : ℕ → Interface) (A A' : ℕ → Node) (u s k : ℕ
   kept = unit-held n U U' A A' u s (U u .speed + 1) x lu here there
 
   sums : (v : ℕ) → v < 8 → sumUp 8 U' v ≡ sumUp 8 U v
-  sums v lv = sumUp-same U U' good (kept (λ y. y .parent) (λ y m z. refl)) (kept (λ y. y .progress) (λ y m z. refl)) 8 v lv
+  sums v lv = sumUp-same U U' good (kept (λ y. y .parent) (λ y m z. refl)) (kept (λ y. lagOf y) (λ y m z. refl)) 8 v lv
 
   pub push-in : viewIn (suc n) U' A' ≡ push (viewIn n U A) u s x
   push-in =

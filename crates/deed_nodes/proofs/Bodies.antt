@@ -25,9 +25,10 @@ use Rattle.ledger_spec.specs.Named.{stateNamed, handleNamed}
 use Rattle.ledger_spec.specs.Tests.{first}
 use Rattle.ledger_spec.specs.Refuse.{defectTests, stateTests}
 use Rattle.bench_views.specs.Records.{withUsed, rateOf, Steady, Ranged}
-use Rattle.bench_views.specs.View.{sumUp, view}
+use Rattle.bench_views.specs.View.{lagOf, sumUp, view}
 use Rattle.bench_views.specs.Canon.{Canon}
 use Rattle.bench_views.specs.Fit.{Fit, Done}
+use Rattle.bench_views.proofs.Sums.{lag-le}
 use Rattle.bench_trees.specs.Climb.{Climbs}
 use Rattle.deed_nodes.specs.Steps.{noSeat, remarked, defectNode, paced, pushed}
 use Rattle.deed_nodes.specs.declared.Seat.{Seat}
@@ -92,18 +93,18 @@ module _ (b : List ℕ) (u : ℕ) (v : Vertex) (F : Fit b) (t : first (defectTes
     pub canon : Canon b
     pub room : freeSlot (view b) u < 64
     pub next : getD b 0 0 < 4294967296
-    pub short : interfaceAt b u .progress ≤ 1099511627776
+    pub short : lagOf (interfaceAt b u) ≤ 1099511627776
     pub fast : interfaceAt b u .speed ≤ 1536
 
   pub defect-space : Space
   defect-space =
       let P = pushable b u F t in
-      record { top = P .root .low; canon = F .canon; room = P .slot .room; next = P .next; short = F .canon .steady .progress u (P .root .low); fast = open-paced b F u (P .root) .fast }
+      record { top = P .root .low; canon = F .canon; room = P .slot .room; next = P .next; short = omega (arith, F .canon .steady .progress u (P .root .low), lag-le (interfaceAt b u)); fast = open-paced b F u (P .root) .fast }
 
-  pub defect-by : (U : Interface) {k x : ℕ} {none : Packed} {b' : List ℕ} → v .0 < 4294967296 → U ≡ interfaceAt b u → k ≡ freeSlot (view b) u → x ≡ getD b 0 0 → none ≡ noCode
-      → b' ≡ pushed b u k (record { serial = record { 0 = x }; class = Defect v; state = Growing; parent = Outermost; place = 0; next = 0; left = none; right = none; bias = 1152921504606846976 - U .progress; size = 1; first = 0; count = 0 }) (U .speed + 1)
+  pub defect-by : (U : Interface) {k x w : ℕ} {none : Packed} {b' : List ℕ} → v .0 < 4294967296 → U ≡ interfaceAt b u → k ≡ freeSlot (view b) u → x ≡ getD b 0 0 → none ≡ noCode → w ≡ lagOf U
+      → b' ≡ pushed b u k (record { serial = record { 0 = x }; class = Defect v; state = Growing; parent = Outermost; place = 0; next = 0; left = none; right = none; bias = 1152921504606846976 - w; size = 1; first = 0; count = 0 }) (U .speed + 1)
       → Done b' (addDefect (view b) u (v .0)) × (handleNamed (record { unit = u; slot = k; serial = record { 0 = x } }) ≡ newHandle (view b) u)
-  defect-by U {k} {x} {b' = b'} fits eU ek ex en e' =
+  defect-by U {k} {x} {b' = b'} fits eU ek ex en ew e' =
       let P = pushable b u F t in
-      let q : b' ≡ pushed b u (freeSlot (view b) u) (defectNode (getD b 0 0) v (interfaceAt b u .progress)) (interfaceAt b u .speed + 1) = simp (e', ek, ex, en, eU) in
+      let q : b' ≡ pushed b u (freeSlot (view b) u) (defectNode (getD b 0 0) v (lagOf (interfaceAt b u))) (interfaceAt b u .speed + 1) = simp (e', ek, ex, en, ew, eU) in
       (rw q (defect-added b u v F P fits), new-handle b u (record { unit = u; slot = k; serial = record { 0 = x } }) refl ek ex)

@@ -1,6 +1,7 @@
 -- Growth: one interface's words change. Every T above which it stands grows with it, so the view grows; no class and no link changes. Assumes nothing.
 use Prim.Native.Nat.{ℕ, _+_, _-_, _*_, _<_, _≤_}
 use mathlib.Core.Path.{_≡_, refl, ap₂, _∙_, fun-ext}
+use mathlib.Core.Bool.{false}
 use mathlib.Core.List.{List}
 use native.Mathlib.Omega.{arith}
 use native.Mathlib.Nat.{mul-le-mul}
@@ -22,11 +23,12 @@ use Rattle.bench_views.proofs.Sums.{sumUp-le}
 use Rattle.bench_views.proofs.Views.{grow-view}
 use Rattle.bench_views.proofs.Codes.{coded-interface}
 use Rattle.bench_views.proofs.Ranges.{ranged}
+use Rattle.deed_nodes.specs.Steps.{noted, Room}
 use Rattle.deed_nodes.proofs.Needs.{Paced, open-top, open-paced, Growable, growable}
 use Rattle.deed_nodes.proofs.Stores.{stored-part, stored-next, stored-steady}
 use Rattle.deed_nodes.proofs.Keeps.{sim-self, canon-like, halves-kept}
 
-module _ (b : List ℕ) (u l : ℕ) (F : Fit b) (G : Growable b u l) where
+module _ (b : List ℕ) (u l : ℕ) (F : Fit b) (G : Growable b u l) (lazy : interfaceAt b u .marks .plain ≡ false) where
   abbrev f₀ : Interface
   f₀ = interfaceAt b u
 
@@ -48,7 +50,7 @@ module _ (b : List ℕ) (u l : ℕ) (F : Fit b) (G : Growable b u l) where
       let low = P .low in
       let short = G .short in
       ap₂ (λ (m : ℕ) (A : ℕ → Node). viewIn m (interfaceAt b₁) A) (stored-next b u f₁ (st .len) lu good) same
-      ∙ grow-view (getD b 0 0) (interfaceAt b) (interfaceAt b₁) (nodeAt b) u l (f₁ .sum) lu (open-top b F u (G .root)) (λ v lv. good-interface b v) (st .rising)
+      ∙ grow-view (getD b 0 0) (interfaceAt b) (interfaceAt b₁) (nodeAt b) u l (f₁ .sum) lu (open-top b F u (G .root)) lazy (λ v lv. good-interface b v) (st .rising)
       (interface-same b u f₁ (st .len) lu good) (λ v lv ne. interface-other b u f₁ (st .len) lu v ne)
       (sum-grown 4611686018427387904 1024 (f₀ .sum) l (f₀ .speed) (omega arith))
       (λ v r lv lr p. omega (arith, ranged b st (F .within) v r lv lr p .least, sumUp-le b st 8 v lv))
@@ -62,7 +64,7 @@ module _ (b : List ℕ) (u l : ℕ) (F : Fit b) (G : Growable b u l) where
       let h = halves-kept b b₁ C (λ v lv. stored-part b u f₁ (st .len) lu good (λ x. x .left) refl v) (λ v lv. stored-part b u f₁ (st .len) lu good (λ x. x .right) refl v) in
       record {
         canon = canon-like b b₁ C (stored-steady b u f₁ (st .len) lu good st (st .slots u lu) (G .short) refl) (coded-interface b u f₁ (st .len) lu good (C .coded))
-            (λ v lv. stored-part b u f₁ (st .len) lu good (λ x. x .used) refl v) (h .0) (h .1) (λ v lv. store-interface-map b u f₁ (st .len) lu v)
+            (λ v lv. stored-part b u f₁ (st .len) lu good (λ x. x .marks .plain) refl v) (λ v lv. stored-part b u f₁ (st .len) lu good (λ x. x .used) refl v) (h .0) (h .1) (λ v lv. store-interface-map b u f₁ (st .len) lu v)
             (λ k. sim-self (store-interface-node b u f₁ (st .len) lu k)) (λ k e. store-interface-node b u f₁ (st .len) lu k);
         seen = seen;
       }
@@ -72,20 +74,13 @@ module _ (b : List ℕ) (u l : ℕ) (F : Fit b) (t : first (growTests (view b) u
   pub growth-low : u < 8
   growth-low = growable b u l t .root .low
 
-  pub record Room (U : Interface) : Type 0 where
-    pub progress : U .progress + l ≤ 1099511627776
-    pub product : l * U .speed ≤ 1688849860263936
-    pub low : 4607182418800017408 ≤ U .sum
-    pub high : U .sum ≤ 4616189618054758400
-
-  pub growth-room : (U : Interface) → U ≡ interfaceAt b u → Room U
-  growth-room U e =
+  pub growth-room : Room (interfaceAt b u) l
+  growth-room =
       let G = growable b u l t in
       let P = open-paced b F u (G .root) in
       let short : l ≤ 1099511627776 = omega (arith, G .short) in
-      rw e (record { progress = G .short; product = mul-le-mul short (P .fast); low = P .low; high = P .high })
+      record { progress = G .short; product = mul-le-mul short (P .fast); low = P .low; high = P .high }
 
-  pub growth-done : (U : Interface) {b' : List ℕ} → U ≡ interfaceAt b u → b' ≡ storeInterface b u (withGrowth U (U .progress + l) (U .sum + l * U .speed - l * 1024)) → Done b' (growBy (view b) u (pos l))
-  growth-done U {b'} e e' =
-      let q : b' ≡ b₁ b u l F (growable b u l t) = simp (e', e) in
-      rw q (done b u l F (growable b u l t))
+  pub growth-done : interfaceAt b u .marks .plain ≡ false → {b' : List ℕ} → b' ≡ noted b u l → Done b' (growBy (view b) u (pos l))
+  unfolding noted
+  growth-done z {b'} e = rw e (done b u l F (growable b u l t) z)

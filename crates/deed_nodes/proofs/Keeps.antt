@@ -112,7 +112,11 @@ sim-self e =
       count = ap (λ (n : Node). n .count) e;
     }
 
-module _ (b b' : List ℕ) (C : Canon b) (st : Steady b') (co : Coded b') (used : (u : ℕ) → u < 8 → interfaceAt b' u .used ≡ interfaceAt b u .used)
+-- engines that are as they were
+pub modes-kept : (b b' : List ℕ) → Canon b → ((u : ℕ) → u < 8 → interfaceAt b' u .marks .plain ≡ interfaceAt b u .marks .plain) → (u : ℕ) → u < 8 → interfaceAt b' u .marks .plain ≡ interfaceAt b' 0 .marks .plain
+modes-kept b b' C plains u lu = plains u lu ∙ C .modes u lu ∙ sym (plains 0 (omega arith))
+
+module _ (b b' : List ℕ) (C : Canon b) (st : Steady b') (co : Coded b') (plains : (u : ℕ) → u < 8 → interfaceAt b' u .marks .plain ≡ interfaceAt b u .marks .plain) (used : (u : ℕ) → u < 8 → interfaceAt b' u .used ≡ interfaceAt b u .used)
     (whole : (u : ℕ) → u < 8 → interfaceAt b' u .left ≡ 0 → interfaceAt b' u .right ≡ 0) (both : (u : ℕ) → u < 8 → (interfaceAt b' u .left ≡ 0 → ⊥) → 0 < interfaceAt b' u .right)
     (maps : (u : ℕ) → u < 8 → mapAt b' u ≡ mapAt b u) (sim : (k : ℕ) → Sim (nodeAt b' k) (nodeAt b k)) (keeps : (k : ℕ) → nodeAt b k .class ≡ Absent → nodeAt b' k ≡ nodeAt b k) where
   walk-same : (i k : ℕ) → walk i (nodeAt b') k ≡ walk i (nodeAt b) k
@@ -137,6 +141,7 @@ module _ (b b' : List ℕ) (C : Canon b) (st : Steady b') (co : Coded b') (used 
       record {
         steady = st;
         coded = co;
+        modes = modes-kept b b' C plains;
         whole = whole;
         both = both;
         past = λ u s lu l h.

@@ -3,6 +3,7 @@ pub mod Stores
 pub mod Keeps
 pub mod Needs
 pub mod Growing
+pub mod Holding
 pub mod Setting
 pub mod Adds
 pub mod Adding

@@ -30,7 +30,7 @@ use Rattle.ledger_spec.specs.Named.{parentNamed}
 use Rattle.ledger_spec.proofs.Knit.{none-some, some-eq}
 use Rattle.ledger_spec.proofs.Passed.{Open}
 use Rattle.ledger_spec.proofs.Accepted.{Named, grow-passed, state-passed, defect-passed}
-use Rattle.bench_views.specs.View.{view, upSeen, slotIn, slotSeen, sumUp, circleOf}
+use Rattle.bench_views.specs.View.{lagOf, view, upSeen, slotIn, slotSeen, sumUp, circleOf}
 use Rattle.bench_views.specs.Records.{Ranged}
 use Rattle.bench_views.specs.Fit.{Fit}
 use Rattle.bench_views.proofs.Sums.{sumUp-step}
@@ -61,9 +61,9 @@ module _ (b : List ℕ) (F : Fit b) (u : ℕ) (o : Open (view b) u) where
   open-top = up-none (interfaceAt b u .parent) (sym (view-parent (getD b 0 0) (interfaceAt b) (nodeAt b) u (o .low)) ∙ o .free)
 
   -- T of a top is its own progress
-  pub open-total : sumUp 8 (interfaceAt b) u ≡ interfaceAt b u .progress
+  pub open-total : sumUp 8 (interfaceAt b) u ≡ lagOf (interfaceAt b u)
   open-total =
-      let e : sumUp 8 (interfaceAt b) u ≡ interfaceAt b u .progress + 0 = sumUp-step 8 (interfaceAt b) u (omega arith) ∙ rw open-top in
+      let e : sumUp 8 (interfaceAt b) u ≡ lagOf (interfaceAt b u) + 0 = sumUp-step 8 (interfaceAt b) u (omega arith) ∙ rw open-top in
       omega arith
 
   pub open-paced : Paced (interfaceAt b u)

@@ -20,7 +20,7 @@ use Rattle.ledger_spec.specs.Look.{top}
 use Rattle.ledger_spec.specs.Change.{share, place, mark, restate}
 use Rattle.ledger_spec.specs.Named.{stateNamed, parentNamed}
 use Rattle.bench_views.specs.Records.{rateOf}
-use Rattle.bench_views.specs.View.{off, sumUp, slotSeen, slotIn, viewIn, circleOf, valueBy, biasOf}
+use Rattle.bench_views.specs.View.{lagOf, off, sumUp, slotSeen, slotIn, viewIn, circleOf, valueBy, biasOf}
 use Rattle.bench_views.proofs.Offsets.{off-both, rates}
 use Rattle.bench_views.proofs.Sums.{sumUp-same}
 use Rattle.bench_views.proofs.Views.{view-slot, unit-kept, place-view}
@@ -94,7 +94,7 @@ module _ (n : ℕ) (U U' : ℕ → Interface) (A A' : ℕ → Node) (u s t sp : 
   kept = unit-kept n U U' A A' u s t sp none lu ls lt tops here there
 
   sums : (v : ℕ) → v < 8 → sumUp 8 U' v ≡ sumUp 8 U v
-  sums v lv = sumUp-same U U' good (kept (λ x. x .parent) (λ x z. refl)) (kept (λ x. x .progress) (λ x z. refl)) 8 v lv
+  sums v lv = sumUp-same U U' good (kept (λ x. x .parent) (λ x z. refl)) (kept (λ x. lagOf x) (λ x z. refl)) 8 v lv
 
   pub put-in : (y : Option plain.Node) → off 1024 sp ≡ off 1024 (U t .speed) +ℤ (share y -ℤ share (slotIn U A u s))
       → slotSeen (A' (u * 64 + s)) (sumUp 8 U u) (circleOf A' (u * 64 + s)) ≡ y → viewIn n U' A' ≡ place (viewIn n U A) u s y

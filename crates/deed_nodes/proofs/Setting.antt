@@ -92,7 +92,7 @@ module _ (b : List ℕ) (u : ℕ) (h : Handle) (g : GrowState) (s : ℕ) (F : Fi
         let hv = halves-kept b b₁ C (part (λ x. x .left) (λ x z. refl)) (part (λ x. x .right) (λ x z. refl)) in
         record {
           canon = canon-like b b₁ C (put-steady b k₀ n₁ u s (C .steady) (S .stands .low) (S .root .low) good₁) (put-coded b k₀ n₁ u s (C .steady) (S .stands .low) (S .root .low) good₁ (C .coded))
-              (part (λ x. x .used) (λ x z. refl)) (hv .0) (hv .1) (put-map b k₀ n₁ u s (C .steady) (S .stands .low) (S .root .low) good₁) sim
+              (part (λ x. x .marks .plain) (λ x z. refl)) (part (λ x. x .used) (λ x z. refl)) (hv .0) (hv .1) (put-map b k₀ n₁ u s (C .steady) (S .stands .low) (S .root .low) good₁) sim
               (λ k e. node-there k (λ q. S .stands .shows .present (ap (λ (j : ℕ). nodeAt b j .class) (sym q) ∙ e)));
           seen = seen;
         }

@@ -1,5 +1,5 @@
 -- What the calls' work does to a node and to the words. Assumes nothing.
-use Prim.Native.Nat.{ℕ, suc, max, _+_, _-_, _*_}
+use Prim.Native.Nat.{ℕ, suc, max, _+_, _-_, _*_, _≤_}
 use mathlib.Core.Bool.{true}
 use mathlib.Core.List.{List}
 use lib.ListN.{getD, set}
@@ -13,7 +13,8 @@ use Rattle.kinds.specs.declared.Parent.the-variants.{Outermost}
 use Rattle.kinds.specs.declared.Vertex.{Vertex}
 use Rattle.bench_words.specs.Store.{interfaceAt, storeNode, storeInterface, mapAt, storeMap, setSpeed}
 use Rattle.bench_words.specs.declared.Node.{Node}
-use Rattle.bench_views.specs.Records.{withUsed}
+use Rattle.bench_words.specs.declared.Interface.{Interface}
+use Rattle.bench_views.specs.Records.{withUsed, withGrowth}
 use Rattle.bench_views.specs.View.{valueBy, biasOf}
 use Rattle.deed_nodes.specs.declared.Seat.{Seat}
 
@@ -60,6 +61,19 @@ defectNode serial v t =
 -- interface u has speed s
 unfoldable pub paced : List ℕ → ℕ → ℕ → List ℕ
 paced b u s = storeInterface b u (setSpeed (interfaceAt b u) s)
+
+-- interface u has grown by l
+unfoldable pub noted : List ℕ → ℕ → ℕ → List ℕ
+noted b u l =
+    let f = interfaceAt b u in
+    storeInterface b u (withGrowth f (f .progress + l) (f .sum + l * f .speed - l * 1024))
+
+-- and it can
+pub record Room (f : Interface) (l : ℕ) : Type 0 where
+  pub progress : f .progress + l ≤ 1099511627776
+  pub product : l * f .speed ≤ 1688849860263936
+  pub low : 4607182418800017408 ≤ f .sum
+  pub high : f .sum ≤ 4616189618054758400
 
 -- node n in slot k of interface u, whose speed then is s and whose used slots go up to the highest that was filled; its bit in the map; the next serial
 unfoldable pub pushed : List ℕ → ℕ → ℕ → Node → ℕ → List ℕ

@@ -14,6 +14,7 @@ ghost use mathlib.Core.Option.{none};
 ghost use Prim.Native.Nat.{suc, max, _+_, _-_, _*_, _<_, _≤_};
 ghost use lib.IntN.{pos};
 ghost use lib.ListN.{length, getD};
+ghost use Rattle.bench_words.specs.Store.{interfaceAt};
 ghost use Rattle.ledger_spec.specs.Tests.{first};
 ghost use Rattle.ledger_spec.specs.Refuse.{defectTests, stateTests, growTests};
 ghost use Rattle.ledger_spec.specs.Change.{mark};
@@ -22,7 +23,7 @@ ghost use Rattle.ledger_spec.specs.Named.{stateNamed, handleNamed};
 ghost use Rattle.bench_views.specs.Records.{Ranged, noNode};
 ghost use Rattle.bench_views.specs.View.{view};
 ghost use Rattle.bench_views.specs.Fit.{Fit, Done};
-ghost use Rattle.deed_nodes.specs.Steps.{noSeat, remarked, paced, pushed};
+ghost use Rattle.deed_nodes.specs.Steps.{noSeat, remarked, paced, noted, Room, pushed};
 
 // Where a node stands: the blossom that it is a member of, its place in the circle, the position of the next member, its two touching handles.
 pub struct Seat {
@@ -161,10 +162,11 @@ pub fn push(b: &mut [u64; WORDS], unit: usize, slot: u8, n: Node, speed: u64)
     bench_words::store_next(b, next + 1);
 }
 
-// Grows a tree by a length, at its top.
-pub fn grow_by(b: &mut [u64; WORDS], unit: usize, length: u64)
-    requires { ⌜ Fit (now b) × (first (growTests (view (now b)) unit (pos length)) ≡ 0) ⌝ }
-    ensures { λ _. ⌜ Done (now (b .exit)) (growBy (view (now (b .entry))) unit (pos length)) ⌝ }
+// Counts a growth of an interface: its progress and its sum.
+fn note_growth(b: &mut [u64; WORDS], unit: usize, length: u64)
+    requires { ⌜ unit < 8 ⌝ }
+    requires { ⌜ Room (interfaceAt (now b) unit) length ⌝ }
+    ensures { λ _. ⌜ now (b .exit) ≡ noted (now (b .entry)) unit length ⌝ }
 {
     let f = bench_words::load_interface(b, unit);
     let parent = f.parent;
@@ -183,6 +185,20 @@ pub fn grow_by(b: &mut [u64; WORDS], unit: usize, length: u64)
             marks,
         },
     );
+}
+
+// Grows a tree by a length, at its top: in the plain engine every node of it first.
+pub fn grow_by(b: &mut [u64; WORDS], unit: usize, length: u64)
+    requires { ⌜ Fit (now b) × (first (growTests (view (now b)) unit (pos length)) ≡ 0) ⌝ }
+    ensures { λ _. ⌜ Done (now (b .exit)) (growBy (view (now (b .entry))) unit (pos length)) ⌝ }
+{
+    let f = bench_words::load_interface(b, unit);
+    if f.marks.plain {
+        deed_raises::raise_tree(b, unit, length);
+        note_growth(b, unit, length);
+        return;
+    }
+    note_growth(b, unit, length);
 }
 
 // Sets the state of a node without a parent; the speed of its tree, whose top is `unit`, follows.
@@ -210,6 +226,7 @@ pub fn add_defect(b: &mut [u64; WORDS], unit: usize, vertex: Vertex) -> Handle
 {
     let v = vertex.0 as u64;
     let f = bench_words::load_interface(b, unit);
+    let t = bench_trees::lag(f.marks.plain, f.progress);
     let slot = bench_slots::free_slot(b, unit);
     let next = bench_words::load_next(b);
     let serial = Serial(next as u32);
@@ -227,7 +244,7 @@ pub fn add_defect(b: &mut [u64; WORDS], unit: usize, vertex: Vertex) -> Handle
             next: 0,
             left: nobody,
             right: nobody,
-            bias: Node::OFFSET - f.progress,
+            bias: Node::OFFSET - t,
             size: 1,
             first: 0,
             count: 0,

@@ -2,6 +2,7 @@
 use Prim.Native.Nat.{ℕ, zero, suc, _+_, _*_, _<_, _≤_}
 use mathlib.Core.Path.{_≡_, refl, ap, sym, _∙_}
 use mathlib.Core.Logic.{by-cases}
+use mathlib.Core.Bool.{Bool}
 use mathlib.Core.List.{List}
 use native.Mathlib.Decide.{ℕ-discrete, decLt}
 use native.Mathlib.Omega.{arith}
@@ -17,7 +18,7 @@ use Rattle.bench_words.specs.declared.Node.{Node}
 use Rattle.bench_words.specs.declared.Interface.{Interface}
 use Rattle.bench_words.specs.declared.Up.{Up}
 use Rattle.bench_words.specs.declared.Up.the-variants.{Top, Under}
-use Rattle.ledger_spec.specs.Bench.{fresh, setUp}
+use Rattle.ledger_spec.specs.Bench.{fresh, setUpIn}
 use Rattle.bench_views.specs.Records.{noNode}
 use Rattle.bench_views.specs.Tab.{tab}
 use Rattle.bench_views.specs.View.{off, upSeen, halvesSeen, marksSeen, slotIn, interfaceIn}
@@ -89,38 +90,39 @@ module _ (b : List ℕ) (zeros : (m : ℕ) → getD b m 0 ≡ 0) where
       }
 
 -- ---- interfaces stored one by one
-pub record Filling (b : List ℕ) (n : ℕ) : Type 0 where
+pub record Filling (m : Bool) (b : List ℕ) (n : ℕ) : Type 0 where
   pub len : length b ≡ 6273
   pub within : n ≤ 8
   pub coded : Coded b
-  pub interfaces : (u : ℕ) → u < n → interfaceAt b u ≡ noInterface
+  pub interfaces : (u : ℕ) → u < n → interfaceAt b u ≡ noInterface m
   pub maps : (u : ℕ) → mapAt b u ≡ 0
   pub nodes : (k : ℕ) → nodeAt b k ≡ noNode
 
-pub filling-begins : (b : List ℕ) → (length b ≡ 6273) × ((m : ℕ) → getD b m 0 ≡ 0) → Filling b 0
-filling-begins b z = record { len = z .0; within = omega arith; coded = zero-coded b (z .1); interfaces = λ u l. absurd (omega arith); maps = zero-map b (z .1); nodes = zero-node b (z .1) }
+pub filling-begins : (m : Bool) (b : List ℕ) → (length b ≡ 6273) × ((m : ℕ) → getD b m 0 ≡ 0) → Filling m b 0
+filling-begins m b z = record { len = z .0; within = omega arith; coded = zero-coded b (z .1); interfaces = λ u l. absurd (omega arith); maps = zero-map b (z .1); nodes = zero-node b (z .1) }
 
-pub filling-more : (b b' : List ℕ) (n : ℕ) {f : Interface} → Filling b n → n < 8 → f ≡ noInterface → b' ≡ storeInterface b n f → Filling b' (n + 1)
-filling-more b b' n I l ef e =
-    let q : b' ≡ storeInterface b n noInterface = e ∙ ap (storeInterface b n) ef in
+pub filling-more : (m : Bool) (b b' : List ℕ) (n : ℕ) {f : Interface} → Filling m b n → n < 8 → f ≡ noInterface m → b' ≡ storeInterface b n f → Filling m b' (n + 1)
+filling-more m b b' n I l ef e =
+    let none = noInterface m in
+    let q : b' ≡ storeInterface b n none = e ∙ ap (storeInterface b n) ef in
     rw q
     (record {
-      len = length-store-interface b n noInterface (I .len) l;
+      len = length-store-interface b n none (I .len) l;
       within = omega arith;
-      coded = coded-interface b n noInterface (I .len) l tt (I .coded);
+      coded = coded-interface b n none (I .len) l tt (I .coded);
       interfaces = λ u lu. by-cases (ℕ-discrete u n)
-          (λ (z : u ≡ n). rw z (interface-same b n noInterface (I .len) l tt))
-          (λ (ne : u ≡ n → ⊥). interface-other b n noInterface (I .len) l u ne ∙ I .interfaces u (omega arith));
-      maps = λ u. store-interface-map b n noInterface (I .len) l u ∙ I .maps u;
-      nodes = λ k. store-interface-node b n noInterface (I .len) l k ∙ I .nodes k;
+          (λ (z : u ≡ n). rw z (interface-same b n none (I .len) l tt))
+          (λ (ne : u ≡ n → ⊥). interface-other b n none (I .len) l u ne ∙ I .interfaces u (omega arith));
+      maps = λ u. store-interface-map b n none (I .len) l u ∙ I .maps u;
+      nodes = λ k. store-interface-node b n none (I .len) l k ∙ I .nodes k;
     })
 
 -- ---- the empty bench
 not-under : {o : Up} {p : ℕ} → o ≡ Top → o ≡ Under p → ⊥
 not-under {p = p} z e = let y : Under p ≡ Top = sym e ∙ z in let y2 : _≡_ {A = ℕ} 0 1 = cc in omega arith
 
-module _ (b : List ℕ) (first : ℕ) (next : getD b 0 0 ≡ first) (len : length b ≡ 6273) (coded : Coded b)
-    (interfaces : (u : ℕ) → u < 8 → interfaceAt b u ≡ noInterface) (maps : (u : ℕ) → mapAt b u ≡ 0) (bare : (k : ℕ) → nodeAt b k ≡ noNode) where
+module _ (m : Bool) (b : List ℕ) (first : ℕ) (next : getD b 0 0 ≡ first) (len : length b ≡ 6273) (coded : Coded b)
+    (interfaces : (u : ℕ) → u < 8 → interfaceAt b u ≡ noInterface m) (maps : (u : ℕ) → mapAt b u ≡ 0) (bare : (k : ℕ) → nodeAt b k ≡ noNode) where
   interface-seen : (v : ℕ) → v < 8 → interfaceIn (interfaceAt b) (nodeAt b) v ≡ fresh
   unfolding tab
   interface-seen v lv =
@@ -130,13 +132,16 @@ module _ (b : List ℕ) (first : ℕ) (next : getD b 0 0 ≡ first) (len : lengt
       (ap (λ (f : Interface). pos (f .progress)) e) (ap (λ (f : Interface). off 4611686018427387904 (f .sum)) e ∙ off-zero 4611686018427387904) (ap (λ (f : Interface). off 1024 (f .speed)) e ∙ off-zero 1024)
       (ap (λ (f : Interface). upSeen (f .parent)) e) (ap (λ (f : Interface). halvesSeen (f .left) (f .right)) e) (ap (λ (f : Interface). marksSeen (f .marks)) e)
 
+  engine : (v : ℕ) → v < 8 → interfaceAt b v .marks .plain ≡ m
+  engine v lv = ap (λ (f : Interface). f .marks .plain) (interfaces v lv)
+
   class-none : (k : ℕ) → nodeAt b k .class ≡ Absent
   class-none k = ap (λ (n : Node). n .class) (bare k)
 
-  begun : Done b (setUp first)
+  begun : Done b (setUpIn m first)
   begun =
       record {
-        seen = view-is (getD b 0 0) (interfaceAt b) (nodeAt b) (setUp first) (sym next) (length-replicate 8 fresh) (λ v lv. interface-seen v lv ∙ sym (getD-replicate 8 v fresh fresh lv));
+        seen = view-is (getD b 0 0) (interfaceAt b) (nodeAt b) (setUpIn m first) (sym next) (length-replicate 8 fresh) (sym (engine 0 (omega arith))) (λ v lv. interface-seen v lv ∙ sym (getD-replicate 8 v fresh fresh lv));
         canon = record {
           steady = record {
             len = len;
@@ -145,6 +150,7 @@ module _ (b : List ℕ) (first : ℕ) (next : getD b 0 0 ≡ first) (len : lengt
             rising = λ u p lu e. absurd (not-under (ap (λ (f : Interface). f .parent) (interfaces u lu)) e);
           };
           coded = coded;
+          modes = λ u lu. engine u lu ∙ sym (engine 0 (omega arith));
           whole = λ u lu e. ap (λ (f : Interface). f .right) (interfaces u lu);
           both = λ u lu ne. absurd (ne (ap (λ (f : Interface). f .left) (interfaces u lu)));
           past = λ u s lu l h. bare (u * 64 + s);
@@ -158,8 +164,8 @@ module _ (b : List ℕ) (first : ℕ) (next : getD b 0 0 ≡ first) (len : lengt
         };
       }
 
-pub filled : (b b' : List ℕ) (n first : ℕ) → Filling b n → 8 ≤ n → b' ≡ set b 0 first → Done b' (setUp first)
-filled b b' n first I l e =
+pub filled : (m : Bool) (b b' : List ℕ) (n first : ℕ) → Filling m b n → 8 ≤ n → b' ≡ set b 0 first → Done b' (setUpIn m first)
+filled m b b' n first I l e =
     rw e
-    (begun (set b 0 first) first (getD-set-same b 0 first 0 (omega (arith, I .len))) (length-set b 0 first ∙ I .len) (coded-first b first (I .coded))
+    (begun m (set b 0 first) first (getD-set-same b 0 first 0 (omega (arith, I .len))) (length-set b 0 first ∙ I .len) (coded-first b first (I .coded))
     (λ u lu. interface-first b first u ∙ I .interfaces u (omega arith)) (λ u. map-first b first u ∙ I .maps u) (λ k. node-first b first k ∙ I .nodes k))

@@ -26,20 +26,20 @@ use Rattle.ledger_spec.specs.Tests.{first}
 use Rattle.ledger_spec.specs.Deeds.{wipe}
 use Rattle.ledger_spec.specs.Named.{handleNamed, parentNamed}
 use Rattle.ledger_spec.proofs.Tops.{top-parent}
-use Rattle.ledger_spec.proofs.TreeReadings.{wipe-length, wipe-next, wipe-under, wipe-else}
+use Rattle.ledger_spec.proofs.TreeReadings.{wipe-length, wipe-next, wipe-plain, wipe-under, wipe-else}
 use Rattle.bench_views.specs.Records.{noNode}
 use Rattle.bench_views.specs.Tab.{tab}
-use Rattle.bench_views.specs.View.{off, upSeen, halvesSeen, marksSeen, sumUp, over, slotIn, slotSeen, circleOf, interfaceIn, viewIn, view}
+use Rattle.bench_views.specs.View.{lagOf, off, upSeen, halvesSeen, marksSeen, sumUp, over, slotIn, slotSeen, circleOf, interfaceIn, viewIn, view}
 use Rattle.bench_views.specs.Canon.{walk, heldIn, Seated, Alone, Canon}
 use Rattle.bench_views.specs.Fit.{Fit, Done}
 use Rattle.bench_views.proofs.Offsets.{off-zero}
 use Rattle.bench_views.proofs.Tabs.{tab-same}
-use Rattle.bench_views.proofs.Views.{interface-in, interface-is, view-is, view-next, view-eight, view-parent, view-slot}
+use Rattle.bench_views.proofs.Views.{interface-in, interface-is, view-is, view-next, view-plain, view-eight, view-parent, view-slot}
 use Rattle.bench_views.proofs.Circles.{same-eq, circle-same}
 use Rattle.bench_views.proofs.Rings.{Ringed, ringed, ring-near, slot-held}
 use Rattle.bench_views.proofs.Maps.{maps-same, map-bare}
 use Rattle.deed_nodes.proofs.Puts.{slot-like}
-use Rattle.deed_nodes.proofs.Keeps.{not-blossom, used-slot, ringed-walk, Intact, intact-chain, intact-seat}
+use Rattle.deed_nodes.proofs.Keeps.{modes-kept, not-blossom, used-slot, ringed-walk, Intact, intact-chain, intact-seat}
 use Rattle.deed_trees.proofs.Wiping.{climb-up, Wiping}
 
 pub not-inside : {p : Parent} {q : Packed} → p ≡ Outermost → p ≡ Inside q → ⊥
@@ -64,7 +64,7 @@ module _ (b : List ℕ) (u : ℕ) (F : Fit b) (b₁ : List ℕ) (w : ℕ) (G : W
   passed-by : (v : ℕ) → top B v ≡ u → v < w
   passed-by v e = omega (arith, climb-up B (F .frame) 8 v, e)
 
-  interface-gone : (v : ℕ) → v < 8 → top B v ≡ u → U₁ v ≡ noInterface
+  interface-gone : (v : ℕ) → v < 8 → top B v ≡ u → U₁ v ≡ noInterface (U v .marks .plain)
   interface-gone v lv e = G .gone v lv (passed-by v e) e
 
   interface-kept : (v : ℕ) → v < 8 → top B v ≢ u → U₁ v ≡ U v
@@ -95,7 +95,7 @@ module _ (b : List ℕ) (u : ℕ) (F : Fit b) (b₁ : List ℕ) (w : ℕ) (G : W
   sums : (n v : ℕ) → v < 8 → top B v ≢ u → sumUp n U₁ v ≡ sumUp n U v
   unfolding sumUp
   sums zero v lv ne = refl
-  sums (suc n) v lv ne = rw (interface-kept v lv ne) (ap (λ (x : ℕ). U v .progress + x) (go (U v .parent) refl (sums n)))
+  sums (suc n) v lv ne = rw (interface-kept v lv ne) (ap (λ (x : ℕ). lagOf (U v) + x) (go (U v .parent) refl (sums n)))
     where
       go : (q : Up) → U v .parent ≡ q → ((p : ℕ) → p < 8 → top B p ≢ u → sumUp n U₁ p ≡ sumUp n U p) → over q 0 (sumUp n U₁) ≡ over q 0 (sumUp n U)
       go Top e ih = refl
@@ -130,10 +130,15 @@ module _ (b : List ℕ) (u : ℕ) (F : Fit b) (b₁ : List ℕ) (w : ℕ) (G : W
       (ap (λ (f : Interface). pos (f .progress)) e) (ap (λ (f : Interface). off 4611686018427387904 (f .sum)) e ∙ off-zero 4611686018427387904) (ap (λ (f : Interface). off 1024 (f .speed)) e ∙ off-zero 1024)
       (ap (λ (f : Interface). upSeen (f .parent)) e) (ap (λ (f : Interface). halvesSeen (f .left) (f .right)) e) (ap (λ (f : Interface). marksSeen (f .marks)) e)
 
+  plains : (v : ℕ) → v < 8 → U₁ v .marks .plain ≡ U v .marks .plain
+  plains v lv = by-cases (ℕ-discrete (top B v) u)
+      (λ (e : top B v ≡ u). ap (λ (f : Interface). f .marks .plain) (interface-gone v lv e))
+      (λ (ne : top B v ≡ u → ⊥). ap (λ (f : Interface). f .marks .plain) (interface-kept v lv ne))
+
   seen : view b₁ ≡ wipe B u
   seen =
       ap (λ (n : ℕ). viewIn n U₁ A₁) (G .next)
-      ∙ view-is (getD b 0 0) U₁ A₁ (wipe B u) (wipe-next B u ∙ view-next (getD b 0 0) U A) (wipe-length B u ∙ view-eight (getD b 0 0) U A)
+      ∙ view-is (getD b 0 0) U₁ A₁ (wipe B u) (wipe-next B u ∙ view-next (getD b 0 0) U A) (wipe-length B u ∙ view-eight (getD b 0 0) U A) (wipe-plain B u ∙ view-plain (getD b 0 0) U A ∙ sym (plains 0 (omega arith)))
       (λ v lv.
       by-cases (ℕ-discrete (top B v) u)
       (λ (e : top B v ≡ u). seen-gone v lv e ∙ sym (wipe-under B u v e))
@@ -170,6 +175,7 @@ module _ (b : List ℕ) (u : ℕ) (F : Fit b) (b₁ : List ℕ) (w : ℕ) (G : W
       record {
         steady = G .steady;
         coded = G .coded;
+        modes = modes-kept b b₁ C plains;
         whole = λ v lv e. by-cases (ℕ-discrete (top B v) u)
             (λ (z : top B v ≡ u). ap (λ (f : Interface). f .right) (interface-gone v lv z))
             (λ (ne : top B v ≡ u → ⊥). ap (λ (f : Interface). f .right) (interface-kept v lv ne) ∙ C .whole v lv (ap (λ (f : Interface). f .left) (sym (interface-kept v lv ne)) ∙ e));

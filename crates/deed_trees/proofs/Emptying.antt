@@ -46,9 +46,10 @@ emptied-more b u b₁ b₂ n e E lu ln ee e₂ =
 pub emptied-all : {b : List ℕ} {u : ℕ} {b₁ : List ℕ} {n m : ℕ} → Emptied b u b₁ n → n ≡ m → Emptied b u b₁ m
 emptied-all E e = rw (← e) E
 
-pub reset-by : (b : List ℕ) (u : ℕ) (U : Interface) {b₁ b₂ b₃ : List ℕ} {f : Interface} → u < 8 → U ≡ interfaceAt b u → Emptied b u b₁ (U .used) → b₂ ≡ storeMap b₁ u 0 → f ≡ noInterface → b₃ ≡ storeInterface b₂ u f → Reset b u b₃
+pub reset-by : (b : List ℕ) (u : ℕ) (U : Interface) {b₁ b₂ b₃ : List ℕ} {f : Interface} → u < 8 → U ≡ interfaceAt b u → Emptied b u b₁ (U .used) → b₂ ≡ storeMap b₁ u 0 → f ≡ noInterface (U .marks .plain) → b₃ ≡ storeInterface b₂ u f → Reset b u b₃
 reset-by b u U {b₁} {b₂} {b₃} lu eU E e₂ ef e₃ =
-    let q : b₃ ≡ storeInterface (storeMap b₁ u 0) u noInterface = e₃ ∙ ap (storeInterface b₂ u) ef ∙ ap (λ (x : List ℕ). storeInterface x u noInterface) e₂ in
+    let none = noInterface (interfaceAt b u .marks .plain) in
+    let q : b₃ ≡ storeInterface (storeMap b₁ u 0) u none = e₃ ∙ ap (storeInterface b₂ u) (ef ∙ ap (λ (x : Interface). noInterface (x .marks .plain)) eU) ∙ ap (λ (x : List ℕ). storeInterface x u none) e₂ in
     let c = storeMap b₁ u 0 in
     let long = E .steady .len in
     let st = map-steady b₁ u 0 lu (E .steady) in
@@ -57,25 +58,25 @@ reset-by b u U {b₁} {b₂} {b₃} lu eU E e₂ ef e₃ =
     rw q
     (record {
       steady = record {
-        len = length-store-interface c u noInterface len lu;
+        len = length-store-interface c u none len lu;
         slots = λ v lv. by-cases (ℕ-discrete v u)
-            (λ (z : v ≡ u). rw (z, interface-same c u noInterface len lu tt) (omega arith))
-            (λ (ne : v ≡ u → ⊥). rw (interface-other c u noInterface len lu v ne) (st .slots v lv));
+            (λ (z : v ≡ u). rw (z, interface-same c u none len lu tt) (omega arith))
+            (λ (ne : v ≡ u → ⊥). rw (interface-other c u none len lu v ne) (st .slots v lv));
         progress = λ v lv. by-cases (ℕ-discrete v u)
-            (λ (z : v ≡ u). rw (z, interface-same c u noInterface len lu tt) (omega arith))
-            (λ (ne : v ≡ u → ⊥). rw (interface-other c u noInterface len lu v ne) (st .progress v lv));
+            (λ (z : v ≡ u). rw (z, interface-same c u none len lu tt) (omega arith))
+            (λ (ne : v ≡ u → ⊥). rw (interface-other c u none len lu v ne) (st .progress v lv));
         rising = λ v p lv e. by-cases (ℕ-discrete v u)
-            (λ (z : v ≡ u). absurd (not-under (ap (λ (x : ℕ). interfaceAt (storeInterface c u noInterface) x .parent) (sym z) ∙ e) (ap (λ (x : Interface). x .parent) (interface-same c u noInterface len lu tt))))
-            (λ (ne : v ≡ u → ⊥). st .rising v p lv (ap (λ (x : Interface). x .parent) (sym (interface-other c u noInterface len lu v ne)) ∙ e));
+            (λ (z : v ≡ u). absurd (not-under (ap (λ (x : ℕ). interfaceAt (storeInterface c u none) x .parent) (sym z) ∙ e) (ap (λ (x : Interface). x .parent) (interface-same c u none len lu tt))))
+            (λ (ne : v ≡ u → ⊥). st .rising v p lv (ap (λ (x : Interface). x .parent) (sym (interface-other c u none len lu v ne)) ∙ e));
       };
-      coded = coded-interface c u noInterface len lu tt (coded-map b₁ u 0 long lu (E .coded));
-      serial = stored-next c u noInterface len lu tt ∙ map-next b₁ u 0 lu long ∙ E .next;
-      here = interface-same c u noInterface len lu tt;
-      there = λ v lv ne. interface-other c u noInterface len lu v ne ∙ store-map-interface b₁ u 0 long lu v ∙ E .interfaces v lv;
-      unmarked = store-interface-map c u noInterface len lu u ∙ map-same b₁ u 0 long lu;
-      marked = λ v lv ne. store-interface-map c u noInterface len lu v ∙ map-other b₁ u 0 long lu v ne ∙ E .maps v lv;
-      gone = λ s l. store-interface-node c u noInterface len lu (u * 64 + s) ∙ store-map-node b₁ u 0 long lu (u * 64 + s) ∙ E .gone s (rw n l);
-      kept = λ k off. store-interface-node c u noInterface len lu k ∙ store-map-node b₁ u 0 long lu k ∙ E .kept k (λ s l. off s (rw n at l));
+      coded = coded-interface c u none len lu tt (coded-map b₁ u 0 long lu (E .coded));
+      serial = stored-next c u none len lu tt ∙ map-next b₁ u 0 lu long ∙ E .next;
+      here = interface-same c u none len lu tt;
+      there = λ v lv ne. interface-other c u none len lu v ne ∙ store-map-interface b₁ u 0 long lu v ∙ E .interfaces v lv;
+      unmarked = store-interface-map c u none len lu u ∙ map-same b₁ u 0 long lu;
+      marked = λ v lv ne. store-interface-map c u none len lu v ∙ map-other b₁ u 0 long lu v ne ∙ E .maps v lv;
+      gone = λ s l. store-interface-node c u none len lu (u * 64 + s) ∙ store-map-node b₁ u 0 long lu (u * 64 + s) ∙ E .gone s (rw n l);
+      kept = λ k off. store-interface-node c u none len lu k ∙ store-map-node b₁ u 0 long lu k ∙ E .kept k (λ s l. off s (rw n at l));
     })
   where
     not-under : {o : Up} {p : ℕ} → o ≡ Under p → o ≡ Top → ⊥

@@ -23,13 +23,14 @@ use Rattle.ledger_spec.specs.Tests.{first, used}
 use Rattle.ledger_spec.specs.Refuse.{fuseTests}
 use Rattle.ledger_spec.specs.Deeds.{join}
 use Rattle.ledger_spec.proofs.Passed.{Open, Fusable, fusable}
-use Rattle.ledger_spec.proofs.TreeReadings.{Joins, joins, join-slots, join-else, join-kept, join-l, join-r, join-p, join-length, join-next}
+use Rattle.ledger_spec.proofs.TreeReadings.{Joins, joins, join-slots, join-else, join-kept, join-l, join-r, join-p, join-length, join-next, join-plain}
 use Rattle.bench_views.specs.Records.{Steady}
 use Rattle.bench_views.specs.Tab.{tab}
-use Rattle.bench_views.specs.View.{off, upSeen, halvesSeen, marksSeen, sumUp, slotIn, slotSeen, circleOf, interfaceIn, viewIn, view}
+use Rattle.bench_views.specs.View.{lagOf, off, upSeen, halvesSeen, marksSeen, sumUp, slotIn, slotSeen, circleOf, interfaceIn, viewIn, view}
 use Rattle.bench_views.specs.Canon.{Coded}
 use Rattle.bench_views.specs.Fit.{Fit, Done}
-use Rattle.bench_views.proofs.Views.{interface-in, interface-is, view-is, view-next, view-eight, view-count}
+use Rattle.bench_views.proofs.Sums.{lag-le}
+use Rattle.bench_views.proofs.Views.{interface-in, interface-is, view-is, view-next, view-plain, view-eight, view-count}
 use Rattle.bench_views.proofs.Codes.{coded-interface}
 use Rattle.deed_nodes.proofs.Needs.{Paced, open-top, open-paced}
 use Rattle.deed_nodes.proofs.Keeps.{sim-self, canon-like}
@@ -129,13 +130,22 @@ module _ (b : List ℕ) (p l r : ℕ) (F : Fit b) (T : first (fuseTests (view b)
   progress₃ : (v : ℕ) → U₃ v .progress ≡ U v .progress
   progress₃ = whole-part (λ f. f .progress) (λ f q. refl) (sym no-progress)
 
+  no-lag : (f : Interface) → f .progress ≡ 0 → lagOf f ≡ 0
+  no-lag f e = omega (arith, e, lag-le f)
+
+  lag₃ : (v : ℕ) → lagOf (U₃ v) ≡ lagOf (U v)
+  lag₃ = whole-part (λ f. lagOf f) (λ f q. refl) (no-lag f₀ refl ∙ sym (no-lag (U p) no-progress))
+
+  plain₃ : (v : ℕ) → U₃ v .marks .plain ≡ U v .marks .plain
+  plain₃ = whole-part (λ f. f .marks .plain) (λ f q. refl) refl
+
   parent₃ : (v : ℕ) → v ≢ l → v ≢ r → U₃ v .parent ≡ U v .parent
   parent₃ v nl nr = by-cases (ℕ-discrete v p)
       (λ (q : v ≡ p). rw (q, here-p) (sym (open-top b F p (record { low = p<8; free = S .p-none }))))
       (λ (np : v ≡ p → ⊥). ap (λ (f : Interface). f .parent) (here-else v np nl nr))
 
   sums₃ : (v : ℕ) → sumUp 8 U₃ v ≡ sumUp 8 U v
-  sums₃ v = fuse-sums U U₃ p l r (open-top b F l open-l) (open-top b F r open-r) no-progress (ap (λ (f : Interface). f .parent) here-p) (ap (λ (f : Interface). f .parent) here-l) (ap (λ (f : Interface). f .parent) here-r) parent₃ progress₃ 8 v
+  sums₃ v = fuse-sums U U₃ p l r (open-top b F l open-l) (open-top b F r open-r) (no-lag (U p) no-progress) (ap (λ (f : Interface). f .parent) here-p) (ap (λ (f : Interface). f .parent) here-l) (ap (λ (f : Interface). f .parent) here-r) parent₃ lag₃ 8 v
 
   node₃ : (k : ℕ) → nodeAt b₃ k ≡ nodeAt b k
   node₃ k = store-interface-node b₂ p f₀ len₂ p<8 k ∙ store-interface-node b₁ r (withUp (interfaceAt b₁ r) p) len₁ r<8 k ∙ store-interface-node b l (withUp (U l) p) len₀ l<8 k
@@ -210,7 +220,7 @@ module _ (b : List ℕ) (p l r : ℕ) (F : Fit b) (T : first (fuseTests (view b)
   seen₃ =
       let same : nodeAt b₃ ≡ nodeAt b = fun-ext node₃ in
       ap₂ (λ (n : ℕ) (X : ℕ → Node). viewIn n U₃ X) next₃ same
-      ∙ view-is (getD b 0 0) U₃ A J (join-next B p l r joining ∙ view-next (getD b 0 0) U A) (join-length B p l r joining ∙ view-eight (getD b 0 0) U A)
+      ∙ view-is (getD b 0 0) U₃ A J (join-next B p l r joining ∙ view-next (getD b 0 0) U A) (join-length B p l r joining ∙ view-eight (getD b 0 0) U A) (join-plain B p l r joining ∙ view-plain (getD b 0 0) U A ∙ sym (plain₃ 0))
       (λ v lv. interface-is (interfaceIn U₃ A v) (interface J v) (slots₃ v lv) (progress-now v lv) (sum-now v lv) (speed-now v lv) (parent-now v lv) (halves-now v lv) (marks-now v lv))
 
   -- ---- the words stay canonical
@@ -238,7 +248,7 @@ module _ (b : List ℕ) (p l r : ℕ) (F : Fit b) (T : first (fuseTests (view b)
   fused =
       let C = F .canon in
       record {
-        canon = canon-like b b₃ C steady₃ coded₃ (λ v lv. used₃ v)
+        canon = canon-like b b₃ C steady₃ coded₃ (λ v lv. plain₃ v) (λ v lv. used₃ v)
             (λ v lv e. by-cases (ℕ-discrete v p)
             (λ (q : v ≡ p). absurd (omega (arith, e, ap (λ (x : ℕ). U₃ x .left) q, ap (λ (f : Interface). f .left) here-p)))
             (λ (np : v ≡ p → ⊥). part (λ f. f .right) (λ f q. refl) v np ∙ C .whole v lv (sym (part (λ f. f .left) (λ f q. refl) v np) ∙ e)))

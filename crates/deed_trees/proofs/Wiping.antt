@@ -60,7 +60,7 @@ pub record Wiping (b : List ℕ) (u : ℕ) (b₁ : List ℕ) (w : ℕ) : Type 0 
   pub steady : Steady b₁
   pub coded : Coded b₁
   pub next : getD b₁ 0 0 ≡ getD b 0 0
-  pub gone : (v : ℕ) → v < 8 → v < w → top (view b) v ≡ u → interfaceAt b₁ v ≡ noInterface
+  pub gone : (v : ℕ) → v < 8 → v < w → top (view b) v ≡ u → interfaceAt b₁ v ≡ noInterface (interfaceAt b v .marks .plain)
   pub bare : (v s : ℕ) → v < 8 → s < 64 → v < w → top (view b) v ≡ u → nodeAt b₁ (v * 64 + s) ≡ noNode
   pub kept : (v : ℕ) → v < 8 → (v < w → top (view b) v ≢ u) → interfaceAt b₁ v ≡ interfaceAt b v
   pub unmarked : (v : ℕ) → v < 8 → v < w → top (view b) v ≡ u → mapAt b₁ v ≡ 0
@@ -134,7 +134,7 @@ module _ (b : List ℕ) (u : ℕ) (F : Fit b) (T : first (unitTests (view b) u) 
           coded = R .coded;
           next = R .serial ∙ G .next;
           gone = λ v lv z q. by-cases (ℕ-discrete v w)
-              (λ (x : v ≡ w). rw x (R .here))
+              (λ (x : v ≡ w). rw x (R .here ∙ ap (λ (f : Interface). noInterface (f .marks .plain)) interface-now))
               (λ (ne : v ≡ w → ⊥). R .there v lv ne ∙ G .gone v lv (omega arith) q);
           bare = λ v s lv ls z q. by-cases (ℕ-discrete v w)
               (λ (x : v ≡ w). rw x (bare-here b₂ R s ls (decLt s (interfaceAt b₁ w .used))))

@@ -2,6 +2,7 @@
 use Prim.Native.Nat.{ℕ, _+_, _-_, _*_, _<_}
 use mathlib.Core.Path.{_≡_}
 use mathlib.Core.Logic.{_≢_}
+use mathlib.Core.Bool.{false}
 use mathlib.Core.List.{List}
 use lib.ListN.{getD}
 use Rattle.bench_words.specs.Codec.{sumOffset, speedOffset}
@@ -17,7 +18,7 @@ withUp f p = setParent f (Under p)
 
 -- the parent of a fuse, whose marks were m, from its halves l and r, whose interfaces are L and R: it is floored as they are
 abbrev pub fusedWords : Marks → Interface → Interface → ℕ → ℕ → Interface
-fusedWords m L R l r = setMarks (setHalves (setSpeed (setSum noInterface (L .sum + R .sum - sumOffset)) (L .speed + R .speed - speedOffset)) (l + 1) (r + 1)) (setFloored m (L .marks .floored))
+fusedWords m L R l r = setMarks (setHalves (setSpeed (setSum (noInterface false) (L .sum + R .sum - sumOffset)) (L .speed + R .speed - speedOffset)) (l + 1) (r + 1)) (setFloored m (L .marks .floored))
 
 -- b' is b with the first n slots of interface u empty
 pub record Emptied (b : List ℕ) (u : ℕ) (b' : List ℕ) (n : ℕ) : Type 0 where
@@ -34,7 +35,7 @@ pub record Reset (b : List ℕ) (u : ℕ) (b' : List ℕ) : Type 0 where
   pub steady : Steady b'
   pub coded : Coded b'
   pub serial : getD b' 0 0 ≡ getD b 0 0
-  pub here : interfaceAt b' u ≡ noInterface
+  pub here : interfaceAt b' u ≡ noInterface (interfaceAt b u .marks .plain)
   pub there : (v : ℕ) → v < 8 → v ≢ u → interfaceAt b' v ≡ interfaceAt b v
   pub unmarked : mapAt b' u ≡ 0
   pub marked : (v : ℕ) → v < 8 → v ≢ u → mapAt b' v ≡ mapAt b v

@@ -8,7 +8,7 @@ ghost use mathlib.Core.Path.{_≡_};
 ghost use Prim.Native.Nat.{ℕ, _+_, _*_, _<_, _≤_};
 ghost use lib.ListN.{length, getD};
 ghost use Rattle.bench_words.specs.Store.{interfaceAt, storeInterface, noInterface};
-ghost use Rattle.ledger_spec.specs.Bench.{setUp};
+ghost use Rattle.ledger_spec.specs.Bench.{setUp, setUpIn};
 ghost use Rattle.ledger_spec.specs.Tests.{first as numberOf};
 ghost use Rattle.ledger_spec.specs.Refuse.{fuseTests, unitTests};
 ghost use Rattle.ledger_spec.specs.Deeds.{join as joined, wipe as wiped};
@@ -18,9 +18,9 @@ ghost use Rattle.bench_views.specs.Canon.{Coded};
 ghost use Rattle.bench_views.specs.Fit.{Fit, Done};
 ghost use Rattle.deed_trees.specs.Empty.{withUp, Emptied, Reset};
 
-// An interface as set-up leaves it.
-fn no_interface() -> Interface
-    ensures { λ r. ⌜ r ≡ noInterface ⌝ }
+// An interface as set-up leaves it, in either engine.
+fn no_interface(plain: bool) -> Interface
+    ensures { λ r. ⌜ r ≡ noInterface plain ⌝ }
 {
     Interface {
         used: 0,
@@ -33,6 +33,7 @@ fn no_interface() -> Interface
         marks: Marks {
             fills: false,
             floored: false,
+            plain,
         },
     }
 }
@@ -60,7 +61,7 @@ fn put_under(b: &mut [u64; WORDS], unit: usize, parent: usize)
     );
 }
 
-// Fuses two interfaces under a parent, which gets both sums and both speeds, and is floored as its halves are. Each of the three keeps its mode.
+// Fuses two interfaces under a parent, which gets both sums and both speeds, and is floored as its halves are. Each of the three keeps its way to fill.
 pub fn join(b: &mut [u64; WORDS], parent: usize, left: usize, right: usize)
     requires { ⌜ Fit (now b) × (numberOf (fuseTests (view (now b)) parent left right) ≡ 0) ⌝ }
     ensures { λ _. ⌜ Done (now (b .exit)) (joined (view (now (b .entry))) parent left right) ⌝ }
@@ -86,6 +87,7 @@ pub fn join(b: &mut [u64; WORDS], parent: usize, left: usize, right: usize)
             marks: Marks {
                 fills: own.fills,
                 floored: half.floored,
+                plain: own.plain,
             },
         },
     );
@@ -103,7 +105,7 @@ fn empty_slots(b: &mut [u64; WORDS], unit: usize, used: usize)
     }
 }
 
-// Empties an interface, its used slots, its map and its marks.
+// Empties an interface, its used slots, its map and its marks; the engine stays.
 fn reset(b: &mut [u64; WORDS], unit: usize)
     requires { ⌜ (unit < 8) × Steady (now b) × Coded (now b) ⌝ }
     ensures { λ _. ⌜ Reset (now (b .entry)) unit (now (b .exit)) ⌝ }
@@ -111,7 +113,7 @@ fn reset(b: &mut [u64; WORDS], unit: usize)
     let f = bench_words::load_interface(b, unit);
     empty_slots(b, unit, f.used as usize);
     bench_words::store_map(b, unit, 0);
-    bench_words::store_interface(b, unit, no_interface());
+    bench_words::store_interface(b, unit, no_interface(f.marks.plain));
 }
 
 // Clears a tree at its top. Parents have higher numbers, so each climb goes over interfaces that are not reset yet, and none above the top is of its tree.
@@ -141,18 +143,25 @@ fn erase(b: &mut [u64; WORDS])
     }
 }
 
-// Makes any words the empty bench, whose first node will have serial `first`.
-pub fn set_up(b: &mut [u64; WORDS], first: u32)
-    ensures { λ _. ⌜ Done (now (b .exit)) (setUp first) ⌝ }
+// Makes any words the empty bench of an engine, whose first node will have serial `first`.
+pub fn set_up_in(b: &mut [u64; WORDS], plain: bool, first: u32)
+    ensures { λ _. ⌜ Done (now (b .exit)) (setUpIn plain first) ⌝ }
 {
     bench_words::full(b);
     erase(b);
     let mut u: usize = 0;
     while u < 8 {
-        bench_words::store_interface(b, u, no_interface());
+        bench_words::store_interface(b, u, no_interface(plain));
         u = u + 1;
     }
     bench_words::store_next(b, first as u64);
+}
+
+// The same in the lazy engine.
+pub fn set_up(b: &mut [u64; WORDS], first: u32)
+    ensures { λ _. ⌜ Done (now (b .exit)) (setUp first) ⌝ }
+{
+    set_up_in(b, false, first);
 }
 
 // The empty bench, handed out whole.

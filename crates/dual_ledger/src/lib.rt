@@ -17,7 +17,8 @@ mod trusted_reads; // the reads and checks on sound words
 
 use bench_words::WORDS;
 ghost use mathlib.Core.Path.{_≡_};
-ghost use Rattle.call_set_up.specs.Opened.{OpenedBy};
+ghost use mathlib.Core.Bool.{true};
+ghost use Rattle.call_set_up.specs.Opened.{OpenedBy, OpenedInBy};
 ghost use Rattle.sound_bench.specs.Sound.{soundWords};
 ghost use Rattle.link_answers.specs.Forms.{flagWord};
 
@@ -26,6 +27,13 @@ pub extern "C" fn dual_ledger_set_up(bench: &mut [u64; WORDS], first: u32) -> u8
     ensures { λ r. ⌜ OpenedBy first r (now (bench .exit)) ⌝ }
 {
     call_set_up::set_up(bench, first)
+}
+
+#[no_mangle]
+pub extern "C" fn dual_ledger_set_up_plain(bench: &mut [u64; WORDS], first: u32) -> u8
+    ensures { λ r. ⌜ OpenedInBy true first r (now (bench .exit)) ⌝ }
+{
+    call_set_up::set_up_in(bench, true, first)
 }
 
 #[no_mangle]

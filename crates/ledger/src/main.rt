@@ -40,9 +40,10 @@ fn help() {
         b"The lines: D unit vertex, B unit serial.., E unit serial, S unit serial state, G unit length,\n",
     );
     say(
-        b"F parent left right, C unit, K unit. The numbers: number, serial, speed, sum. docs/MANUAL.md says\n",
+        b"F parent left right, C unit, K unit; the first may be M 1 or M 0, the plain or the lazy engine.\n",
     );
-    say(b"what they mean. It has no exit status: a script uses 'dual-ledger check'.\n");
+    say(b"The numbers: number, serial, speed, sum. docs/MANUAL.md says what they mean.\n");
+    say(b"It has no exit status: a script uses 'dual-ledger check'.\n");
     say(b"ledger --help, ledger --version\n");
 }
 

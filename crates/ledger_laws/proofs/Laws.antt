@@ -20,7 +20,7 @@ use Rattle.ledger_spec.proofs.Ints.{*ℤ-dist-r, *ℤ-dist-l, swap-mid}
 use Rattle.ledger_spec.proofs.Knit.{none-some}
 use Rattle.ledger_spec.proofs.Tops.{alone}
 use Rattle.ledger_spec.proofs.Passed.{Fusable}
-use Rattle.ledger_spec.proofs.TreeReadings.{inTree, atTop, grow-interface, grow-parent, grow-halves, grow-marks, grow-speed, grow-top, grow-length, grow-next, grow-under, grow-else, grow-sum, grow-sum-else, Joins, joins, join-slots, join-else, join-kept, join-l, join-r, join-p, join-length, join-next, join-top-l, join-top-r, join-top-else}
+use Rattle.ledger_spec.proofs.TreeReadings.{inTree, atTop, grow-interface, grow-parent, grow-halves, grow-marks, grow-speed, grow-top, grow-length, grow-next, grow-plain, grow-under, grow-else, grow-sum, grow-sum-else, Joins, joins, join-slots, join-else, join-kept, join-l, join-r, join-p, join-length, join-next, join-top-l, join-top-r, join-top-else}
 use Rattle.ledger_laws.proofs.Paced.{inside}
 
 -- ---- growing twice
@@ -45,7 +45,7 @@ grown-twice a c false false f = refl
 
 -- the whole bench, of any bench
 pub grow-grow : (b : Bench) (u : ℕ) (a c : ℤ) → growBy (growBy b u a) u c ≡ growBy b u (a +ℤ c)
-grow-grow b u a c = λ i. record { next = nexts i; interfaces = ext-getD fresh (growBy b₁ u c .interfaces) (growBy b u (a +ℤ c) .interfaces) (long ∙ sym (grow-length b u (a +ℤ c))) (λ w h. at w (subst (λ (n : ℕ). w < n) long h)) i }
+grow-grow b u a c = λ i. record { next = nexts i; interfaces = ext-getD fresh (growBy b₁ u c .interfaces) (growBy b u (a +ℤ c) .interfaces) (long ∙ sym (grow-length b u (a +ℤ c))) (λ w h. at w (subst (λ (n : ℕ). w < n) long h)) i; plain = plains i }
   where
     b₁ : Bench
     b₁ = growBy b u a
@@ -55,6 +55,9 @@ grow-grow b u a c = λ i. record { next = nexts i; interfaces = ext-getD fresh (
 
     nexts : growBy b₁ u c .next ≡ growBy b u (a +ℤ c) .next
     nexts = grow-next b₁ u c ∙ grow-next b u a ∙ sym (grow-next b u (a +ℤ c))
+
+    plains : growBy b₁ u c .plain ≡ growBy b u (a +ℤ c) .plain
+    plains = grow-plain b₁ u c ∙ grow-plain b u a ∙ sym (grow-plain b u (a +ℤ c))
 
     at : (w : ℕ) → w < length (b .interfaces) → interface (growBy b₁ u c) w ≡ interface (growBy b u (a +ℤ c)) w
     at w h = grow-interface b₁ u c w (omega (arith, h, grow-length b u a)) x y (ap (λ (t : ℕ). eqb t u) (grow-top b u a w)) refl

@@ -13,7 +13,7 @@ use Rattle.ledger_spec.specs.Change.{place, push, restate, markAll}
 use Rattle.ledger_spec.specs.Deeds.{newHandle, addDefect, circle, sizes, addBlossom, members, removeBlossom}
 use Rattle.ledger_spec.specs.Knit.{In}
 use Rattle.ledger_spec.proofs.Slots.{Vacant, free-vacant}
-use Rattle.ledger_spec.proofs.Readings.{place-field, markAll-field, push-field, place-at, place-off, place-count, place-next, markAll-at, markAll-off, markAll-none, markAll-count, markAll-length, markAll-next, push-at, push-off, push-count, push-else, push-next}
+use Rattle.ledger_spec.proofs.Readings.{place-field, markAll-field, push-field, place-at, place-off, place-count, place-next, place-plain, markAll-at, markAll-off, markAll-none, markAll-count, markAll-length, markAll-next, markAll-plain, push-at, push-off, push-count, push-else, push-next, push-plain}
 
 -- the nodes that are made
 abbrev pub defectNode : Bench → ℕ → Node
@@ -46,6 +46,10 @@ module _ (b : Bench) (u v : ℕ) where
   pub defect-next : addDefect b u v .next ≡ suc (b .next)
   unfolding addDefect
   defect-next = push-next b u (freeSlot b u) (defectNode b v)
+
+  pub defect-plain : addDefect b u v .plain ≡ b .plain
+  unfolding addDefect
+  defect-plain = push-plain b u (freeSlot b u) (defectNode b v)
 
   pub defect-count : u < length (b .interfaces) → length (interface (addDefect b u v) u .slots) ≡ max (length (interface b u .slots)) (suc (freeSlot b u))
   unfolding addDefect
@@ -101,6 +105,10 @@ module _ (b : Bench) (u : ℕ) (hs : List Handle) (ts : List (Handle × Handle))
   unfolding addBlossom
   blossom-next = push-next marked u (freeSlot b u) (blossomNode b hs ts) ∙ ap suc (markAll-next stays (some (newHandle b u)) b hs)
 
+  pub blossom-plain : addBlossom b u hs ts .plain ≡ b .plain
+  unfolding addBlossom
+  blossom-plain = push-plain marked u (freeSlot b u) (blossomNode b hs ts) ∙ (markAll-plain stays (some (newHandle b u)) b hs)
+
   pub blossom-count : u < length (b .interfaces) → length (interface (addBlossom b u hs ts) u .slots) ≡ max (length (interface b u .slots)) (suc (freeSlot b u))
   unfolding addBlossom
   blossom-count h = push-count marked u (freeSlot b u) (blossomNode b hs ts) (marked<n h) marked-low ∙ ap (λ (m : ℕ). max m (suc (freeSlot b u))) (marked-count u)
@@ -140,6 +148,10 @@ module _ (b : Bench) (h : Handle) where
   pub expand-next : removeBlossom b h .next ≡ b .next
   unfolding removeBlossom
   expand-next = markAll-next grows none emptied (members (nodeNamed b h)) ∙ place-next b (h .unit) (h .slot) none
+
+  pub expand-plain : removeBlossom b h .plain ≡ b .plain
+  unfolding removeBlossom
+  expand-plain = markAll-plain grows none emptied (members (nodeNamed b h)) ∙ place-plain b (h .unit) (h .slot) none
 
   pub expand-count : (w : ℕ) → length (interface (removeBlossom b h) w .slots) ≡ length (interface b w .slots)
   unfolding removeBlossom

@@ -28,7 +28,7 @@ module _ {X : Type 0} (φ : Interface → X) (b : Bench) (u : ℕ) (f : Interfac
   put-else w q = ap φ (getD-set-other (b .interfaces) u w f fresh q)
 
   pub put-out : length (b .interfaces) ≤ u → withInterface b u f ≡ b
-  put-out h = λ i. record { next = b .next; interfaces = set-out (b .interfaces) u f h i }
+  put-out h = λ i. record { next = b .next; interfaces = set-out (b .interfaces) u f h i; plain = b .plain }
 
   -- a field that f has from the interface whose place it takes
   pub put-kept : φ f ≡ φ (interface b u) → (w : ℕ) → φ (interface (withInterface b u f) w) ≡ φ (interface b w)

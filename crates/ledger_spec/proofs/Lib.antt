@@ -25,3 +25,4 @@ pub mod Walks
 pub mod Chains
 pub mod Bounds
 pub mod Tempting
+pub mod Openings

@@ -62,6 +62,10 @@ module _ (b : Bench) (u s : ℕ) (y : Option Node) where
   unfolding place faster
   place-next = refl
 
+  pub place-plain : place b u s y .plain ≡ b .plain
+  unfolding place faster
+  place-plain = refl
+
   -- where it is placed: y, if there is such a slot
   pub place-at : (slotOf b u s ≡ none → y ≡ none) → slotOf (place b u s y) u s ≡ y
   place-at fit = go (decLt u (length (b .interfaces))) (decLt s (length (interface b u .slots)))
@@ -138,6 +142,10 @@ module _ (b : Bench) (h : Handle) (s : State) (p : Option Handle) where
   unfolding mark
   mark-next = place-next b (h .unit) (h .slot) _
 
+  pub mark-plain : mark b h s p .plain ≡ b .plain
+  unfolding mark
+  mark-plain = place-plain b (h .unit) (h .slot) _
+
 -- ---- nodes marked one after the other
 module _ (s : State) (p : Option Handle) where
   pub markAll-field : {X : Type 0} (φ : Interface → X) → ((f : Interface) (l : List (Option Node)) → φ (withSlots f l) ≡ φ f) → ((f : Interface) (x : ℤ) → φ (withSpeed f x) ≡ φ f)
@@ -192,6 +200,11 @@ module _ (s : State) (p : Option Handle) where
   markAll-next b [] = refl
   markAll-next b (g ∷ hs) = markAll-next (mark b g s p) hs ∙ mark-next b g s p
 
+  pub markAll-plain : (b : Bench) (hs : List Handle) → markAll b hs s p .plain ≡ b .plain
+  unfolding markAll
+  markAll-plain b [] = refl
+  markAll-plain b (g ∷ hs) = markAll-plain (mark b g s p) hs ∙ mark-plain b g s p
+
   -- a slot that holds nothing holds nothing still
   pub markAll-none : (b : Bench) (hs : List Handle) (u t : ℕ) → slotOf b u t ≡ none → slotOf (markAll b hs s p) u t ≡ none
   markAll-none b hs u t e = markAll-fix b hs u t none e
@@ -233,6 +246,10 @@ module _ (b : Bench) (u t : ℕ) (n : Node) where
   pub push-next : push b u t n .next ≡ suc (b .next)
   unfolding push faster
   push-next = refl
+
+  pub push-plain : push b u t n .plain ≡ b .plain
+  unfolding push faster
+  push-plain = refl
 
   pub push-count : u < length (b .interfaces) → t ≤ length (interface b u .slots) → length (interface (push b u t n) u .slots) ≡ max (length (interface b u .slots)) (suc t)
   push-count h x = ap length (push-here h) ∙ put-count (interface b u .slots) t n x

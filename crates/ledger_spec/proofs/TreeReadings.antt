@@ -41,7 +41,7 @@ module _ (b : Bench) (u : ℕ) (l : ℤ) where
   lift f = withSlots f (map (growSlot l) (f .slots))
 
   abbrev lifted : Bench
-  lifted = record { next = b .next; interfaces = across lift b u 0 (b .interfaces) }
+  lifted = record { next = b .next; interfaces = across lift b u 0 (b .interfaces); plain = b .plain }
 
   -- any field but slots, progress and sum
   pub grow-field : {X : Type 0} (φ : Interface → X) → ((f : Interface) (s : List (Option Node)) → φ (withSlots f s) ≡ φ f) → ((f : Interface) → φ (booked f l) ≡ φ f)
@@ -97,6 +97,10 @@ module _ (b : Bench) (u : ℕ) (l : ℤ) where
   pub grow-next : growBy b u l .next ≡ b .next
   unfolding growBy
   grow-next = refl
+
+  pub grow-plain : growBy b u l .plain ≡ b .plain
+  unfolding growBy
+  grow-plain = refl
 
   pub grow-count : (w : ℕ) → length (interface (growBy b u l) w .slots) ≡ length (interface b w .slots)
   unfolding growBy
@@ -213,6 +217,10 @@ module _ (b : Bench) (p l r : ℕ) (j : Joins b p l r) where
   unfolding join
   join-next = refl
 
+  pub join-plain : join b p l r .plain ≡ b .plain
+  unfolding join
+  join-plain = refl
+
   -- parents: only those of l and r change, if p had none
   pub join-rest : interface b p .parent ≡ none → (w : ℕ) → w ≢ l → w ≢ r → interface (join b p l r) w .parent ≡ interface b w .parent
   join-rest p-none w x y = go (ℕ-discrete w p)
@@ -253,6 +261,10 @@ module _ (b : Bench) (u : ℕ) where
   pub wipe-next : wipe b u .next ≡ b .next
   unfolding wipe
   wipe-next = refl
+
+  pub wipe-plain : wipe b u .plain ≡ b .plain
+  unfolding wipe
+  wipe-plain = refl
 
   pub wipe-under : (w : ℕ) → top b w ≡ u → interface (wipe b u) w ≡ fresh
   unfolding wipe
@@ -299,3 +311,7 @@ module _ (b : Bench) (u : ℕ) (k : Marking) where
   pub choose-next : choose b u k .next ≡ b .next
   unfolding choose
   choose-next = refl
+
+  pub choose-plain : choose b u k .plain ≡ b .plain
+  unfolding choose
+  choose-plain = refl

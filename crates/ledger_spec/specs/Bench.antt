@@ -67,9 +67,11 @@ pub record Interface : Type 0 where
   pub halves : Option (ℕ × ℕ)
   pub marks : Marks
 
+-- `plain` says which engine holds the values: the plain one adds to each at every growth. It is chosen at set-up, and no call, read or check looks at it.
 pub record Bench : Type 0 where
   pub next : ℕ
   pub interfaces : List Interface
+  pub plain : Bool
 
 abbrev pub fresh : Interface
 fresh = record { slots = []; progress = pos 0; sum = pos 0; speed = pos 0; parent = none; halves = none; marks = noMarks }
@@ -97,5 +99,9 @@ withHalves f x = record { slots = f .slots; progress = f .progress; sum = f .sum
 abbrev pub withMarks : Interface → Marks → Interface
 withMarks f x = record { slots = f .slots; progress = f .progress; sum = f .sum; speed = f .speed; parent = f .parent; halves = f .halves; marks = x }
 
+-- the bench that set-up makes, in either engine; and in the lazy one
+abbrev pub setUpIn : Bool → ℕ → Bench
+setUpIn plain first = record { next = first; interfaces = replicate 8 fresh; plain = plain }
+
 abbrev pub setUp : ℕ → Bench
-setUp first = record { next = first; interfaces = replicate 8 fresh }
+setUp first = setUpIn false first

@@ -22,7 +22,7 @@ abbrev pub withNode : Node → State → Option Handle → Node
 withNode n s p = record { serial = n .serial; class = n .class; state = s; parent = p; value = n .value; size = n .size }
 
 abbrev pub withInterface : Bench → ℕ → Interface → Bench
-withInterface b u f = record { next = b .next; interfaces = set (b .interfaces) u f }
+withInterface b u f = record { next = b .next; interfaces = set (b .interfaces) u f; plain = b .plain }
 
 -- the speed of interface u goes up by v
 unfoldable pub faster : Bench → ℕ → ℤ → Bench
@@ -40,7 +40,7 @@ put (x ∷ xs) (suc s) n = x ∷ put xs s n
 
 -- the free slot s of interface u now holds n, which takes the next serial, and the speed of u follows
 unfoldable pub push : Bench → ℕ → ℕ → Node → Bench
-push b u s n = faster (record { next = suc (b .next); interfaces = set (b .interfaces) u (withSlots (interface b u) (put (interface b u .slots) s n)) }) u (rate (n .state))
+push b u s n = faster (record { next = suc (b .next); interfaces = set (b .interfaces) u (withSlots (interface b u) (put (interface b u .slots) s n)); plain = b .plain }) u (rate (n .state))
 
 -- the node of a slot gets a state and a parent
 abbrev pub restate : Option Node → State → Option Handle → Option Node

@@ -55,7 +55,7 @@ booked f l = withSum (withProgress f (f .progress +ℤ l)) (f .sum +ℤ l *ℤ f
 
 unfoldable pub growBy : Bench → ℕ → ℤ → Bench
 growBy b u l =
-    let b₁ : Bench = record { next = b .next; interfaces = across (λ f. withSlots f (map (growSlot l) (f .slots))) b u 0 (b .interfaces) } in
+    let b₁ : Bench = record { next = b .next; interfaces = across (λ f. withSlots f (map (growSlot l) (f .slots))) b u 0 (b .interfaces); plain = b .plain } in
     withInterface b₁ u (booked (interface b₁ u) l)
 
 -- the parent of a fuse: both sums and both speeds, progress 0, no parent, the two as its halves, and their floor; its way to fill is its own
@@ -76,4 +76,4 @@ unfoldable pub choose : Bench → ℕ → Marking → Bench
 choose b u k = withInterface b u (withMarks (interface b u) (withMark k (interface b u .marks)))
 
 unfoldable pub wipe : Bench → ℕ → Bench
-wipe b u = record { next = b .next; interfaces = across (λ f. fresh) b u 0 (b .interfaces) }
+wipe b u = record { next = b .next; interfaces = across (λ f. fresh) b u 0 (b .interfaces); plain = b .plain }

@@ -24,13 +24,14 @@ use Rattle.ledger_spec.specs.Decimals.{digits, decimal, signed, afterDig
 use Rattle.ledger_spec.specs.Fields.{upto, partsAfter}
 use Rattle.ledger_spec.specs.Grammar.{step, allSerials, rest, lineOf}
 use Rattle.ledger_spec.specs.Lines.{seek, named, shown, calls, checks, says}
-use Rattle.ledger_spec.specs.Program.{ended, linesOf, answers, afterLines, textOf, texts, program}
+use Rattle.ledger_spec.specs.Opening.{chosen, opening}
+use Rattle.ledger_spec.specs.Program.{ended, linesOf, answers, afterLines, textOf, texts, openAnswers, openAfter, program, programLeaves}
 use Rattle.ledger_spec.specs.Book.{wrote, writes, turn, turns}
 use Rattle.ledger_spec.specs.Bytes.{bytes}
 
 -- the bytes that lines answer, from a bench
 unfoldable pub run : Bench → String → List ℕ
-unfolding gap freeSlot nodeNamed ifSerial climb tree put push place mark markAll faster first any below twice both unitTests defectTests blossomTests expandTests stateTests growTests fuseTests markTests addDefect addBlossom removeBlossom growBy join wipe choose circle sizes growSlot across settle setUpCall defectCall blossomCall expandCall stateCall growCall fuseCall clearCall markCall perform tells said slotsFrom gather sumOf speedOf countOf fillsOf flooredOf indexTests handleAtIndex nodeTests valueOf belongs outerFrom linksFrom belowFrom each verticesFrom outerOf belowTests belowOf firstVertex sizeTests verticesInto indexIn memberVerdict circleVerdict finding totalOf verdict arrives isUnder strictMember strictCircle strictFinding strictVerdict checkOf strictOf all tally linksUp linksDown soundInterface reach sound soundClass soundParent soundSlot rates soundTop serials different soundFloor soundPlain told whole broken answer ask allListable risingFrom soundGroup roomFor frontOf backOf meet placed addStop addToGrowth addToConflicts added smallerPair addStops extended lastOf allButLast groupTests takeTests isEmpty isActive growthOf peek pop handlesOf listHandles stopHandles add extend digits decimal signed afterDigits natural between integer upto partsAfter step allSerials rest lineOf seek named shown calls checks says ended linesOf answers afterLines textOf texts program wrote writes turn turns bytes
+unfolding gap freeSlot nodeNamed ifSerial climb tree put push place mark markAll faster first any below twice both unitTests defectTests blossomTests expandTests stateTests growTests fuseTests markTests addDefect addBlossom removeBlossom growBy join wipe choose circle sizes growSlot across settle setUpCall defectCall blossomCall expandCall stateCall growCall fuseCall clearCall markCall perform tells said slotsFrom gather sumOf speedOf countOf fillsOf flooredOf indexTests handleAtIndex nodeTests valueOf belongs outerFrom linksFrom belowFrom each verticesFrom outerOf belowTests belowOf firstVertex sizeTests verticesInto indexIn memberVerdict circleVerdict finding totalOf verdict arrives isUnder strictMember strictCircle strictFinding strictVerdict checkOf strictOf all tally linksUp linksDown soundInterface reach sound soundClass soundParent soundSlot rates soundTop serials different soundFloor soundPlain told whole broken answer ask allListable risingFrom soundGroup roomFor frontOf backOf meet placed addStop addToGrowth addToConflicts added smallerPair addStops extended lastOf allButLast groupTests takeTests isEmpty isActive growthOf peek pop handlesOf listHandles stopHandles add extend digits decimal signed afterDigits natural between integer upto partsAfter step allSerials rest lineOf seek named shown calls checks says chosen opening ended linesOf answers afterLines textOf texts openAnswers openAfter program programLeaves wrote writes turn turns bytes
 run b s = texts (answers b (linesOf (bytes s)))
 
 -- the bench after lines

@@ -1,4 +1,5 @@
--- The text program whole: standard input's bytes to standard output's, from a bench with first serial 1. Assumes nothing.
+-- The text program whole: standard input's bytes to standard output's, from a bench with first serial 1, in the engine that the first line chooses, else in
+-- the lazy one. Assumes nothing.
 use Prim.Native.Nat.{ℕ}
 use mathlib.Core.List.{List, [], _∷_, _++_}
 use lib.IntN.{ℤ}
@@ -7,6 +8,7 @@ use Rattle.ledger_spec.specs.Decimals.{decimal, signed}
 use Rattle.ledger_spec.specs.Fields.{cut}
 use Rattle.ledger_spec.specs.Grammar.{Line, wrong, lineOf}
 use Rattle.ledger_spec.specs.Lines.{says}
+use Rattle.ledger_spec.specs.Opening.{opening}
 
 -- the lines of an input: each that a newline ends says what it says (an overlong one is wrong by `lineOf`); a last one without newline is wrong;
 -- nothing after the last newline is no line
@@ -36,5 +38,21 @@ unfoldable pub texts : List (ℕ × ℕ × ℤ × ℤ) → List ℕ
 texts [] = []
 texts (x ∷ xs) = textOf x ++ texts xs
 
+-- ---- a whole input, by what stands between its newlines: only a line that a newline ends opens
+
+unfoldable pub openAnswers : List (List ℕ) → List (ℕ × ℕ × ℤ × ℤ)
+openAnswers [] = []
+openAnswers (l ∷ []) = answers (setUp 1) (ended (l ∷ []))
+openAnswers (l ∷ m ∷ ls) = opening l .numbers ∷ answers (opening l .bench) (ended (m ∷ ls))
+
+unfoldable pub openAfter : List (List ℕ) → Bench
+openAfter [] = setUp 1
+openAfter (l ∷ []) = setUp 1
+openAfter (l ∷ m ∷ ls) = afterLines (opening l .bench) (ended (m ∷ ls))
+
 unfoldable pub program : List ℕ → List ℕ
-program input = texts (answers (setUp 1) (linesOf input))
+program input = texts (openAnswers (cut 10 input))
+
+-- the bench after it
+unfoldable pub programLeaves : List ℕ → Bench
+programLeaves input = openAfter (cut 10 input)

@@ -25,7 +25,7 @@ made = ran (setUp 1) "D 0 3\nD 0 8\nD 0 9\nG 0 5\nB 0 1 2 3\nG 0 2\nS 0 4 -1\nG 
 -- ---- one thing changed
 
 abbrev pub next : ℕ → Bench → Bench
-next n b = record { next = n; interfaces = b .interfaces }
+next n b = record { next = n; interfaces = b .interfaces; plain = b .plain }
 
 abbrev pub face : ℕ → (Interface → Interface) → Bench → Bench
 face u f b = withInterface b u (f (interface b u))
@@ -126,7 +126,7 @@ rows =
     ∷ (face 2 (speed (pos 2)), false) ∷ (face 2 (speed (pos 0)), false) ∷ (face 0 (speed (pos 9)), true) ∷ (face 7 (speed (pos 1)), false) ∷ (face 1 (node 0 (state stays)), false)
     ∷ (λ b. face 2 (speed (pos 0)) (face 1 (node 0 (state stays)) b), true)
     -- 8 interfaces
-    ∷ (λ b. record { next = b .next; interfaces = take 7 (b .interfaces) }, false)
+    ∷ (λ b. record { next = b .next; interfaces = take 7 (b .interfaces); plain = b .plain }, false)
     ∷ []
 
 pub verdicts : map (λ (r : (Bench → Bench) × Bool). sound (r .0 made)) rows ≡ map (λ (r : (Bench → Bench) × Bool). r .1) rows

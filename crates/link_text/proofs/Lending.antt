@@ -14,10 +14,10 @@ use Rattle.bench_views.specs.Fit.{SoundWords}
 use Rattle.text_numbers.specs.declared.Reply.{Reply}
 use Rattle.text_numbers.specs.Numbers.{numbersOf}
 use Rattle.text_calls.specs.Turned.{Turned}
-use Rattle.text_sessions.specs.Session.{ChunkDone, Finished}
+use Rattle.text_sessions.specs.Session.{ChunkDone, OpeningDone, Finished}
 use Rattle.sound_bench.specs.Sound.{soundWords}
 use Rattle.sound_lent.specs.Verdict.{Verdict}
-use Rattle.link_text.specs.Text.{chunkNo, ChunkBy, ChunkOn, LineOn, EndBy}
+use Rattle.link_text.specs.Text.{chunkNo, ChunkBy, ChunkOn, OpeningBy, LineOn, EndBy}
 
 -- ---- a chunk, by the lengths
 
@@ -46,6 +46,20 @@ module _ (b chunk buf : List ℕ) (held : ℕ) (out : List ℕ) where
   module _ {b′ buf′ out′ : List ℕ} {held′ wrote : ℕ} where
     pub chunk-done : held ≤ 1024 → length chunk ≤ length out / 57 → ChunkDone b chunk (take held buf) out b′ buf′ out′ held′ wrote → ChunkBy b chunk buf held out b′ buf′ out′ 0 held′ wrote
     chunk-done l m d = record { number = enough held (length chunk) (length out) l m; done = λ _. d; refused = λ q. absurd (q refl) }
+
+  -- ---- an opening chunk, by the same lengths
+  unopened : (n : ℕ) → n ≡ chunkNo held (length chunk) (length out) → (n ≡ 0 → ⊥) → OpeningBy b chunk buf held out b buf out n held 0
+  unopened n e q = record { number = e; done = λ z. absurd (q z); refused = λ _. (refl, refl, refl, refl, refl) }
+
+  pub opening-held : 1024 < held → OpeningBy b chunk buf held out b buf out 2 held 0
+  opening-held l = unopened 2 (much-held held (length chunk) (length out) l) (λ z. omega arith)
+
+  pub opening-small : held ≤ 1024 → length out / 57 < length chunk → OpeningBy b chunk buf held out b buf out 19 held 0
+  opening-small l m = unopened 19 (small held (length chunk) (length out) l m) (λ z. omega arith)
+
+  module _ {b′ buf′ out′ : List ℕ} {held′ wrote : ℕ} where
+    pub opening-done : held ≤ 1024 → length chunk ≤ length out / 57 → OpeningDone chunk (take held buf) out b′ buf′ out′ held′ wrote → OpeningBy b chunk buf held out b′ buf′ out′ 0 held′ wrote
+    opening-done l m d = record { number = enough held (length chunk) (length out) l m; done = λ _. d; refused = λ q. absurd (q refl) }
 
 -- ---- by the verdict on the words
 

@@ -19,9 +19,9 @@ use Rattle.text_numbers.specs.Numbers.{numbersOf}
 use Rattle.text_calls.specs.Turned.{Turned}
 use Rattle.ledger_spec.specs.Bench.{setUp}
 use Rattle.ledger_spec.specs.Grammar.{Line, lineOf}
-use Rattle.text_sessions.specs.Session.{ChunkDone, Finished}
+use Rattle.text_sessions.specs.Session.{ChunkDone, OpeningDone, Finished}
 use Rattle.sound_bench.specs.Sound.{soundWords}
-use Rattle.link_text.specs.Text.{ChunkBy, ChunkOn, LineOn, EndBy}
+use Rattle.link_text.specs.Text.{ChunkBy, ChunkOn, OpeningBy, LineOn, EndBy}
 
 same-bench : {b′ b″ : List ℕ} → SoundWords b′ → SoundWords b″ → view b′ ≡ view b″ → b′ ≡ b″
 same-bench {b′} {b″} x y e = words-same b′ b″ (x .canon) (y .canon) (fit-of b′ x .within) e
@@ -55,11 +55,46 @@ module _ {b chunk p out b′ buf′ out′ b″ buf″ out″ : List ℕ} {n hel
         bytes = a .kept ∙ sym (c .kept);
       }
 
+module _ {chunk p out b′ buf′ out′ b″ buf″ out″ : List ℕ} {n held′ wrote m held″ wrote″ : ℕ} where
+  opened-once : OpeningDone chunk p out b′ buf′ out′ held′ wrote → OpeningDone chunk p out b″ buf″ out″ held″ wrote″ → n ≡ m
+      → Same b′ buf′ out′ b″ buf″ out″ n held′ wrote m held″ wrote″
+  opened-once x y e =
+      let a = x .answered in
+      let c = y .answered in
+      record {
+        number = e;
+        bench = same-bench (x .words) (y .words) (a .bench ∙ sym (c .bench));
+        written = a .text .stands ∙ sym (c .text .stands);
+        count = a .text .next ∙ sym (c .text .next);
+        held = held-once (left p chunk) buf′ buf″ held′ held″ (a .long) (c .long) (a .short) (c .short) (a .kept) (c .kept);
+        bytes = a .kept ∙ sym (c .kept);
+      }
+
 module _ {b chunk buf : List ℕ} {held : ℕ} {out b′ buf′ out′ b″ buf″ out″ : List ℕ} {n held′ wrote m held″ wrote″ : ℕ} where
   pub chunk-once : ChunkBy b chunk buf held out b′ buf′ out′ n held′ wrote → ChunkBy b chunk buf held out b″ buf″ out″ m held″ wrote″
       → Same b′ buf′ out′ b″ buf″ out″ n held′ wrote m held″ wrote″
   chunk-once x y = by-cases (ℕ-discrete n 0)
       (λ (z : n ≡ 0). done-once (x .done z) (y .done (sym one ∙ z)) one)
+      (λ (z : n ≡ 0 → ⊥).
+      let r = x .refused z in
+      let s = y .refused (λ w. z (one ∙ w)) in
+      let same-held = r .3 ∙ sym (s .3) in
+      record {
+        number = one;
+        bench = r .0 ∙ sym (s .0);
+        written = r .2 ∙ sym (s .2);
+        count = r .4 ∙ sym (s .4);
+        held = same-held;
+        bytes = λ i. take (same-held i) ((r .1 ∙ sym (s .1)) i);
+      })
+    where
+      one : n ≡ m
+      one = x .number ∙ sym (y .number)
+
+  pub opening-once : OpeningBy b chunk buf held out b′ buf′ out′ n held′ wrote → OpeningBy b chunk buf held out b″ buf″ out″ m held″ wrote″
+      → Same b′ buf′ out′ b″ buf″ out″ n held′ wrote m held″ wrote″
+  opening-once x y = by-cases (ℕ-discrete n 0)
+      (λ (z : n ≡ 0). opened-once (x .done z) (y .done (sym one ∙ z)) one)
       (λ (z : n ≡ 0 → ⊥).
       let r = x .refused z in
       let s = y .refused (λ w. z (one ∙ w)) in

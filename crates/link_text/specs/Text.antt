@@ -11,7 +11,7 @@ use Rattle.ledger_spec.specs.Grammar.{lineOf}
 use Rattle.text_numbers.specs.declared.Reply.{Reply}
 use Rattle.text_numbers.specs.Numbers.{numbersOf}
 use Rattle.text_calls.specs.Turned.{Turned}
-use Rattle.text_sessions.specs.Session.{ChunkDone, Finished}
+use Rattle.text_sessions.specs.Session.{ChunkDone, OpeningDone, Finished}
 use Rattle.sound_bench.specs.Sound.{soundWords}
 
 -- by lengths: more held than a line has; less room than 57 bytes for each of the chunk
@@ -28,6 +28,12 @@ pub record ChunkBy (b chunk buf : List ℕ) (held : ℕ) (out b′ buf′ out′
 pub record ChunkOn (b chunk buf : List ℕ) (held : ℕ) (out b′ buf′ out′ : List ℕ) (n held′ wrote : ℕ) : Type 0 where
   pub sound : soundWords b ≡ true → ChunkBy b chunk buf held out b′ buf′ out′ n held′ wrote
   pub broken : soundWords b ≡ false → (n ≡ 2) × (b′ ≡ b) × (buf′ ≡ buf) × (out′ ≡ out) × (held′ ≡ held) × (wrote ≡ 0)
+
+-- a chunk that begins an input or goes on with its first line, on any words
+pub record OpeningBy (b chunk buf : List ℕ) (held : ℕ) (out b′ buf′ out′ : List ℕ) (n held′ wrote : ℕ) : Type 0 where
+  pub number : n ≡ chunkNo held (length chunk) (length out)
+  pub done : n ≡ 0 → OpeningDone chunk (take held buf) out b′ buf′ out′ held′ wrote
+  pub refused : (n ≡ 0 → ⊥) → (b′ ≡ b) × (buf′ ≡ buf) × (out′ ≡ out) × (held′ ≡ held) × (wrote ≡ 0)
 
 -- a line on any words
 pub record LineOn (b line : List ℕ) (r : Reply) (b′ : List ℕ) : Type 0 where

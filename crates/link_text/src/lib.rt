@@ -1,5 +1,5 @@
-// The text program's engine over lent words and slices, for Rust and C: a line, a chunk, the input's end. A line and a chunk come in two forms, on words that
-// hold a sound bench and on any words. A slice that is too short is SMALL (19), and more held than a line has is BROKEN (2): then nothing has changed.
+// The text program's engine over lent words and slices, for Rust and C: an input's beginning, a line, a chunk, the input's end. A line and a chunk come in two
+// forms, on words that hold a sound bench and on any words; a beginning sets the bench up, on any words. A slice that is too short is SMALL (19), and more held than a line has is BROKEN (2): then nothing has changed.
 // Assumes nothing.
 use bench_serials::HINTS;
 use bench_words::WORDS;
@@ -8,7 +8,7 @@ use text_numbers::Reply;
 ghost use Rattle.ledger_spec.specs.Grammar.{lineOf};
 ghost use Rattle.bench_views.specs.Fit.{SoundWords};
 ghost use Rattle.text_calls.specs.Turned.{Turned};
-ghost use Rattle.link_text.specs.Text.{ChunkBy, LineOn, ChunkOn, EndBy};
+ghost use Rattle.link_text.specs.Text.{ChunkBy, LineOn, ChunkOn, OpeningBy, EndBy};
 
 // How many bytes of a line that is not ended are held at most.
 pub const HELD: usize = 1024;
@@ -94,6 +94,42 @@ pub fn chunk_on_any(
         };
     }
     chunk_on_sound(b, chunk, buf, held, hints, out)
+}
+
+// A chunk that begins an input, or goes on with its first line, on any words: they become the bench that the input starts with. Nothing is written exactly
+// where the first line is not ended yet: then the next chunk opens too.
+pub fn opening(
+    b: &mut [u64; WORDS],
+    chunk: &[u8],
+    buf: &mut [u8; HELD],
+    held: usize,
+    hints: &mut [u16; HINTS],
+    out: &mut [u8],
+) -> Chunked
+    ensures { λ r. ⌜ OpeningBy (now (b .entry)) (now (chunk .entry)) (now (buf .entry)) held (now (out .entry)) (now (b .exit)) (now (buf .exit)) (now (out .exit)) (r .number) (r .held) (r .wrote) ⌝ }
+{
+    if HELD < held {
+        return Chunked {
+            number: numbers::BROKEN,
+            held,
+            wrote: 0,
+        };
+    }
+    let answers = out.len() / 57;
+    if answers < chunk.len() {
+        return Chunked {
+            number: numbers::SMALL,
+            held,
+            wrote: 0,
+        };
+    }
+    let mut serials: [u64; text_calls::MOST] = [0; text_calls::MOST];
+    let taken = text_sessions::answer_opening(b, chunk, buf, held, &mut serials, hints, out);
+    Chunked {
+        number: 0,
+        held: taken.held,
+        wrote: taken.wrote,
+    }
 }
 
 // The input ends: a last line without newline is answered as LINE.

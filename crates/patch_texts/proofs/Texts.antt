@@ -14,9 +14,12 @@ use Rattle.ledger_spec.specs.Look.{interface}
 use Rattle.ledger_spec.specs.Tests.{outside}
 use Rattle.ledger_spec.specs.Calls.{Call, Defect, Blossom, Expand, SetState, Grow, Fuse, Clear}
 use Rattle.ledger_spec.specs.Answers.{Answer, answer, read, checkRead}
+use Rattle.ledger_spec.specs.Fields.{upto, partsAfter, cut}
 use Rattle.ledger_spec.specs.Grammar.{Line, D, B, E, S, G, F, C, K, wrong}
 use Rattle.ledger_spec.specs.Lines.{LineAnswer, named, calls, checks, says}
-use Rattle.ledger_spec.specs.Program.{linesOf, answers}
+use Rattle.ledger_spec.specs.Opening.{chosen}
+use Rattle.ledger_spec.specs.Program.{ended, linesOf, answers, openAnswers}
+use Rattle.ledger_spec.proofs.Openings.{opening-none}
 use Rattle.ledger_spec.specs.Knit.{In, here}
 use Rattle.ledger_spec.proofs.Lists.{not-in-nil}
 use Rattle.patch_laws.specs.Patch.{Patch, Apart, mine, unitsNamed, Script, unitsOf}
@@ -28,7 +31,7 @@ use Rattle.patch_laws.proofs.Told.{check-was}
 use Rattle.patch_laws.proofs.Patches.{opened-one, opened-link, each}
 use Rattle.patch_texts.specs.Page.{Serials, spelled, numberFrom, field, Page, Step, theirs, ours, reads, lines, own, ownOf}
 use Rattle.patch_texts.specs.Page as page
-use Rattle.patch_texts.specs.Inputs.{unitsIn, AllFit, Unworn, butSerial, TwoTexts, TwoInputs}
+use Rattle.patch_texts.specs.Inputs.{unitsIn, AllFit, Unworn, butSerial, TwoTexts, TwoInputs, TwoPrograms}
 use Rattle.patch_texts.proofs.Kin.{serialOf, Four, hidden, paid, row, readRow, shown-is, Kin, kin-kept, Says, d-says, b-says, e-says, s-says, g-says, f-says, c-says, line-is, kin-after, read-is}
 
 -- ---- a line of the other patch: a call, or nothing
@@ -206,3 +209,16 @@ two-inputs a p apart xs ys fx fy e wx wy i j x y = from xs i x ∙ ap (map bare)
   where
     from : (zs : List Step) (o : List ℕ) → linesOf o ≡ lines (page.opened 1) zs → map butSerial (ownOf zs (answers (setUp 1) (linesOf o))) ≡ map bare (reads (page.opened 1) zs)
     from zs o z = ap₂ (λ (b : Bench) (l : List Line). map butSerial (ownOf zs (answers b l))) (sym opened-one) z ∙ printed (page.opened 1) zs
+
+-- an input whose first line chooses no engine
+open-lazy : (l : List ℕ) (ls : List (List ℕ)) → chosen l ≡ none → openAnswers (l ∷ ls) ≡ answers (setUp 1) (ended (l ∷ ls))
+unfolding openAnswers answers ended
+open-lazy l [] e = refl
+open-lazy l (m ∷ ls) e = ap (λ (o : LineAnswer). o .numbers ∷ answers (o .bench) (ended (m ∷ ls))) (opening-none l e)
+
+pub two-programs : TwoPrograms
+unfolding linesOf
+two-programs a p apart xs ys fx fy e wx wy i j x y u v = as-lines xs i u ∙ two-inputs a p apart xs ys fx fy e wx wy i j x y ∙ sym (as-lines ys j v)
+  where
+    as-lines : (zs : List Step) (o : List ℕ) → chosen (upto 10 o) ≡ none → map butSerial (ownOf zs (openAnswers (cut 10 o))) ≡ map butSerial (ownOf zs (answers (setUp 1) (linesOf o)))
+    as-lines zs o c = ap (λ (t : List (ℕ × ℕ × ℤ × ℤ)). map butSerial (ownOf zs t)) (open-lazy (upto 10 o) (partsAfter 10 o) c)

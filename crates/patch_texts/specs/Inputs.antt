@@ -2,12 +2,15 @@
 use Prim.Native.Nat.{ℕ, _<_, _^_}
 use mathlib.Core.Path.{_≡_}
 use mathlib.Core.Logic.{_≢_}
+use mathlib.Core.Option.{none}
 use mathlib.Core.List.{List, [], _∷_, map}
 use lib.IntN.{ℤ}
 use Rattle.ledger_spec.specs.Numbers.{WORN}
 use Rattle.ledger_spec.specs.Bench.{setUp}
+use Rattle.ledger_spec.specs.Fields.{upto, cut}
 use Rattle.ledger_spec.specs.Grammar.{Line, D, B, E, S, G, F, C, K, wrong}
-use Rattle.ledger_spec.specs.Program.{linesOf, answers}
+use Rattle.ledger_spec.specs.Opening.{chosen}
+use Rattle.ledger_spec.specs.Program.{linesOf, answers, openAnswers}
 use Rattle.patch_laws.specs.Patch.{Patch, Apart, Within}
 use Rattle.patch_texts.specs.Page.{Read, Step, theirs, ours, reads, lines, own, ownOf, opened}
 
@@ -48,9 +51,16 @@ TwoTexts =
 abbrev pub butSerial : ℕ × ℕ × ℤ × ℤ → ℕ × ℤ × ℤ
 butSerial a = (a .0, a .2, a .3)
 
--- And of the program: two inputs, of bytes, print the same for the watched patch's lines but for the serial field.
+-- And of bytes: the lines of two inputs are answered the same for the watched patch's lines but for the serial field.
 abbrev pub TwoInputs : Type 0
 TwoInputs =
     (a p : Patch) → Apart a p → (xs ys : List Step) → AllFit a p xs → AllFit a p ys → own xs ≡ own ys → Unworn (reads (opened 1) xs) → Unworn (reads (opened 1) ys)
     → (i j : List ℕ) → linesOf i ≡ lines (opened 1) xs → linesOf j ≡ lines (opened 1) ys
     → map butSerial (ownOf xs (answers (setUp 1) (linesOf i))) ≡ map butSerial (ownOf ys (answers (setUp 1) (linesOf j)))
+
+-- Of the program's own answers: the same, where no first line chooses an engine.
+abbrev pub TwoPrograms : Type 0
+TwoPrograms =
+    (a p : Patch) → Apart a p → (xs ys : List Step) → AllFit a p xs → AllFit a p ys → own xs ≡ own ys → Unworn (reads (opened 1) xs) → Unworn (reads (opened 1) ys)
+    → (i j : List ℕ) → linesOf i ≡ lines (opened 1) xs → linesOf j ≡ lines (opened 1) ys → chosen (upto 10 i) ≡ none → chosen (upto 10 j) ≡ none
+    → map butSerial (ownOf xs (openAnswers (cut 10 i))) ≡ map butSerial (ownOf ys (openAnswers (cut 10 j)))

@@ -1,3 +1,4 @@
 pub mod Pairs
+pub mod Choices
 pub mod Own
 pub mod Both

@@ -13,6 +13,7 @@ use Rattle.ledger_spec.specs.Fields.{cut}
 use Rattle.ledger_spec.specs.Grammar.{Line, Fields, lineOf}
 use Rattle.ledger_spec.specs.Lines.{LineAnswer, named, calls, says}
 use Rattle.ledger_spec.specs.Program.{ended, linesOf, answers, afterLines, texts, program}
+use Rattle.ledger_spec.proofs.Openings.{program-lazy}
 use Rattle.record_spec.specs.Numbers.{Bytes}
 use Rattle.record_spec.specs.Operations.{Member, Operation, D, B, E, S, G, F, C, K, serialOf, lineSaid, lineOfOp, selves, self}
 use Rattle.record_spec.specs.Files.{AllWritable, fileOps}
@@ -24,6 +25,7 @@ use Rattle.record_spec.proofs.Files.{file-only}
 use Rattle.record_spec.proofs.Texts.{text-only}
 use Rattle.record_says.specs.Says.{memberNamed, pairNamed, saysOp, answersOps, afterOps}
 use Rattle.record_says.proofs.Pairs.{twin, same-calls}
+use Rattle.record_says.proofs.Choices.{text-unchosen}
 
 -- ---- one operation
 
@@ -88,7 +90,6 @@ text-as-file b t ops e =
     let x = text-only t ops e in
     rw (x .are, text-lines ops (x .each)) (own-lines b ops (x .own))
 
--- the text program on the moved-back file writes the run's answers
+-- the text program on the moved-back file writes the run's answers: no line that an operation has chooses an engine
 pub program-as-run : (f : List ℕ) (ops : List Operation) → Bytes f → fileOps f ≡ some ops → allSelf ops ≡ true → program (textOf ops) ≡ texts (answersOps (setUp 1) ops)
-unfolding program
-program-as-run f ops h e o = ap texts (sym (file-as-text (setUp 1) f ops h e o .answers))
+program-as-run f ops h e o = program-lazy (textOf ops) (text-unchosen ops (file-only f ops h e .1 .each)) ∙ ap texts (sym (file-as-text (setUp 1) f ops h e o .answers))

@@ -11,7 +11,7 @@ use lib.Seq.{ext-getD}
 use Rattle.ledger_spec.specs.Bench.{rate, Node, Interface, Bench, fresh, withSlots, withProgress, withSum}
 use Rattle.ledger_spec.specs.Look.{interface, top}
 use Rattle.ledger_spec.specs.Deeds.{growSlot, growBy}
-use Rattle.ledger_spec.proofs.TreeReadings.{inTree, atTop, grow-length, grow-next, grow-interface}
+use Rattle.ledger_spec.proofs.TreeReadings.{inTree, atTop, grow-length, grow-next, grow-plain, grow-interface}
 
 no-more : (x y : ℤ) → x +ℤ pos 0 *ℤ y ≡ x
 no-more x y = ap (λ (z : ℤ). x +ℤ z) (zero-*ℤ y) ∙ +ℤ-idr x
@@ -32,7 +32,7 @@ grown-zero false true f = λ i. withSum (withProgress f (+ℤ-idr (f .progress) 
 grown-zero false false f = refl
 
 pub grow-zero : (b : Bench) (u : ℕ) → growBy b u (pos 0) ≡ b
-grow-zero b u = λ i. record { next = grow-next b u (pos 0) i; interfaces = ext-getD fresh (growBy b u (pos 0) .interfaces) (b .interfaces) long (λ w h. at w (long-as w h)) i }
+grow-zero b u = λ i. record { next = grow-next b u (pos 0) i; interfaces = ext-getD fresh (growBy b u (pos 0) .interfaces) (b .interfaces) long (λ w h. at w (long-as w h)) i; plain = grow-plain b u (pos 0) i }
   where
     long : length (growBy b u (pos 0) .interfaces) ≡ length (b .interfaces)
     long = grow-length b u (pos 0)

@@ -1,13 +1,14 @@
 -- No second answer, for each public call: two results that meet its contract are one, answer and words. Assumes nothing.
 use Prim.Native.Nat.{ℕ}
 use mathlib.Core.Path.{_≡_}
+use mathlib.Core.Bool.{Bool}
 use mathlib.Core.List.{List}
 use lib.IntN.{ℤ}
 use Rattle.ledger_spec.specs.Bench.{Handle, State}
 use Rattle.ledger_spec.specs.Calls.{Call, Defect, Blossom, Expand, SetState, Grow, Fuse, Clear}
 use Rattle.sound_bench.specs.Sound.{soundWords}
-use Rattle.call_set_up.specs.Opened.{Opened, OpenedBy}
-use Rattle.call_set_up.proofs.Opening.{one-opened, one-set-up}
+use Rattle.call_set_up.specs.Opened.{Opened, OpenedBy, OpenedInBy}
+use Rattle.call_set_up.proofs.Opening.{one-opened, one-set-up, one-set-up-in}
 use Rattle.call_told.specs.declared.Answer.{Answer}
 use Rattle.call_told.specs.Told.{Called}
 use Rattle.call_told.proofs.Calling.{one-answer, one-bench}
@@ -43,6 +44,9 @@ module _ (b : List ℕ) (u : ℕ) where
 
 pub set-up : (n k k′ : ℕ) (b b′ : List ℕ) → OpenedBy n k b → OpenedBy n k′ b′ → (k ≡ k′) × (b ≡ b′)
 set-up n k k′ b b′ x y = one-set-up x y
+
+pub set-up-in : (m : Bool) (n k k′ : ℕ) (b b′ : List ℕ) → OpenedInBy m n k b → OpenedInBy m n k′ b′ → (k ≡ k′) × (b ≡ b′)
+set-up-in m n k k′ b b′ x y = one-set-up-in x y
 
 pub new-bench : (n : ℕ) (b b′ : List ℕ) → Opened n b → Opened n b′ → b ≡ b′
 new-bench n b b′ x y = one-opened x y

@@ -22,7 +22,7 @@ use Rattle.bench_views.specs.Records.{Steady, noNode}
 use Rattle.bench_views.specs.View.{view}
 use Rattle.bench_views.specs.Canon.{walk, heldIn, Seated, Alone, Coded, Canon}
 use Rattle.bench_views.proofs.Maps.{held-absent, held-present}
-use Rattle.sound_trees.proofs.Codings.{Coding, blank-none, blank-coded, link-words, flag-words, spare-words}
+use Rattle.sound_trees.proofs.Codings.{Coding, blank-none, blank-coded, link-words, flag-words, flag-engine, spare-words}
 use Rattle.sound_trees.proofs.Framing.{Linked, interface-says, interface-coded, linked-frame, linked-steady}
 use Rattle.sound_nodes.specs.Nodes.{handleIn}
 use Rattle.sound_bench.proofs.Seeing.{by-place}
@@ -158,6 +158,7 @@ module _ (b : List ℕ) (P : Parts b) (len : length b ≡ 6273) where
   canon = record {
     steady = steady;
     coded = coded;
+    modes = λ u l. flag-engine b u (interface-coded b u (P .interface u l) .2);
     whole = λ u l. links u l .none;
     both = λ u l z. links u l .both z .some;
     past = λ u s lu ls. past u s lu ls;

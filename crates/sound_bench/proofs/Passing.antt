@@ -289,7 +289,7 @@ module _ (b : List ℕ) (Z : SoundWords b) where
   passing = record {
     some = λ e. omega (arith, e, F .begun);
     worn = F .next;
-    interface = λ u l. interface-holds b u (words-spare b (C .coded .spare) u l) (words-link b u (C .coded .units u l 4 (omega arith))) (words-flag b u (C .coded .marks u l)) (frame-linked b (C .steady) (S .frame) (C .whole) (C .both) u l);
+    interface = λ u l. interface-holds b u (words-spare b (C .coded .spare) u l) (words-link b u (C .coded .units u l 4 (omega arith))) (words-flag b u (C .coded .marks u l) (C .coded .marks 0 (omega arith)) (C .modes u l)) (frame-linked b (C .steady) (S .frame) (C .whole) (C .both) u l);
     map = λ u l. subst (λ (w : ℕ). w < 18446744073709551616) (sym (C .map u l)) (map-lt (heldIn A u) 64);
     slot = slot;
     top = top;

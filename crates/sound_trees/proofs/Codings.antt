@@ -5,7 +5,7 @@ use mathlib.Core.Bool.{Bool, true, false}
 use mathlib.Core.List.{List}
 use native.Mathlib.Omega.{arith}
 use native.Mathlib.Nat.{mod-eq-of-lt}
-use lib.Dec.{leb, ltb}
+use lib.Dec.{eqb, leb, ltb}
 use lib.ListN.{getD}
 use borrow.Author.Tests.{eqb-true, eq-eqb, ne-eqb, leb-true, le-leb, ltb-true, lt-ltb}
 use Rattle.kinds.specs.declared.Class.{Class}
@@ -16,6 +16,7 @@ use Rattle.kinds.specs.declared.Handle.{Handle}
 use Rattle.kinds.specs.declared.Parent.{Parent}
 use Rattle.kinds.specs.declared.Parent.the-variants.{Outermost, Inside}
 use Rattle.bench_words.specs.declared.Node.{Node}
+use Rattle.bench_words.specs.declared.Marks.{Marks}
 use Rattle.bench_words.specs.declared.Up.{Up}
 use Rattle.bench_words.specs.declared.Up.the-variants.{Top, Under}
 use Rattle.bench_words.specs.Codec.{stateOf, stateWord, handleOf, handleWord, classOf, classWord, parentOf, parentWord, upOf, upWord, marksOf, marksWord, pick}
@@ -205,27 +206,47 @@ module _ (b : List ℕ) (u : ℕ) where
   unfolding linkAt
   words-link e = le-leb (getD b (ibase u + 5) 0) 8 (omega (arith, e, up-small (interfaceAt b u .parent) (good-interface b u)))
 
-  -- the marks' word, which has two bits
-  marks-code : (w : ℕ) → w ≤ 3 → w ≡ marksWord (marksOf w)
+  -- the marks' word, which has three bits
+  marks-code : (w : ℕ) → w ≤ 7 → w ≡ marksWord (marksOf w)
   marks-code zero l = refl
   marks-code (suc zero) l = refl
   marks-code (suc (suc zero)) l = refl
   marks-code (suc (suc (suc zero))) l = refl
-  marks-code (suc (suc (suc (suc w)))) l = absurd (omega arith)
+  marks-code (suc (suc (suc (suc zero)))) l = refl
+  marks-code (suc (suc (suc (suc (suc zero))))) l = refl
+  marks-code (suc (suc (suc (suc (suc (suc zero)))))) l = refl
+  marks-code (suc (suc (suc (suc (suc (suc (suc zero))))))) l = refl
+  marks-code (suc (suc (suc (suc (suc (suc (suc (suc w)))))))) l = absurd (omega arith)
 
-  marks-small : (p q : Bool) → pick p 1 0 + pick q 2 0 ≤ 3
-  marks-small true true = omega arith
-  marks-small true false = omega arith
-  marks-small false true = omega arith
-  marks-small false false = omega arith
+  two-small : (p q : Bool) → pick p 1 0 + pick q 2 0 ≤ 3
+  two-small true true = omega arith
+  two-small true false = omega arith
+  two-small false true = omega arith
+  two-small false false = omega arith
+
+  engine-bit : (m : Marks) → (marksWord m ≤ 7) × (marksWord m / 4 ≡ pick (m .plain) 1 0)
+  engine-bit m = go (m .plain) (two-small (m .fills) (m .floored))
+    where
+      go : (r : Bool) → pick (m .fills) 1 0 + pick (m .floored) 2 0 ≤ 3 → (pick (m .fills) 1 0 + pick (m .floored) 2 0 + pick r 4 0 ≤ 7) × ((pick (m .fills) 1 0 + pick (m .floored) 2 0 + pick r 4 0) / 4 ≡ pick r 1 0)
+      go true l = (omega arith, omega arith)
+      go false l = (omega arith, omega arith)
 
   pub flag-words : flagsAt b u ≡ true → getD b (ibase u + 9) 0 ≡ marksWord (interfaceAt b u .marks)
   unfolding flagsAt interfaceAt
-  flag-words e = marks-code (getD b (ibase u + 9) 0) (leb-true (getD b (ibase u + 9) 0) 3 e)
+  flag-words e = marks-code (getD b (ibase u + 9) 0) (leb-true (getD b (ibase u + 9) 0) 7 (and-true (leb (getD b (ibase u + 9) 0) 7) _ e .0))
 
-  pub words-flag : getD b (ibase u + 9) 0 ≡ marksWord (interfaceAt b u .marks) → flagsAt b u ≡ true
+  pub flag-engine : flagsAt b u ≡ true → interfaceAt b u .marks .plain ≡ interfaceAt b 0 .marks .plain
+  unfolding flagsAt interfaceAt
+  flag-engine e = ap (λ (w : ℕ). eqb (w % 2) 1) (eqb-true (getD b (ibase u + 9) 0 / 4) (getD b 9 0 / 4) (and-true (leb (getD b (ibase u + 9) 0) 7) _ e .1))
+
+  pub words-flag : getD b (ibase u + 9) 0 ≡ marksWord (interfaceAt b u .marks) → getD b 9 0 ≡ marksWord (interfaceAt b 0 .marks) → interfaceAt b u .marks .plain ≡ interfaceAt b 0 .marks .plain → flagsAt b u ≡ true
   unfolding flagsAt
-  words-flag e = le-leb (getD b (ibase u + 9) 0) 3 (omega (arith, e, marks-small (interfaceAt b u .marks .fills) (interfaceAt b u .marks .floored)))
+  words-flag e z s =
+      let x = engine-bit (interfaceAt b u .marks) in
+      let y = engine-bit (interfaceAt b 0 .marks) in
+      both-true (le-leb (getD b (ibase u + 9) 0) 7 (omega (arith, e, x .0)))
+      (eq-eqb (getD b (ibase u + 9) 0 / 4) (getD b 9 0 / 4)
+      (ap (λ (w : ℕ). w / 4) e ∙ x .1 ∙ ap (λ (p : Bool). pick p 1 0) s ∙ sym (ap (λ (w : ℕ). w / 4) z ∙ y .1)))
 
   spare-zero : spareAt b u ≡ true → (j : ℕ) → j < 7 → getD b (ibase u + (10 + j)) 0 ≡ 0
   unfolding spareAt

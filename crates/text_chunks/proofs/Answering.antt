@@ -1,15 +1,15 @@
 -- A line answered moves its text from what is to come to what was written, so a chunk's answers are those of its lines; and the chunks' answers,
--- one after the other, are the program's. Assumes nothing.
+-- one after the other, are those of the input's lines. Assumes nothing.
 use Prim.Native.Nat.{ℕ, _<_}
 use native.Mathlib.Omega.{arith}
 use mathlib.Core.Path.{_≡_, refl, sym, _∙_, ap}
 use mathlib.Core.List.{List, [], _∷_, _++_, append-assoc, append-nil}
 use lib.ListN.{length}
 use lib.IntN.{ℤ, pos}
-use Rattle.ledger_spec.specs.Bench.{Bench, setUp}
+use Rattle.ledger_spec.specs.Bench.{Bench}
 use Rattle.ledger_spec.specs.Grammar.{Line, wrong}
 use Rattle.ledger_spec.specs.Lines.{says}
-use Rattle.ledger_spec.specs.Program.{answers, afterLines, textOf, texts, program}
+use Rattle.ledger_spec.specs.Program.{linesOf, answers, afterLines, textOf, texts}
 use Rattle.text_chunks.specs.Chunks.{lines, left, last, joined, linesIn}
 use Rattle.text_chunks.specs.Answering.{Answering, Answered, replies}
 use Rattle.text_chunks.proofs.Chunks.{lines-none, left-none, cut-anyhow}
@@ -32,11 +32,11 @@ after-more : (b : Bench) (l : Line) (ls : List Line) → afterLines b (l ∷ ls)
 unfolding afterLines
 after-more b l ls = refl
 
-texts-none : texts [] ≡ []
+pub texts-none : texts [] ≡ []
 unfolding texts
 texts-none = refl
 
-texts-more : (x : ℕ × ℕ × ℤ × ℤ) (xs : List (ℕ × ℕ × ℤ × ℤ)) → texts (x ∷ xs) ≡ textOf x ++ texts xs
+pub texts-more : (x : ℕ × ℕ × ℤ × ℤ) (xs : List (ℕ × ℕ × ℤ × ℤ)) → texts (x ∷ xs) ≡ textOf x ++ texts xs
 unfolding texts
 texts-more x xs = refl
 
@@ -107,9 +107,9 @@ end-some b (c ∷ p) h =
     ∙ ap (λ (r : List ℕ). textOf (1, 0, pos 0, pos 0) ++ r) (ap texts (answers-none b) ∙ texts-none)
     ∙ append-nil (textOf (1, 0, pos 0, pos 0))
 
--- ---- the program
+-- ---- chunks one after the other
 
-replies-are : (cs : List (List ℕ)) (b : Bench) (p : List ℕ) → replies b p cs ≡ texts (answers b (linesIn p cs))
+pub replies-are : (cs : List (List ℕ)) (b : Bench) (p : List ℕ) → replies b p cs ≡ texts (answers b (linesIn p cs))
 unfolding replies linesIn
 replies-are [] b p = refl
 replies-are (c ∷ cs) b p =
@@ -117,6 +117,6 @@ replies-are (c ∷ cs) b p =
     ∙ sym (texts-append (answers b (lines p c)) (answers (afterLines b (lines p c)) (linesIn (left p c) cs)))
     ∙ ap texts (sym (answers-append (lines p c) (linesIn (left p c) cs) b))
 
-pub replies-program : (cs : List (List ℕ)) → replies (setUp 1) [] cs ≡ program (joined cs)
-unfolding program
-replies-program cs = replies-are cs (setUp 1) [] ∙ ap (λ (x : List Line). texts (answers (setUp 1) x)) (cut-anyhow cs)
+-- from any bench, however the input is cut
+pub replies-lines : (cs : List (List ℕ)) (b : Bench) → replies b [] cs ≡ texts (answers b (linesOf (joined cs)))
+replies-lines cs b = replies-are cs b [] ∙ ap (λ (x : List Line). texts (answers b x)) (cut-anyhow cs)

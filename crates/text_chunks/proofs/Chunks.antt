@@ -3,6 +3,7 @@ use Prim.Native.Nat.{ℕ, _≤_, _<_}
 use native.Mathlib.Omega.{arith}
 use native.Mathlib.Decide.{ℕ-discrete, decLe}
 use mathlib.Core.Path.{_≡_, refl, sym, _∙_, ap}
+use mathlib.Core.Option.{none, some}
 use mathlib.Core.List.{List, [], _∷_, _++_, append-assoc, append-nil}
 use lib.Dec.{lit<}
 use lib.ListN.{length, take}
@@ -12,7 +13,7 @@ use Rattle.ledger_spec.specs.Fields.{upto, partsAfter}
 use Rattle.ledger_spec.specs.Grammar.{Line, wrong, lineOf}
 use Rattle.ledger_spec.specs.Program.{ended, linesOf}
 use Rattle.text_fields.proofs.Cuts.{upto-none, upto-here, upto-on, after-none, after-here, after-on}
-use Rattle.text_chunks.specs.Chunks.{lines, left, last, joined, linesIn}
+use Rattle.text_chunks.specs.Chunks.{lines, left, firstLine, last, joined, linesIn}
 
 -- ---- a byte
 
@@ -39,6 +40,18 @@ left-end p c s e = rw (eq-eqb c 10 e, left)
 pub left-on : (p : List ℕ) (c : ℕ) (s : List ℕ) → (c ≡ 10 → ⊥) → left p (c ∷ s) ≡ left (take 1024 (p ++ (c ∷ []))) s
 unfolding left
 left-on p c s e = rw (ne-eqb c 10 e, left)
+
+pub first-none : (p : List ℕ) → firstLine p [] ≡ none
+unfolding firstLine
+first-none p = refl
+
+pub first-end : (p : List ℕ) (c : ℕ) (s : List ℕ) → c ≡ 10 → firstLine p (c ∷ s) ≡ some (p, s)
+unfolding firstLine
+first-end p c s e = rw (eq-eqb c 10 e, firstLine)
+
+pub first-on : (p : List ℕ) (c : ℕ) (s : List ℕ) → (c ≡ 10 → ⊥) → firstLine p (c ∷ s) ≡ firstLine (take 1024 (p ++ (c ∷ []))) s
+unfolding firstLine
+first-on p c s e = rw (ne-eqb c 10 e, firstLine)
 
 -- ---- chunks make no difference
 
@@ -74,7 +87,7 @@ line-kept p = go (decLe (length p) 1024)
     go (yes h) = ap lineOf (take-all 1024 p h)
     go (no h) = let l : 1024 < length p = omega arith in line-long (take 1024 p) (rw (length-take-le 1024 p (omega arith)) (lit< tt)) ∙ sym (line-long p (omega arith))
 
-keep-more : (p : List ℕ) (c : ℕ) → take 1024 (take 1024 p ++ (c ∷ [])) ≡ take 1024 (p ++ (c ∷ []))
+pub keep-more : (p : List ℕ) (c : ℕ) → take 1024 (take 1024 p ++ (c ∷ [])) ≡ take 1024 (p ++ (c ∷ []))
 keep-more p c = go (decLe (length p) 1024)
   where
     go : Dec (length p ≤ 1024) → take 1024 (take 1024 p ++ (c ∷ [])) ≡ take 1024 (p ++ (c ∷ []))
@@ -84,7 +97,7 @@ keep-more p c = go (decLe (length p) 1024)
         let k : length (take 1024 p) ≡ 1024 = length-take-le 1024 p l in
         take-append-le 1024 (take 1024 p) (c ∷ []) (omega (arith, k)) ∙ take-all 1024 (take 1024 p) (omega (arith, k)) ∙ sym (take-append-le 1024 p (c ∷ []) l)
 
-last-ended : (p : List ℕ) → last (take 1024 p) ≡ ended (p ∷ [])
+pub last-ended : (p : List ℕ) → last (take 1024 p) ≡ ended (p ∷ [])
 unfolding ended
 last-ended [] = refl
 last-ended (c ∷ p) = refl

@@ -7,8 +7,8 @@ use mathlib.Core.Path.{_≡_, refl, sym, _∙_, ap}
 use mathlib.Core.List.{List, [], _∷_, _++_}
 use lib.ListN.{length, take, drop, getD, set, length-append, drop-of-length-le}
 use lib.Seq.{take-all, length-take-le, take-append-le, take-suc-set, drop-cons}
-use Rattle.text_chunks.specs.Chunks.{lines, left, Feeds}
-use Rattle.text_chunks.proofs.Chunks.{lines-none, lines-end, lines-on, left-none, left-end, left-on}
+use Rattle.text_chunks.specs.Chunks.{lines, left, firstLine, Feeds}
+use Rattle.text_chunks.proofs.Chunks.{lines-none, lines-end, lines-on, left-none, left-end, left-on, first-none, first-end, first-on}
 
 pub push-in : (buf : List ℕ) (n b : ℕ) → length buf ≡ 1024 → n < 1024 → take (n + 1) (set buf n b) ≡ take 1024 (take n buf ++ (b ∷ []))
 push-in buf n b h l =
@@ -27,9 +27,10 @@ pub record Feeding (a : ℕ) (t p chunk buf : List ℕ) (n i : ℕ) : Type 0 whe
   pub long : length buf ≡ 1024
   pub lns : lines p t ≡ lines (take n buf) (drop i chunk)
   pub lft : left p t ≡ left (take n buf) (drop i chunk)
+  pub fst : firstLine p t ≡ firstLine (take n buf) (drop i chunk)
 
 pub feed-start : (chunk buf : List ℕ) (n i : ℕ) → i ≤ length chunk → length buf ≡ 1024 → n ≤ 1024 → Feeding i (drop i chunk) (take n buf) chunk buf n i
-feed-start chunk buf n i a b c = record { low = omega arith; short = c; in-chunk = a; long = b; lns = refl; lft = refl }
+feed-start chunk buf n i a b c = record { low = omega arith; short = c; in-chunk = a; long = b; lns = refl; lft = refl; fst = refl }
 
 module _ (a : ℕ) (t p chunk buf : List ℕ) (n i : ℕ) (g : Feeding a t p chunk buf n i) where
   pub feed-turn : i < length chunk → (getD chunk i 0 ≡ 10 → ⊥) → (buf' : List ℕ) (r : ℕ) → length buf' ≡ length buf
@@ -41,6 +42,7 @@ module _ (a : ℕ) (t p chunk buf : List ℕ) (n i : ℕ) (g : Feeding a t p chu
     long = l ∙ g .long;
     lns = g .lns ∙ ap (lines (take n buf)) (drop-cons chunk i 0 h) ∙ lines-on (take n buf) (getD chunk i 0) (drop (suc i) chunk) e ∙ ap (λ (q : List ℕ). lines q (drop (suc i) chunk)) (sym (w .1));
     lft = g .lft ∙ ap (left (take n buf)) (drop-cons chunk i 0 h) ∙ left-on (take n buf) (getD chunk i 0) (drop (suc i) chunk) e ∙ ap (λ (q : List ℕ). left q (drop (suc i) chunk)) (sym (w .1));
+    fst = g .fst ∙ ap (firstLine (take n buf)) (drop-cons chunk i 0 h) ∙ first-on (take n buf) (getD chunk i 0) (drop (suc i) chunk) e ∙ ap (λ (q : List ℕ). firstLine q (drop (suc i) chunk)) (sym (w .1));
   })
 
   pub feed-line : i < length chunk → getD chunk i 0 ≡ 10 → Feeds a t p chunk buf true n (i + 1)
@@ -54,6 +56,8 @@ module _ (a : ℕ) (t p chunk buf : List ℕ) (n i : ℕ) (g : Feeding a t p chu
       g .lft ∙ ap (left (take n buf)) (drop-cons chunk i 0 h) ∙ left-end (take n buf) (getD chunk i 0) (drop (suc i) chunk) e,
     );
     part = λ q. absurd (true≢false q);
+    first = λ _. g .fst ∙ ap (firstLine (take n buf)) (drop-cons chunk i 0 h) ∙ first-end (take n buf) (getD chunk i 0) (drop (suc i) chunk) e;
+    no-first = λ q. absurd (true≢false q);
   })
 
   pub feed-part : length chunk ≤ i → Feeds a t p chunk buf false n i
@@ -66,4 +70,6 @@ module _ (a : ℕ) (t p chunk buf : List ℕ) (n i : ℕ) (g : Feeding a t p chu
         long = g .long;
         line = λ q. absurd (true≢false (sym q));
         part = λ _. (g .lns ∙ ap (lines (take n buf)) d ∙ lines-none (take n buf), g .lft ∙ ap (left (take n buf)) d ∙ left-none (take n buf));
+        first = λ q. absurd (true≢false (sym q));
+        no-first = λ _. g .fst ∙ ap (firstLine (take n buf)) d ∙ first-none (take n buf);
       }

@@ -31,10 +31,10 @@ pub record LineAnswered (b : Bench) (l : Line) (b′ : Bench) (out : List ℕ) (
   pub text : Wrote out at (textOf (says b l .numbers)) out′ r
   pub few : length (textOf (says b l .numbers)) ≤ 57
 
--- a chunk was answered at the front, where p was held before it, and the front of buf′ is held after it
-pub record ChunkAnswered (b : Bench) (chunk p out : List ℕ) (b′ : Bench) (buf′ out′ : List ℕ) (held wrote : ℕ) : Type 0 where
+-- a chunk was answered at a place, where p was held before it, and the front of buf′ is held after it; wrote is the place after its answers
+pub record ChunkAnswered (b : Bench) (chunk p out : List ℕ) (at : ℕ) (b′ : Bench) (buf′ out′ : List ℕ) (held wrote : ℕ) : Type 0 where
   pub bench : b′ ≡ afterLines b (lines p chunk)
-  pub text : Wrote out 0 (texts (answers b (lines p chunk))) out′ wrote
+  pub text : Wrote out at (texts (answers b (lines p chunk))) out′ wrote
   pub kept : take held buf′ ≡ left p chunk
   pub short : held ≤ 1024
   pub long : length buf′ ≡ 1024

@@ -2,6 +2,7 @@
 use Prim.Native.Nat.{ℕ, _≤_, _<_}
 use mathlib.Core.Bool.{Bool, true, false}
 use mathlib.Core.Path.{_≡_}
+use mathlib.Core.Option.{Option, none, some}
 use mathlib.Core.List.{List, [], _∷_, _++_}
 use lib.Dec.{eqb}
 use lib.ListN.{length, take, drop}
@@ -16,6 +17,11 @@ lines p (c ∷ s) = elim (eqb c 10) [ true ↦ lineOf p ∷ lines [] s | false �
 unfoldable pub left : List ℕ → List ℕ → List ℕ
 left p [] = p
 left p (c ∷ s) = elim (eqb c 10) [ true ↦ left [] s | false ↦ left (take 1024 (p ++ (c ∷ []))) s ]
+
+-- the bytes of the first line that it ends, and what stands after that line's newline in the chunk
+unfoldable pub firstLine : List ℕ → List ℕ → Option (List ℕ × List ℕ)
+firstLine p [] = none
+firstLine p (c ∷ s) = elim (eqb c 10) [ true ↦ some (p, s) | false ↦ firstLine (take 1024 (p ++ (c ∷ []))) s ]
 
 -- the input ends: a last line without newline is wrong
 abbrev pub last : List ℕ → List Line
@@ -43,3 +49,5 @@ pub record Feeds (a : ℕ) (t p chunk buf : List ℕ) (ended : Bool) (held at : 
   pub long : length buf ≡ 1024
   pub line : ended ≡ true → (lines p t ≡ lineOf (take held buf) ∷ lines [] (drop at chunk)) × (left p t ≡ left [] (drop at chunk))
   pub part : ended ≡ false → (lines p t ≡ []) × (left p t ≡ take held buf)
+  pub first : ended ≡ true → firstLine p t ≡ some (take held buf, drop at chunk)
+  pub no-first : ended ≡ false → firstLine p t ≡ none

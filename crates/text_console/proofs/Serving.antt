@@ -1,10 +1,12 @@
 -- From piece to piece: what a session needs holds, and no slice changes its length. Assumes nothing.
-use Prim.Native.Nat.{ℕ, _≤_}
+use Prim.Native.Nat.{ℕ, _*_, _≤_}
 use mathlib.Core.Path.{_≡_, refl, _∙_, ap}
+use mathlib.Core.Bool.{Bool, true, false}
 use mathlib.Core.List.{List}
 use native.Mathlib.Omega.{arith}
 use lib.ListN.{length, replicate, length-replicate}
-use Rattle.text_sessions.specs.Session.{Started}
+use Rattle.bench_views.specs.Fit.{SoundWords}
+use Rattle.text_sessions.specs.Session.{Started, NextDone}
 use Rattle.text_console.specs.Serving.{Ready, heldBy, Served}
 use Rattle.text_console.specs.declared.Next.{Next}
 use Rattle.text_console.specs.declared.Next.the-variants.{More}
@@ -21,10 +23,10 @@ pub serving-start : (b piece buf serials out : List ℕ) → Ready b piece buf 0
 serving-start b piece buf serials out r e = record { ready = r; end = e; same-piece = refl; same-buf = refl; same-serials = refl; same-out = refl }
 
 pub serving-on : (piece₀ buf₀ serials₀ out₀ b piece buf : List ℕ) (held : ℕ) (serials out : List ℕ) → Serving piece₀ buf₀ serials₀ out₀ b piece buf held serials out
-    → (b′ piece′ buf′ serials′ out′ : List ℕ) (r : Next) → Served b′ r → (h : ℕ) → r ≡ More h
+    → (b′ piece′ buf′ serials′ out′ : List ℕ) (r : Next) → Served b′ r → (h : ℕ) (f : Bool) → r ≡ More h f
     → length piece′ ≡ length piece → length buf′ ≡ length buf → length serials′ ≡ length serials → length out′ ≡ length out
     → Serving piece₀ buf₀ serials₀ out₀ b′ piece′ buf′ h serials′ out′
-serving-on piece₀ buf₀ serials₀ out₀ b piece buf held serials out s b′ piece′ buf′ serials′ out′ r v h e p q k o =
+serving-on piece₀ buf₀ serials₀ out₀ b piece buf held serials out s b′ piece′ buf′ serials′ out′ r v h f e p q k o =
     let y = s .ready in
     record {
       ready = record {
@@ -40,6 +42,16 @@ serving-on piece₀ buf₀ serials₀ out₀ b piece buf held serials out s b′
       same-serials = k ∙ s .same-serials;
       same-out = o ∙ s .same-out;
     }
+
+-- ---- a piece answered, whether or not the first line is past
+
+pub piece-done : (opens : Bool) (b chunk p out b′ buf′ out′ : List ℕ) (held wrote : ℕ) → NextDone opens b chunk p out b′ buf′ out′ held wrote
+    → SoundWords b′ × (held ≤ 1024) × (wrote ≤ 57 * length chunk)
+piece-done opens b chunk p out b′ buf′ out′ held wrote d = go opens refl
+  where
+    go : (x : Bool) → opens ≡ x → SoundWords b′ × (held ≤ 1024) × (wrote ≤ 57 * length chunk)
+    go true e = let y = d .first e in (y .words, y .answered .short, y .few)
+    go false e = let y = d .later e in (y .words, y .answered .short, y .few)
 
 -- ---- the slices that the program works in
 

@@ -15,7 +15,7 @@ pub record Ready (b piece buf : List ℕ) (held : ℕ) (serials out : List ℕ) 
   pub room : 57 * length piece ≤ length out
 
 abbrev pub heldBy : Next → ℕ
-heldBy (More h) = h
+heldBy (More h fresh) = h
 heldBy Ended = 0
 heldBy Failed = 0
 

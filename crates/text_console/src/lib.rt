@@ -11,9 +11,9 @@ const PIECE: usize = 4096;
 
 const ROOM: usize = 233472;
 
-// How the run goes on: so many bytes of a line are held, the input has ended, or reading or writing failed.
+// How the run goes on: so many bytes of a line are held, and is it the first line; the input has ended; or reading or writing failed.
 pub enum Next {
-    More(usize),
+    More(usize, bool),
     Ended,
     Failed,
 }
@@ -33,6 +33,7 @@ fn step(
     piece: &mut [u8],
     buf: &mut [u8],
     held: usize,
+    fresh: bool,
     serials: &mut [u64],
     hints: &mut [u16; HINTS],
     out: &mut [u8],
@@ -49,10 +50,10 @@ fn step(
         return Next::Ended;
     }
     let n = io::count(got, piece);
-    let taken = text_sessions::answer_chunk(b, &piece[..n], buf, held, serials, hints, out);
+    let taken = text_sessions::answer_next(b, &piece[..n], buf, held, fresh, serials, hints, out);
     let wrote = taken.wrote;
     if send(&out[..wrote]) {
-        return Next::More(taken.held);
+        return Next::More(taken.held, fresh & (wrote == 0));
     }
     Next::Failed
 }
@@ -77,12 +78,14 @@ fn serve(
     requires { ⌜ Ready (now b) (now piece) (now buf) 0 (now serials) (now out) × (57 ≤ length (now out)) ⌝ }
 {
     let mut held: usize = 0;
+    let mut fresh = true;
     let mut pieces = u64::MAX;
     while 0 < pieces {
-        let next = step(b, piece, buf, held, serials, hints, out);
+        let next = step(b, piece, buf, held, fresh, serials, hints, out);
         match next {
-            Next::More(h) => {
+            Next::More(h, f) => {
                 held = h;
+                fresh = f;
                 pieces -= 1;
             }
             Next::Ended => {

@@ -41,10 +41,10 @@ line-done b line r b′ t n k v w out at out′ e x = record {
 }
 
 -- where the loop over a chunk stands, on words
-pub record Working (b₀ chunk p₀ out₀ serials₀ b buf out serials : List ℕ) (held wrote at : ℕ) : Type 0 where
+pub record Working (b₀ chunk t₀ p₀ out₀ : List ℕ) (w₀ : ℕ) (serials₀ b buf out serials : List ℕ) (held wrote at : ℕ) : Type 0 where
   pub words : SoundWords b
   pub same : length serials ≡ length serials₀
-  pub going : Going (view b₀) chunk p₀ out₀ (view b) buf out held wrote at
+  pub going : Going (view b₀) chunk t₀ p₀ out₀ w₀ (view b) buf out held wrote at
 
 -- ---- the input's end
 

@@ -2,11 +2,12 @@
 // However the input is cut, what is written is ledger_spec's `program` of the whole (proofs/Inputs). Assumes nothing.
 use bench_serials::HINTS;
 use bench_words::WORDS;
+use text_chunks::Choice;
 ghost use mathlib.Core.Path.{_≡_};
 ghost use Prim.Native.Nat.{_+_, _*_, _≤_};
-ghost use lib.ListN.{length, take};
+ghost use lib.ListN.{length, take, drop};
 ghost use Rattle.bench_views.specs.Fit.{SoundWords};
-ghost use Rattle.text_sessions.specs.Session.{Started, LineDone, ChunkDone, Finished, AllDone};
+ghost use Rattle.text_sessions.specs.Session.{Started, FirstDone, LineDone, RestDone, ChunkDone, OpeningDone, NextDone, Finished, AllDone};
 
 // How many bytes of the line that is not ended yet are held, and how many bytes were written.
 pub struct Taken {
@@ -38,23 +39,25 @@ pub fn answer_line(
     text_answers::write_answer(out, at, r.number, r.serial, r.speed, r.sum)
 }
 
-// Answers each line that a chunk ends, at the front of a slice that has room: 57 bytes for each byte of the chunk. What is held of a line that is not
-// ended yet stands at the front of `buf`, `start` bytes of it before the chunk.
-pub fn answer_chunk(
+// Answers each line that a chunk ends from a byte on, at a place that has room: 57 bytes for each byte of the chunk, passed or to come. What is held of a line
+// that is not ended yet stands at the front of `buf`, `before` bytes of it already. Answers the place after the answers.
+fn answer_rest(
     b: &mut [u64; WORDS],
     chunk: &[u8],
+    from: usize,
     buf: &mut [u8],
-    start: usize,
+    before: usize,
     serials: &mut [u64],
     hints: &mut [u16; HINTS],
     out: &mut [u8],
+    written: usize,
 ) -> Taken
-    requires { ⌜ SoundWords (now b) × (65 ≤ length (now serials)) × (length (now buf) ≡ 1024) × (start ≤ 1024) × (57 * length (now chunk) ≤ length (now out)) ⌝ }
-    ensures { λ r. ⌜ ChunkDone (now (b .entry)) (now (chunk .entry)) (take start (now (buf .entry))) (now (out .entry)) (now (b .exit)) (now (buf .exit)) (now (out .exit)) (r .held) (r .wrote) ⌝ }
+    requires { ⌜ SoundWords (now b) × (65 ≤ length (now serials)) × (length (now buf) ≡ 1024) × (before ≤ 1024) × (from ≤ length (now chunk)) × (written ≤ 57 * from) × (57 * length (now chunk) ≤ length (now out)) ⌝ }
+    ensures { λ r. ⌜ RestDone (now (b .entry)) (now (chunk .entry)) from (take before (now (buf .entry))) (now (out .entry)) written (now (b .exit)) (now (buf .exit)) (now (out .exit)) (r .held) (r .wrote) ⌝ }
 {
-    let mut held = start;
-    let mut wrote: usize = 0;
-    let mut at: usize = 0;
+    let mut held = before;
+    let mut wrote = written;
+    let mut at = from;
     while at < chunk.len() {
         let f = text_chunks::feed(chunk, at, buf, held);
         let n = f.held;
@@ -68,6 +71,86 @@ pub fn answer_chunk(
         }
     }
     Taken { held, wrote }
+}
+
+// Answers each line that a chunk ends, at the front of a slice that has room: 57 bytes for each byte of the chunk.
+pub fn answer_chunk(
+    b: &mut [u64; WORDS],
+    chunk: &[u8],
+    buf: &mut [u8],
+    before: usize,
+    serials: &mut [u64],
+    hints: &mut [u16; HINTS],
+    out: &mut [u8],
+) -> Taken
+    requires { ⌜ SoundWords (now b) × (65 ≤ length (now serials)) × (length (now buf) ≡ 1024) × (before ≤ 1024) × (57 * length (now chunk) ≤ length (now out)) ⌝ }
+    ensures { λ r. ⌜ ChunkDone (now (b .entry)) (now (chunk .entry)) (take before (now (buf .entry))) (now (out .entry)) (now (b .exit)) (now (buf .exit)) (now (out .exit)) (r .held) (r .wrote) ⌝ }
+{
+    answer_rest(b, chunk, 0, buf, before, serials, hints, out, 0)
+}
+
+// Answers an input's first line, its newline left out, at the front of a slice: it chooses the engine, or it is a line as any other.
+fn answer_first(
+    b: &mut [u64; WORDS],
+    line: &[u8],
+    serials: &mut [u64],
+    hints: &mut [u16; HINTS],
+    out: &mut [u8],
+) -> usize
+    requires { ⌜ Started (now b) × (65 ≤ length (now serials)) × (57 ≤ length (now out)) ⌝ }
+    ensures { λ r. ⌜ FirstDone (now (line .entry)) (now (b .exit)) (now (out .entry)) (now (out .exit)) r ⌝ }
+{
+    match text_chunks::engine_chosen(line) {
+        Choice::Engine(plain) => {
+            deed_trees::set_up_in(b, plain, 1);
+            text_answers::write_answer(out, 0, 0, 0, 0, 0)
+        }
+        Choice::NoEngine => answer_line(b, line, serials, hints, out, 0),
+    }
+}
+
+// Answers a chunk that begins an input, or goes on with its first line: from any words, which become the bench that the input starts with. `before` bytes of
+// the first line are held already. Nothing is written exactly where the first line is not ended yet: then the next chunk opens too.
+pub fn answer_opening(
+    b: &mut [u64; WORDS],
+    chunk: &[u8],
+    buf: &mut [u8],
+    before: usize,
+    serials: &mut [u64],
+    hints: &mut [u16; HINTS],
+    out: &mut [u8],
+) -> Taken
+    requires { ⌜ (65 ≤ length (now serials)) × (length (now buf) ≡ 1024) × (before ≤ 1024) × (57 * length (now chunk) ≤ length (now out)) ⌝ }
+    ensures { λ r. ⌜ OpeningDone (now (chunk .entry)) (take before (now (buf .entry))) (now (out .entry)) (now (b .exit)) (now (buf .exit)) (now (out .exit)) (r .held) (r .wrote) ⌝ }
+{
+    start(b);
+    let f = text_chunks::feed(chunk, 0, buf, before);
+    let n = f.held;
+    if !f.ended {
+        return Taken { held: n, wrote: 0 };
+    }
+    let first = answer_first(b, &buf[..n], serials, hints, out);
+    answer_rest(b, chunk, f.at, buf, 0, serials, hints, out, first)
+}
+
+// Answers an input's next chunk: `fresh` where its first line is not ended yet.
+pub fn answer_next(
+    b: &mut [u64; WORDS],
+    chunk: &[u8],
+    buf: &mut [u8],
+    before: usize,
+    fresh: bool,
+    serials: &mut [u64],
+    hints: &mut [u16; HINTS],
+    out: &mut [u8],
+) -> Taken
+    requires { ⌜ SoundWords (now b) × (65 ≤ length (now serials)) × (length (now buf) ≡ 1024) × (before ≤ 1024) × (57 * length (now chunk) ≤ length (now out)) ⌝ }
+    ensures { λ r. ⌜ NextDone fresh (now (b .entry)) (now (chunk .entry)) (take before (now (buf .entry))) (now (out .entry)) (now (b .exit)) (now (buf .exit)) (now (out .exit)) (r .held) (r .wrote) ⌝ }
+{
+    if fresh {
+        return answer_opening(b, chunk, buf, before, serials, hints, out);
+    }
+    answer_chunk(b, chunk, buf, before, serials, hints, out)
 }
 
 // The input ends: a last line without newline is one LINE.
@@ -93,7 +176,6 @@ pub fn answer_all(
     requires { ⌜ (65 ≤ length (now serials)) × (length (now buf) ≡ 1024) × (57 * length (now input) + 57 ≤ length (now out)) ⌝ }
     ensures { λ r. ⌜ AllDone (now (input .entry)) (now (out .entry)) (now (b .exit)) (now (out .exit)) r ⌝ }
 {
-    start(b);
-    let t = answer_chunk(b, input, buf, 0, serials, hints, out);
+    let t = answer_opening(b, input, buf, 0, serials, hints, out);
     finish(t.held, out, t.wrote)
 }

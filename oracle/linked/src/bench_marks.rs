@@ -73,8 +73,8 @@ fn blossom_first() -> Row {
 }
 
 /// A tree of so many defects, seven interfaces for 448, all of which shrink from a great height, or none.
-fn tree(nodes: usize, floored: bool, shrink: bool) -> (Bench, u8) {
-    let mut bench = Bench::default();
+fn tree(new: Bench, nodes: usize, floored: bool, shrink: bool) -> (Bench, u8) {
+    let mut bench = new;
     (0..7).filter(|_| floored).for_each(|unit| bench.mark_floored(unit).expect("a new interface"));
     let mut all = vec![];
     let mut fill = |bench: &mut Bench, unit: u8| {
@@ -94,10 +94,24 @@ fn tree(nodes: usize, floored: bool, shrink: bool) -> (Bench, u8) {
 
 /// One growth by 1.
 fn growth(nodes: usize, floored: bool, shrink: bool) -> Row {
-    let (mut bench, top) = tree(nodes, floored, shrink);
+    let (mut bench, top) = tree(Bench::default(), nodes, floored, shrink);
     let mut words = Box::new(*bench.words());
     Row {
         what: format!("grow, {}{}", if floored { "floored" } else { "no floor" }, if shrink { ", shrinking" } else { "" }),
+        nodes,
+        original: None,
+        trusted: once(|_| keep(bench.grow(top, 1).is_ok())),
+        told: None,
+        public: Some(once(|_| keep(lent::grow(&mut words, top, 1).is_ok()))),
+    }
+}
+
+/// One growth by 1 in the plain engine, which touches every node.
+fn plain_growth(nodes: usize) -> Row {
+    let (mut bench, top) = tree(Bench::plain(1).expect("a serial"), nodes, false, false);
+    let mut words = Box::new(*bench.words());
+    Row {
+        what: "grow, plain engine".to_string(),
         nodes,
         original: None,
         trusted: once(|_| keep(bench.grow(top, 1).is_ok())),
@@ -122,6 +136,7 @@ pub fn rows() -> Vec<Row> {
     rows.push(blossom_first());
     for nodes in [1, 64, 448] {
         rows.extend([(false, true), (true, false), (true, true)].map(|(floored, shrink)| growth(nodes, floored, shrink)));
+        rows.push(plain_growth(nodes));
     }
     rows
 }

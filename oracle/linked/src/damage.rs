@@ -14,7 +14,7 @@ use oracle::show;
 /// A way to damage words.
 type Damage = fn(&mut Rng, &mut Words);
 
-const KINDS: [(&str, Damage); 16] = [
+const KINDS: [(&str, Damage); 18] = [
     ("none", |_, _| {}),
     ("one bit of a word in use", |rng, words| flip(rng, words, 1)),
     ("up to eight bits of words in use", |rng, words| (0..1 + rng.below(8)).for_each(|_| flip(rng, words, 1))),
@@ -28,12 +28,14 @@ const KINDS: [(&str, Damage); 16] = [
     ("a map's bit past the used slots", |rng, words| mark(rng, words, |used, slot, _| used <= slot)),
     ("a map of 0", |rng, words| words[16 * rng.below(8) + 8] = 0),
     ("a bit of a marks word", |rng, words| words[16 * rng.below(8) + 9] ^= 1 << rng.below(64)),
-    ("another marks word", |rng, words| words[16 * rng.below(8) + 9] = rng.next() % 6),
+    ("another marks word", |rng, words| words[16 * rng.below(8) + 9] = rng.next() % 10),
     ("a floor in one half only, or gone from it", |rng, words| {
         let halves: Vec<usize> = (0..8).filter(|unit| words[16 * unit + 5] != 0).collect();
         rng.pick(&halves).into_iter().for_each(|unit| words[16 * unit + 9] ^= 2)
     }),
     ("a value of -1 above a floor, or another", sink),
+    ("an engine changed in one interface", |rng, words| words[16 * rng.below(8) + 9] ^= 4),
+    ("the other engine, and the values as they were", |_, words| (0..8).for_each(|unit| words[16 * unit + 9] ^= 4)),
 ];
 
 /// One bit of a map changed: of a slot, used or not, and held or not, as asked. Words without such a slot are left.
@@ -118,6 +120,7 @@ pub fn run(plan: Plan, seed: u64, count: usize, table: &mut Table) -> Result<(),
     for turn in 0..count {
         if turn % 8 == 0 {
             (0..1 + rng.below(12)).for_each(|_| drop(player.line()));
+            player.model.bench.plain = turn / 8 % 2 == 1;
             words = encode(&player.model.bench);
         }
         let (kind, damaged) = if rng.chance(1) {

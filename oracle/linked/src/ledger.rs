@@ -16,6 +16,8 @@ pub struct Ledger {
     pub handles: HashMap<u32, Handle>,
     /// how many reads were made
     pub asked: usize,
+    /// whether the benches are of the plain engine
+    pub plain: bool,
 }
 
 /// An answer, or how the forms of a call differ among themselves.
@@ -88,9 +90,18 @@ struct Forms {
 impl Ledger {
     /// From 0 as from 1: so the refused set-up leaves it.
     pub fn new(first: u32) -> Self {
-        let bench = Bench::new(first).unwrap_or_default();
+        Ledger::over(Bench::new(first).unwrap_or_default())
+    }
+
+    /// The same in the plain engine.
+    pub fn plain(first: u32) -> Self {
+        Ledger::over(Bench::plain(first.max(1)).expect("the serial is not 0"))
+    }
+
+    fn over(bench: Bench) -> Self {
+        let plain = bench.is_plain();
         let (lent, before) = (Box::new(*bench.words()), Box::new(*bench.words()));
-        Ledger { trusted: bench.clone(), told: bench, lent, before, groups: vec![Group::default(); GROUPS], handles: HashMap::new(), asked: 0 }
+        Ledger { trusted: bench.clone(), told: bench, lent, before, groups: vec![Group::default(); GROUPS], handles: HashMap::new(), asked: 0, plain }
     }
 
     /// The handle of a serial: the one given out with it, else a made-up one, or a word that is no handle.
@@ -118,11 +129,14 @@ impl Ledger {
         }
     }
 
+    /// Each set-up goes to the other engine, so that a run is in both.
     fn set_up(&mut self, first: u32) -> Answer {
-        *self = Ledger::new(first);
+        let plain = !self.plain;
+        *self = if plain { Ledger::plain(first) } else { Ledger::new(first) };
         let mut words = Box::new([first as u64; dual_ledger::WORDS]);
-        let lent = number(&lent::set_up(&mut words, first));
-        if lent != number(&Bench::new(first)) || words != self.lent {
+        let lent = number(&if plain { lent::set_up_plain(&mut words, first) } else { lent::set_up(&mut words, first) });
+        let whole = if plain { Bench::plain(first) } else { Bench::new(first) };
+        if lent != number(&whole) || words != self.lent {
             return Err("set-up on lent words differs from a new bench".to_string());
         }
         Ok(vec![lent])

@@ -28,6 +28,16 @@ impl Default for Sides {
 }
 
 impl Sides {
+    /// The linked ledger in an engine; each set-up changes it.
+    pub fn in_engine(plain: bool) -> Self {
+        let mut sides = Sides::default();
+        if plain {
+            sides.ledger = Ledger::plain(1);
+            sides.replay.model.bench.plain = true;
+        }
+        sides
+    }
+
     /// One line by all; an error says how they differ.
     pub fn turn(&mut self, line: &Line) -> Result<Turn, String> {
         let turn = self.replay.turn(line);
@@ -35,6 +45,7 @@ impl Sides {
             return Err(format!("original {:?}, model {}", turn.original, numbers(&turn.answer)));
         }
         let answer = self.ledger.answer(line)?;
+        self.replay.model.bench.plain = self.ledger.plain;
         if answer != turn.answer {
             return Err(format!("linked {}, the manual {}", numbers(&answer), numbers(&turn.answer)));
         }
@@ -86,7 +97,7 @@ impl Run {
     /// Plays the run; a difference comes back with the lines up to it.
     pub fn play(&self, table: &mut Table) -> Result<(), (Vec<String>, String)> {
         let mut player = Player::new(self.plan, self.seed);
-        let mut sides = Sides::default();
+        let mut sides = Sides::in_engine(self.seed % 2 == 1);
         let mut said = vec![];
         let opening = openings::lines(&self.plan, self.seed, self.each);
         let lines = opening.len() + self.lines;
@@ -119,9 +130,13 @@ pub fn agree<S: AsRef<str>>(lines: &[S]) -> Result<(Model, usize), String> {
     Ok((sides.replay.model, asked))
 }
 
-/// The first difference over these lines, everything being read after each, or after the last alone.
+/// The first difference over these lines, everything being read after each, or after the last alone; from either engine.
 pub fn difference<S: AsRef<str>>(lines: &[S], each: bool) -> Option<String> {
-    let mut sides = Sides::default();
+    [false, true].into_iter().find_map(|plain| difference_in(plain, lines, each))
+}
+
+fn difference_in<S: AsRef<str>>(plain: bool, lines: &[S], each: bool) -> Option<String> {
+    let mut sides = Sides::in_engine(plain);
     let step = |(at, line): (usize, &S)| {
         let call = read(line.as_ref())?;
         let looks = each || at + 1 == lines.len();

@@ -27,8 +27,11 @@ fn position(h: Handle) -> usize {
     SLOTS * h.unit as usize + h.slot as usize
 }
 
-/// The progress of an interface and of all above it.
+/// What the values of an interface are behind by: its progress and that of all above it, nothing in the plain engine.
 fn above(bench: &Bench, unit: usize) -> i64 {
+    if bench.plain {
+        return 0;
+    }
     bench.faces[unit].progress + bench.faces[unit].parent.map_or(0, |parent| above(bench, parent))
 }
 
@@ -42,7 +45,7 @@ pub fn encode(bench: &Bench) -> Box<Words> {
         let fields = [face.slots.len() as u64, face.progress as u64, sum, speed, face.parent.map_or(0, one_more), left, right];
         words[16 * unit + 1..16 * unit + 8].copy_from_slice(&fields);
         words[16 * unit + 8] = map(face);
-        words[16 * unit + 9] = face.fills as u64 + 2 * face.floored as u64;
+        words[16 * unit + 9] = face.fills as u64 + 2 * face.floored as u64 + 4 * bench.plain as u64;
         let above = above(bench, unit);
         for (slot, node) in face.slots.iter().enumerate() {
             node.iter().for_each(|node| put(bench, &mut words, SLOTS * unit + slot, node, above));
@@ -81,13 +84,14 @@ fn put(bench: &Bench, words: &mut Words, at: usize, node: &Node, above: i64) {
 /// The bench that the words are the encoding of, if there is one.
 pub fn decode(words: &Words) -> Option<Bench> {
     let mut faces = (0..FACES).map(|unit| face(words, unit)).collect::<Option<Vec<Face>>>()?;
-    let parents: Vec<_> = faces.iter().map(|face| (face.progress, face.parent)).collect();
+    let plain = words[9] & 4 == 4;
+    let parents: Vec<_> = faces.iter().map(|face| (if plain { 0 } else { face.progress }, face.parent)).collect();
     for (unit, face) in faces.iter_mut().enumerate() {
         let above = climb(&parents, unit);
         let slots = (0..used(words, unit)).map(|slot| node(words, SLOTS * unit + slot, above));
         face.slots = slots.collect::<Option<_>>()?;
     }
-    let bench = Bench { faces, next: words[0] };
+    let bench = Bench { faces, next: words[0], plain };
     Some(bench).filter(|bench| encode(bench)[..] == words[..])
 }
 

@@ -59,6 +59,8 @@ pub struct Face {
 pub struct Bench {
     pub faces: Vec<Face>,
     pub next: u64,
+    /// which engine the words of this bench are of; nothing here looks at it
+    pub plain: bool,
 }
 
 impl Node {
@@ -88,7 +90,7 @@ impl Face {
 
 impl Bench {
     pub fn new(first: u32) -> Self {
-        Bench { faces: vec![Face::default(); FACES], next: first as u64 }
+        Bench { faces: vec![Face::default(); FACES], next: first as u64, plain: false }
     }
 
     /// The node a handle names, if it is present.

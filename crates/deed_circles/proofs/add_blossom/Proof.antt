@@ -5,6 +5,7 @@ use native.Mathlib.Omega.{arith}
 use borrow.Author.Needs.{needs}
 use lib.ListN.{length}
 use Rattle.bench_words.specs.declared.Interface.{Interface}
+use Rattle.bench_views.proofs.Sums.{lag-le}
 use Rattle.deed_circles.proofs.Givens.{ringable}
 use Rattle.deed_circles.proofs.Bodies.{Looping, loop-begins, loop-range, loop-steady, loop-ranged, loop-size, loop-turns, loop-ready, loop-ends}
 use Rattle.deed_circles.proofs.add_blossom.Statement.{statement}
@@ -25,11 +26,11 @@ free-slot-requires c κs = let a = c .before .before .before .before .before .ar
 load-next-requires : tie.Need-load-next-requires Inv-loop μ-loop
 load-next-requires c κs = search needs
 
-cast-t19 : tie.Need-cast-t19 Inv-loop μ-loop
-cast-t19 c = let a = c .before .before .before .before .before .before .before .before .args in let r = ringable (a .b .now) (a .unit) (a .members .now) (a .touching .now) (c .before .before .before .before .before .before .before .before .pre .0) (c .before .before .before .before .before .before .before .before .pre .1) in omega (arith, r .next, c .load-next .ensures)
-
 cast-t20 : tie.Need-cast-t20 Inv-loop μ-loop
-cast-t20 c = let a = c .before .before .before .before .before .before .before .before .args in let r = ringable (a .b .now) (a .unit) (a .members .now) (a .touching .now) (c .before .before .before .before .before .before .before .before .pre .0) (c .before .before .before .before .before .before .before .before .pre .1) in omega (arith, r .root .low)
+cast-t20 c = let a = c .before .before .before .before .before .before .before .before .args in let r = ringable (a .b .now) (a .unit) (a .members .now) (a .touching .now) (c .before .before .before .before .before .before .before .before .pre .0) (c .before .before .before .before .before .before .before .before .pre .1) in omega (arith, r .next, c .load-next .ensures)
+
+cast-t21 : tie.Need-cast-t21 Inv-loop μ-loop
+cast-t21 c = let a = c .before .before .before .before .before .before .before .before .args in let r = ringable (a .b .now) (a .unit) (a .members .now) (a .touching .now) (c .before .before .before .before .before .before .before .before .pre .0) (c .before .before .before .before .before .before .before .before .pre .1) in omega (arith, r .root .low)
 
 loop-holds : tie.Need-loop-holds Inv-loop μ-loop
 loop-holds c =
@@ -73,20 +74,25 @@ shared-slice-read-spot c = omega (arith, c .before .before .loop .inv .ring .som
 spot-requires : tie.Need-spot-requires Inv-loop μ-loop
 spot-requires c κs = search needs
 
+lag-requires : tie.Need-lag-requires Inv-loop μ-loop
+lag-requires c κs = search needs
+
 new-blossom-requires : tie.Need-new-blossom-requires Inv-loop μ-loop
 new-blossom-requires c κs =
-    let l = c .before .before .before .loop .inv in
-    omega (arith, l .fit .canon .steady .progress _ (l .ring .root .low), ap (λ (x : Interface). x .progress) (c .before .before .before .before .before .before .before .before .load-interface .ensures))
+    let l = c .before .before .before .before .loop .inv in
+    let f = c .before .before .before .before .before .before .before .before .before .load-interface in
+    omega (arith, c .lag .ensures, lag-le (f .result), l .fit .canon .steady .progress _ (l .ring .root .low), ap (λ (x : Interface). x .progress) (f .ensures))
 
 add-push : tie.Need-add-push Inv-loop μ-loop
-add-push c = omega (arith, loop-range (c .before .before .before .before .before .loop .inv) .1)
+add-push c = omega (arith, loop-range (c .before .before .before .before .before .before .loop .inv) .1)
 
 push-requires : tie.Need-push-requires Inv-loop μ-loop
-push-requires c κs = let l = c .before .before .before .before .before .loop .inv in let y = loop-ready l _ (c .before .before .before .before .before .before .before .before .free-slot .ensures) in (l .ring .root .low, y .0, y .1)
+push-requires c κs = let l = c .before .before .before .before .before .before .loop .inv in let y = loop-ready l _ (c .before .before .before .before .before .before .before .before .before .free-slot .ensures) in (l .ring .root .low, y .0, y .1)
 
 returns : tie.Need-returns Inv-loop μ-loop
 returns c =
-    loop-ends (c .before .before .before .before .before .before .loop .inv) (c .before .before .before .before .before .before .before .before .before .before .before .load-interface .result) (omega arith) (c .before .before .before .before .before .before .before .before .before .before .before .load-interface .ensures) (c .before .before .before .before .before .before .before .before .before .free-slot .ensures) (c .before .before .before .before .before .before .before .load-next .ensures) (c .before .before .before .spot .ensures .0) (c .before .before .new-blossom .ensures) (c .push .ensures)
+    let f = c .before .before .before .before .before .before .before .before .before .before .before .before .load-interface in
+    loop-ends (c .before .before .before .before .before .before .before .loop .inv) (f .result) (omega arith) (f .ensures) (c .before .before .before .before .before .before .before .before .before .before .free-slot .ensures) (c .before .before .before .before .before .before .before .before .load-next .ensures) (c .before .before .before .before .spot .ensures .0) (c .before .before .before .lag .ensures) (c .before .before .new-blossom .ensures) (c .push .ensures)
 
 pub add-blossom-spec : {M : Type 1} → statement M
 add-blossom-spec =
@@ -97,8 +103,8 @@ add-blossom-spec =
     load-interface-requires
     free-slot-requires
     load-next-requires
-    cast-t19
     cast-t20
+    cast-t21
     loop-holds
     mul-take-in
     shared-slice-read-take-in
@@ -112,6 +118,7 @@ add-blossom-spec =
     loop-again
     shared-slice-read-spot
     spot-requires
+    lag-requires
     new-blossom-requires
     add-push
     push-requires

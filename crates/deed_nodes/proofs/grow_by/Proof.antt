@@ -1,42 +1,54 @@
--- The room that the passed tests leave keeps every sum below 2^64; the words stored are those of the law of growth. Assumes nothing.
-use native.Mathlib.Omega.{arith}
+-- By the engine. Assumes nothing.
+use Prim.Native.Nat.{ℕ}
+use mathlib.Core.Path.{_≡_, ap, sym, _∙_}
+use mathlib.Core.Bool.{Bool, true, false}
+use Rattle.bench_words.specs.declared.Interface.{Interface}
+use Rattle.deed_nodes.specs.Steps.{Room}
 use Rattle.deed_nodes.proofs.Growing.{growth-low, growth-room, growth-done}
+use Rattle.deed_nodes.proofs.Holding.{held-movable, held-growth}
 use Rattle.deed_nodes.proofs.grow_by.Statement.{statement}
 use Rattle.deed_nodes.proofs.grow_by.Tie as tie
 
+room-as : {f g : Interface} {l : ℕ} → f ≡ g → Room g l → Room f l
+room-as e r = rw e r
+
+engine-is : {f g : Interface} {x : Bool} → f ≡ g → f .marks .plain ≡ x → g .marks .plain ≡ x
+engine-is e p = rw (← e) p
+
 load-interface-requires : tie.Need-load-interface-requires
-load-interface-requires c κs = let a = c .before .args in growth-low (a .b .now) (a .unit) (a .length) (c .before .pre .0) (c .before .pre .1)
+load-interface-requires c κs = let z = c .before in let a = z .args in growth-low (a .b .now) (a .unit) (a .length) (z .pre .0) (z .pre .1)
 
-add-t10 : tie.Need-add-t10
-add-t10 c = let a = c .before .before .before .before .before .args in let r = growth-room (a .b .now) (a .unit) (a .length) (c .before .before .before .before .before .pre .0) (c .before .before .before .before .before .pre .1) (c .before .before .before .load-interface .result) (c .before .before .before .load-interface .ensures) in omega arith
+raise-tree-requires : tie.Need-raise-tree-requires
+raise-tree-requires c κs =
+    let z = c .before .before .before .before in
+    let a = z .args in
+    let C = z .pre .0 .canon in
+    (C .steady, (C .coded, (C .past, held-movable (a .b .now) (a .unit) (a .length) (z .pre .0) (z .pre .1))))
 
-mul-t11 : tie.Need-mul-t11
-mul-t11 c = let a = c .before .before .before .before .before .before .args in let r = growth-room (a .b .now) (a .unit) (a .length) (c .before .before .before .before .before .before .pre .0) (c .before .before .before .before .before .before .pre .1) (c .before .before .before .before .load-interface .result) (c .before .before .before .before .load-interface .ensures) in omega arith
-
-add-t12 : tie.Need-add-t12
-add-t12 c = let a = c .before .before .before .before .before .before .before .args in let r = growth-room (a .b .now) (a .unit) (a .length) (c .before .before .before .before .before .before .before .pre .0) (c .before .before .before .before .before .before .before .pre .1) (c .before .before .before .before .before .load-interface .result) (c .before .before .before .before .before .load-interface .ensures) in omega arith
-
-mul-t13 : tie.Need-mul-t13
-mul-t13 c = let a = c .before .before .before .before .before .before .before .args in let r = growth-room (a .b .now) (a .unit) (a .length) (c .before .before .before .before .before .before .before .pre .0) (c .before .before .before .before .before .before .before .pre .1) (c .before .before .before .before .before .load-interface .result) (c .before .before .before .before .before .load-interface .ensures) in omega arith
-
-sub-t14 : tie.Need-sub-t14
-sub-t14 c = let a = c .before .before .before .before .before .before .before .args in let r = growth-room (a .b .now) (a .unit) (a .length) (c .before .before .before .before .before .before .before .pre .0) (c .before .before .before .before .before .before .before .pre .1) (c .before .before .before .before .before .load-interface .result) (c .before .before .before .before .before .load-interface .ensures) in omega arith
-
-store-interface-requires : tie.Need-store-interface-requires
-store-interface-requires c κs = let a = c .before .before .before .before .before .before .before .args in growth-low (a .b .now) (a .unit) (a .length) (c .before .before .before .before .before .before .before .pre .0) (c .before .before .before .before .before .before .before .pre .1)
+note-growth-requires : tie.Need-note-growth-requires
+note-growth-requires c κs =
+    let z = c .before .before .before .before .before .before in
+    let a = z .args in
+    let low = growth-low (a .b .now) (a .unit) (a .length) (z .pre .0) (z .pre .1) in
+    (low, room-as (c .before .raise-tree .ensures .interfaces (a .unit) low) (growth-room (a .b .now) (a .unit) (a .length) (z .pre .0) (z .pre .1)))
 
 returns : tie.Need-returns
-returns c = let a = c .before .before .before .before .before .before .before .before .args in growth-done (a .b .now) (a .unit) (a .length) (c .before .before .before .before .before .before .before .before .pre .0) (c .before .before .before .before .before .before .before .before .pre .1) (c .before .before .before .before .before .before .load-interface .result) (c .before .before .before .before .before .before .load-interface .ensures) (c .store-interface .ensures)
+returns c =
+    let z = c .before .before .before .before .before .before .before in
+    let a = z .args in
+    held-growth (a .b .now) (a .unit) (a .length) (z .pre .0) (z .pre .1) (engine-is (c .before .before .before .before .before .load-interface .ensures) (c .before .before .before .before .if1 .taken)) (c .before .before .raise-tree .ensures) (c .note-growth .ensures)
+
+note-growth-requires-2 : tie.Need-note-growth-requires-2
+note-growth-requires-2 c κs =
+    let z = c .before .before .before .before in
+    let a = z .args in
+    (growth-low (a .b .now) (a .unit) (a .length) (z .pre .0) (z .pre .1), growth-room (a .b .now) (a .unit) (a .length) (z .pre .0) (z .pre .1))
+
+returns-2 : tie.Need-returns-2
+returns-2 c =
+    let z = c .before .before .before .before .before in
+    let a = z .args in
+    growth-done (a .b .now) (a .unit) (a .length) (z .pre .0) (z .pre .1) (engine-is (c .before .before .before .load-interface .ensures) (c .before .before .if1 .left)) (c .note-growth2 .ensures)
 
 pub grow-by-spec : {M : Type 1} → statement M
-grow-by-spec =
-    tie.close
-    (tie.spec
-    load-interface-requires
-    add-t10
-    mul-t11
-    add-t12
-    mul-t13
-    sub-t14
-    store-interface-requires
-    returns)
+grow-by-spec = tie.close (tie.spec load-interface-requires raise-tree-requires note-growth-requires returns note-growth-requires-2 returns-2)

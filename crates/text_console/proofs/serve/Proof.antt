@@ -8,11 +8,11 @@ use Rattle.text_console.proofs.serve.Statement.{statement}
 use Rattle.text_console.proofs.serve.Tie as tie
 
 abbrev Inv-loop : tie.InvT-loop
-Inv-loop b₀ piece₀ buf₀ serials₀ hints₀ out₀ held₀ pieces₀ b piece buf serials hints out held pieces =
+Inv-loop b₀ piece₀ buf₀ serials₀ hints₀ out₀ held₀ fresh₀ pieces₀ b piece buf serials hints out held fresh pieces =
     Serving piece₀ buf₀ serials₀ out₀ b piece buf held serials out
 
 abbrev μ-loop : tie.MeasureT-loop
-μ-loop b₀ piece₀ buf₀ serials₀ hints₀ out₀ held₀ pieces₀ b piece buf serials hints out held pieces =
+μ-loop b₀ piece₀ buf₀ serials₀ hints₀ out₀ held₀ fresh₀ pieces₀ b piece buf serials hints out held fresh pieces =
     pieces
 
 loop-holds : tie.Need-loop-holds Inv-loop μ-loop
@@ -36,14 +36,14 @@ loop-again : tie.Need-loop-again Inv-loop μ-loop
 loop-again c =
     let l = c .before .before .before .before .before .before .before .before .before .before .before .before .before .before .before .before .before .before .before .loop in
     let t = c .before .before .before .before .before .before .before .before .before .before .before .step in
-    let q : t .result ≡ More (c .before .next .given .0 .0) = cc in
-    serving-on _ _ _ _ _ _ _ _ _ _ (l .inv) _ _ _ _ _ _ (t .ensures) _ q (t .kept .1 .0) (t .kept .1 .1 .0) (t .kept .1 .1 .1 .1 .0) (t .kept .1 .1 .1 .1 .1 .1 .0)
+    let q : t .result ≡ More (c .before .next .given .0 .0) (c .before .next .given .0 .1 .0) = cc in
+    serving-on _ _ _ _ _ _ _ _ _ _ (l .inv) _ _ _ _ _ _ (t .ensures) _ _ q (t .kept .1 .0) (t .kept .1 .1 .0) (t .kept .1 .1 .1 .1 .1 .0) (t .kept .1 .1 .1 .1 .1 .1 .1 .0)
 
 enum-told : tie.Need-enum-told Inv-loop μ-loop
 enum-told c = search needs
 
 end-requires : tie.Need-end-requires Inv-loop μ-loop
-end-requires c κs = omega (arith, c .before .before .before .before .before .before .before .before .before .before .before .step .kept .1 .1 .1 .1 .1 .1 .0, c .before .before .before .before .before .before .before .before .before .before .before .before .before .before .before .before .before .before .before .loop .inv .end)
+end-requires c κs = omega (arith, c .before .before .before .before .before .before .before .before .before .before .before .step .kept .1 .1 .1 .1 .1 .1 .1 .0, c .before .before .before .before .before .before .before .before .before .before .before .before .before .before .before .before .before .before .before .loop .inv .end)
 
 same-length : tie.Need-same-length Inv-loop μ-loop
 same-length c = c .before .before .before .before .before .before .before .before .before .before .before .before .before .before .step .kept .1 .0 ∙ c .before .before .before .before .before .before .before .before .before .before .before .before .before .before .before .before .before .before .before .before .before .before .loop .inv .same-piece
@@ -52,10 +52,10 @@ same-length-2 : tie.Need-same-length-2 Inv-loop μ-loop
 same-length-2 c = c .before .before .before .before .before .before .before .before .before .before .before .before .before .before .step .kept .1 .1 .0 ∙ c .before .before .before .before .before .before .before .before .before .before .before .before .before .before .before .before .before .before .before .before .before .before .loop .inv .same-buf
 
 same-length-3 : tie.Need-same-length-3 Inv-loop μ-loop
-same-length-3 c = c .before .before .before .before .before .before .before .before .before .before .before .before .before .before .step .kept .1 .1 .1 .1 .0 ∙ c .before .before .before .before .before .before .before .before .before .before .before .before .before .before .before .before .before .before .before .before .before .before .loop .inv .same-serials
+same-length-3 c = c .before .before .before .before .before .before .before .before .before .before .before .before .before .before .step .kept .1 .1 .1 .1 .1 .0 ∙ c .before .before .before .before .before .before .before .before .before .before .before .before .before .before .before .before .before .before .before .before .before .before .loop .inv .same-serials
 
 same-length-4 : tie.Need-same-length-4 Inv-loop μ-loop
-same-length-4 c = c .before .before .end .kept .1 .0 ∙ c .before .before .before .before .before .before .before .before .before .before .before .before .before .before .step .kept .1 .1 .1 .1 .1 .1 .0 ∙ c .before .before .before .before .before .before .before .before .before .before .before .before .before .before .before .before .before .before .before .before .before .before .loop .inv .same-out
+same-length-4 c = c .before .before .end .kept .1 .0 ∙ c .before .before .before .before .before .before .before .before .before .before .before .before .before .before .step .kept .1 .1 .1 .1 .1 .1 .1 .0 ∙ c .before .before .before .before .before .before .before .before .before .before .before .before .before .before .before .before .before .before .before .before .before .before .loop .inv .same-out
 
 returns : tie.Need-returns Inv-loop μ-loop
 returns c = tt
@@ -70,10 +70,10 @@ same-length-6 : tie.Need-same-length-6 Inv-loop μ-loop
 same-length-6 c = c .before .before .before .before .before .before .before .before .before .before .step .kept .1 .1 .0 ∙ c .before .before .before .before .before .before .before .before .before .before .before .before .before .before .before .before .before .before .loop .inv .same-buf
 
 same-length-7 : tie.Need-same-length-7 Inv-loop μ-loop
-same-length-7 c = c .before .before .before .before .before .before .before .before .before .before .step .kept .1 .1 .1 .1 .0 ∙ c .before .before .before .before .before .before .before .before .before .before .before .before .before .before .before .before .before .before .loop .inv .same-serials
+same-length-7 c = c .before .before .before .before .before .before .before .before .before .before .step .kept .1 .1 .1 .1 .1 .0 ∙ c .before .before .before .before .before .before .before .before .before .before .before .before .before .before .before .before .before .before .loop .inv .same-serials
 
 same-length-8 : tie.Need-same-length-8 Inv-loop μ-loop
-same-length-8 c = c .before .before .before .before .before .before .before .before .before .before .step .kept .1 .1 .1 .1 .1 .1 .0 ∙ c .before .before .before .before .before .before .before .before .before .before .before .before .before .before .before .before .before .before .loop .inv .same-out
+same-length-8 c = c .before .before .before .before .before .before .before .before .before .before .step .kept .1 .1 .1 .1 .1 .1 .1 .0 ∙ c .before .before .before .before .before .before .before .before .before .before .before .before .before .before .before .before .before .before .loop .inv .same-out
 
 returns-2 : tie.Need-returns-2 Inv-loop μ-loop
 returns-2 c = tt

@@ -3,6 +3,7 @@ use mathlib.Core.Path.{sym}
 use native.Mathlib.Omega.{arith}
 use borrow.Author.Needs.{needs}
 use lib.Seq.{length-take-le}
+use Rattle.text_console.proofs.Serving.{piece-done}
 use Rattle.text_console.proofs.step.Statement.{statement}
 use Rattle.text_console.proofs.step.Tie as tie
 
@@ -30,22 +31,24 @@ returns-2 c = search needs
 count-requires : tie.Need-count-requires
 count-requires c κs = search needs
 
-slice-reshare-prefix-answer-chunk : tie.Need-slice-reshare-prefix-answer-chunk
-slice-reshare-prefix-answer-chunk c = search needs
+slice-reshare-prefix-answer-next : tie.Need-slice-reshare-prefix-answer-next
+slice-reshare-prefix-answer-next c = search needs
 
-slice-aggregate-answer-chunk : tie.Need-slice-aggregate-answer-chunk
-slice-aggregate-answer-chunk c = search needs
+slice-aggregate-answer-next : tie.Need-slice-aggregate-answer-next
+slice-aggregate-answer-next c = search needs
 
-answer-chunk-requires : tie.Need-answer-chunk-requires
-answer-chunk-requires c κs = search needs
+answer-next-requires : tie.Need-answer-next-requires
+answer-next-requires c κs = search needs
 
 slice-reshare-prefix-send : tie.Need-slice-reshare-prefix-send
-slice-reshare-prefix-send c = search needs
+slice-reshare-prefix-send c =
+    let t = c .before .before .before .before .before .before .answer-next in
+    omega (arith, piece-done _ _ _ _ _ _ _ _ _ _ (t .ensures) .2, t .kept .1 .1 .1 .1 .1 .1 .1 .0, c .before .before .before .before .before .before .before .before .before .before .before .before .before .count .ensures .0, c .before .before .before .before .before .before .before .before .before .before .before .before .before .before .before .before .before .before .before .read .kept .1 .0, c .before .before .before .before .before .before .before .before .before .before .before .before .before .before .before .before .before .before .before .before .before .before .before .before .before .pre .room)
 
 slice-aggregate-send : tie.Need-slice-aggregate-send
 slice-aggregate-send c =
-    let t = c .before .before .before .before .before .before .before .answer-chunk in
-    sym (length-take-le _ _ (omega (arith, t .ensures .few, t .kept .1 .1 .1 .1 .1 .1 .0, c .before .before .before .before .before .before .before .before .before .before .before .before .before .before .count .ensures .0, c .before .before .before .before .before .before .before .before .before .before .before .before .before .before .before .before .before .before .before .before .read .kept .1 .0, c .before .before .before .before .before .before .before .before .before .before .before .before .before .before .before .before .before .before .before .before .before .before .before .before .before .before .pre .room)))
+    let t = c .before .before .before .before .before .before .before .answer-next in
+    sym (length-take-le _ _ (omega (arith, piece-done _ _ _ _ _ _ _ _ _ _ (t .ensures) .2, t .kept .1 .1 .1 .1 .1 .1 .1 .0, c .before .before .before .before .before .before .before .before .before .before .before .before .before .before .count .ensures .0, c .before .before .before .before .before .before .before .before .before .before .before .before .before .before .before .before .before .before .before .before .read .kept .1 .0, c .before .before .before .before .before .before .before .before .before .before .before .before .before .before .before .before .before .before .before .before .before .before .before .before .before .before .pre .room)))
 
 send-requires : tie.Need-send-requires
 send-requires c κs = search needs
@@ -63,7 +66,9 @@ same-length-6 : tie.Need-same-length-6
 same-length-6 c = search needs
 
 returns-3 : tie.Need-returns-3
-returns-3 c = search needs
+returns-3 c =
+    let d = piece-done _ _ _ _ _ _ _ _ _ _ (c .before .before .before .before .before .before .before .before .before .answer-next .ensures) in
+    record { words = d .0; short = d .1 }
 
 same-length-7 : tie.Need-same-length-7
 same-length-7 c = search needs
@@ -78,7 +83,9 @@ same-length-10 : tie.Need-same-length-10
 same-length-10 c = search needs
 
 returns-4 : tie.Need-returns-4
-returns-4 c = search needs
+returns-4 c =
+    let d = piece-done _ _ _ _ _ _ _ _ _ _ (c .before .before .before .before .before .before .before .before .before .answer-next .ensures) in
+    record { words = d .0; short = omega arith }
 
 pub step-spec : {M : Type 1} → statement M
 step-spec =
@@ -92,9 +99,9 @@ step-spec =
     same-length-2
     returns-2
     count-requires
-    slice-reshare-prefix-answer-chunk
-    slice-aggregate-answer-chunk
-    answer-chunk-requires
+    slice-reshare-prefix-answer-next
+    slice-aggregate-answer-next
+    answer-next-requires
     slice-reshare-prefix-send
     slice-aggregate-send
     send-requires

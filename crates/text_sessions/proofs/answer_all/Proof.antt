@@ -1,18 +1,16 @@
 -- One chunk, and the input's end. Assumes nothing.
-use native.Mathlib.Omega.{arith}
-use borrow.Author.Needs.{needs}
 use Rattle.text_sessions.proofs.Inputs.{all-done}
+use borrow.Author.Needs.{needs}
 use Rattle.text_sessions.proofs.answer_all.Statement.{statement}
 use Rattle.text_sessions.proofs.answer_all.Tie as tie
+use Rattle.text_sessions.proofs.answer_opening.Reads as answer-opening-reads
+use Rattle.text_sessions.proofs.finish.Reads as finish-reads
 
-start-requires : tie.Need-start-requires
-start-requires c κs = search needs
-
-answer-chunk-requires : tie.Need-answer-chunk-requires
-answer-chunk-requires c κs = search needs
+answer-opening-requires : tie.Need-answer-opening-requires
+answer-opening-requires c κs = search needs
 
 finish-requires : tie.Need-finish-requires
-finish-requires c κs = omega (arith, c .before .before .before .before .before .before .before .answer-chunk .ensures .few, c .before .before .before .before .before .before .before .answer-chunk .kept .1 .1 .1 .1 .1 .1 .0, c .before .before .before .before .before .before .before .before .before .before .before .before .before .before .before .before .before .before .before .pre .2)
+finish-requires c κs = search needs
 
 same-length : tie.Need-same-length
 same-length c = search needs
@@ -25,17 +23,16 @@ same-length-3 c = search needs
 
 returns : tie.Need-returns
 returns c =
-    let a = c .before .before .before .before .before .before .before .before .before .before .before .before .before .before .before .before .before .before .before .before .before .before .args in
-    let t = c .before .before .before .before .before .before .before .before .before .before .answer-chunk in
-    all-done (c .before .before .before .before .before .before .before .before .before .before .before .before .before .before .before .before .start .last .0) (c .before .before .before .before .before .before .before .before .before .before .before .before .before .before .before .before .start .ensures) (a .input .now) (a .buf .now) (a .out .now) (t .last .0) (t .last .1 .1 .0) (t .last .1 .1 .1 .1 .1 .1 .0)
-    (t .result .held) (t .result .wrote) (t .ensures) (c .before .before .finish .last .1 .0) (c .before .before .finish .result) (c .before .before .finish .ensures)
+    let a = c .before .before .before .before .before .before .before .before .before .before .before .before .before .before .before .before .before .before .before .before .args in
+    let t = c .before .before .before .before .before .before .before .before .before .before .answer-opening in
+    let f = c .before .before .finish in
+    all-done (a .input .now) (a .buf .now) (a .out .now) (t .last .0) (t .last .1 .1 .0) (t .last .1 .1 .1 .1 .1 .1 .0) (t .result .held) (t .result .wrote) (t .ensures) (f .last .1 .0) (f .result) (f .ensures)
 
 pub answer-all-spec : {M : Type 1} → statement M
 answer-all-spec =
     tie.close
     (tie.spec
-    start-requires
-    answer-chunk-requires
+    answer-opening-requires
     finish-requires
     same-length
     same-length-2

@@ -5,7 +5,8 @@ use crate::explain::explain;
 use crate::input::{self, Progress};
 use crate::output::said;
 use crate::table;
-use dual_ledger::{Bench, Handle};
+use crate::twins::Twins;
+use dual_ledger::{Bench, Handle, Reply, Session};
 use std::io::{self, BufWriter, Write};
 
 /// How a node went.
@@ -150,20 +151,50 @@ impl Book {
     }
 }
 
+/// A record's run, in the engine that it chooses, or in both.
+enum Runs {
+    One(Session),
+    Both(Twins),
+}
+
+impl Runs {
+    fn bench(&self) -> &Bench {
+        match self {
+            Runs::One(session) => session.bench(),
+            Runs::Both(twins) => twins.plain.bench(),
+        }
+    }
+
+    fn line(&mut self, line: &[u8], number: u64) -> Result<Reply, String> {
+        match self {
+            Runs::One(session) => Ok(session.line(line)),
+            Runs::Both(twins) => twins.line(line, number).map_err(|why| format!("line {number}: {why}")),
+        }
+    }
+
+    fn end(&self) -> Result<(), String> {
+        match self {
+            Runs::One(_) => Ok(()),
+            Runs::Both(twins) => twins.end(),
+        }
+    }
+}
+
 pub fn run(args: &Args) -> Result<bool, String> {
     let path = &args.files[0];
     let name = path.display().to_string();
     let from = input::open(path).map_err(|trouble| said(&name, &trouble))?;
-    let (mut session, mut book, mut progress) = (args.session(), Book::default(), Progress::new(!args.is_quiet));
+    let mut runs = if args.is_plain { Runs::Both(Twins::new(args)) } else { Runs::One(args.session()) };
+    let (mut book, mut progress) = (Book::default(), Progress::new(!args.is_quiet));
     let mut over = false;
     let (lines, rest) = input::parts(from, |part| {
         let Some(line) = part.line else { return Ok(()) };
-        let going = book.going(session.bench(), line);
-        match session.line(line).refusal {
-            None => book.done(session.bench(), line, part.number, going),
+        let going = book.going(runs.bench(), line);
+        match runs.line(line, part.number)?.refusal {
+            None => book.done(runs.bench(), line, part.number, going),
             Some(refusal) if !args.is_quiet => {
                 progress.clear();
-                let why = explain(session.bench(), refusal, line);
+                let why = explain(runs.bench(), refusal, line);
                 eprintln!("{name}:{}: {} {}: {why}", part.number, refusal.number(), refusal.name());
             }
             Some(_) => {}
@@ -179,7 +210,8 @@ pub fn run(args: &Args) -> Result<bool, String> {
         eprintln!("dual-ledger: {name}: the input is cut: line {} has no newline, and was not done", lines + 1);
         over = true;
     }
-    let sums = book.close(session.bench());
+    runs.end().map_err(|why| format!("{name}: {why}"))?;
+    let sums = book.close(runs.bench());
     let mut out = BufWriter::with_capacity(1 << 16, io::stdout().lock());
     let written = match args.form {
         Form::Text => table::text(&mut out, &book.nodes, &sums),

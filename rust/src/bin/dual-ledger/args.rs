@@ -1,5 +1,5 @@
 //! What the command was asked for.
-use dual_ledger::{Bench, Session};
+use dual_ledger::Session;
 use std::ffi::OsString;
 use std::path::PathBuf;
 
@@ -13,10 +13,12 @@ dual-ledger check [--jobs N] [--quiet] [--answers OUT] [--fill U].. [--floor U].
     --answers OUT  writes what `ledger` would write, all files in the order named; a file OUT is there
                    only when it is whole; - is standard output
 
-dual-ledger ages [--csv | --json] [--quiet] [--fill U].. [--floor U].. FILE
+dual-ledger ages [--csv | --json] [--plain] [--quiet] [--fill U].. [--floor U].. FILE
     runs a record and prints each node that ever was: serial, interface, vertex or members, the lines
     of making and going, its value then or now; at the end the sums, added up.
     --csv, --json  as one table, as one object
+    --plain        runs it in both engines, whichever its first line chooses, prints the plain one's,
+                   and says so where they differ in an answer, a value or a check
     --quiet        does not show refused lines
 
 dual-ledger picture [--unit U] [--full] [--at N] [--svg] [--fill U].. [--floor U].. FILE
@@ -61,6 +63,7 @@ pub struct Args {
     pub files: Vec<PathBuf>,
     pub jobs: usize,
     pub is_quiet: bool,
+    pub is_plain: bool,
     pub answers: Option<PathBuf>,
     pub form: Form,
     pub unit: u8,
@@ -115,6 +118,7 @@ impl Args {
             files: vec![],
             jobs,
             is_quiet: false,
+            is_plain: false,
             answers: None,
             form: Form::Text,
             unit: 0,
@@ -138,6 +142,7 @@ impl Args {
                     args.answers = Some(words.next().ok_or("--answers wants a file")?.into())
                 }
                 Some("--csv") if work == Work::Ages && !no_more_options => args.form = Form::Csv,
+                Some("--plain") if work == Work::Ages && !no_more_options => args.is_plain = true,
                 Some("--json") if work == Work::Ages && !no_more_options => args.form = Form::Json,
                 Some("--full") if work == Work::Picture && !no_more_options => args.is_full = true,
                 Some("--svg") if work == Work::Picture && !no_more_options => args.is_drawn = true,
@@ -169,13 +174,14 @@ impl Args {
         }
     }
 
-    /// A record from its beginning, on a bench whose interfaces are marked as was asked.
+    /// A record from its beginning, on a bench whose interfaces are marked as was asked, whatever engine its first line chooses.
     pub fn session(&self) -> Session {
-        let mut bench = Bench::default();
-        let marked = "an interface of a new bench can be marked";
-        self.fills.iter().for_each(|unit| bench.mark_filling(*unit).expect(marked));
-        self.floors.iter().for_each(|unit| bench.mark_floored(*unit).expect(marked));
-        Session::on(bench)
+        let (fills, floors) = (self.fills.clone(), self.floors.clone());
+        Session::prepared(move |bench| {
+            let marked = "an interface of a new bench can be marked";
+            fills.iter().for_each(|unit| bench.mark_filling(*unit).expect(marked));
+            floors.iter().for_each(|unit| bench.mark_floored(*unit).expect(marked));
+        })
     }
 }
 

@@ -75,6 +75,9 @@ pub fn line_words(line: &[u8]) -> String {
     if fields.iter().any(|field| field.is_empty()) {
         return "two spaces, or a space at an end".to_string();
     }
+    if fields[0] == "M" {
+        return "an M is the first line of a text or nowhere, M 0 or M 1, and no byte record has it".to_string();
+    }
     if !["D", "B", "E", "S", "G", "F", "C", "K"].contains(&fields[0]) {
         return format!("no line begins with '{}'", fields[0]);
     }

@@ -13,6 +13,7 @@ mod picture;
 mod run;
 mod svg;
 mod table;
+mod twins;
 mod whole;
 
 use args::{Args, Asked};

@@ -1,28 +1,28 @@
--- The lines passed are answered, and the rest of the chunk is to come. Assumes nothing.
+-- The lines passed are answered, and what is left of the chunk is to come. Assumes nothing.
 use Prim.Native.Nat.{_-_}
 use mathlib.Core.Path.{refl, sym, _∙_}
 use native.Mathlib.Omega.{arith}
-use lib.ListN.{length, take}
+use lib.ListN.{length, take, drop}
 use lib.Seq.{length-take-le}
 use Rattle.text_chunks.proofs.Going.{going-start, going-long, going-room, going-line, going-part, going-end}
 use Rattle.bench_views.specs.View.{view}
 use Rattle.text_sessions.proofs.Session.{Working}
-use Rattle.text_sessions.proofs.answer_chunk.Statement.{statement}
-use Rattle.text_sessions.proofs.answer_chunk.Tie as tie
+use Rattle.text_sessions.proofs.answer_rest.Statement.{statement}
+use Rattle.text_sessions.proofs.answer_rest.Tie as tie
 
 abbrev Inv-loop : tie.InvT-loop
-Inv-loop b₀ chunk buf₀ start serials₀ hints₀ out₀ held₀ wrote₀ at₀ b buf serials hints out held wrote at =
-    Working b₀ chunk (take start buf₀) out₀ serials₀ b buf out serials held wrote at
+Inv-loop b₀ chunk from buf₀ before serials₀ hints₀ out₀ written held₀ wrote₀ at₀ b buf serials hints out held wrote at =
+    Working b₀ chunk (drop from chunk) (take before buf₀) out₀ written serials₀ b buf out serials held wrote at
 
 abbrev μ-loop : tie.MeasureT-loop
-μ-loop b₀ chunk buf₀ start serials₀ hints₀ out₀ held₀ wrote₀ at₀ b buf serials hints out held wrote at =
+μ-loop b₀ chunk from buf₀ before serials₀ hints₀ out₀ written held₀ wrote₀ at₀ b buf serials hints out held wrote at =
     length chunk - at
 
 loop-holds : tie.Need-loop-holds Inv-loop μ-loop
 loop-holds c =
     let s = c .before .before .before .before in
     let a = s .args in
-    record { words = s .pre .0; same = refl; going = going-start (view (a .b .now)) (a .chunk .now) (a .buf .now) (a .out .now) (a .start) (s .pre .2) (s .pre .3) }
+    record { words = s .pre .0; same = refl; going = going-start (view (a .b .now)) (a .chunk .now) (a .buf .now) (a .out .now) (a .before) (a .written) (a .from) (s .pre .2) (s .pre .3) (s .pre .4) (s .pre .5) }
 
 feed-requires : tie.Need-feed-requires Inv-loop μ-loop
 feed-requires c κs =
@@ -42,7 +42,7 @@ answer-line-requires c κs =
     let l = c .before .before .before .before .before .before .before .before .before .before .before .loop in (
       l .inv .words,
       omega (arith, l .inv .same, s .pre .1),
-      going-room (view (a .b .now)) (a .chunk .now) (take (a .start) (a .buf .now)) (a .out .now) (view (l .b)) (l .buf) (l .out) (l .held) (l .wrote) (l .at) (l .inv .going) (s .pre .4) (c .before .before .before .before .before .before .before .before .before .before .loop-test .taken),
+      going-room (view (a .b .now)) (a .chunk .now) (drop (a .from) (a .chunk .now)) (take (a .before) (a .buf .now)) (a .out .now) (a .written) (view (l .b)) (l .buf) (l .out) (l .held) (l .wrote) (l .at) (l .inv .going) (s .pre .6) (c .before .before .before .before .before .before .before .before .before .before .loop-test .taken),
     )
 
 loop-less : tie.Need-loop-less Inv-loop μ-loop
@@ -56,7 +56,7 @@ loop-again c =
     record {
       words = w .ensures .words;
       same = w .kept .1 .1 .0 ∙ l .inv .same;
-      going = going-line (view (a .b .now)) (a .chunk .now) (take (a .start) (a .buf .now)) (a .out .now) (view (l .b)) (l .buf) (l .out) (l .held) (l .wrote) (l .at) (l .inv .going)
+      going = going-line (view (a .b .now)) (a .chunk .now) (drop (a .from) (a .chunk .now)) (take (a .before) (a .buf .now)) (a .out .now) (a .written) (view (l .b)) (l .buf) (l .out) (l .held) (l .wrote) (l .at) (l .inv .going)
           (c .before .before .before .before .before .before .before .before .before .before .before .before .before .feed .last .1 .1 .0) (c .before .before .before .before .before .before .before .before .before .before .before .before .before .feed .result .ended) (c .before .before .before .before .before .before .before .before .before .before .before .before .before .feed .result .held) (c .before .before .before .before .before .before .before .before .before .before .before .before .before .feed .result .at) (c .before .before .before .before .before .before .before .before .before .before .before .before .before .feed .ensures) (c .before .before .before .before .before .before .before .before .before .before .if1 .taken)
           (view (w .last .0)) (w .last .1 .1 .1 .1 .0) (w .result) (w .ensures .answered);
     }
@@ -71,7 +71,7 @@ loop-again-2 c =
     record {
       words = l .inv .words;
       same = l .inv .same;
-      going = going-part (view (a .b .now)) (a .chunk .now) (take (a .start) (a .buf .now)) (a .out .now) (view (l .b)) (l .buf) (l .out) (l .held) (l .wrote) (l .at) (l .inv .going)
+      going = going-part (view (a .b .now)) (a .chunk .now) (drop (a .from) (a .chunk .now)) (take (a .before) (a .buf .now)) (a .out .now) (a .written) (view (l .b)) (l .buf) (l .out) (l .held) (l .wrote) (l .at) (l .inv .going)
           (c .before .before .before .feed .last .1 .1 .0) (c .before .before .before .feed .result .ended) (c .before .before .before .feed .result .held) (c .before .before .before .feed .result .at) (c .before .before .before .feed .ensures) (c .if1 .left);
     }
 
@@ -85,7 +85,7 @@ same-length-3 : tie.Need-same-length-3 Inv-loop μ-loop
 same-length-3 c =
     let a = c .before .before .before .before .before .before .args in
     let l = c .before .loop in
-    going-long (view (a .b .now)) (a .chunk .now) (take (a .start) (a .buf .now)) (a .out .now) (view (l .b)) (l .buf) (l .out) (l .held) (l .wrote) (l .at) (l .inv .going)
+    going-long (view (a .b .now)) (a .chunk .now) (drop (a .from) (a .chunk .now)) (take (a .before) (a .buf .now)) (a .out .now) (a .written) (view (l .b)) (l .buf) (l .out) (l .held) (l .wrote) (l .at) (l .inv .going)
 
 returns : tie.Need-returns Inv-loop μ-loop
 returns c =
@@ -93,12 +93,12 @@ returns c =
     let l = c .before .loop in
     record {
       words = l .inv .words;
-      answered = going-end (view (a .b .now)) (a .chunk .now) (take (a .start) (a .buf .now)) (a .out .now) (view (l .b)) (l .buf) (l .out) (l .held) (l .wrote) (l .at) (l .inv .going) (c .loop-test .left);
+      answered = going-end (view (a .b .now)) (a .chunk .now) (drop (a .from) (a .chunk .now)) (take (a .before) (a .buf .now)) (a .out .now) (a .written) (view (l .b)) (l .buf) (l .out) (l .held) (l .wrote) (l .at) (l .inv .going) (c .loop-test .left);
       few = omega (arith, l .inv .going .few, l .inv .going .in-chunk);
     }
 
-pub answer-chunk-spec : {M : Type 1} → statement M
-answer-chunk-spec =
+pub answer-rest-spec : {M : Type 1} → statement M
+answer-rest-spec =
     tie.close
     (tie.spec
     Inv-loop

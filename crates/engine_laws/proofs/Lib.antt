@@ -1,0 +1,13 @@
+pub mod Looks
+pub mod Tests
+pub mod Deeds
+pub mod Calls
+pub mod Walks
+pub mod Checks
+pub mod Sound
+pub mod Groups
+pub mod Asked
+pub mod Answered
+pub mod Lines
+pub mod Recorded
+pub mod Both
