@@ -519,41 +519,43 @@ static void text_lines(int is_trusted) {
     one_line(is_trusted, "", DUAL_LEDGER_LINE, 0, 0, 0);
 }
 
-/* The record in pieces of so many bytes. */
-static void text_chunks(int is_trusted, size_t piece) {
-    static uint8_t held_line[DUAL_LEDGER_HELD], out[DUAL_LEDGER_ANSWER_BYTES * 64], all[1024];
-    const uint8_t *bytes = (const uint8_t *)record;
-    size_t held = 0, wrote = 0, total = 0, length = strlen(record);
-    same("set-up", set_up(bench, 1), 0);
+/* Bytes in pieces of so many, their answers one after the other in `all`; how many bytes these are. The first line opens, or the bench is there already. */
+enum feeding { ON_ANY, ON_SOUND, OPENED };
+
+static size_t in_pieces(enum feeding form, const uint8_t *bytes, size_t length, size_t piece, uint8_t *all, size_t left) {
+    static uint8_t line[DUAL_LEDGER_HELD], out[DUAL_LEDGER_ANSWER_BYTES * 64];
+    size_t held = 0, wrote = 0, total = 0;
     for (size_t at = 0; at < length; at += piece) {
         size_t n = length - at < piece ? length - at : piece;
-        uint8_t number = is_trusted ? dual_ledger_trusted_text_chunk(bench, bytes + at, n, held_line, &held, hints, out, sizeof out, &wrote)
-                                    : dual_ledger_text_chunk(bench, bytes + at, n, held_line, &held, hints, out, sizeof out, &wrote);
-        same("a chunk", number, 0);
+        uint8_t number;
+        if (form == ON_ANY) number = dual_ledger_text_chunk(bench, bytes + at, n, line, &held, hints, out, sizeof out, &wrote);
+        else if (form == ON_SOUND || total) number = dual_ledger_trusted_text_chunk(bench, bytes + at, n, line, &held, hints, out, sizeof out, &wrote);
+        else number = dual_ledger_text_opening(bench, bytes + at, n, line, &held, hints, out, sizeof out, &wrote);
+        same("a piece", number, 0);
         memcpy(all + total, out, wrote), total += wrote;
     }
-    same("what is held", (int64_t)held, 7);
+    same("what is held", (int64_t)held, (int64_t)left);
     same("the end", dual_ledger_text_end(held, out, DUAL_LEDGER_ANSWER_BYTES, &wrote), 0);
-    memcpy(all + total, out, wrote), total += wrote;
+    memcpy(all + total, out, wrote);
+    return total + wrote;
+}
+
+/* The record in pieces of so many bytes. */
+static void text_chunks(int is_trusted, size_t piece) {
+    static uint8_t all[1024];
+    same("set-up", set_up(bench, 1), 0);
+    size_t total = in_pieces(is_trusted ? ON_SOUND : ON_ANY, (const uint8_t *)record, strlen(record), piece, all, 7);
     same("answers", (int64_t)total, (int64_t)strlen(replies)), same("answers", memcmp(all, replies, total), 0);
 }
 
 /* The record behind a first line, in pieces of so many bytes, from words that hold nothing: its answer, and the record's. */
 static void text_openings(const char *first, const char *answer, size_t piece) {
-    static uint8_t held_line[DUAL_LEDGER_HELD], out[DUAL_LEDGER_ANSWER_BYTES * 64], all[1024], bytes[1024];
-    size_t held = 0, wrote = 0, total = 0, before = strlen(first), length = before + strlen(record);
+    static uint8_t all[1024], bytes[1024];
+    size_t before = strlen(first), length = before + strlen(record), front = strlen(answer);
     memcpy(bytes, first, before), memcpy(bytes + before, record, length - before), memset(bench, 255, sizeof bench);
-    for (size_t at = 0; at < length; at += piece) {
-        size_t n = length - at < piece ? length - at : piece;
-        uint8_t number = total ? dual_ledger_trusted_text_chunk(bench, bytes + at, n, held_line, &held, hints, out, sizeof out, &wrote)
-                               : dual_ledger_text_opening(bench, bytes + at, n, held_line, &held, hints, out, sizeof out, &wrote);
-        same("an opening", number, 0);
-        memcpy(all + total, out, wrote), total += wrote;
-    }
-    same("the end", dual_ledger_text_end(held, out, DUAL_LEDGER_ANSWER_BYTES, &wrote), 0);
-    memcpy(all + total, out, wrote), total += wrote;
-    same("the first answer", memcmp(all, answer, strlen(answer)), 0);
-    same("answers", (int64_t)(total - strlen(answer)), (int64_t)strlen(replies)), same("answers", memcmp(all + strlen(answer), replies, strlen(replies)), 0);
+    size_t total = in_pieces(OPENED, bytes, length, piece, all, 7);
+    same("the first answer", memcmp(all, answer, front), 0);
+    same("answers", (int64_t)(total - front), (int64_t)strlen(replies)), same("answers", memcmp(all + front, replies, strlen(replies)), 0);
 }
 
 /* Too little room, too much held: refused, and all is as it was. */

@@ -2,7 +2,7 @@
 //! a call: that of a round from a cleared interface less that of the round without the calls in question, by their number. And growths of floored trees.
 use crate::bench::{once, Row};
 use dual_ledger::{lent, Bench, GrowState, Handle, Verdict};
-use oracle::timing::keep;
+use oracle::timing::{keep, Original};
 
 /// So many nodes in a round: an interface has no more slots.
 const ROUND: usize = 60;
@@ -120,19 +120,38 @@ fn plain_growth(nodes: usize) -> Row {
     }
 }
 
+/// A bench made, in either engine, beside the original's eight interfaces; on words that are lent it is the same call.
+fn set_ups() -> [Row; 2] {
+    let mut words = Box::new(*Bench::default().words());
+    let row = |what: &str, original, trusted| Row { what: what.to_string(), nodes: 0, original, trusted, told: None, public: None };
+    let lazy = once(|_| keep(lent::set_up(&mut words, 1).is_ok()));
+    let plain = once(|_| keep(lent::set_up_plain(&mut words, 1).is_ok()));
+    let original = once(|_| keep(Original::new(0, false, false).faces.len()));
+    [row("set_up", Some(original), lazy), row("set_up, plain engine", None, plain)]
+}
+
+/// Both marks given, and asked for; the original has none.
+fn marks() -> [Row; 4] {
+    let mut bench = Bench::default();
+    let mut words = Box::new(*bench.words());
+    let row = |what: &str, trusted, public| Row { what: what.to_string(), nodes: 0, original: None, trusted, told: None, public: Some(public) };
+    let filling = (once(|_| keep(bench.mark_filling(0).is_ok())), once(|_| keep(lent::mark_filling(&mut words, 0).is_ok())));
+    let floored = (once(|_| keep(bench.mark_floored(0).is_ok())), once(|_| keep(lent::mark_floored(&mut words, 0).is_ok())));
+    let fills = (once(|_| keep(bench.is_filling(0) == Ok(true))), once(|_| keep(lent::is_filling(&words, 0) == Ok(true))));
+    let floors = (once(|_| keep(bench.is_floored(0) == Ok(true))), once(|_| keep(lent::is_floored(&words, 0) == Ok(true))));
+    [
+        row("mark_filling", filling.0, filling.1),
+        row("mark_floored", floored.0, floored.1),
+        row("is_filling", fills.0, fills.1),
+        row("is_floored", floors.0, floors.1),
+    ]
+}
+
 pub fn rows() -> Vec<Row> {
     let kinds: [(&str, Calls); 3] = [("defect", defects), ("blossom", blossoms), ("blossom, expand", expanded)];
     let mut rows: Vec<Row> = kinds.into_iter().flat_map(|(what, calls)| [row(what, false, calls), row(what, true, calls)]).collect();
-    let mut bench = Bench::default();
-    let mut words = Box::new(*bench.words());
-    rows.push(Row {
-        what: "mark_filling".to_string(),
-        nodes: 0,
-        original: None,
-        trusted: once(|_| keep(bench.mark_filling(0).is_ok())),
-        told: None,
-        public: Some(once(|_| keep(lent::mark_filling(&mut words, 0).is_ok()))),
-    });
+    rows.extend(set_ups());
+    rows.extend(marks());
     rows.push(blossom_first());
     for nodes in [1, 64, 448] {
         rows.extend([(false, true), (true, false), (true, true)].map(|(floored, shrink)| growth(nodes, floored, shrink)));

@@ -8,11 +8,24 @@ use original::dual_module::{
 use original::pointers::RwLockPtr;
 use original::util::{SolverInitializer, Weight};
 
-/// Counts its calls and does nothing else.
+/// Counts its calls, and answers a recording's groups one after the other where it has one.
 #[derive(Default)]
-struct Counting {
+pub(super) struct Counting {
     calls: usize,
     requests: Vec<SyncRequest>,
+    groups: Vec<GroupMaxUpdateLength>,
+    at: usize,
+}
+
+impl Counting {
+    pub(super) fn playing(groups: Vec<GroupMaxUpdateLength>) -> Self {
+        Counting { groups, ..Counting::default() }
+    }
+
+    /// From the recording's first group on.
+    pub(super) fn begin(&mut self) {
+        self.at = 0;
+    }
 }
 
 impl DualModuleImpl for Counting {
@@ -30,7 +43,8 @@ impl DualModuleImpl for Counting {
         self.calls += 1
     }
     fn compute_maximum_update_length(&mut self) -> GroupMaxUpdateLength {
-        GroupMaxUpdateLength::new()
+        self.at += 1;
+        self.groups.get(self.at - 1).cloned().unwrap_or_else(GroupMaxUpdateLength::new)
     }
     fn grow(&mut self, _: Weight) {
         self.calls += 1
