@@ -1,9 +1,9 @@
 -- Slot by slot and interface by interface: each node of the tree is raised once and no other is touched. Assumes nothing.
-use Prim.Native.Nat.{ℕ, zero, suc, _+_, _-_, _*_, _/_, _<_, _≤_}
+use Prim.Native.Nat.{ℕ, _+_, _-_, _*_, _/_, _<_, _≤_}
 use mathlib.Core.Path.{_≡_, refl, ap, sym, _∙_, subst}
 use mathlib.Core.Logic.{by-cases}
 use mathlib.Core.Bool.{Bool, true, false}
-use mathlib.Core.Option.{Option, none, some}
+use mathlib.Core.Option.{none}
 use mathlib.Core.List.{List}
 use native.Mathlib.Decide.{ℕ-discrete, decLt}
 use native.Mathlib.Omega.{arith}
@@ -16,10 +16,10 @@ use Rattle.bench_words.proofs.Laws.{Good, good-node, length-store, store-out, l
 use Rattle.bench_words.proofs.Maps.{store-node-map}
 use Rattle.bench_words.specs.declared.Node.{Node}
 use Rattle.bench_words.specs.declared.Interface.{Interface}
-use Rattle.ledger_spec.specs.Bench.{Bench, fresh}
+use Rattle.ledger_spec.specs.Bench.{fresh}
 use Rattle.ledger_spec.specs.Bench as plain
 use Rattle.ledger_spec.specs.Look.{interface, climb}
-use Rattle.ledger_spec.proofs.Tops.{climb-none, climb-some}
+use Rattle.ledger_spec.proofs.Tops.{climb-same}
 use Rattle.bench_views.specs.Records.{Steady, noNode}
 use Rattle.bench_views.specs.View.{view, upSeen, valueBy, raised}
 use Rattle.bench_views.specs.Canon.{Coded}
@@ -80,20 +80,11 @@ pub raised-all : {b : List ℕ} {v l : ℕ} {b₁ : List ℕ} {n m : ℕ} → Ra
 raised-all R e = rw (← e) R
 
 -- ---- a climb depends on parents alone
-climb-like : (B B' : Bench) → ((v : ℕ) → interface B' v .parent ≡ interface B v .parent) → (k u : ℕ) → climb k B' u ≡ climb k B u
-unfolding climb
-climb-like B B' same zero u = refl
-climb-like B B' same (suc k) u = go (interface B u .parent) refl (climb-like B B' same k)
-  where
-    go : (q : Option ℕ) → interface B u .parent ≡ q → ((p : ℕ) → climb k B' p ≡ climb k B p) → climb (suc k) B' u ≡ climb (suc k) B u
-    go none e ih = climb-none (suc k) B' u (same u ∙ e) ∙ sym (climb-none (suc k) B u e)
-    go (some p) e ih = climb-some k B' u p (same u ∙ e) ∙ ih p ∙ sym (climb-some k B u p e)
-
 out : (x : List ℕ) (v : ℕ) → (v < 8 → ⊥) → interface (view x) v .parent ≡ none
 out x v q = ap (λ (f : plain.Interface). f .parent) (List·getD-eq-default (view x .interfaces) fresh (omega (arith, view-eight (getD x 0 0) (interfaceAt x) (nodeAt x), q)))
 
 tops-kept : (b b₁ : List ℕ) → ((v : ℕ) → v < 8 → interfaceAt b₁ v ≡ interfaceAt b v) → (u : ℕ) → climb 8 (view b₁) u ≡ climb 8 (view b) u
-tops-kept b b₁ same u = climb-like (view b) (view b₁) (λ v. go v (decLt v 8)) 8 u
+tops-kept b b₁ same u = climb-same (view b) (view b₁) (λ v. go v (decLt v 8)) 8 u
   where
     go : (v : ℕ) → Dec (v < 8) → interface (view b₁) v .parent ≡ interface (view b) v .parent
     go v (yes l) = view-parent (getD b₁ 0 0) (interfaceAt b₁) (nodeAt b₁) v l ∙ ap (λ (f : Interface). upSeen (f .parent)) (same v l) ∙ sym (view-parent (getD b 0 0) (interfaceAt b) (nodeAt b) v l)
