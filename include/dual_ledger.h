@@ -6,17 +6,17 @@
  * A list of length 0 may be NULL.
  *
  * A call or read answers a number: 0 is accepted; any other is the reason of a refusal, the lowest that applies. Refused, everything that was lent
- * stays as it was but for the answer, whose values are then 0 or none. (dual_ledger_set_up alone makes a bench although it answers WORN.)
+ * stays as it was but for the answer, whose values are then 0 or none. (A set-up alone, of either engine, makes a bench although it answers WORN.)
  *
  * A handle is one word: (serial * 64 + slot) * 8 + interface, below DUAL_LEDGER_NO_NODE. A word that is no handle names no node.
  *
  * Threads: there is no state but what is lent. Functions may run at once on any threads as long as nothing that one of them writes is lent to another; reads of
  * one bench may run at once.
  *
- * The archive needs memmove and memset of the C library and nothing else. It has some 90 KB (x86-64).
+ * The archive needs memmove and memset of the C library and nothing else. It has some 97 KB (x86-64).
  *
  * Three forms. dual_ledger_NAME takes any words at all and tests them first (BROKEN if they hold no sound bench). dual_ledger_trusted_NAME tests
- * nothing about the words: lend it only words that dual_ledger_set_up and accepted or refused calls of this library alone have written, or that
+ * nothing about the words: lend it only words that a set-up or dual_ledger_text_opening and accepted or refused calls of this library alone have written, or that
  * dual_ledger_is_sound has passed. dual_ledger_told_NAME is as trusted as that and tells the notices besides.
  */
 #ifndef DUAL_LEDGER_H
