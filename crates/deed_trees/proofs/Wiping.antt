@@ -71,6 +71,10 @@ module _ (b : List ℕ) (u : ℕ) (F : Fit b) (T : first (unitTests (view b) u) 
   pub wipe-low : u < 8
   wipe-low = clear-passed (view b) u T .low
 
+  -- the top is its own
+  pub top-own : top (view b) u ≡ u
+  top-own = climb-none 8 (view b) u (clear-passed (view b) u T .free)
+
   pub wiping-begins : Wiping b u b 0
   wiping-begins =
       record {
@@ -120,9 +124,11 @@ module _ (b : List ℕ) (u : ℕ) (F : Fit b) (T : first (unitTests (view b) u) 
         }
 
     -- one that is
-    pub wiping-reset : {t s : ℕ} (b₂ : List ℕ) → Climbs b₁ w t s → t ≡ u → Reset b₁ w b₂ → Wiping b u b₂ (w + 1)
-    wiping-reset b₂ c e R =
-        let mine : top (view b) w ≡ u = sym climb-now ∙ sym (c .top) ∙ e in
+    pub of-tree : {t s : ℕ} → Climbs b₁ w t s → t ≡ u → top (view b) w ≡ u
+    of-tree c e = sym climb-now ∙ sym (c .top) ∙ e
+
+    pub wiping-reset : (b₂ : List ℕ) → top (view b) w ≡ u → Reset b₁ w b₂ → Wiping b u b₂ (w + 1)
+    wiping-reset b₂ mine R =
         let st = G .steady in
         let few = st .slots w lw in
         let aside : (v : ℕ) → (v < w + 1 → top (view b) v ≢ u) → v < w → top (view b) v ≢ u = λ v h z. h (omega arith) in
