@@ -77,8 +77,8 @@ spot-requires c κs = search needs
 lag-requires : tie.Need-lag-requires Inv-loop μ-loop
 lag-requires c κs = search needs
 
-new-blossom-requires : tie.Need-new-blossom-requires Inv-loop μ-loop
-new-blossom-requires c κs =
+new-node-requires : tie.Need-new-node-requires Inv-loop μ-loop
+new-node-requires c κs =
     let l = c .before .before .before .before .loop .inv in
     let f = c .before .before .before .before .before .before .before .before .before .load-interface in
     omega (arith, c .lag .ensures, lag-le (f .result), l .fit .canon .steady .progress _ (l .ring .root .low), ap (λ (x : Interface). x .progress) (f .ensures))
@@ -92,7 +92,7 @@ push-requires c κs = let l = c .before .before .before .before .before .before 
 returns : tie.Need-returns Inv-loop μ-loop
 returns c =
     let f = c .before .before .before .before .before .before .before .before .before .before .before .before .load-interface in
-    loop-ends (c .before .before .before .before .before .before .before .loop .inv) (f .result) (omega arith) (f .ensures) (c .before .before .before .before .before .before .before .before .before .before .free-slot .ensures) (c .before .before .before .before .before .before .before .before .load-next .ensures) (c .before .before .before .before .spot .ensures .0) (c .before .before .before .lag .ensures) (c .before .before .new-blossom .ensures) (c .push .ensures)
+    loop-ends (c .before .before .before .before .before .before .before .loop .inv) (f .result) (omega arith) (f .ensures) (c .before .before .before .before .before .before .before .before .before .before .free-slot .ensures) (c .before .before .before .before .before .before .before .before .load-next .ensures) (c .before .before .before .before .spot .ensures .0) (c .before .before .before .lag .ensures) (c .before .before .new-node .ensures) (c .push .ensures)
 
 pub add-blossom-spec : {M : Type 1} → statement M
 add-blossom-spec =
@@ -119,7 +119,7 @@ add-blossom-spec =
     shared-slice-read-spot
     spot-requires
     lag-requires
-    new-blossom-requires
+    new-node-requires
     add-push
     push-requires
     returns)
