@@ -1,6 +1,5 @@
 // The work of add blossom and expand, over the words that the caller lends, against the plain ledger's own definitions. Members come as packed
 // handles, their touching handles two a member, or none. No refusal is left: each asks that its tests pass on words that fit. Assumes nothing.
-use bench_words::Node;
 use bench_words::WORDS;
 use deed_nodes::Seat;
 use kinds::Class;
@@ -23,7 +22,7 @@ ghost use Rattle.bench_views.specs.Records.{Steady, Ranged, rateOf};
 ghost use Rattle.bench_views.specs.View.{sumUp, view};
 ghost use Rattle.bench_views.specs.Fit.{Fit, Done};
 ghost use Rattle.deed_circles.specs.Given.{spotOf, handsGiven, pairsGiven, nextSpot, touchWord};
-ghost use Rattle.deed_circles.specs.Members.{seatOf, takenNode, freedNode, blossomNode};
+ghost use Rattle.deed_circles.specs.Members.{seatOf, takenNode, freedNode};
 
 // What a member adds to its blossom: its size, and its share of the speed, one higher than it is.
 struct Share {
@@ -104,28 +103,6 @@ fn take_in(b: &mut [u64; WORDS], w: u64, unit: usize, t: u64, seat: Seat) -> Sha
     Share { size: n.size, rate }
 }
 
-// A new blossom, growing from value 0 at T = t.
-fn new_blossom(serial: Serial, first: u64, count: u64, size: u64, t: u64) -> Node
-    requires { ⌜ t ≤ 1099511627776 ⌝ }
-    ensures { λ r. ⌜ r ≡ blossomNode (serial .0) first count size t ⌝ }
-{
-    let nobody = Handle::nobody();
-    Node {
-        serial,
-        class: Class::Blossom,
-        state: GrowState::Grow,
-        parent: Parent::Outermost,
-        place: 0,
-        next: 0,
-        left: nobody,
-        right: nobody,
-        bias: Node::OFFSET - t,
-        size,
-        first,
-        count,
-    }
-}
-
 // Adds a blossom: its members stay and get their seats; then the blossom, growing from value 0. Gives its handle.
 pub fn add_blossom(b: &mut [u64; WORDS], unit: usize, members: &[u64], touching: &[u64]) -> Handle
     requires { ⌜ Fit (now b) × (first (blossomTests (view (now b)) unit (handsGiven (now members)) (pairsGiven (now touching))) ≡ 0) ⌝ }
@@ -151,7 +128,7 @@ pub fn add_blossom(b: &mut [u64; WORDS], unit: usize, members: &[u64], touching:
         i = i + 1;
     }
     let first = spot(members[0]) as u64;
-    let n = new_blossom(serial, first, i as u64, size, t);
+    let n = deed_nodes::new_node(serial, Class::Blossom, size, first, i as u64, t);
     deed_nodes::push(b, unit, slot, n, speed + 1);
     q
 }

@@ -1,7 +1,6 @@
 // Every call on groups over any words (include/dual_ledger.h): tested once, then the call on sound words. BROKEN (2) where they hold no sound group, no sound
 // bench or no obstacle; refused, every word of the group stays. Assumes nothing.
 use bench_words::WORDS;
-use group_lent::Five;
 use group_lent::GROUP;
 use group_lent::OBSTACLE;
 use groups::Asked;
@@ -65,14 +64,7 @@ pub fn get_none_zero_growth(w: &[u64; GROUP]) -> Asked
 fn broken(o: &mut [u64; OBSTACLE]) -> u8
     ensures { λ r. ⌜ (r ≡ 2) × (now (o .exit) ≡ noObstacle) ⌝ }
 {
-    let none = Five {
-        kind: 0,
-        a: 0,
-        b: 0,
-        c: 0,
-        d: 0,
-    };
-    group_lent::put_in(o, none);
+    group_lent::put_in(o, group_lent::no_obstacle());
     numbers::BROKEN
 }
 

@@ -7,7 +7,7 @@ use kinds::MaybeLength;
 use kinds::numbers;
 ghost use mathlib.Core.Path.{_≡_};
 ghost use mathlib.Core.Bool.{true};
-ghost use Prim.Native.Nat.{ℕ, _-_};
+ghost use Prim.Native.Nat.{ℕ};
 ghost use Rattle.kinds.specs.Obstacles.{listable};
 ghost use Rattle.ledger_spec.specs.GroupCalls.{isEmpty, isActive, growthOf, peek};
 ghost use Rattle.groups.specs.Shown.{shownAsked};
@@ -150,15 +150,8 @@ fn top_of(w: &[u64; GROUP]) -> Five
     requires { ⌜ SoundGroup (now w) ⌝ }
     ensures { λ r. ⌜ r ≡ topFive (now (w .entry)) ⌝ }
 {
-    let zero = Five {
-        kind: 0,
-        a: 0,
-        b: 0,
-        c: 0,
-        d: 0,
-    };
     if w[0] == 1 {
-        return zero;
+        return group_lent::no_obstacle();
     }
     let n = w[3] as usize;
     if 0 < n {
@@ -167,7 +160,7 @@ fn top_of(w: &[u64; GROUP]) -> Five
     if 0 < w[4] {
         return group_lent::five_at(w, 646);
     }
-    zero
+    group_lent::no_obstacle()
 }
 
 // KIND (10) of a growth.
@@ -189,34 +182,19 @@ pub fn peek(w: &[u64; GROUP]) -> Top
     }
 }
 
-fn less(n: usize) -> usize
-    ensures { λ r. ⌜ r ≡ n - 1 ⌝ }
-{
-    if n == 0 {
-        return 0;
-    }
-    n - 1
-}
-
 // The last of the list and the stop of smallest vertex go. KIND (10) of a growth.
 pub fn pop(w: &mut [u64; GROUP]) -> Top
     requires { ⌜ SoundGroup (now w) ⌝ }
     ensures { λ r. ⌜ Popped (now (w .entry)) r (now (w .exit)) ⌝ }
 {
-    let obstacle = top_of(w);
+    let top = peek(w);
     if w[0] == 1 {
-        return Top {
-            number: numbers::KIND,
-            obstacle,
-        };
+        return top;
     }
-    let n = less(w[3] as usize);
-    let m = less(w[4] as usize);
+    let n = groups::less(w[3] as usize);
+    let m = groups::less(w[4] as usize);
     group_lent::slide(w, 645, m * 6);
     w[3] = n as u64;
     w[4] = m as u64;
-    Top {
-        number: 0,
-        obstacle,
-    }
+    top
 }

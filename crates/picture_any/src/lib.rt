@@ -1,7 +1,6 @@
 // The picture of an interface, of any words at all: BROKEN (2) where they hold no sound bench; else the picture on sound words. The bench does not change.
 // Assumes nothing.
 use bench_words::WORDS;
-use kinds::numbers;
 use read_sound::Counted;
 ghost use mathlib.Core.Path.{_≡_};
 ghost use Rattle.bench_views.specs.View.{view};
@@ -14,10 +13,7 @@ pub fn snapshot(b: &[u64; WORDS], unit: u8, short: bool, out: &mut [u8]) -> Coun
     ensures { λ r. ⌜ shownVertices r (now (out .exit)) ≡ readWords (now (b .entry)) (pictureRead (view (now (b .entry))) unit short (now (out .entry))) ⌝ }
 {
     if !sound_lent::is_bench(b) {
-        return Counted {
-            number: numbers::BROKEN,
-            count: 0,
-        };
+        return read_any::no_count();
     }
     picture_sound::snapshot(b, unit, short, out)
 }

@@ -97,8 +97,8 @@ shared-slice-read-spot c = omega (arith, c .before .before .loop .inv .ring .som
 spot-requires : tie.Need-spot-requires Inv-loop μ-loop
 spot-requires c κs = search needs
 
-new-blossom-requires : tie.Need-new-blossom-requires Inv-loop μ-loop
-new-blossom-requires c κs =
+new-node-requires : tie.Need-new-node-requires Inv-loop μ-loop
+new-node-requires c κs =
     let at-load-interface = c .before .before .before .before .before .before .before .before .before in
     let at-lag = c .before .before .before .before .before .before .before .before in
     let l = c .before .before .before .loop .inv in
@@ -122,7 +122,7 @@ returns c =
     let at-load-next = c .before .before .before .before .before .before .before in
     let at-loop = c .before .before .before .before .before .before in
     let f = at-load-interface .load-interface in
-    loop-ends (at-loop .loop .inv) (f .result) (omega (arith, c .before .before .before .before .before .loop-test .left)) (f .ensures) (at-free-slot .free-slot .ensures) (at-load-next .load-next .ensures) (c .before .before .before .spot .ensures .0) (l .lag .ensures) (c .before .before .new-blossom .ensures) (c .push .ensures)
+    loop-ends (at-loop .loop .inv) (f .result) (omega (arith, c .before .before .before .before .before .loop-test .left)) (f .ensures) (at-free-slot .free-slot .ensures) (at-load-next .load-next .ensures) (c .before .before .before .spot .ensures .0) (l .lag .ensures) (c .before .before .new-node .ensures) (c .push .ensures)
 
 pub add-blossom-spec : {M : Type 1} → statement M
 add-blossom-spec =
@@ -149,7 +149,7 @@ add-blossom-spec =
     loop-again
     shared-slice-read-spot
     spot-requires
-    new-blossom-requires
+    new-node-requires
     add-push
     push-requires
     returns)
