@@ -150,7 +150,7 @@ written-on true ws c = written (view ws) c
 written-on false ws c = written-of (broken (view ws)) (omega arith) (omega arith, omega arith, omega arith) tt
 
 -- ---- the words that a call writes say what the call by value answers (crates call_told, call_any)
-module _ {b : List ℕ} {c : Call} {n : ℕ} {ws ws′ b′ : List ℕ} {r : Value} {b″ : List ℕ} (long : length ws ≡ 199) where
+module _ {b : List ℕ} {c : Call} {n : ℕ} (ws : List ℕ) {ws′ b′ : List ℕ} {r : Value} {b″ : List ℕ} (long : length ws ≡ 199) where
   value-on : (s : Bool) → Wrote s b c n ws ws′ b′ → Called s b c r b″ → (n ≡ r .number) × ((handleOf (getD ws′ 0 0) ≡ r .node) × (noticesRead ws′ ≡ r .notices))
   value-on s x y =
       let W = written-on s b c in (
