@@ -19,8 +19,8 @@ use Rattle.bench_views.proofs.Fits.{fit-of}
 use Rattle.outcomes.specs.Outcome.{answerOn, Outcome}
 
 -- sound words of one bench are the same words
-pub same-words : {b b′ : List ℕ} → SoundWords b → SoundWords b′ → view b ≡ view b′ → b ≡ b′
-same-words {b} {b′} x y e = words-same b b′ (x .canon) (y .canon) (fit-of b x .within) e
+pub sound-words-same : {b b′ : List ℕ} → SoundWords b → SoundWords b′ → view b ≡ view b′ → b ≡ b′
+sound-words-same {b} {b′} x y e = words-same b b′ (x .canon) (y .canon) (fit-of b x .within) e
 
 -- a refusal leaves the bench, on any words
 kept : (s : Bool) (b : List ℕ) (c : Call) → answerOn s b c .number ≢ 0 → answerOn s b c .bench ≡ view b
@@ -58,7 +58,7 @@ module _ {s : Bool} {b : List ℕ} {c : Call} {n : ℕ} {b′ : List ℕ} where
   outcome-once {m} x y = (
     one,
     by-cases (ℕ-discrete n 0)
-        (λ (z : n ≡ 0). let w : m ≡ 0 = sym one ∙ z in same-words (x .words z) (y .words w) (x .seen z ∙ sym (y .seen w)))
+        (λ (z : n ≡ 0). let w : m ≡ 0 = sym one ∙ z in sound-words-same (x .words z) (y .words w) (x .seen z ∙ sym (y .seen w)))
         (λ (q : n ≡ 0 → ⊥). x .refused q ∙ sym (y .refused (λ w. q (one ∙ w)))),
   )
     where

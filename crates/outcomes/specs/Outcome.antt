@@ -14,7 +14,8 @@ abbrev pub answerOn : Bool → List ℕ → Call → Plain
 answerOn true b c = answer (view b) c
 answerOn false b c = broken (view b)
 
--- call c on words b of verdict s answers the number n and leaves the words b′: accepted, they hold a sound bench, the ledger's; refused, every word is as it was
+-- call c on words b of verdict s answers the number n and leaves the words b′: accepted, they hold a sound bench, the ledger's; refused, every word is as it was.
+-- It takes the verdict, so that a call on sound words (verdict true) and the same call on any words have one form
 pub record Outcome (s : Bool) (b : List ℕ) (c : Call) (n : ℕ) (b′ : List ℕ) : Type 0 where
   pub number : n ≡ answerOn s b c .number
   pub words : n ≡ 0 → SoundWords b′

@@ -12,7 +12,7 @@ use Rattle.ledger_spec.specs.Account.{total}
 use Rattle.bench_views.specs.View.{view}
 use Rattle.bench_views.specs.Fit.{SoundWords}
 use Rattle.outcomes.specs.Answered.{Answered}
-use Rattle.outcomes.proofs.Outcomes.{same-words}
+use Rattle.outcomes.proofs.Outcomes.{sound-words-same}
 use Rattle.recorded_spec.proofs.Whole.{one-growth}
 use Rattle.recorded_groups.specs.Recording.{recordingOf}
 use Rattle.recorded_steps.specs.declared.Passed.{Passed}
@@ -22,7 +22,7 @@ use Rattle.recorded_any.proofs.Verdicts.{any-sound}
 
 module _ (b : List ℕ) (W : SoundWords b) (u : ℕ) (l : ℤ) (ws out : List ℕ) (r : Passed) (b′ out′ : List ℕ) where
   pub one-growth-words : RecordedAny b u l ws out r b′ out′ → r .number ≡ 0 → (n : ℕ) (h : Handle) (b″ : List ℕ) → Answered b (Grow u l) n h b″ → (n ≡ 0) × (b′ ≡ b″)
-  one-growth-words A z n h b″ G = let k : n ≡ 0 = G .0 .number ∙ one .0 in (k, same-words (x .words) (G .0 .words k) (x .seen ∙ one .1 ∙ sym (G .0 .seen k)))
+  one-growth-words A z n h b″ G = let k : n ≡ 0 = G .0 .number ∙ one .0 in (k, sound-words-same (x .words) (G .0 .words k) (x .seen ∙ one .1 ∙ sym (G .0 .seen k)))
     where
       x : RecordedAs b u l ws out r b′ out′
       x = any-sound b u l ws out W A

@@ -27,7 +27,7 @@ use Rattle.bench_views.proofs.Views.{interface-in, view-parent}
 use Rattle.sound_bench.specs.Sound.{soundWords}
 use Rattle.sound_bench.proofs.Theorem.{sound-holds}
 use Rattle.call_set_up.specs.Opened.{Opened}
-use Rattle.outcomes.proofs.Outcomes.{same-words, sound-after, seen-after, judged-with}
+use Rattle.outcomes.proofs.Outcomes.{sound-words-same, sound-after, seen-after, judged-with}
 use Rattle.call_told.specs.declared.Answer.{Answer}
 use Rattle.call_told.specs.Shown.{shown}
 use Rattle.call_told.specs.Told.{Told, Called}
@@ -112,5 +112,5 @@ module _ {b : List ℕ} (W : SoundWords b) {u : ℕ} {a c : ℤ} {r q p : Answer
       let h : answer (answer (view b) (Grow u a) .bench) (Grow u c) .number ≡ 0 = subst (λ (d : Bench). answer d (Grow u c) .number ≡ 0) (shows W x) (number-is W₁ y ∙ f) in
       let G = grow-called (view b) u a c g h in (
         sym (number-is W z) ∙ G .0,
-        same-words W₂ W₃ (shows W₁ y ∙ ap (λ (d : Bench). answer d (Grow u c) .bench) (shows W x) ∙ G .1 ∙ sym (shows W z)),
+        sound-words-same W₂ W₃ (shows W₁ y ∙ ap (λ (d : Bench). answer d (Grow u c) .bench) (shows W x) ∙ G .1 ∙ sym (shows W z)),
       )
