@@ -18,6 +18,7 @@ use Rattle.ledger_laws.proofs.Asked.{ask-true}
 use Rattle.bench_views.specs.View.{view}
 use Rattle.bench_views.specs.Fit.{SoundWords}
 use Rattle.outcomes.specs.Answered.{Answered}
+use Rattle.outcomes.proofs.Outcomes.{sound-after, seen-after}
 use Rattle.text_numbers.specs.declared.Reply.{Reply}
 use Rattle.text_numbers.specs.Numbers.{numbersOf}
 use Rattle.text_calls.specs.Turned.{Gave, Turned}
@@ -34,14 +35,16 @@ module _ (b : List ℕ) (W : SoundWords b) where
   -- a call's answer, by the code's call of the same reply
   pub gave : (a : LineAnswer) (u : ℕ) (c : Call) → a ≡ calls (view b) u c → (d : Call) → perform (view b) d ≡ perform (view b) c
       → (n : ℕ) (h : Handle) (b′ : List ℕ) → Answered b d n h b′ → (r : Reply) → numbersOf r ≡ shown n (h .serial .0) (view b′) u → Gave a r b′
+  unfolding calls
   gave a u c e d q n h b′ A r t =
-      let p : a ≡ toldOf u (perform (view b) d) = e ∙ sound-calls (view b) (W .sound) u c ∙ ap (toldOf u) (sym q) in
+      let done = sound-calls (view b) (W .sound) u in
+      let p : a ≡ calls (view b) u d = e ∙ done c ∙ ap (toldOf u) (sym q) ∙ sym (done d) in
       record {
         numbers = t
-            ∙ (λ i. shown (A .number i) (A .node i .serial) (A .seen i) u)
+            ∙ (λ i. shown (A .0 .number i) (A .1 i .serial) (seen-after (A .0) i) u)
             ∙ sym (ap (λ (s : LineAnswer). s .numbers) p);
-        words = A .words;
-        seen = A .seen ∙ sym (ap (λ (s : LineAnswer). s .bench) p);
+        words = sound-after W (A .0);
+        seen = seen-after (A .0) ∙ sym (ap (λ (s : LineAnswer). s .bench) p);
       }
 
   -- a line's

@@ -4,6 +4,7 @@ use borrow.Author.Needs.{needs}
 use Rattle.ledger_spec.specs.Calls.{Clear}
 use Rattle.ledger_spec.specs.Grammar.{C}
 use Rattle.ledger_spec.specs.Lines.{says}
+use Rattle.outcomes.proofs.Outcomes.{sound-after}
 use Rattle.text_calls.proofs.Turning.{turned}
 use Rattle.text_calls.proofs.clear.Statement.{statement}
 use Rattle.text_calls.proofs.clear.Tie as tie
@@ -12,7 +13,7 @@ clear-requires : tie.Need-clear-requires
 clear-requires c κs = search needs
 
 tell-requires : tie.Need-tell-requires
-tell-requires c κs = search needs
+tell-requires c κs = sound-after (c .before .before .before .pre) (c .before .clear .ensures .0)
 
 returns : tie.Need-returns
 unfolding says

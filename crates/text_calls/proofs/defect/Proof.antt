@@ -4,6 +4,7 @@ use borrow.Author.Needs.{needs}
 use Rattle.ledger_spec.specs.Calls.{Defect}
 use Rattle.ledger_spec.specs.Grammar.{D}
 use Rattle.ledger_spec.specs.Lines.{says}
+use Rattle.outcomes.proofs.Outcomes.{sound-after}
 use Rattle.text_calls.proofs.Turning.{turned}
 use Rattle.text_calls.proofs.defect.Statement.{statement}
 use Rattle.text_calls.proofs.defect.Tie as tie
@@ -15,7 +16,7 @@ keep-requires : tie.Need-keep-requires
 keep-requires c κs = search needs
 
 tell-requires : tie.Need-tell-requires
-tell-requires c κs = search needs
+tell-requires c κs = sound-after (c .before .before .before .before .before .pre) (c .before .before .before .create-defect-node .ensures .0)
 
 returns : tie.Need-returns
 unfolding says

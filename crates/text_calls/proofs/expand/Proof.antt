@@ -8,6 +8,7 @@ use Rattle.ledger_spec.specs.Lines.{named, says}
 use Rattle.ledger_spec.specs.Named.{handleNamed}
 use Rattle.bench_views.specs.View.{view}
 use Rattle.bench_views.proofs.Fits.{fit-of}
+use Rattle.outcomes.proofs.Outcomes.{sound-after}
 use Rattle.text_calls.proofs.Turning.{turned}
 use Rattle.text_calls.proofs.expand.Statement.{statement}
 use Rattle.text_calls.proofs.expand.Tie as tie
@@ -19,7 +20,7 @@ expand-blossom-requires : tie.Need-expand-blossom-requires
 expand-blossom-requires c κs = search needs
 
 tell-requires : tie.Need-tell-requires
-tell-requires c κs = search needs
+tell-requires c κs = let s = c .before .before .before .before .before .before in sound-after (s .pre) (c .before .expand-blossom .ensures .0)
 
 returns : tie.Need-returns
 unfolding says

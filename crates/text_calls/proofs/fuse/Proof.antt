@@ -4,6 +4,7 @@ use borrow.Author.Needs.{needs}
 use Rattle.ledger_spec.specs.Calls.{Fuse}
 use Rattle.ledger_spec.specs.Grammar.{F}
 use Rattle.ledger_spec.specs.Lines.{says}
+use Rattle.outcomes.proofs.Outcomes.{sound-after}
 use Rattle.text_calls.proofs.Turning.{turned}
 use Rattle.text_calls.proofs.fuse.Statement.{statement}
 use Rattle.text_calls.proofs.fuse.Tie as tie
@@ -12,7 +13,7 @@ fuse-requires : tie.Need-fuse-requires
 fuse-requires c κs = search needs
 
 tell-requires : tie.Need-tell-requires
-tell-requires c κs = search needs
+tell-requires c κs = sound-after (c .before .before .before .pre) (c .before .fuse .ensures .0)
 
 returns : tie.Need-returns
 unfolding says

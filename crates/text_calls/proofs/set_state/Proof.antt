@@ -8,6 +8,7 @@ use Rattle.ledger_spec.specs.Lines.{named, says}
 use Rattle.ledger_spec.specs.Named.{handleNamed, stateNamed}
 use Rattle.bench_views.specs.View.{view}
 use Rattle.bench_views.proofs.Fits.{fit-of}
+use Rattle.outcomes.proofs.Outcomes.{sound-after}
 use Rattle.text_calls.proofs.Turning.{turned}
 use Rattle.text_calls.proofs.set_state.Statement.{statement}
 use Rattle.text_calls.proofs.set_state.Tie as tie
@@ -19,7 +20,7 @@ set-grow-state-requires : tie.Need-set-grow-state-requires
 set-grow-state-requires c κs = search needs
 
 tell-requires : tie.Need-tell-requires
-tell-requires c κs = search needs
+tell-requires c κs = let s = c .before .before .before .before .before .before in sound-after (s .pre) (c .before .set-grow-state .ensures .0)
 
 returns : tie.Need-returns
 unfolding says
