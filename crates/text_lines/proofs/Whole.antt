@@ -37,11 +37,11 @@ unfolding lineOf
 line-short s h = rw (le-ltb 1023 (length s) h)
 
 -- the first field ends at z
-module _ (s : List ℕ) (z : ℕ) (short : length s ≤ 1023) (g : Ends s 0 z) where
+module _ (s : List ℕ) (z : ℕ) (short : length s ≤ 1023) (g : Ends 32 s 0 z) where
   opened : lineOf s ≡ follow (step letter (take z s ∷ from s z)) (λ c. then aUnit (rest c))
   opened =
       line-short s short
-      ∙ ap (λ (fs : Fields). follow (step letter fs) (λ c. then aUnit (rest c))) (λ i. (g .field ∙ ap (λ (k : ℕ). take k s) (sub-zero z)) i ∷ g .others i)
+      ∙ ap (λ (fs : Fields). follow (step letter fs) (λ c. then aUnit (rest c))) (λ i. (g .part ∙ ap (λ (k : ℕ). take k s) (sub-zero z)) i ∷ g .others i)
 
   pub line-bad : (z ≡ 1 → ⊥) → lineOf s ≡ wrong
   line-bad n =
