@@ -13,7 +13,7 @@ use Rattle.bench_words.specs.Codec.{pick}
 use Rattle.bench_views.specs.View.{view}
 use Rattle.bench_views.specs.Fit.{SoundWords}
 use Rattle.sound_bench.specs.Sound.{soundWords}
-use Rattle.record_spec.specs.Operations.{Operation}
+use Rattle.record_spec.specs.Operations.{Op}
 use Rattle.record_spec.specs.Files.{recordsOf, fileOps}
 use Rattle.record_files.specs.declared.Scanned.{Scanned}
 use Rattle.record_files.specs.Scans.{scannedOf}
@@ -25,7 +25,7 @@ use Rattle.record_runs.specs.Runs.{RanAs, Ran, Refused, RanOf, RanAny, R
 -- ---- what was scanned
 
 pub record Held (file : List ℕ) (x : Scanned) : Type 0 where
-  pub ops : List Operation
+  pub ops : List Op
   pub said : fileOps file ≡ some ops
   pub count : x .count ≡ length ops
   pub start : x .start ≡ length (recordsOf ops)
@@ -34,7 +34,7 @@ module _ (file : List ℕ) (x : Scanned) (is : x ≡ scannedOf (fileOps file)) w
   pub held : x .whole ≡ true → Held file x
   held t = go (fileOps file) refl
     where
-      go : (o : Option (List Operation)) → fileOps file ≡ o → Held file x
+      go : (o : Option (List Op)) → fileOps file ≡ o → Held file x
       go none e = absurd (true≢false (sym t ∙ ap (λ (y : Scanned). y .whole) (is ∙ ap scannedOf e)))
       go (some ops) e =
           let q = is ∙ ap scannedOf e in
@@ -43,7 +43,7 @@ module _ (file : List ℕ) (x : Scanned) (is : x ≡ scannedOf (fileOps file)) w
   pub no-file : x .whole ≡ false → fileOps file ≡ none
   no-file t = go (fileOps file) refl
     where
-      go : (o : Option (List Operation)) → fileOps file ≡ o → fileOps file ≡ none
+      go : (o : Option (List Op)) → fileOps file ≡ o → fileOps file ≡ none
       go none e = e
       go (some ops) e = absurd (true≢false (sym (ap (λ (y : Scanned). y .whole) (is ∙ ap scannedOf e)) ∙ t))
 
@@ -57,11 +57,11 @@ module _ (b : Bench) (file : List ℕ) (slice : List ℤ) where
   unfolding runFile
   none-run e = rw (e, runFile)
 
-  small-run : (ops : List Operation) → fileOps file ≡ some ops → length slice < 4 * length ops → runFile b file slice ≡ refused 19 b slice
+  small-run : (ops : List Op) → fileOps file ≡ some ops → length slice < 4 * length ops → runFile b file slice ≡ refused 19 b slice
   unfolding runFile runOps
   small-run ops e h = rw (e, runFile) (rw (lt-leb (4 * length ops) (length slice) h, runOps))
 
-  whole-run : (ops : List Operation) → fileOps file ≡ some ops → 4 * length ops ≤ length slice → runFile b file slice ≡ answered b ops slice
+  whole-run : (ops : List Op) → fileOps file ≡ some ops → 4 * length ops ≤ length slice → runFile b file slice ≡ answered b ops slice
   unfolding runFile runOps
   whole-run ops e h = rw (e, runFile) (rw (le-leb (4 * length ops) (length slice) h, runOps))
 
@@ -101,11 +101,11 @@ module _ (b file : List ℕ) (slice : List ℤ) (W : SoundWords b) where
 
 module _ (b file : List ℕ) (slice : List ℤ) where
   pub any-no-file : fileOps file ≡ none → (r : Said) → r ≡ record { number = 23; count = 0 } → RanAny b file slice r b slice
-  any-no-file e r q = subst (λ (o : Option (List Operation)). RanOf o b file slice r b slice) (sym e) (record { is = q; words = refl; slices = refl })
+  any-no-file e r q = subst (λ (o : Option (List Op)). RanOf o b file slice r b slice) (sym e) (record { is = q; words = refl; slices = refl })
 
   module _ (x : Scanned) (h : Held file x) (r : Said) (b′ : List ℕ) (slice′ : List ℤ) where
     any-some : pick (soundWords b) (Ran b file slice r b′ slice′) (Refused 2 b slice r b′ slice′) → RanAny b file slice r b′ slice′
-    any-some p = subst (λ (o : Option (List Operation)). RanOf o b file slice r b′ slice′) (sym (h .said)) p
+    any-some p = subst (λ (o : Option (List Op)). RanOf o b file slice r b′ slice′) (sym (h .said)) p
 
     pub any-sound : soundWords b ≡ true → Ran b file slice r b′ slice′ → RanAny b file slice r b′ slice′
     any-sound s p = any-some (rw s p)

@@ -26,7 +26,7 @@ abbrev AllFree : Fields → Type 0
 AllFree [] = Unit {0}
 AllFree (f ∷ fs) = Free f × AllFree fs
 
-pub free-append : (a b : List ℕ) → Free a → Free b → Free (a ++ b)
+free-append : (a b : List ℕ) → Free a → Free b → Free (a ++ b)
 free-append [] b p q = q
 free-append (c ∷ a) b p q = (p .0, free-append a b (p .1) q)
 

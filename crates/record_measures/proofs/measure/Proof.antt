@@ -54,11 +54,11 @@ grow-requires c κs = search needs
 fuse-requires : tie.Need-fuse-requires
 fuse-requires c κs = search needs
 
-clear-requires : tie.Need-clear-requires
-clear-requires c κs = search needs
+unit-alone-requires : tie.Need-unit-alone-requires
+unit-alone-requires c κs = search needs
 
-check-requires : tie.Need-check-requires
-check-requires c κs = search needs
+unit-alone-requires-2 : tie.Need-unit-alone-requires-2
+unit-alone-requires-2 c κs = search needs
 
 nothing-requires-3 : tie.Need-nothing-requires-3
 nothing-requires-3 c κs = search needs
@@ -96,12 +96,12 @@ returns-8 c =
 returns-9 : tie.Need-returns-9
 returns-9 c =
     let a = c .before .before .before .before .before .before .before .args in
-    letter-is (a .t .now) (a .p) 67 (c .before .before .byte-at .result) (c .clear .result) (omega (arith, c .before .before .before .before .if2 .left, c .before .before .before .before .before .if1 .left)) (c .before .match .keys7) (c .before .before .byte-at .ensures .0) (c .clear .ensures (drop (a .p + 2) (a .t .now)))
+    letter-is (a .t .now) (a .p) 67 (c .before .before .byte-at .result) (c .unit-alone .result) (omega (arith, c .before .before .before .before .if2 .left, c .before .before .before .before .before .if1 .left)) (c .before .match .keys7) (c .before .before .byte-at .ensures .0) (c .unit-alone .ensures (drop (a .p + 2) (a .t .now)) .0)
 
 returns-10 : tie.Need-returns-10
 returns-10 c =
     let a = c .before .before .before .before .before .before .before .args in
-    letter-is (a .t .now) (a .p) 75 (c .before .before .byte-at .result) (c .check .result) (omega (arith, c .before .before .before .before .if2 .left, c .before .before .before .before .before .if1 .left)) (c .before .match .keys8) (c .before .before .byte-at .ensures .0) (c .check .ensures (drop (a .p + 2) (a .t .now)))
+    letter-is (a .t .now) (a .p) 75 (c .before .before .byte-at .result) (c .unit-alone2 .result) (omega (arith, c .before .before .before .before .if2 .left, c .before .before .before .before .before .if1 .left)) (c .before .match .keys8) (c .before .before .byte-at .ensures .0) (c .unit-alone2 .ensures (drop (a .p + 2) (a .t .now)) .1)
 
 returns-11 : tie.Need-returns-11
 returns-11 c =
@@ -129,8 +129,8 @@ measure-spec =
     set-state-requires
     grow-requires
     fuse-requires
-    clear-requires
-    check-requires
+    unit-alone-requires
+    unit-alone-requires-2
     nothing-requires-3
     returns-3
     returns-4

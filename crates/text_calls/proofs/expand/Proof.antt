@@ -1,9 +1,10 @@
 -- The serial's node is the ledger's, so the call's answer is the line's. Assumes nothing.
 use mathlib.Core.Path.{refl, ap}
+use mathlib.Core.Option.{some}
 use borrow.Author.Needs.{needs}
 use Rattle.ledger_spec.specs.Bench.{Handle}
 use Rattle.ledger_spec.specs.Calls.{Expand, perform}
-use Rattle.ledger_spec.specs.Grammar.{E}
+use Rattle.ledger_spec.specs.Operations.{E}
 use Rattle.ledger_spec.specs.Lines.{named, says}
 use Rattle.ledger_spec.specs.Named.{handleNamed}
 use Rattle.bench_views.specs.View.{view}
@@ -29,7 +30,7 @@ returns c =
     let k = s .args .serial .0 in
     let b = s .args .b .now in
     let h = c .before .before .before .before .named .result in
-    turned b (s .pre) (E u k) u (Expand u (named (view b) k)) refl (Expand u (handleNamed h)) (ap (λ (x : Handle). perform (view b) (Expand u x)) (c .before .before .before .before .named .ensures)) _ _ _
+    turned b (s .pre) (some (E u k)) u (Expand u (named (view b) k)) refl (Expand u (handleNamed h)) (ap (λ (x : Handle). perform (view b) (Expand u x)) (c .before .before .before .before .named .ensures)) _ _ _
     (c .before .before .expand-blossom .ensures) (c .tell .result) (c .tell .ensures)
 
 pub expand-spec : {M : Type 1} → statement M

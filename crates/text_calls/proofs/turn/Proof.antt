@@ -1,11 +1,12 @@
 -- Each arm does what its line says. Assumes nothing.
 use mathlib.Core.Path.{_≡_, subst}
+use mathlib.Core.Option.{some}
 use borrow.Author.Needs.{needs}
 use lib.IntN.{ℤ}
 use mir.Syntax.{w64}
 use mir.Val.{SFits}
 use mir.Facts.{toZ-ofZ}
-use Rattle.ledger_spec.specs.Grammar.{G}
+use Rattle.ledger_spec.specs.Operations.{G}
 use Rattle.text_lines.specs.declared.Line.the-variants.{Defect, Blossom, Expand, SetState, Grow, Fuse, Clear, Check, Wrong}
 use Rattle.text_calls.specs.Turned.{Turned}
 use Rattle.text_calls.proofs.Turning.{turned-wrong}
@@ -103,7 +104,7 @@ returns-5 c l before same is =
     let q : s .line ≡ Grow u z = cc in
     let ok : SFits w64 z = record { sfits = c .before .before .known-told5 .given .1 .0 .1 } in
     turned-as (s .b .now) (c .grow .result) (c .grow .last .0) l before (s .serials .now) (s .line) is (Grow u z) q
-    (subst (λ (y : ℤ). Turned (s .b .now) (G u y) (c .grow .result) (c .grow .last .0)) (toZ-ofZ ok) (c .grow .ensures))
+    (subst (λ (y : ℤ). Turned (s .b .now) (some (G u y)) (c .grow .result) (c .grow .last .0)) (toZ-ofZ ok) (c .grow .ensures))
 
 returns-6 : tie.Need-returns-6
 returns-6 c l before same is =
