@@ -5,6 +5,7 @@ use bench_words::WORDS;
 use kinds::GrowState;
 use kinds::Serial;
 use kinds::Vertex;
+use kinds::numbers;
 use outcomes::Made;
 use text_lines::Line;
 use text_numbers::Reply;
@@ -165,6 +166,6 @@ pub fn turn(
         } => fuse(b, parent, left, right),
         Line::Clear { unit } => clear(b, unit),
         Line::Check { unit } => check(b, unit),
-        Line::Wrong => text_numbers::silent(1, 0),
+        Line::Wrong => text_numbers::silent(numbers::LINE, 0),
     }
 }
