@@ -20,7 +20,7 @@ use Rattle.record_files.specs.Scans.{scannedOf}
 use Rattle.record_says.specs.Says.{answersOps, afterOps}
 use Rattle.record_says.specs.Runs.{inFours, Run, refused, answered, runOps, runFile}
 use Rattle.record_runs.specs.declared.Ran.{Ran as Said}
-use Rattle.record_runs.specs.Runs.{RanAs, Ran, Refused, RanOf, RanAny, Ready, AnswersOf, Answers}
+use Rattle.record_runs.specs.Runs.{RanAs, Ran, Refused, RanOf, RanAny, Laid, AnswersOf, Answers}
 
 -- ---- what was scanned
 
