@@ -37,7 +37,8 @@ same-length c = search needs
 returns-2 : tie.Need-returns-2
 returns-2 c =
     let d = c .before .before .before in
-    let t = d .before .before .before .before .before .before in
+    let e = d .before .before .before in
+    let t = e .before .before .before in
     let n = t .before .chunk-no in
     let a = t .before .before .before .before .args in
     opening-done (a .b .now) (a .chunk .now) (a .buf .now) (a .held) (a .out .now) (n .result) (n .ensures) (t .if1 .left) (d .answer-opening .ensures)

@@ -21,10 +21,11 @@ tell-requires c κs = search needs
 returns : tie.Need-returns
 unfolding says
 returns c =
-    let s = c .before .before .before .before .before .before in
+    let t = c .before .before .before .before in
+    let s = t .before .before in
     let u = s .args .unit in
     let v = s .args .vertex .0 in
-    turned (s .args .b .now) (s .pre) (some (D u v)) u (Defect u v) refl (Defect u v) refl _ _ _ (c .before .before .before .before .create-defect-node .ensures) (c .tell .result) (c .tell .ensures)
+    turned (s .args .b .now) (s .pre) (some (D u v)) u (Defect u v) refl (Defect u v) refl _ _ _ (t .create-defect-node .ensures) (c .tell .result) (c .tell .ensures)
 
 pub defect-spec : {M : Type 1} → statement M
 defect-spec = tie.close (tie.spec create-defect-node-requires keep-requires tell-requires returns)

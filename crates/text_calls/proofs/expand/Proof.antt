@@ -25,12 +25,13 @@ tell-requires c κs = search needs
 returns : tie.Need-returns
 unfolding says
 returns c =
-    let s = c .before .before .before .before .before .before .before in
+    let t = c .before .before .before .before in
+    let s = t .before .before .before in
     let u = s .args .unit in
     let k = s .args .serial .0 in
     let b = s .args .b .now in
-    let h = c .before .before .before .before .named .result in
-    turned b (s .pre) (some (E u k)) u (Expand u (named (view b) k)) refl (Expand u (handleNamed h)) (ap (λ (x : Handle). perform (view b) (Expand u x)) (c .before .before .before .before .named .ensures)) _ _ _
+    let h = t .named .result in
+    turned b (s .pre) (some (E u k)) u (Expand u (named (view b) k)) refl (Expand u (handleNamed h)) (ap (λ (x : Handle). perform (view b) (Expand u x)) (t .named .ensures)) _ _ _
     (c .before .before .expand-blossom .ensures) (c .tell .result) (c .tell .ensures)
 
 pub expand-spec : {M : Type 1} → statement M
