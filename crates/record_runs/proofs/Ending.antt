@@ -20,15 +20,15 @@ use Rattle.record_files.specs.Scans.{scannedOf}
 use Rattle.record_says.specs.Says.{answersOps, afterOps}
 use Rattle.record_says.specs.Runs.{inFours, Run, refused, answered, runOps, runFile}
 use Rattle.record_runs.specs.declared.Ran.{Ran as Said}
-use Rattle.record_runs.specs.Runs.{RanAs, Ran, Refused, RanOf, RanAny, Laid, AnswersOf, Answers}
+use Rattle.record_runs.specs.Runs.{RanAs, Ran, Refused, RanOf, RanAny, Listing, AnswersOf, Answers}
 
 -- ---- what was scanned
 
 module _ (file : List ℕ) (x : Scanned) (is : x ≡ scannedOf (fileOps file)) where
-  pub laid : x .whole ≡ true → Laid file (x .start) (x .count)
-  laid t = go (fileOps file) refl
+  pub listing : x .whole ≡ true → Listing file (x .start) (x .count)
+  listing t = go (fileOps file) refl
     where
-      go : (o : Option (List Op)) → fileOps file ≡ o → Laid file (x .start) (x .count)
+      go : (o : Option (List Op)) → fileOps file ≡ o → Listing file (x .start) (x .count)
       go none e = absurd (true≢false (sym t ∙ ap (λ (y : Scanned). y .whole) (is ∙ ap scannedOf e)))
       go (some ops) e =
           let q = is ∙ ap scannedOf e in
@@ -70,7 +70,7 @@ module _ (b file : List ℕ) (slice : List ℤ) (W : SoundWords b) where
   pub ran-no-file : fileOps file ≡ none → (r : Said) → r ≡ record { number = 23; count = 0 } → Ran b file slice r b slice
   ran-no-file e r q = stays 23 (λ z. omega arith) (none-run (view b) file slice e) r q
 
-  module _ (list count : ℕ) (h : Laid file list count) where
+  module _ (list count : ℕ) (h : Listing file list count) where
     pub ran-small : length slice / 4 < count → (r : Said) → r ≡ record { number = 19; count = 0 } → Ran b file slice r b slice
     ran-small l r q = let n = h .many in stays 19 (λ z. omega arith) (small-run (view b) file slice (h .ops) (h .whole) (omega arith)) r q
 
@@ -94,12 +94,12 @@ module _ (b file : List ℕ) (slice : List ℤ) where
   pub any-no-file : fileOps file ≡ none → (r : Said) → r ≡ record { number = 23; count = 0 } → RanAny b file slice r b slice
   any-no-file e r q = subst (λ (o : Option (List Op)). RanOf o b file slice r b slice) (sym e) (record { is = q; words = refl; slices = refl })
 
-  module _ (list count : ℕ) (h : Laid file list count) (r : Said) (b′ : List ℕ) (slice′ : List ℤ) where
+  module _ (list count : ℕ) (h : Listing file list count) (r : Said) (b′ : List ℕ) (slice′ : List ℤ) where
     any-some : pick (soundWords b) (Ran b file slice r b′ slice′) (Refused 2 b slice r b′ slice′) → RanAny b file slice r b′ slice′
     any-some p = subst (λ (o : Option (List Op)). RanOf o b file slice r b′ slice′) (sym (h .whole)) p
 
     pub any-sound : soundWords b ≡ true → Ran b file slice r b′ slice′ → RanAny b file slice r b′ slice′
     any-sound s p = any-some (rw s p)
 
-  pub any-broken : (list count : ℕ) (h : Laid file list count) → soundWords b ≡ false → (r : Said) → r ≡ record { number = 2; count = 0 } → RanAny b file slice r b slice
+  pub any-broken : (list count : ℕ) (h : Listing file list count) → soundWords b ≡ false → (r : Said) → r ≡ record { number = 2; count = 0 } → RanAny b file slice r b slice
   any-broken list count h s r q = any-some list count h r b slice (rw s (record { is = q; words = refl; slices = refl }))

@@ -90,20 +90,20 @@ AllRunning b₀ file slice₀ b slice i = (ops : List Op) → fileOps file ≡ s
 
 module _ (file : List ℕ) (list count room : ℕ) (y : Ready file list count room) where
   pub listed-at : (i : ℕ) → i < count → Listed file list i
-  listed-at i h = record { ops = y .laid .ops; whole = y .laid .whole; starts = y .laid .starts; low = omega (arith, y .laid .many) }
+  listed-at i h = record { ops = y .listing .ops; whole = y .listing .whole; starts = y .listing .starts; low = omega (arith, y .listing .many) }
 
   pub recorded-at : (i p : ℕ) → Placed file i p → Recorded file p
-  recorded-at i p q = let s = q (y .laid .ops) (y .laid .whole) in record { op = s .op; after = s .after; read = s .read }
+  recorded-at i p q = let s = q (y .listing .ops) (y .listing .whole) in record { op = s .op; after = s .after; read = s .read }
 
   same-many : (ops : List Op) → fileOps file ≡ some ops → count ≡ length ops
-  same-many ops e = y .laid .many ∙ ap length (Option·some-injective (y .laid .ops) ops (sym (y .laid .whole) ∙ e))
+  same-many ops e = y .listing .many ∙ ap length (Option·some-injective (y .listing .ops) ops (sym (y .listing .whole) ∙ e))
 
   module _ (b₀ : List ℕ) (slice₀ : List ℤ) (same : length slice₀ ≡ room) (b : List ℕ) (slice : List ℤ) (i : ℕ) (w : AllRunning b₀ file slice₀ b slice i) where
     pub sound-now : SoundWords b
-    sound-now = w (y .laid .ops) (y .laid .whole) .words
+    sound-now = w (y .listing .ops) (y .listing .whole) .words
 
     pub still-long : length slice ≡ length slice₀
-    still-long = w (y .laid .ops) (y .laid .whole) .long
+    still-long = w (y .listing .ops) (y .listing .whole) .long
 
     pub turn : i < count → (p : ℕ) → Placed file i p → (r : Reply) (b′ : List ℕ) → DoneAt b (recordIn (drop p file)) r b′ → AllRunning b₀ file slice₀ b′ (sets slice (4 * i) (fourOf r)) (i + 1)
     turn h p q r b′ d ops e =

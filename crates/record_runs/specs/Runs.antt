@@ -51,7 +51,7 @@ RanAny b file slice r b′ slice′ = RanOf (fileOps file) b file slice r b′ s
 -- ---- inside a run
 
 -- the file is whole, with its list at a place, and as many records
-pub record Laid (file : List ℕ) (list count : ℕ) : Type 0 where
+pub record Listing (file : List ℕ) (list count : ℕ) : Type 0 where
   pub ops : List Op
   pub whole : fileOps file ≡ some ops
   pub starts : list ≡ length (recordsOf ops)
@@ -59,7 +59,7 @@ pub record Laid (file : List ℕ) (list count : ℕ) : Type 0 where
 
 -- and there is room for their answers
 pub record Ready (file : List ℕ) (list count room : ℕ) : Type 0 where
-  pub laid : Laid file list count
+  pub listing : Listing file list count
   pub fits : 4 * count ≤ room
 
 pub record AnswersOf (ops : List Op) (b : List ℕ) (slice : List ℤ) (b′ : List ℕ) (slice′ : List ℤ) : Type 0 where

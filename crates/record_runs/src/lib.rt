@@ -11,7 +11,7 @@ ghost use Prim.Native.Nat.{_+_, _*_, _≤_};
 ghost use lib.ListN.{length};
 ghost use lib.Seq.{sets};
 ghost use Rattle.bench_views.specs.Fit.{SoundWords};
-ghost use Rattle.record_runs.specs.Runs.{fourOf, Laid, Ready, Answers, Ran as «As-run», RanAny};
+ghost use Rattle.record_runs.specs.Runs.{fourOf, Listing, Ready, Answers, Ran as «As-run», RanAny};
 
 // A run's number, and how many operations it answered.
 pub struct Ran {
@@ -63,7 +63,7 @@ fn run_whole(
     count: usize,
     answers: &mut [i64],
 ) -> Ran
-    requires { ⌜ SoundWords (now b) × Laid (now file) list count ⌝ }
+    requires { ⌜ SoundWords (now b) × Listing (now file) list count ⌝ }
     ensures { λ r. ⌜ «As-run» (now (b .entry)) (now (file .entry)) (now (answers .entry)) r (now (b .exit)) (now (answers .exit)) ⌝ }
 {
     if answers.len() / 4 < count {

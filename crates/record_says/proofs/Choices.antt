@@ -10,7 +10,6 @@ use borrow.Author.Tests.{eqb-true}
 use Rattle.ledger_spec.specs.Numbers.{FILE}
 use Rattle.ledger_spec.specs.Tests.{isSome}
 use Rattle.ledger_spec.specs.Fields.{upto, cut}
-use Rattle.ledger_spec.specs.Operations.{D, B, E, S, G, F, C, K}
 use Rattle.ledger_spec.specs.Grammar.{Line, wrong, Fields, lineOf}
 use Rattle.ledger_spec.specs.Opening.{chosen}
 use Rattle.ledger_spec.specs.Program.{ended, linesOf}
@@ -51,22 +50,12 @@ chosen-wrong (a ∷ s ∷ d ∷ f ∷ l) m e = absurd (none-some refl e)
 
 -- ---- no operation has such a line
 
-said : (op : Op) → isSome (opOfLine (lineSaid op)) ≡ true
-said (D u v) = refl
-said (B u ms) = refl
-said (E u k) = refl
-said (S u k g) = refl
-said (G u l) = refl
-said (F p l r) = refl
-said (C u) = refl
-said (K u) = refl
-
 line-unchosen : (op : Op) → lineOf (lineOfOp op) ≡ lineSaid op → chosen (lineOfOp op) ≡ none
 line-unchosen op h = go (chosen (lineOfOp op)) refl
   where
     go : (o : Option Bool) → chosen (lineOfOp op) ≡ o → o ≡ none
     go none e = refl
-    go (some m) e = absurd (true≢false (sym (said op) ∙ ap (λ (l : Line). isSome (opOfLine l)) (sym h ∙ chosen-wrong (lineOfOp op) m e)))
+    go (some m) e = absurd (none-some (chosen-wrong (lineOfOp op) m e) h)
 
 front : Fields → List ℕ
 front [] = []

@@ -1,7 +1,7 @@
 -- FILE, BROKEN, or the run on sound words. Assumes nothing.
 use mathlib.Core.Path.{sym, _∙_}
 use borrow.Author.Tests.{not-true, not-false}
-use Rattle.record_runs.proofs.Ending.{laid, no-file, any-no-file, any-sound, any-broken}
+use Rattle.record_runs.proofs.Ending.{listing, no-file, any-no-file, any-sound, any-broken}
 use borrow.Author.Needs.{needs}
 use Rattle.record_runs.proofs.run.Statement.{statement}
 use Rattle.record_runs.proofs.run.Tie as tie
@@ -30,7 +30,7 @@ returns-2 c =
     let s = c .before .before in
     let x = s .before .before .before .before in
     let a = x .before .before .args in
-    let h = laid (a .file .now) (x .scan .result) (x .scan .ensures) (not-false _ (s .before .before .if1 .left)) in
+    let h = listing (a .file .now) (x .scan .result) (x .scan .ensures) (not-false _ (s .before .before .if1 .left)) in
     any-broken (a .b .now) (a .file .now) (a .answers .now) (x .scan .result .start) (x .scan .result .count) h
     (sym (s .is-bench .ensures .is) ∙ not-true _ (c .before .if2 .taken)) (c .refused2 .result) (c .refused2 .ensures)
 
@@ -39,7 +39,7 @@ run-whole-requires c κs =
     let s = c .before .before .before in
     let x = s .before .before .before .before in
     let f = x .before .before .args .file .now in
-    (s .is-bench .ensures .says (not-false _ (c .before .before .if2 .left)), laid f (x .scan .result) (x .scan .ensures) (not-false _ (s .before .before .if1 .left)))
+    (s .is-bench .ensures .says (not-false _ (c .before .before .if2 .left)), listing f (x .scan .result) (x .scan .ensures) (not-false _ (s .before .before .if1 .left)))
 
 same-length : tie.Need-same-length
 same-length c = search needs
@@ -50,7 +50,7 @@ returns-3 c =
     let s = t .before in
     let x = s .before .before .before .before in
     let a = x .before .before .args in
-    let h = laid (a .file .now) (x .scan .result) (x .scan .ensures) (not-false _ (s .before .before .if1 .left)) in
+    let h = listing (a .file .now) (x .scan .result) (x .scan .ensures) (not-false _ (s .before .before .if1 .left)) in
     any-sound (a .b .now) (a .file .now) (a .answers .now) (x .scan .result .start) (x .scan .result .count) h _ _ _
     (sym (s .is-bench .ensures .is) ∙ not-false _ (t .if2 .left)) (c .before .run-whole .ensures)
 

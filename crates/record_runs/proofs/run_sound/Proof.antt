@@ -1,6 +1,6 @@
 -- FILE, or the run of a whole file. Assumes nothing.
 use borrow.Author.Tests.{not-true, not-false}
-use Rattle.record_runs.proofs.Ending.{laid, no-file, ran-no-file}
+use Rattle.record_runs.proofs.Ending.{listing, no-file, ran-no-file}
 use borrow.Author.Needs.{needs}
 use Rattle.record_runs.proofs.run_sound.Statement.{statement}
 use Rattle.record_runs.proofs.run_sound.Tie as tie
@@ -22,7 +22,7 @@ run-whole-requires : tie.Need-run-whole-requires
 run-whole-requires c κs =
     let x = c .before .before .before .before in
     let z = x .before .before in
-    (z .pre, laid (z .args .file .now) (x .scan .result) (x .scan .ensures) (not-false _ (c .before .before .if1 .left)))
+    (z .pre, listing (z .args .file .now) (x .scan .result) (x .scan .ensures) (not-false _ (c .before .before .if1 .left)))
 
 same-length : tie.Need-same-length
 same-length c = search needs

@@ -18,7 +18,7 @@ returns c =
 go-requires : tie.Need-go-requires
 go-requires c κs =
     let z = c .before .before .before .before in
-    (z .pre .0, record { laid = z .pre .1; fits = omega (arith, c .before .before .if1 .left) })
+    (z .pre .0, record { listing = z .pre .1; fits = omega (arith, c .before .before .if1 .left) })
 
 same-length : tie.Need-same-length
 same-length c = search needs
