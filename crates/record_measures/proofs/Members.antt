@@ -9,7 +9,8 @@ use lib.Dec.{eqb, leb}
 use lib.ListN.{length}
 use borrow.Author.Tests.{le-leb, lt-leb, leb-true, leb-false}
 use Rattle.ledger_spec.specs.Decimals.{decimal}
-use Rattle.record_spec.specs.Operations.{Member, Operation, B, serialOf, lineOfOp, self, selves}
+use Rattle.ledger_spec.specs.Operations.{B}
+use Rattle.record_spec.specs.Operations.{Member, Op, serialOf, lineOfOp, self, selves}
 use Rattle.record_spec.specs.Records.{bytesOf}
 use Rattle.record_spec.specs.Reader.{membersGood, serialsGood, good}
 use Rattle.record_spec.specs.Places.{at, total}

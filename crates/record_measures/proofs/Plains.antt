@@ -9,9 +9,10 @@ use lib.ListN.{length, drop}
 use borrow.Author.Tests.{le-leb, lt-leb}
 use Rattle.ledger_spec.specs.Bench.{State, grows, stays, shrinks, rate}
 use Rattle.ledger_spec.specs.Decimals.{digits as digits-of, decimal, signed}
+use Rattle.ledger_spec.specs.Operations.{D, E, S, G, F, C, K}
 use Rattle.text_lines.specs.Texts.{letterOf}
 use Rattle.record_spec.specs.Numbers.{bytes, lengthIn}
-use Rattle.record_spec.specs.Operations.{D, E, S, G, F, C, K, self}
+use Rattle.record_spec.specs.Operations.{self}
 use Rattle.record_spec.specs.Records.{fields, spelled, bytesOf}
 use Rattle.record_spec.specs.Reader.{stateIn, rest, serialsGood}
 use Rattle.record_spec.specs.Places.{at}

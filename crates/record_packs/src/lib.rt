@@ -40,7 +40,7 @@ fn fill(text: &[u8], out: &mut [u8], start: usize)
     let mut p: usize = 0;
     let mut entry = start;
     while from < text.len() {
-        let e = record_weights::line_end(text, from);
+        let e = text_fields::part_end(text, from, b'\n');
         let line = text_lines::read_line(&text[from..e], &mut serials);
         let next = record_puts::put_record(out, p, line, &serials);
         record_numbers::put_four(out, entry, p as u64);

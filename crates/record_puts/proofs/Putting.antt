@@ -7,11 +7,12 @@ use lib.IntN.{ℤ}
 use lib.ListN.{length, take, drop, getD, length-append, length-map, length-drop}
 use lib.Seq.{sets, drop-cons, drop-length, length-take-le, getD-take}
 use Rattle.ledger_spec.specs.Bench.{State}
+use Rattle.ledger_spec.specs.Operations.{D, B, E, S, G, F, C, K}
 use Rattle.text_decimals.specs.Wrote.{Wrote}
 use Rattle.text_decimals.proofs.Writes.{sets-append}
 use Rattle.text_lines.specs.Texts.{letterOf}
 use Rattle.record_spec.specs.Numbers.{bytes, complement}
-use Rattle.record_spec.specs.Operations.{Member, itself, D, B, E, S, G, F, C, K}
+use Rattle.record_spec.specs.Operations.{Member, itself}
 use Rattle.record_spec.specs.Records.{memberFields, fields, spelled, stateByte, bytesOf}
 use Rattle.record_spec.proofs.Numbers.{length-bytes}
 use Rattle.record_puts.specs.Puts.{headOf}

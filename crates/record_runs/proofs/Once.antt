@@ -11,7 +11,7 @@ use Rattle.bench_views.specs.Fit.{SoundWords}
 use Rattle.bench_views.proofs.Unique.{words-same}
 use Rattle.bench_views.proofs.Fits.{fit-of}
 use Rattle.sound_bench.specs.Sound.{soundWords}
-use Rattle.record_spec.specs.Operations.{Operation}
+use Rattle.record_spec.specs.Operations.{Op}
 use Rattle.record_spec.specs.Files.{fileOps}
 use Rattle.record_says.specs.Runs.{Run}
 use Rattle.record_runs.specs.declared.Ran.{Ran as Said}
@@ -50,6 +50,6 @@ module _ (b file : List ℕ) (s : List ℤ) (r q : Said) (b′ b″ : List ℕ) 
       tested true x y = sound-once x y
       tested false x y = refused-once 2 b s r q b′ b″ s′ s″ x y
 
-      go : (o : Option (List Operation)) → RanOf o b file s r b′ s′ → RanOf o b file s q b″ s″ → Same r q b′ b″ s′ s″
+      go : (o : Option (List Op)) → RanOf o b file s r b′ s′ → RanOf o b file s q b″ s″ → Same r q b′ b″ s′ s″
       go none x y = refused-once 23 b s r q b′ b″ s′ s″ x y
       go (some ops) x y = tested (soundWords b) x y

@@ -2,6 +2,7 @@
 use Prim.Native.Nat.{ℕ}
 use mathlib.Core.Path.{_≡_, refl, sym, _∙_, ap}
 use mathlib.Core.Bool.{true}
+use mathlib.Core.Option.{some}
 use mathlib.Core.List.{List}
 use lib.IntN.{pos}
 use Rattle.kinds.specs.declared.Handle.{Handle}
@@ -11,7 +12,8 @@ use Rattle.ledger_spec.specs.Calls.{Reply as Done, Call, perform}
 use Rattle.ledger_spec.specs.Answers.{Answer, whole, ask}
 use Rattle.ledger_spec.specs.Sound.{sound}
 use Rattle.ledger_spec.specs.Check.{checkOf}
-use Rattle.ledger_spec.specs.Grammar.{Line, K, wrong}
+use Rattle.ledger_spec.specs.Operations.{K}
+use Rattle.ledger_spec.specs.Grammar.{Line, wrong}
 use Rattle.ledger_spec.specs.Lines.{LineAnswer, shown, calls, checks, says}
 use Rattle.ledger_laws.proofs.Answered.{answer-true}
 use Rattle.ledger_laws.proofs.Asked.{ask-true}
@@ -53,7 +55,7 @@ module _ (b : List ℕ) (W : SoundWords b) where
   turned l = gave (says (view b) l)
 
   -- a check
-  pub turned-check : (u n v : ℕ) (i : ℕ) → (n, (v, i)) ≡ checkOf (view b) u → (r : Reply) → numbersOf r ≡ shown n v (view b) u → Turned b (K u) r b
+  pub turned-check : (u n v : ℕ) (i : ℕ) → (n, (v, i)) ≡ checkOf (view b) u → (r : Reply) → numbersOf r ≡ shown n v (view b) u → Turned b (some (K u)) r b
   unfolding says checks
   turned-check u n v i e r t =
       let p : (n, (v, i)) ≡ ask (view b) (0, 0) (checkOf (view b) u) = e ∙ sym (ask-true (view b) (0, 0) (checkOf (view b) u) (W .sound)) in

@@ -1,8 +1,9 @@
 -- The call's answer is the line's. Assumes nothing.
 use mathlib.Core.Path.{refl}
+use mathlib.Core.Option.{some}
 use borrow.Author.Needs.{needs}
 use Rattle.ledger_spec.specs.Calls.{Clear}
-use Rattle.ledger_spec.specs.Grammar.{C}
+use Rattle.ledger_spec.specs.Operations.{C}
 use Rattle.ledger_spec.specs.Lines.{says}
 use Rattle.outcomes.proofs.Outcomes.{sound-after}
 use Rattle.text_calls.proofs.Turning.{turned}
@@ -20,7 +21,7 @@ unfolding says
 returns c =
     let s = c .before .before .before .before in
     let u = s .args .unit in
-    turned (s .args .b .now) (s .pre) (C u) u (Clear u) refl (Clear u) refl _ _ _ (c .before .before .clear .ensures) (c .tell .result) (c .tell .ensures)
+    turned (s .args .b .now) (s .pre) (some (C u)) u (Clear u) refl (Clear u) refl _ _ _ (c .before .before .clear .ensures) (c .tell .result) (c .tell .ensures)
 
 pub clear-spec : {M : Type 1} → statement M
 clear-spec = tie.close (tie.spec clear-requires tell-requires returns)

@@ -1,8 +1,9 @@
 -- The call's answer is the line's. Assumes nothing.
 use mathlib.Core.Path.{refl}
+use mathlib.Core.Option.{some}
 use borrow.Author.Needs.{needs}
 use Rattle.ledger_spec.specs.Calls.{Fuse}
-use Rattle.ledger_spec.specs.Grammar.{F}
+use Rattle.ledger_spec.specs.Operations.{F}
 use Rattle.ledger_spec.specs.Lines.{says}
 use Rattle.outcomes.proofs.Outcomes.{sound-after}
 use Rattle.text_calls.proofs.Turning.{turned}
@@ -20,7 +21,7 @@ unfolding says
 returns c =
     let s = c .before .before .before .before in
     let d = Fuse (s .args .parent) (s .args .left) (s .args .right) in
-    turned (s .args .b .now) (s .pre) (F (s .args .parent) (s .args .left) (s .args .right)) (s .args .parent) d refl d refl _ _ _ (c .before .before .fuse .ensures) (c .tell .result) (c .tell .ensures)
+    turned (s .args .b .now) (s .pre) (some (F (s .args .parent) (s .args .left) (s .args .right))) (s .args .parent) d refl d refl _ _ _ (c .before .before .fuse .ensures) (c .tell .result) (c .tell .ensures)
 
 pub fuse-spec : {M : Type 1} → statement M
 fuse-spec = tie.close (tie.spec fuse-requires tell-requires returns)
