@@ -60,9 +60,11 @@ seat-requires c κs = let r = c .before .before .before .loop .inv .ring in (c .
 
 take-in-requires : tie.Need-take-in-requires Inv-loop μ-loop
 take-in-requires c κs =
-    let l = c .before .before .before .before .loop .inv in
-    let f = c .before .before .before .before .before .before .before .before .before .before .load-interface in
-    (loop-steady l, loop-ranged l (c .before .before .before .loop-test .taken), loop-total l (f .result) (f .ensures) (c .before .before .before .before .before .before .before .before .before .lag .ensures))
+    let at-loop = c .before .before .before .before in
+    let at-lag = at-loop .before .before .before .before .before in
+    let at-load-interface = at-lag .before in
+    let l = at-loop .loop .inv in
+    (loop-steady l, loop-ranged l (c .before .before .before .loop-test .taken), loop-total l (at-load-interface .load-interface .result) (at-load-interface .load-interface .ensures) (at-lag .lag .ensures))
 
 add-size : tie.Need-add-size Inv-loop μ-loop
 add-size c =
@@ -110,8 +112,10 @@ add-push c = omega (arith, loop-range (c .before .before .before .before .before
 
 push-requires : tie.Need-push-requires Inv-loop μ-loop
 push-requires c κs =
-    let l = c .before .before .before .before .before .loop .inv in
-    let y = loop-ready l _ (c .before .before .before .before .before .before .before .before .free-slot .ensures) in
+    let at-loop = c .before .before .before .before .before in
+    let at-free-slot = at-loop .before .before .before in
+    let l = at-loop .loop .inv in
+    let y = loop-ready l _ (at-free-slot .free-slot .ensures) in
     (l .ring .root .low, y .0, y .1)
 
 returns : tie.Need-returns Inv-loop μ-loop

@@ -23,8 +23,10 @@ store-node-requires c κs = search needs
 
 returns : tie.Need-returns
 returns c =
-    let a = c .before .before .before .before .before .before .before .before .args in
-    release-by (a .b .now) (a .at) (c .before .before .before .before .load-node .result) (c .before .before .remark .result) (c .before .before .before .before .before .before .total-of .ensures .0) (c .before .before .before .before .load-node .ensures) (c .before .before .before .no-seat .ensures) (c .before .before .remark .ensures) (c .store-node .ensures)
+    let at-load-node = c .before .before .before .before in
+    let at-total-of = at-load-node .before .before in
+    let start = at-total-of .before .before in
+    release-by (start .args .b .now) (start .args .at) (at-load-node .load-node .result) (c .before .before .remark .result) (at-total-of .total-of .ensures .0) (at-load-node .load-node .ensures) (c .before .before .before .no-seat .ensures) (c .before .before .remark .ensures) (c .store-node .ensures)
 
 pub release-spec : {M : Type 1} → statement M
 release-spec =

@@ -51,9 +51,10 @@ release-requires c κs =
 
 add-i : tie.Need-add-i Inv-loop μ-loop
 add-i c =
+    let at-load-node = c .before .before .before .before .before .before .before in
     let s = c .before .before .before .before .before .before .before .before .before .before .before in
     let r = expand-reach (s .args .b .now) (s .args .unit) (s .args .h) (s .pre .0) (s .pre .1) in
-    omega (arith, r .few, ap (λ (x : Node). x .count) (c .before .before .before .before .before .before .before .load-node .ensures), c .before .before .loop-test .taken)
+    omega (arith, r .few, ap (λ (x : Node). x .count) (at-load-node .load-node .ensures), c .before .before .loop-test .taken)
 
 loop-less : tie.Need-loop-less Inv-loop μ-loop
 loop-less c = search needs

@@ -25,8 +25,11 @@ rate-of-requires c κs = search needs
 
 returns : tie.Need-returns
 returns c =
-    let a = c .before .before .before .before .before .before .before .before .before .args in
-    take-by (a .b .now) (a .w) (a .seat) (c .before .before .before .before .load-node .result) (c .before .before .before .remark .result) (c .before .before .before .before .before .before .before .before .spot .ensures .0) (c .before .before .before .before .before .before .total-of .ensures .0) (c .before .before .before .before .load-node .ensures) (c .before .before .before .remark .ensures) (c .before .store-node .ensures) (c .rate-of .ensures .0) (c .rate-of .ensures .1)
+    let at-load-node = c .before .before .before .before in
+    let at-total-of = at-load-node .before .before in
+    let at-spot = at-total-of .before .before in
+    let start = at-spot .before in
+    take-by (start .args .b .now) (start .args .w) (start .args .seat) (at-load-node .load-node .result) (c .before .before .before .remark .result) (at-spot .spot .ensures .0) (at-total-of .total-of .ensures .0) (at-load-node .load-node .ensures) (c .before .before .before .remark .ensures) (c .before .store-node .ensures) (c .rate-of .ensures .0) (c .rate-of .ensures .1)
 
 pub take-in-spec : {M : Type 1} → statement M
 take-in-spec =

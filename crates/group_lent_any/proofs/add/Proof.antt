@@ -29,13 +29,28 @@ is-form-requires : tie.Need-is-form-requires
 is-form-requires c κs = search needs
 
 returns-3 : tie.Need-returns-3
-returns-3 c = let s = c .before .before .before .before .before .before .before .before in skips _ _ _ (third-fails _ _ _ (sym (c .before .before .before .before .before .before .before .is-bench .ensures .is) ∙ not-false _ (c .before .before .before .before .before .before .if1 .left)) (is-yes (s .args .w .now) _ (c .before .before .before .before .is-group .ensures) (c .before .before .before .if2 .left)) (sym (rw (c .before .before .five-in .ensures) at (c .before .is-form .ensures)) ∙ not-true _ (c .if3 .taken))) (refl, refl)
+returns-3 c =
+    let at-is-group = c .before .before .before .before in
+    let at-if1 = at-is-group .before .before in
+    let at-is-bench = at-if1 .before in
+    let s = c .before .before .before .before .before .before .before .before in skips _ _ _ (third-fails _ _ _ (sym (at-is-bench .is-bench .ensures .is) ∙ not-false _ (at-if1 .if1 .left)) (is-yes (s .args .w .now) _ (at-is-group .is-group .ensures) (c .before .before .before .if2 .left)) (sym (rw (c .before .before .five-in .ensures) at (c .before .is-form .ensures)) ∙ not-true _ (c .if3 .taken))) (refl, refl)
 
 add-requires : tie.Need-add-requires
-add-requires c κs = let s = c .before .before .before .before .before .before .before .before .before in ((c .before .before .before .before .before .before .before .before .is-bench .ensures .says (not-false _ (c .before .before .before .before .before .before .before .if1 .left)), says-sound (s .args .w .now) _ (c .before .before .before .before .before .is-group .ensures) (c .before .before .before .before .if2 .left)), sym (rw (c .before .before .before .five-in .ensures) at (c .before .before .is-form .ensures)) ∙ not-false _ (c .before .if3 .left))
+add-requires c κs =
+    let at-if2 = c .before .before .before .before in
+    let at-is-group = at-if2 .before in
+    let at-if1 = at-is-group .before .before in
+    let at-is-bench = at-if1 .before in
+    let s = c .before .before .before .before .before .before .before .before .before in ((at-is-bench .is-bench .ensures .says (not-false _ (at-if1 .if1 .left)), says-sound (s .args .w .now) _ (at-is-group .is-group .ensures) (at-if2 .if2 .left)), sym (rw (c .before .before .before .five-in .ensures) at (c .before .before .is-form .ensures)) ∙ not-false _ (c .before .if3 .left))
 
 returns-4 : tie.Need-returns-4
-returns-4 c = let s = c .before .before .before .before .before .before .before .before .before .before in picks _ _ _ (all-pass _ _ _ (sym (c .before .before .before .before .before .before .before .before .before .is-bench .ensures .is) ∙ not-false _ (c .before .before .before .before .before .before .before .before .if1 .left)) (is-yes (s .args .w .now) _ (c .before .before .before .before .before .before .is-group .ensures) (c .before .before .before .before .before .if2 .left)) (sym (rw (c .before .before .before .before .five-in .ensures) at (c .before .before .before .is-form .ensures)) ∙ not-false _ (c .before .before .if3 .left))) (c .add .ensures)
+returns-4 c =
+    let at-five-in = c .before .before .before .before in
+    let at-if2 = at-five-in .before in
+    let at-is-group = at-if2 .before in
+    let at-if1 = at-is-group .before .before in
+    let at-is-bench = at-if1 .before in
+    let s = c .before .before .before .before .before .before .before .before .before .before in picks _ _ _ (all-pass _ _ _ (sym (at-is-bench .is-bench .ensures .is) ∙ not-false _ (at-if1 .if1 .left)) (is-yes (s .args .w .now) _ (at-is-group .is-group .ensures) (at-if2 .if2 .left)) (sym (rw (at-five-in .five-in .ensures) at (c .before .before .before .is-form .ensures)) ∙ not-false _ (c .before .before .if3 .left))) (c .add .ensures)
 
 pub add-spec : {M : Type 1} → statement M
 add-spec =

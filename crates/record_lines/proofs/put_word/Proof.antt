@@ -20,7 +20,10 @@ same-length : tie.Need-same-length
 same-length c = search needs
 
 returns : tie.Need-returns
-returns c = same-text (c .before .before .before .before .before .before .before .args .out .now) (c .before .before .before .before .before .before .before .args .at) _ _ _ _ (ap (λ (k : ℕ). 32 ∷ decimal k) (c .before .before .before .before .four-at .ensures .0)) (c .before .before .put-field .ensures)
+returns c =
+    let at-four-at = c .before .before .before .before in
+    let start = at-four-at .before .before .before in
+    same-text (start .args .out .now) (start .args .at) _ _ _ _ (ap (λ (k : ℕ). 32 ∷ decimal k) (at-four-at .four-at .ensures .0)) (c .before .before .put-field .ensures)
 
 pub put-word-spec : {M : Type 1} → statement M
 put-word-spec =

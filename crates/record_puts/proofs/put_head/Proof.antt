@@ -18,15 +18,18 @@ put-byte-requires : tie.Need-put-byte-requires
 put-byte-requires c κs = search needs
 
 put-byte-requires-2 : tie.Need-put-byte-requires-2
-put-byte-requires-2 c κs = omega (arith, c .before .before .before .put-byte .ensures .next, c .before .before .before .put-byte .kept .0, length-bytes 1 (c .before .before .before .before .before .before .args .letter), c .before .before .before .before .before .before .pre)
+put-byte-requires-2 c κs =
+    let start = c .before .before .before .before .before .before in
+    omega (arith, c .before .before .before .put-byte .ensures .next, c .before .before .before .put-byte .kept .0, length-bytes 1 (start .args .letter), start .pre)
 
 same-length : tie.Need-same-length
 same-length c = search needs
 
 returns : tie.Need-returns
 returns c =
-    let a = c .before .before .before .before .before .before .before .before .before .args in
-    chain (a .out .now) (a .at) (bytes 1 (a .letter)) _ _ (bytes 1 (a .unit)) _ _ (c .before .before .before .before .before .before .put-byte .ensures) (c .before .before .put-byte2 .ensures)
+    let at-put-byte = c .before .before .before .before .before .before in
+    let start = at-put-byte .before .before .before in
+    chain (start .args .out .now) (start .args .at) (bytes 1 (start .args .letter)) _ _ (bytes 1 (start .args .unit)) _ _ (at-put-byte .put-byte .ensures) (c .before .before .put-byte2 .ensures)
 
 pub put-head-spec : {M : Type 1} → statement M
 put-head-spec = tie.close (tie.spec put-byte-requires put-byte-requires-2 same-length returns)

@@ -38,12 +38,14 @@ same-length c = search needs
 
 returns-2 : tie.Need-returns-2
 returns-2 c =
+    let at-grow = c .before .before .before .before in
+    let at-if1 = at-grow .before .before in
+    let at-judge = at-if1 .before .before in
     let s = c .before .before .before .before .before .before .before .before .before .before .before .before in
-    let j = c .before .before .before .before .before .before .before .before .judge in
-    let z = c .before .before .before .before .before .before .if1 .left in
+    let z = at-if1 .if1 .left in
     let a = s .args in
     let l = toZ-ofZ (s .fits .length) in
-    all-done (a .b .now) (a .unit) (a .length) (a .groups .now) (a .out .now) _ (rw l at (j .ensures)) z _ _ _ (rw l at (c .before .before .before .before .grow .ensures .0)) (rw l at (c .before .before .put-lengths .ensures))
+    all-done (a .b .now) (a .unit) (a .length) (a .groups .now) (a .out .now) _ (rw l at (at-judge .judge .ensures)) z _ _ _ (rw l at (at-grow .grow .ensures .0)) (rw l at (c .before .before .put-lengths .ensures))
 
 pub grow-recorded-spec : {M : Type 1} → statement M
 grow-recorded-spec =

@@ -46,10 +46,11 @@ same-length-3 c = search needs
 
 returns-2 : tie.Need-returns-2
 returns-2 c =
-    let a = c .before .before .before .before .before .before .before .before .before .before .before .before .before .before .before .args in
-    let k = c .before .before .before .before .before .before .before .before .before .before .before .engine-chosen in
-    let l = c .before .before .before .before .answer-line in
-    first-any (a .line .now) (k .result) (k .ensures) (c .before .before .before .before .before .before .before .before .before .enum-told .given .1) (a .b .now) (c .before .before .before .before .before .before .before .before .before .before .before .before .before .before .before .pre .0) (l .last .0) (a .out .now) (l .last .1 .1 .1 .1 .0) (l .result) (l .ensures)
+    let at-answer-line = c .before .before .before .before in
+    let at-enum-told = at-answer-line .before .before .before .before .before in
+    let at-engine-chosen = at-enum-told .before .before in
+    let start = at-engine-chosen .before .before .before .before in
+    first-any (start .args .line .now) (at-engine-chosen .engine-chosen .result) (at-engine-chosen .engine-chosen .ensures) (at-enum-told .enum-told .given .1) (start .args .b .now) (start .pre .0) (at-answer-line .answer-line .last .0) (start .args .out .now) (at-answer-line .answer-line .last .1 .1 .1 .1 .0) (at-answer-line .answer-line .result) (at-answer-line .answer-line .ensures)
 
 pub answer-first-spec : {M : Type 1} → statement M
 answer-first-spec =

@@ -44,9 +44,12 @@ expanded-requires c κs =
 
 remove-blossom-requires : tie.Need-remove-blossom-requires
 remove-blossom-requires c κs =
+    let at-if1 = c .before .before .before .before in
+    let at-expand-number = at-if1 .before in
+    let at-hand = at-expand-number .before .before in
     let s = c .before .before .before .before .before .before .before .before in
-    let h = handleNamed (c .before .before .before .before .before .before .before .hand .result) in
-    fits (s .args .bench .now) (s .pre) (first (expandTests (view (s .args .bench .now)) (s .args .unit) h)) (c .before .before .before .before .before .expand-number .result) (c .before .before .before .before .before .expand-number .ensures) (c .before .before .before .before .if1 .left)
+    let h = handleNamed (at-hand .hand .result) in
+    fits (s .args .bench .now) (s .pre) (first (expandTests (view (s .args .bench .now)) (s .args .unit) h)) (at-expand-number .expand-number .result) (at-expand-number .expand-number .ensures) (at-if1 .if1 .left)
 
 returns-2 : tie.Need-returns-2
 unfolding testsOf deedOf nodeOf
