@@ -7,7 +7,7 @@ use kinds::MaybeLength;
 use kinds::numbers;
 ghost use mathlib.Core.Path.{_≡_};
 ghost use mathlib.Core.Bool.{true};
-ghost use Prim.Native.Nat.{ℕ};
+ghost use Prim.Native.Nat.{ℕ, _-_};
 ghost use Rattle.kinds.specs.Obstacles.{listable};
 ghost use Rattle.ledger_spec.specs.GroupCalls.{isEmpty, isActive, growthOf, peek};
 ghost use Rattle.groups.specs.Shown.{shownAsked};
@@ -79,7 +79,8 @@ pub fn get_none_zero_growth(w: &[u64; GROUP]) -> Asked
 
 // ---- add of a growth
 
-fn least(a: u64, b: u64) -> u64
+// The word of the lesser length.
+pub fn least(a: u64, b: u64) -> u64
     ensures { λ r. ⌜ r ≡ leastWord a b ⌝ }
 {
     let x = group_lent::length_of(a);
@@ -182,6 +183,16 @@ pub fn peek(w: &[u64; GROUP]) -> Top
     }
 }
 
+// One fewer, where there is one.
+fn less(n: u64) -> u64
+    ensures { λ r. ⌜ r ≡ n - 1 ⌝ }
+{
+    if n == 0 {
+        return 0;
+    }
+    n - 1
+}
+
 // The last of the list and the stop of smallest vertex go. KIND (10) of a growth.
 pub fn pop(w: &mut [u64; GROUP]) -> Top
     requires { ⌜ SoundGroup (now w) ⌝ }
@@ -191,10 +202,10 @@ pub fn pop(w: &mut [u64; GROUP]) -> Top
     if w[0] == 1 {
         return top;
     }
-    let n = groups::less(w[3] as usize);
-    let m = groups::less(w[4] as usize);
-    group_lent::slide(w, 645, m * 6);
-    w[3] = n as u64;
-    w[4] = m as u64;
+    let n = less(w[3]);
+    let m = less(w[4]);
+    group_lent::slide(w, 645, (m as usize) * 6);
+    w[3] = n;
+    w[4] = m;
     top
 }

@@ -7,7 +7,7 @@ use kinds::Obstacle;
 use kinds::Stop;
 use kinds::numbers;
 ghost use mathlib.Core.Path.{_≡_};
-ghost use Prim.Native.Nat.{_<_};
+ghost use Prim.Native.Nat.{_-_, _<_};
 ghost use Rattle.ledger_spec.specs.GroupCalls.{peek, pop};
 ghost use Rattle.groups.specs.View.{groupOf};
 ghost use Rattle.group_takes.specs.Takes.{topBy, shifted, shownPeeked, shownPopped, after};
@@ -28,6 +28,16 @@ pub struct Popped {
     pub number: u8,
     pub obstacle: MaybeObstacle,
     pub group: Group,
+}
+
+// One fewer, where there is one.
+fn less(n: usize) -> usize
+    ensures { λ r. ⌜ r ≡ n - 1 ⌝ }
+{
+    if n == 0 {
+        return 0;
+    }
+    n - 1
 }
 
 // Of n entries with e the last and m stops with s the first: the one on top.
@@ -77,7 +87,7 @@ pub fn peek(g: Group) -> Peeked
             obstacle: MaybeObstacle::NoObstacle,
         },
         Kind::Conflicts => {
-            let n = groups::less(g.listed);
+            let n = less(g.listed);
             let e = g.list[n];
             let s = g.stops[0];
             let obstacle = top_of(g.listed, e, g.stopped, s);
@@ -110,8 +120,8 @@ pub fn pop(g: Group) -> Popped
         Kind::Conflicts => {
             let list = g.list;
             let stops = g.stops;
-            let n = groups::less(g.listed);
-            let m = groups::less(g.stopped);
+            let n = less(g.listed);
+            let m = less(g.stopped);
             let e = list[n];
             let s = stops[0];
             let obstacle = top_of(g.listed, e, g.stopped, s);

@@ -10,7 +10,7 @@ use kinds::Vertex;
 use kinds::numbers;
 ghost use mathlib.Core.Path.{_≡_};
 ghost use mathlib.Core.Bool.{false};
-ghost use Prim.Native.Nat.{_-_, _≤_};
+ghost use Prim.Native.Nat.{_≤_};
 ghost use lib.ListN.{take};
 ghost use Rattle.ledger_spec.specs.Groups.{allListable, risingFrom, soundGroup};
 ghost use Rattle.ledger_spec.specs.GroupCalls.{isEmpty, isActive, growthOf};
@@ -130,16 +130,6 @@ pub fn group_is_sound(g: Group) -> bool
             are_rising(stops, g.stopped)
         }
     }
-}
-
-// One fewer, where there is one.
-pub fn less(n: usize) -> usize
-    ensures { λ r. ⌜ r ≡ n - 1 ⌝ }
-{
-    if n == 0 {
-        return 0;
-    }
-    n - 1
 }
 
 // Refused, or accepted, and no.

@@ -1,6 +1,7 @@
 // The picture of an interface, of any words at all: BROKEN (2) where they hold no sound bench; else the picture on sound words. The bench does not change.
 // Assumes nothing.
 use bench_words::WORDS;
+use kinds::numbers;
 use read_sound::Counted;
 ghost use mathlib.Core.Path.{_≡_};
 ghost use Rattle.bench_views.specs.View.{view};
@@ -13,7 +14,8 @@ pub fn snapshot(b: &[u64; WORDS], unit: u8, short: bool, out: &mut [u8]) -> Coun
     ensures { λ r. ⌜ shownVertices r (now (out .exit)) ≡ readWords (now (b .entry)) (pictureRead (view (now (b .entry))) unit short (now (out .entry))) ⌝ }
 {
     if !sound_lent::is_bench(b) {
-        return read_any::no_count();
+        let number = numbers::BROKEN;
+        return Counted { number, count: 0 };
     }
     picture_sound::snapshot(b, unit, short, out)
 }

@@ -34,7 +34,7 @@ fn no_weight() -> Weighed
     }
 }
 
-pub fn no_count() -> Counted
+fn no_count() -> Counted
     ensures { λ r. ⌜ shownCount r ≡ (2, 0) ⌝ }
 {
     Counted {

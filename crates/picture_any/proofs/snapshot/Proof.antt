@@ -1,6 +1,4 @@
 -- The verdict on the words decides: BROKEN, or the picture on sound words, which alone writes to the slice. Assumes nothing.
-use Prim.Native.Nat.{ℕ}
-use mathlib.Core.Path.{ap, _∙_}
 use borrow.Author.Needs.{needs}
 use Rattle.sound_lent.proofs.Asking.{no-bench, a-bench, fits}
 use Rattle.picture_any.proofs.snapshot.Statement.{statement}
@@ -9,11 +7,8 @@ use Rattle.picture_any.proofs.snapshot.Tie as tie
 is-bench-requires : tie.Need-is-bench-requires
 is-bench-requires c κs = search needs
 
-no-count-requires : tie.Need-no-count-requires
-no-count-requires c κs = search needs
-
 returns : tie.Need-returns
-returns c = ap (λ (x : ℕ × ℕ). (x .0, (x .1, c .before .before .before .before .args .out .now))) (c .no-count .ensures) ∙ no-bench _ _ _ (c .before .before .is-bench .ensures) (c .before .if1 .taken)
+returns c = no-bench _ _ _ (c .before .is-bench .ensures) (c .if1 .taken)
 
 snapshot-requires : tie.Need-snapshot-requires
 snapshot-requires c κs = fits (c .before .before .is-bench .ensures) (c .before .if1 .left)
@@ -29,4 +24,4 @@ returns-2 c =
 pub snapshot-spec : {M : Type 1} → statement M
 snapshot-spec =
     tie.close
-    (tie.spec is-bench-requires no-count-requires returns snapshot-requires same-length returns-2)
+    (tie.spec is-bench-requires returns snapshot-requires same-length returns-2)
