@@ -68,7 +68,7 @@ pub fn no_node() -> Node
     }
 }
 
-// A new node, growing from value 0 at T = t: a defect's circle has no first member and none at all.
+// A new node, growing from value 0 at T = t. The first position and the count are of its circle: both 0 for a defect.
 pub fn new_node(serial: Serial, class: Class, size: u64, first: u64, count: u64, t: u64) -> Node
     requires { ⌜ t ≤ 1099511627776 ⌝ }
     ensures { λ r. ⌜ r ≡ newNode (serial .0) class size first count t ⌝ }

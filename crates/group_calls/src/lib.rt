@@ -26,6 +26,7 @@ fn is_ready(b: &[u64; WORDS], g: Group) -> bool
     groups::group_is_sound(g)
 }
 
+// The number, and the very group.
 fn refused(number: u8, group: Group) -> Changed
     ensures { λ r. ⌜ r ≡ record { number = number; group = group } ⌝ }
 {

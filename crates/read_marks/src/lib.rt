@@ -12,7 +12,7 @@ pub struct Marked {
     pub marked: bool,
 }
 
-// Whether the interface bears one of the two marks: UNIT, CHILD, or the answer.
+// Whether the interface bears a mark, that of its floor or that of its slots: UNIT, CHILD, or the answer.
 fn is_marked(b: &[u64; WORDS], unit: u8, floor: bool) -> Marked
     ensures { λ r. ⌜ shownMark r ≡ pick floor (flooredOf (view (now (b .entry))) unit) (fillsOf (view (now (b .entry))) unit) ⌝ }
 {

@@ -24,7 +24,12 @@ load-next-requires : tie.Need-load-next-requires
 load-next-requires c κs = search needs
 
 cast-t14 : tie.Need-cast-t14
-cast-t14 c = let z = c .before .before .before .before .before .before .before .before in let a = z .args in let s = defect-space (a .b .now) (a .unit) (a .vertex) (z .pre .0) (z .pre .1) in omega (arith, s .next, c .load-next .ensures)
+cast-t14 c =
+    let lagged = c .before .before .before .before in
+    let z = lagged .before .before .before .before in
+    let a = z .args in
+    let s = defect-space (a .b .now) (a .unit) (a .vertex) (z .pre .0) (z .pre .1) in
+    omega (arith, s .next, c .load-next .ensures)
 
 cast-t14-2 : tie.Need-cast-t14-2
 cast-t14-2 c = search needs
@@ -39,7 +44,8 @@ new-node-requires c κs =
 
 add-push : tie.Need-add-push
 add-push c =
-    let loaded = c .before .before .before .before .before .before .before .before in
+    let free = c .before .before .before .before .before in
+    let loaded = free .before .before .before in
     let z = loaded .before .before .before in
     let a = z .args in
     let s = defect-space (a .b .now) (a .unit) (a .vertex) (z .pre .0) (z .pre .1) in
@@ -48,13 +54,21 @@ add-push c =
 push-requires : tie.Need-push-requires
 push-requires c κs =
     let free = c .before .before .before .before .before in
-    let z = free .before .before .before .before .before .before in
+    let loaded = free .before .before .before in
+    let z = loaded .before .before .before in
     let a = z .args in
     let s = defect-space (a .b .now) (a .unit) (a .vertex) (z .pre .0) (z .pre .1) in
     (s .top, omega (arith, s .room, free .free-slot .ensures), s .next)
 
 cast-t20 : tie.Need-cast-t20
-cast-t20 c = let z = c .before .before .before .before .before .before .before .before .before .before .before .before in let a = z .args in let s = defect-space (a .b .now) (a .unit) (a .vertex) (z .pre .0) (z .pre .1) in omega (arith, s .top)
+cast-t20 c =
+    let made = c .before .before .before in
+    let free = made .before .before .before in
+    let loaded = free .before .before .before in
+    let z = loaded .before .before .before in
+    let a = z .args in
+    let s = defect-space (a .b .now) (a .unit) (a .vertex) (z .pre .0) (z .pre .1) in
+    omega (arith, s .top)
 
 returns : tie.Need-returns
 returns c =
