@@ -2,11 +2,11 @@
 use Prim.Native.Nat.{ℕ, _*_, _/_, _≤_, _<_}
 use native.Mathlib.Omega.{arith}
 use mathlib.Core.Path.{_≡_, refl, sym, _∙_, ap, subst}
-use mathlib.Core.Bool.{Bool, true, false, true≢false}
+use mathlib.Core.Bool.{true, false, true≢false}
 use mathlib.Core.Option.{Option, none, some}
-use mathlib.Core.List.{List, _++_}
+use mathlib.Core.List.{List}
 use lib.IntN.{ℤ}
-use lib.ListN.{length, drop}
+use lib.ListN.{length}
 use borrow.Author.Tests.{le-leb, lt-leb}
 use Rattle.ledger_spec.specs.Bench.{Bench}
 use Rattle.bench_words.specs.Codec.{pick}
@@ -14,13 +14,12 @@ use Rattle.bench_views.specs.View.{view}
 use Rattle.bench_views.specs.Fit.{SoundWords}
 use Rattle.sound_bench.specs.Sound.{soundWords}
 use Rattle.record_spec.specs.Operations.{Op}
-use Rattle.record_spec.specs.Files.{recordsOf, fileOps}
+use Rattle.record_spec.specs.Files.{fileOps}
 use Rattle.record_files.specs.declared.Scanned.{Scanned}
 use Rattle.record_files.specs.Scans.{scannedOf}
-use Rattle.record_says.specs.Says.{answersOps, afterOps}
-use Rattle.record_says.specs.Runs.{inFours, Run, refused, answered, runOps, runFile}
+use Rattle.record_says.specs.Runs.{Run, refused, answered, runOps, runFile}
 use Rattle.record_runs.specs.declared.Ran.{Ran as Said}
-use Rattle.record_runs.specs.Runs.{RanAs, Ran, Refused, RanOf, RanAny, Listing, AnswersOf, Answers}
+use Rattle.record_runs.specs.Runs.{RanAs, Ran, Refused, RanOf, RanAny, Listing, Answers}
 
 -- ---- what was scanned
 

@@ -1,6 +1,5 @@
 -- SMALL, or every operation. Assumes nothing.
 use native.Mathlib.Omega.{arith}
-use lib.ListN.{length}
 use Rattle.record_runs.proofs.Ending.{ran-small, ran-all}
 use borrow.Author.Needs.{needs}
 use Rattle.record_runs.proofs.run_whole.Statement.{statement}
