@@ -17,7 +17,9 @@ refused-requires : tie.Need-refused-requires
 refused-requires c κs = search needs
 
 returns : tie.Need-returns
-returns c = told-as _ (same-length _ (c .before .before .before .before .before .before .fits .length)) (told-stops (c .before .before .before .before .grow .ensures .0) (c .before .before .if1 .taken) _ (c .refused .ensures))
+returns c =
+    let s = c .before .before .before .before .before .before in
+    told-as _ (same-length _ (s .fits .length)) (told-stops (c .before .before .before .before .grow .ensures .0) (c .before .before .if1 .taken) _ (c .refused .ensures))
 
 grown-requires : tie.Need-grown-requires
 grown-requires c κs = search needs
