@@ -1,9 +1,9 @@
 -- What a call answers and leaves, whole: number, node, notices in order with their arguments, words; refused, every word as it was. On sound words, and
 -- on any words with the verdict s on them. Assumes nothing.
+use Prim.Native.Nat.{ℕ}
 use mathlib.Core.Path.{_≡_}
 use mathlib.Core.Bool.{Bool, true}
 use mathlib.Core.List.{List}
-use Prim.Native.Nat.{ℕ}
 use Rattle.ledger_spec.specs.Calls.{Call}
 use Rattle.outcomes.specs.Outcome.{answerOn, Outcome}
 use Rattle.call_told.specs.declared.Answer.{Answer}

@@ -3,8 +3,6 @@
 use Prim.Native.Nat.{ℕ, zero, suc, _+_, _≤_, _<_, _^_}
 use mathlib.Core.Path.{_≡_, refl, sym, _∙_, ap, subst}
 use mathlib.Core.Bool.{Bool, true, false, true≢false}
-use mathlib.Core.Logic.{_⊎_, inl, inr}
-use mathlib.Core.Option.{none, some}
 use mathlib.Core.List.{List, [], _∷_, _++_, map, append-nil}
 use native.Mathlib.Omega.{arith}
 use borrow.Author.Tests.{ltb-false}
@@ -17,14 +15,14 @@ use Rattle.ledger_spec.specs.Bench.{Handle, State, stays, grows, Node, Bench}
 use Rattle.ledger_spec.specs.Look.{interface, freeSlot, slotOf, nodeNamed}
 use Rattle.ledger_spec.specs.Tests.{first}
 use Rattle.ledger_spec.specs.Deeds.{newHandle, members}
-use Rattle.ledger_spec.specs.Calls.{Call, Defect, Blossom, Expand, SetState, Grow, Fuse, Clear, Mark, nobody}
+use Rattle.ledger_spec.specs.Calls.{Call, Defect, Blossom, Expand, SetState, Grow, Fuse, Clear, Mark}
 use Rattle.ledger_spec.specs.Notices.{Notice, defectAdded, stateSet, shrinkPrepared, blossomAdded, blossomRemoved, grown, tells}
 use Rattle.ledger_spec.specs.Answers.{Answer as Plain, broken, answer}
 use Rattle.ledger_spec.specs.Knit.{mk, In, here, there, Has, Down}
 use Rattle.ledger_spec.specs.Facts.{Sound, Touching}
 use Rattle.ledger_spec.proofs.Says.{says}
 use Rattle.ledger_spec.proofs.Passed.{Open}
-use Rattle.ledger_spec.proofs.Accepted.{Named, DefectPassed, defect-passed, BlossomPassed, blossom-passed, ExpandPassed, expand-passed, StatePassed, state-passed, GrowPassed, grow-passed}
+use Rattle.ledger_spec.proofs.Accepted.{defect-passed, blossom-passed, ExpandPassed, expand-passed, state-passed, GrowPassed, grow-passed}
 use Rattle.ledger_laws.proofs.CameCalls.{named-touch}
 use Rattle.ledger_laws.proofs.Answered.{testsOf, nodeOf, zero-sound, zero-tests, zero-node, zero-notices, refused-node, refused-notices, few-notices}
 use Rattle.bench_views.specs.View.{view}

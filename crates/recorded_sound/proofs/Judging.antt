@@ -1,8 +1,7 @@
 -- The verdict, case by case: refused with nothing taken, or accepted with the recording's own lengths. Assumes nothing.
-use Prim.Native.Nat.{ℕ, zero, suc, _-_, _≤_, _<_}
+use Prim.Native.Nat.{ℕ, _-_, _≤_, _<_}
 use mathlib.Core.Path.{_≡_, refl, sym, _∙_, ap, subst}
 use mathlib.Core.Bool.{true, false}
-use mathlib.Core.Option.{none}
 use mathlib.Core.List.{List, map}
 use native.Mathlib.Omega.{arith}
 use lib.ListN.{length, getD}
@@ -29,7 +28,7 @@ use Rattle.bench_views.specs.Fit.{Fit, SoundWords}
 use Rattle.outcomes.specs.Outcome.{Outcome}
 use Rattle.bench_views.proofs.Views.{interface-in}
 use Rattle.bench_floors.specs.Least.{Least}
-use Rattle.recorded_spec.specs.Recorded.{Steps, stopped, growRecorded}
+use Rattle.recorded_spec.specs.Recorded.{Steps, stopped}
 use Rattle.recorded_spec.specs.Sums.{Sums, sums}
 use Rattle.recorded_spec.proofs.Tests.{sums-few}
 use Rattle.recorded_spec.proofs.Answers.{refused-unit, refused-back, refused-step, refused-small, accepted-all}
@@ -37,7 +36,7 @@ use Rattle.recorded_groups.specs.Recording.{recordingOf}
 use Rattle.recorded_steps.specs.declared.Passed.{Passed}
 use Rattle.recorded_steps.specs.Passes.{limitNo, PassedAs, stepsOf, Ready}
 use Rattle.recorded_steps.proofs.Limits.{limits}
-use Rattle.recorded_sound.specs.Answers.{recordedOn, Went, JudgedAs, RecordedAs}
+use Rattle.recorded_sound.specs.Answers.{recordedOn, JudgedAs, RecordedAs}
 
 module _ (b : List ℕ) (F : Fit b) (u : ℕ) (l : ℤ) (ws : List ℕ) (room : ℕ) where
   abbrev whole : Steps

@@ -21,9 +21,9 @@ grown-requires c κs = search needs
 returns-2 : tie.Need-returns-2
 unfolding tells
 returns-2 c =
-    let at-grow = c .before .before .before .before in
-    let start = at-grow .before .before in
-    grow-told (start .fits .length) (goes (at-grow .grow .ensures .0) (c .before .before .if1 .left) (at-grow .grow .ensures .1) refl (c .before .grown .ensures))
+    let s = c .before .before .before .before .before .before in
+    let m = c .before .before .before .before .grow in
+    grow-told (s .fits .length) (goes (m .ensures .0) (c .before .before .if1 .left) (m .ensures .1) refl (c .before .grown .ensures))
 
 pub grow-spec : {M : Type 1} → statement M
 grow-spec = tie.close (tie.spec grow-requires refused-requires returns grown-requires returns-2)

@@ -36,7 +36,9 @@ keep-requires : tie.Need-keep-requires
 keep-requires c κs = search needs
 
 tell-requires : tie.Need-tell-requires
-tell-requires c κs = let s = c .before .before .before .before .before .before .before .before .before .before .before .before .before .before .before in sound-after (s .pre .0) (c .before .before .before .create-blossom .ensures .0)
+tell-requires c κs =
+    let s = c .before .before .before .before .before .before .before .before .before .before .before .before .before .before .before in
+    sound-after (s .pre .0) (c .before .before .before .create-blossom .ensures .0)
 
 same-length : tie.Need-same-length
 same-length c = search needs

@@ -19,7 +19,9 @@ dual-ledger-told-grow-requires : tie.Need-dual-ledger-told-grow-requires
 dual-ledger-told-grow-requires c κs = sound-so (c .before .before .before .is-bench .ensures) (c .before .before .if1 .left)
 
 returns-2 : tie.Need-returns-2
-returns-2 c = let s = c .before .before .before .before .before .before in called-sound (c .before .before .before .before .is-bench .ensures) (c .before .before .before .if1 .left) _ (told-as _ (same-length _ (s .fits .length)) (c .dual-ledger-told-grow .ensures))
+returns-2 c =
+    let s = c .before .before .before .before .before .before in
+    called-sound (c .before .before .before .before .is-bench .ensures) (c .before .before .before .if1 .left) _ (told-as _ (same-length _ (s .fits .length)) (c .dual-ledger-told-grow .ensures))
 
 pub dual-ledger-grow-spec : {M : Type 1} → statement M
 dual-ledger-grow-spec =

@@ -19,7 +19,9 @@ dual-ledger-told-set-grow-state-requires : tie.Need-dual-ledger-told-set-grow-st
 dual-ledger-told-set-grow-state-requires c κs = sound-so (c .before .before .before .is-bench .ensures) (c .before .before .if1 .left)
 
 returns-2 : tie.Need-returns-2
-returns-2 c = let s = c .before .before .before .before .before .before in called-sound (c .before .before .before .before .is-bench .ensures) (c .before .before .before .if1 .left) _ (told-as _ (same-state _ refl (s .fits .state) refl) (c .dual-ledger-told-set-grow-state .ensures))
+returns-2 c =
+    let s = c .before .before .before .before .before .before in
+    called-sound (c .before .before .before .before .is-bench .ensures) (c .before .before .before .if1 .left) _ (told-as _ (same-state _ refl (s .fits .state) refl) (c .dual-ledger-told-set-grow-state .ensures))
 
 pub dual-ledger-set-grow-state-spec : {M : Type 1} → statement M
 dual-ledger-set-grow-state-spec =

@@ -18,9 +18,8 @@ refused-requires c κs = search needs
 
 returns : tie.Need-returns
 returns c =
-    let at-grow = c .before .before .before .before in
-    let start = at-grow .before .before in
-    told-as _ (same-length _ (start .fits .length)) (told-stops (at-grow .grow .ensures .0) (c .before .before .if1 .taken) _ (c .refused .ensures))
+    let s = c .before .before .before .before .before .before in
+    told-as _ (same-length _ (s .fits .length)) (told-stops (c .before .before .before .before .grow .ensures .0) (c .before .before .if1 .taken) _ (c .refused .ensures))
 
 grown-requires : tie.Need-grown-requires
 grown-requires c κs = search needs
