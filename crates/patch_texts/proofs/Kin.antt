@@ -14,14 +14,14 @@ use Rattle.ledger_spec.specs.Tests.{outside, child}
 use Rattle.ledger_spec.specs.Calls.{Call}
 use Rattle.ledger_spec.specs.Calls as calls
 use Rattle.ledger_spec.specs.Answers.{Answer, answer}
-use Rattle.ledger_spec.specs.Operations.{D, B, E, S, G, F, C, K}
+use Rattle.ledger_spec.specs.Operations.{D, B, E, S, G, F, C}
 use Rattle.ledger_spec.specs.Grammar.{Line}
 use Rattle.ledger_spec.specs.Lines.{LineAnswer, named, shown, calls as lineCalls, says}
 use Rattle.ledger_spec.specs.Knit.{In}
 use Rattle.ledger_spec.specs.Facts.{Sound}
 use Rattle.ledger_spec.proofs.Lists.{not-in-nil, in-cases, in-append}
 use Rattle.ledger_laws.proofs.Never.{next-grows}
-use Rattle.patch_laws.specs.Patch.{Script, Defect, Blossom, Expand, SetState, Grow, Fuse, Clear, Mark, Table, given, unitsOf, written}
+use Rattle.patch_laws.specs.Patch.{Script, Defect, Blossom, Expand, SetState, Grow, Fuse, Clear, Mark, given, unitsOf, written}
 use Rattle.patch_laws.specs.Runs.{Side, made, answerTo, after}
 use Rattle.patch_laws.proofs.Renamed.{map-map}
 use Rattle.patch_texts.specs.Page.{Serials, serialAt, spelled, handed, numberFrom, field, Page}

@@ -2,7 +2,7 @@
 -- give it the same. Assumes nothing.
 use Prim.Native.Nat.{ℕ, suc, _<_, _^_}
 use mathlib.Core.Path.{_≡_, refl, sym, _∙_, ap, ap₂, subst}
-use mathlib.Core.Logic.{_≢_, _⊎_, inl, inr}
+use mathlib.Core.Logic.{_≢_}
 use mathlib.Core.Bool.{Bool, true, false, _||_}
 use mathlib.Core.Option.{Option, none, some}
 use mathlib.Core.List.{List, [], _∷_, _++_, map, append-nil}
@@ -13,7 +13,7 @@ use Rattle.ledger_spec.specs.Bench.{Handle, Interface, Bench, setUp}
 use Rattle.ledger_spec.specs.Look.{interface}
 use Rattle.ledger_spec.specs.Tests.{outside}
 use Rattle.ledger_spec.specs.Calls.{Call, Defect, Blossom, Expand, SetState, Grow, Fuse, Clear}
-use Rattle.ledger_spec.specs.Answers.{Answer, answer, read, checkRead}
+use Rattle.ledger_spec.specs.Answers.{answer, read, checkRead}
 use Rattle.ledger_spec.specs.Fields.{upto, partsAfter, cut}
 use Rattle.ledger_spec.specs.Operations.{D, B, E, S, G, F, C, K}
 use Rattle.ledger_spec.specs.Grammar.{Line, wrong}
@@ -33,7 +33,7 @@ use Rattle.patch_laws.proofs.Patches.{opened-one, opened-link, each}
 use Rattle.patch_texts.specs.Page.{Serials, spelled, numberFrom, field, Page, Step, theirs, ours, reads, lines, own, ownOf}
 use Rattle.patch_texts.specs.Page as page
 use Rattle.patch_texts.specs.Inputs.{unitsIn, AllFit, Unworn, butSerial, TwoTexts, TwoInputs, TwoPrograms}
-use Rattle.patch_texts.proofs.Kin.{serialOf, Four, hidden, paid, row, readRow, shown-is, Kin, kin-kept, Says, d-says, b-says, e-says, s-says, g-says, f-says, c-says, line-is, kin-after, read-is}
+use Rattle.patch_texts.proofs.Kin.{serialOf, Four, hidden, paid, readRow, shown-is, Kin, kin-kept, Says, d-says, b-says, e-says, s-says, g-says, f-says, c-says, kin-after, read-is}
 
 -- ---- a line of the other patch: a call, or nothing
 pub data Moves (b : Bench) (l : Line) : Type 0 where

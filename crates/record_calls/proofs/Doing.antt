@@ -5,13 +5,12 @@ use native.Mathlib.Decide.{decLt}
 use mathlib.Core.Path.{_≡_, refl, sym, _∙_, ap, subst}
 use mathlib.Core.Logic.{by-cases}
 use mathlib.Core.Option.{Option, some}
-use mathlib.Core.List.{List, [], _∷_, _++_, map}
+use mathlib.Core.List.{List, [], map}
 use lib.ListN.{length, take, drop, getD, length-map}
 use lib.Seq.{sets, length-take-le, getD-take, getD-drop}
 use Rattle.kinds.specs.declared.Handle.{Handle}
-use Rattle.ledger_spec.specs.Bench as plain
 use Rattle.ledger_spec.specs.Bench.{Bench}
-use Rattle.ledger_spec.specs.Calls.{Call, Blossom, perform}
+use Rattle.ledger_spec.specs.Calls.{Blossom, perform}
 use Rattle.ledger_spec.specs.Operations.{D, B, E, S, G, F, C, K}
 use Rattle.ledger_spec.specs.Grammar.{Line as Said}
 use Rattle.ledger_spec.specs.Lines.{LineAnswer, shown, says}
@@ -21,14 +20,13 @@ use Rattle.bench_views.specs.Given.{handGiven}
 use Rattle.outcomes.specs.Answered.{Answered}
 use Rattle.deed_circles.specs.Given.{handsGiven, pairsGiven}
 use Rattle.text_lines.specs.declared.Line.{Line}
-use Rattle.text_lines.specs.Shown.{serialsIn, lineShown, ReadAs}
+use Rattle.text_lines.specs.Shown.{serialsIn, ReadAs}
 use Rattle.text_lines.specs.Texts.{letterOf}
 use Rattle.text_members.specs.Names.{AllNamed}
 use Rattle.text_members.proofs.Circles.{Alike, alike}
 use Rattle.text_numbers.specs.declared.Reply.{Reply}
 use Rattle.text_numbers.specs.Numbers.{numbersOf}
 use Rattle.text_calls.specs.Turned.{Gave, Turned, Few}
-use Rattle.text_calls.proofs.Members.{few-low}
 use Rattle.text_calls.proofs.Turning.{gave}
 use Rattle.record_spec.specs.Numbers.{Bytes}
 use Rattle.record_spec.specs.Operations.{Member, Op, serialOf, lineSaid}
@@ -42,7 +40,7 @@ use Rattle.record_reads.specs.Reads.{Recorded, lineFound}
 use Rattle.record_reads.proofs.Reading.{op-B}
 use Rattle.record_says.specs.Says.{memberNamed, pairNamed, saysOp}
 use Rattle.record_calls.specs.Done.{DoneAt, touches, Laid}
-use Rattle.record_calls.proofs.Circles.{same-given, many-given, touches-many}
+use Rattle.record_calls.proofs.Circles.{same-given, many-given}
 
 -- ---- an answer, of the record that stands there
 

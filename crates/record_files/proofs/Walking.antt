@@ -1,13 +1,12 @@
 -- The walk from record to record: what is scanned and what is left make the whole. Assumes nothing.
 use Prim.Native.Nat.{ℕ, zero, suc, _+_, _-_, _*_, _≤_, _<_}
 use native.Mathlib.Omega.{arith}
-use mathlib.Core.Path.{_≡_, refl, sym, _∙_, ap, subst}
-use mathlib.Core.Bool.{Bool, true, false, _&&_}
+use mathlib.Core.Path.{_≡_, refl, sym, _∙_, ap}
+use mathlib.Core.Bool.{Bool, true, _&&_}
 use mathlib.Core.Option.{Option, none, some}
 use mathlib.Core.List.{List, [], _∷_}
-use lib.ListN.{length, take, drop, getD, length-drop}
+use lib.ListN.{length, drop, length-drop}
 use lib.Seq.{drop-drop, drop-length}
-use borrow.Author.Tests.{eqb-true}
 use Rattle.ledger_spec.specs.Operations.{D, B, E, S, G, F, C, K}
 use Rattle.text_lines.specs.Texts.{letterOf}
 use Rattle.record_spec.specs.Numbers.{Bytes}
@@ -17,13 +16,12 @@ use Rattle.record_spec.specs.Reader.{recordIn}
 use Rattle.record_spec.specs.Files.{recordsIn}
 use Rattle.record_spec.specs.Places.{at, foursAt}
 use Rattle.record_spec.proofs.Records.{record-only}
-use Rattle.record_spec.proofs.Files.{onto}
 use Rattle.record_spec.proofs.Places.{record-ends, loop-step, loop-astray, loop-bad, loop-end, loop-more}
 use Rattle.record_measures.specs.declared.Measured.{Measured}
-use Rattle.record_measures.specs.Measures.{nothing, sizes, measuredOf}
+use Rattle.record_measures.specs.Measures.{sizes, measuredOf}
 use Rattle.record_files.specs.declared.Scanned.{Scanned}
 use Rattle.record_files.specs.Scans.{notFile, scannedOf}
-use Rattle.record_files.proofs.Adding.{same-scan, more, more-none, more-onto, more-end}
+use Rattle.record_files.proofs.Adding.{more, more-none, more-onto, more-end}
 
 -- ---- a record that was measured
 

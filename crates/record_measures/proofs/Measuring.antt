@@ -4,26 +4,24 @@ use native.Mathlib.Omega.{arith}
 use mathlib.Core.Path.{_≡_, refl, sym, _∙_, ap}
 use mathlib.Core.Bool.{Bool, true, false}
 use mathlib.Core.Option.{Option, none, some}
-use mathlib.Core.List.{List, [], _∷_, _++_, map}
-use lib.Dec.{leb}
+use mathlib.Core.List.{List, [], _∷_, map}
 use lib.IntN.{ℤ}
 use lib.ListN.{length, drop, getD, length-drop}
-use borrow.Author.Tests.{le-leb, lt-leb}
 use Rattle.ledger_spec.specs.Bench.{State, rate}
 use Rattle.ledger_spec.specs.Decimals.{decimal, signed}
 use Rattle.ledger_spec.specs.Operations.{D, B, E, S, G, F, C, K}
 use Rattle.text_lines.specs.Texts.{letterOf, fieldsOf}
-use Rattle.record_spec.specs.Numbers.{bytes, then, number, complement}
-use Rattle.record_spec.specs.Operations.{Member, Op, serialOf, lineOfOp, self, selves}
+use Rattle.record_spec.specs.Numbers.{bytes, then, number}
+use Rattle.record_spec.specs.Operations.{Member, Op, serialOf, lineOfOp, self}
 use Rattle.record_spec.specs.Records.{memberFields, fields, spelled, bytesOf}
-use Rattle.record_spec.specs.Reader.{rest, membersGood, serialsGood, good, recordIn}
+use Rattle.record_spec.specs.Reader.{rest, serialsGood, good, recordIn}
 use Rattle.record_spec.specs.Places.{at, total}
-use Rattle.record_spec.proofs.Numbers.{then-back, length-bytes}
-use Rattle.record_spec.proofs.Places.{number-at, number-short}
+use Rattle.record_spec.proofs.Numbers.{then-back}
+use Rattle.record_spec.proofs.Places.{number-at}
 use Rattle.record_spec.proofs.Sizes.{Plain, plain-good, length-spaced, length-blossom}
 use Rattle.record_spec.proofs.Writable.{Held}
 use Rattle.record_measures.specs.declared.Measured.{Measured}
-use Rattle.record_measures.specs.Measures.{nothing, sizes, measuredOf, kept, tried}
+use Rattle.record_measures.specs.Measures.{nothing, measuredOf, kept, tried}
 
 -- ---- kept or not
 

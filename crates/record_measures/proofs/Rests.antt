@@ -2,13 +2,13 @@
 use Prim.Native.Nat.{ℕ, zero, suc, _+_, _*_, _≤_, _<_}
 use native.Mathlib.Omega.{arith}
 use native.Mathlib.Decide.{decLe}
-use mathlib.Core.Path.{_≡_, refl, sym, _∙_, ap}
-use mathlib.Core.Option.{Option, none, some, Option·some-ne-none}
+use mathlib.Core.Path.{_≡_, refl, _∙_, ap}
+use mathlib.Core.Option.{Option, none, some}
 use mathlib.Core.List.{List, [], _∷_}
 use lib.ListN.{length, drop, length-drop}
 use borrow.Author.Tests.{ne-eqb}
 use Rattle.ledger_spec.specs.Bench.{State}
-use Rattle.ledger_spec.specs.Operations.{D, B, E, S, G, F, C, K}
+use Rattle.ledger_spec.specs.Operations.{D, B, E, S, G, F}
 use Rattle.record_spec.specs.Numbers.{then, number, lengthIn}
 use Rattle.record_spec.specs.Operations.{Member, Op}
 use Rattle.record_spec.specs.Reader.{stateIn, membersIn, rest}

@@ -2,7 +2,7 @@
 use Prim.Native.Nat.{ℕ, suc, _+_, _-_, _*_, _≤_, _<_}
 use native.Mathlib.Omega.{arith}
 use native.Mathlib.Decide.{decLt}
-use mathlib.Core.Path.{_≡_, refl, sym, _∙_, ap, subst}
+use mathlib.Core.Path.{_≡_, refl, sym, _∙_, ap}
 use mathlib.Core.Option.{Option, none, some, Option·some-ne-none, Option·some-injective}
 use mathlib.Core.List.{List, [], _∷_, _++_, map}
 use lib.ListN.{length, take, drop, length-append, length-map}
@@ -25,7 +25,7 @@ use Rattle.record_spec.specs.Operations.{Op, itself, serialOf, opOfLine}
 use Rattle.record_spec.specs.Records.{bytesOf}
 use Rattle.record_spec.specs.Files.{recordsOf, starts}
 use Rattle.record_spec.specs.Moves.{opsOf, textOps}
-use Rattle.record_spec.proofs.Numbers.{length-bytes, length-fours}
+use Rattle.record_spec.proofs.Numbers.{length-bytes}
 use Rattle.record_spec.proofs.Texts.{onto, line-only}
 use Rattle.record_spec.proofs.Writable.{spaced-long}
 use Rattle.record_weights.specs.Weights.{bytesSaid}

@@ -3,11 +3,11 @@ use Prim.Native.Nat.{ℕ, suc, _+_, _*_, _≤_, _<_}
 use native.Mathlib.Omega.{arith}
 use native.Mathlib.Decide.{decLe}
 use mathlib.Core.Path.{_≡_, refl, sym, _∙_, ap, subst}
-use mathlib.Core.Bool.{Bool, true, false, true≢false}
+use mathlib.Core.Bool.{true, false, true≢false}
 use mathlib.Core.Option.{Option, none, some}
 use mathlib.Core.List.{List, [], _∷_, _++_}
-use lib.ListN.{length, drop, length-append}
-use lib.Seq.{sets, length-sets}
+use lib.ListN.{length, drop}
+use lib.Seq.{sets}
 use Rattle.ledger_spec.specs.Numbers.{SMALL, FILE}
 use Rattle.text_decimals.specs.Wrote.{Wrote}
 use Rattle.text_decimals.proofs.Writes.{sets-append}
@@ -20,9 +20,8 @@ use Rattle.record_spec.proofs.Numbers.{length-fours}
 use Rattle.record_spec.proofs.Files.{length-file}
 use Rattle.record_spec.proofs.Moves.{accepted, room, no-room, records-none, records-large, records-some}
 use Rattle.record_weights.specs.declared.Weighed.{Weighed}
-use Rattle.record_weights.specs.Weights.{toldBy, weighedOf}
+use Rattle.record_weights.specs.Weights.{weighedOf}
 use Rattle.record_weights.proofs.Weighing.{told-fits, told-large}
-use Rattle.record_packs.specs.declared.Moved.{Moved}
 use Rattle.record_packs.specs.Packs.{Ready, Filled, MovedAs}
 use Rattle.record_packs.proofs.Stores.{sets-front}
 

@@ -1,8 +1,6 @@
 // A text moved to a file of records, into a lent slice: one pass tests and measures it, one writes. A text that does not move is FILE, a slice that is
 // too short SMALL, last; then the slice is as it was. Assumes nothing.
 use kinds::numbers;
-ghost use mathlib.Core.List.{_++_};
-ghost use mathlib.Core.Path.{_≡_};
 ghost use Prim.Native.Nat.{_+_, _*_, _≤_, _<_};
 ghost use lib.ListN.{length};
 ghost use Rattle.text_decimals.specs.Wrote.{Wrote};

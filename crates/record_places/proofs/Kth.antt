@@ -2,16 +2,16 @@
 use Prim.Native.Nat.{ℕ, zero, suc, _+_, _*_, _^_, _≤_, _<_}
 use native.Mathlib.Omega.{arith}
 use mathlib.Core.Path.{_≡_, refl, sym, _∙_, ap, subst}
-use mathlib.Core.Option.{some, Option·some-injective}
+use mathlib.Core.Option.{Option·some-injective}
 use mathlib.Core.List.{List, [], _∷_, _++_, append-assoc}
 use lib.ListN.{length, take, drop, getD, length-append}
-use lib.Seq.{length-take-le, drop-cons, split-at, drop-append-seam, drop-at}
+use lib.Seq.{length-take-le, drop-cons, split-at, drop-append-seam}
 use Rattle.ledger_spec.specs.Operations.{C}
 use Rattle.record_spec.specs.Numbers.{Bytes, bytes, fours, number}
 use Rattle.record_spec.specs.Operations.{Op}
 use Rattle.record_spec.specs.Records.{bytesOf, Writable}
 use Rattle.record_spec.specs.Reader.{recordIn}
-use Rattle.record_spec.specs.Files.{recordsOf, starts, trailer, fileOf, AllWritable, fileOps}
+use Rattle.record_spec.specs.Files.{recordsOf, starts, trailer, fileOf, AllWritable}
 use Rattle.record_spec.specs.Places.{at}
 use Rattle.record_spec.proofs.Numbers.{length-bytes, length-fours, number-back}
 use Rattle.record_spec.proofs.Records.{record-back}

@@ -1,13 +1,11 @@
 -- No second answer: two results that meet a run's contract have one number, one count, one bench, one slice. Assumes nothing.
 use Prim.Native.Nat.{ℕ}
-use mathlib.Core.Path.{_≡_, refl, sym, _∙_, ap}
+use mathlib.Core.Path.{_≡_, sym, _∙_, ap}
 use mathlib.Core.Bool.{Bool, true, false}
 use mathlib.Core.Option.{Option, none, some}
 use mathlib.Core.List.{List}
 use lib.IntN.{ℤ}
 use Rattle.bench_words.specs.Codec.{pick}
-use Rattle.bench_views.specs.View.{view}
-use Rattle.bench_views.specs.Fit.{SoundWords}
 use Rattle.bench_views.proofs.Unique.{words-same}
 use Rattle.bench_views.proofs.Fits.{fit-of}
 use Rattle.sound_bench.specs.Sound.{soundWords}

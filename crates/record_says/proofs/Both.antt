@@ -1,10 +1,10 @@
 -- Two runs one after the other are the run of both lists. Assumes nothing.
 use Prim.Native.Nat.{ℕ, suc, _+_, _*_}
 use native.Mathlib.Omega.{arith}
-use mathlib.Core.Path.{_≡_, refl, sym, _∙_, ap}
+use mathlib.Core.Path.{_≡_, refl, _∙_, ap}
 use mathlib.Core.List.{List, [], _∷_, _++_}
 use lib.IntN.{ℤ, pos}
-use lib.ListN.{length, length-append}
+use lib.ListN.{length}
 use Rattle.ledger_spec.specs.Bench.{Bench}
 use Rattle.record_spec.specs.Operations.{Op}
 use Rattle.record_says.specs.Says.{saysOp, answersOps, afterOps}

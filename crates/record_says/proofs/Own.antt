@@ -3,15 +3,14 @@ use Prim.Native.Nat.{ℕ}
 use mathlib.Core.Path.{_≡_, refl, sym, _∙_, ap}
 use mathlib.Core.Bool.{true, _&&_}
 use mathlib.Core.Option.{some}
-use mathlib.Core.List.{List, [], _∷_, _++_, map}
+use mathlib.Core.List.{List, [], _∷_, map}
 use lib.Dec.{eqb}
 use lib.IntN.{ℤ}
 use borrow.Author.Tests.{eqb-true}
 use Rattle.ledger_spec.specs.Bench.{Handle, Bench, setUp}
 use Rattle.ledger_spec.specs.Calls.{Blossom}
-use Rattle.ledger_spec.specs.Fields.{cut}
 use Rattle.ledger_spec.specs.Operations.{D, B, E, S, G, F, C, K}
-use Rattle.ledger_spec.specs.Grammar.{Line, Fields, lineOf}
+use Rattle.ledger_spec.specs.Grammar.{Line}
 use Rattle.ledger_spec.specs.Lines.{LineAnswer, named, calls, says}
 use Rattle.ledger_spec.specs.Program.{ended, linesOf, answers, afterLines, texts, program}
 use Rattle.ledger_spec.proofs.Openings.{program-lazy}

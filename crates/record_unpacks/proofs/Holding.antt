@@ -5,8 +5,8 @@ use native.Mathlib.Decide.{decLt}
 use mathlib.Core.Path.{_≡_, refl, sym, _∙_, ap, subst}
 use mathlib.Core.Bool.{Bool, true, false, true≢false}
 use mathlib.Core.Option.{Option, none, some, Option·some-ne-none}
-use mathlib.Core.List.{List, [], _∷_, _++_}
-use lib.ListN.{length, take, drop}
+use mathlib.Core.List.{List}
+use lib.ListN.{length, take}
 use lib.Seq.{sets, length-take-le}
 use Rattle.ledger_spec.specs.Numbers.{SMALL, SELF, FILE}
 use Rattle.record_spec.specs.Numbers.{Bytes}
@@ -19,7 +19,6 @@ use Rattle.record_spec.proofs.Places.{file-short, file-unfit, file-walk}
 use Rattle.record_spec.proofs.Moves.{accepted, room, no-room, text-none, text-self, text-some}
 use Rattle.record_files.specs.declared.Scanned.{Scanned}
 use Rattle.record_files.specs.Scans.{scannedOf}
-use Rattle.record_packs.specs.declared.Moved.{Moved}
 use Rattle.record_packs.specs.Packs.{MovedAs}
 use Rattle.record_packs.proofs.Stores.{sets-front}
 use Rattle.record_unpacks.specs.Unpacks.{Ready, Filled}

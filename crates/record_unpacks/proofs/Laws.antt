@@ -1,14 +1,14 @@
 -- Laws of the two moves' answers: any that meet the contracts. There is no second one; a refused move leaves the slice; what moved comes back as the same
 -- bytes, a file of records exactly if every pair is the member itself. Assumes nothing.
-use Prim.Native.Nat.{ℕ, _≤_, _<_}
+use Prim.Native.Nat.{ℕ, _≤_}
 use native.Mathlib.Omega.{arith}
 use native.Mathlib.Decide.{decLe}
 use mathlib.Core.Logic.{_↔_}
-use mathlib.Core.Path.{_≡_, refl, sym, _∙_, ap, subst}
+use mathlib.Core.Path.{_≡_, refl, sym, _∙_, ap}
 use mathlib.Core.Bool.{Bool, true, false, true≢false}
 use mathlib.Core.Option.{Option, none, some}
-use mathlib.Core.List.{List, _++_}
-use lib.ListN.{length, take, drop}
+use mathlib.Core.List.{List}
+use lib.ListN.{length, take}
 use Rattle.ledger_spec.specs.Numbers.{SELF, FILE, SMALL}
 use Rattle.record_spec.specs.Numbers.{Bytes}
 use Rattle.record_spec.specs.Operations.{Op}

@@ -1,9 +1,9 @@
 -- A line's record: how many bytes it takes, by what the code says of the line. Assumes nothing.
-use Prim.Native.Nat.{ℕ, suc, _+_, _*_, _≤_, _<_}
+use Prim.Native.Nat.{ℕ, _+_, _*_, _<_}
 use native.Mathlib.Omega.{arith}
-use mathlib.Core.Path.{_≡_, refl, sym, _∙_, ap}
+use mathlib.Core.Path.{_≡_, refl, _∙_, ap}
 use mathlib.Core.Option.{Option, none, some}
-use mathlib.Core.List.{List, [], _∷_, _++_, map}
+use mathlib.Core.List.{List, map}
 use lib.ListN.{length, length-map}
 use Rattle.ledger_spec.specs.Operations.{D, B, E, S, G, F, C, K}
 use Rattle.ledger_spec.specs.Grammar.{Line as Said, lineOf}

@@ -7,7 +7,6 @@ use mathlib.Core.List.{List}
 use lib.IntN.{pos}
 use Rattle.kinds.specs.declared.Handle.{Handle}
 use Rattle.ledger_spec.specs.Bench.{Bench}
-use Rattle.ledger_spec.specs.Bench as plain
 use Rattle.ledger_spec.specs.Calls.{Reply as Done, Call, perform}
 use Rattle.ledger_spec.specs.Answers.{Answer, whole, ask}
 use Rattle.ledger_spec.specs.Sound.{sound}

@@ -6,7 +6,7 @@ use kinds::numbers;
 use text_chunks::Choice;
 ghost use mathlib.Core.Path.{_≡_};
 ghost use Prim.Native.Nat.{_+_, _*_, _≤_};
-ghost use lib.ListN.{length, take, drop};
+ghost use lib.ListN.{length, take};
 ghost use Rattle.bench_views.specs.Fit.{SoundWords};
 ghost use Rattle.text_sessions.specs.Session.{Started, FirstDone, LineDone, RestDone, ChunkDone, OpeningDone, NextDone, Finished, AllDone};
 

@@ -1,8 +1,8 @@
 -- The number is read, and then written. Assumes nothing.
 use native.Mathlib.Omega.{arith}
 use Prim.Native.Nat.{ℕ}
-use mathlib.Core.Path.{sym, ap}
-use mathlib.Core.List.{List, _∷_}
+use mathlib.Core.Path.{ap}
+use mathlib.Core.List.{_∷_}
 use lib.ListN.{length}
 use Rattle.ledger_spec.specs.Decimals.{decimal}
 use Rattle.text_decimals.proofs.Writes.{same-text}

@@ -1,7 +1,7 @@
 -- The head, the count, and then the members. Assumes nothing.
 use native.Mathlib.Omega.{arith}
 use mathlib.Core.List.{_++_, map}
-use lib.ListN.{length, take, length-append}
+use lib.ListN.{take}
 use Rattle.text_decimals.proofs.Writes.{chain}
 use Rattle.record_spec.specs.Numbers.{bytes}
 use Rattle.record_spec.specs.Operations.{itself}

@@ -1,8 +1,8 @@
 -- What is written and what is left make the whole (`Putting`). Assumes nothing.
 use native.Mathlib.Omega.{arith}
 use Prim.Native.Nat.{_-_}
-use mathlib.Core.Path.{_∙_, sym}
-use lib.ListN.{length, take}
+use mathlib.Core.Path.{sym}
+use lib.ListN.{take}
 use lib.Seq.{length-take-le, getD-take}
 use Rattle.record_puts.proofs.Putting.{Putting, putting, put-on, put-done}
 use Rattle.record_puts.proofs.put_members.Statement.{statement}

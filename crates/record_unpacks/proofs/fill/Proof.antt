@@ -1,6 +1,5 @@
 -- What is written and what is left make the whole (`Filling`); one start less is left at each turn. Assumes nothing.
 use native.Mathlib.Omega.{arith}
-use mathlib.Core.Path.{_∙_}
 use Rattle.record_files.proofs.Slices.{bytes-all}
 use Rattle.record_unpacks.proofs.Filling.{Filling, filling, line-ready, fill-on, filled}
 use Rattle.record_unpacks.proofs.fill.Statement.{statement}

@@ -1,10 +1,9 @@
 -- What is weighed and what is left make the whole (`Weighing`); each line ends further on. Assumes nothing.
 use native.Mathlib.Omega.{arith}
 use Prim.Native.Nat.{_-_, _<_}
-use mathlib.Core.Path.{_≡_, _∙_, sym}
+use mathlib.Core.Path.{_≡_, _∙_}
 use borrow.Author.Needs.{needs}
-use lib.ListN.{length, take, drop, length-drop}
-use lib.Seq.{length-take-le}
+use lib.ListN.{length, take, drop}
 use Rattle.record_weights.proofs.Sizes.{read-small, read-none, read-some}
 use Rattle.record_weights.proofs.Weighing.{Weighing, weighing, unended, bad-line, too-large, weigh-on, weighed}
 use Rattle.record_weights.proofs.weigh.Statement.{statement}

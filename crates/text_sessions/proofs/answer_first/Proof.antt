@@ -5,10 +5,6 @@ use borrow.Author.Needs.{needs}
 use Rattle.text_chunks.specs.declared.Choice.the-variants.{Engine}
 use Rattle.text_sessions.proofs.answer_first.Statement.{statement}
 use Rattle.text_sessions.proofs.answer_first.Tie as tie
-use Rattle.deed_trees.proofs.set_up_in.Reads as set-up-in-reads
-use Rattle.text_answers.proofs.write_answer.Reads as write-answer-reads
-use Rattle.text_chunks.proofs.engine_chosen.Reads as engine-chosen-reads
-use Rattle.text_sessions.proofs.answer_line.Reads as answer-line-reads
 
 engine-chosen-requires : tie.Need-engine-chosen-requires
 engine-chosen-requires c κs = search needs

@@ -4,8 +4,6 @@ use Rattle.text_sessions.proofs.Opening.{next-first, next-later}
 use borrow.Author.Needs.{needs}
 use Rattle.text_sessions.proofs.answer_next.Statement.{statement}
 use Rattle.text_sessions.proofs.answer_next.Tie as tie
-use Rattle.text_sessions.proofs.answer_chunk.Reads as answer-chunk-reads
-use Rattle.text_sessions.proofs.answer_opening.Reads as answer-opening-reads
 
 answer-opening-requires : tie.Need-answer-opening-requires
 answer-opening-requires c κs = search needs

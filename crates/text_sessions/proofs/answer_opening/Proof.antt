@@ -8,10 +8,6 @@ use Rattle.text_sessions.proofs.Opening.{opening-part, opening-room, op
 use borrow.Author.Needs.{needs}
 use Rattle.text_sessions.proofs.answer_opening.Statement.{statement}
 use Rattle.text_sessions.proofs.answer_opening.Tie as tie
-use Rattle.text_chunks.proofs.feed.Reads as feed-reads
-use Rattle.text_sessions.proofs.answer_first.Reads as answer-first-reads
-use Rattle.text_sessions.proofs.answer_rest.Reads as answer-rest-reads
-use Rattle.text_sessions.proofs.start.Reads as start-reads
 
 start-requires : tie.Need-start-requires
 start-requires c κs = search needs

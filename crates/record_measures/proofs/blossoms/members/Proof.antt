@@ -3,7 +3,6 @@ use native.Mathlib.Omega.{arith}
 use Prim.Native.Nat.{ℕ}
 use mathlib.Core.Path.{_∙_, sym, ap}
 use borrow.Author.Needs.{needs}
-use lib.ListN.{length}
 use Rattle.record_measures.specs.Measures.{membersAt, triedMembers}
 use Rattle.record_measures.proofs.Measuring.{line-B}
 use Rattle.record_measures.proofs.Members.{Weighing, weighing, weigh-on, weigh-bad, weighed, members-many, none-tried, bad-tried, long-tried, good-tried}

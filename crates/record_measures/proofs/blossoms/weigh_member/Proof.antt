@@ -4,7 +4,7 @@ use mathlib.Core.Path.{_∙_, sym, ap}
 use mathlib.Core.Bool.{_&&_}
 use lib.Dec.{eqb}
 use lib.ListN.{length}
-use Prim.Native.Nat.{ℕ, suc}
+use Prim.Native.Nat.{ℕ}
 use Rattle.ledger_spec.specs.Decimals.{decimal}
 use Rattle.record_measures.specs.Measures.{memberAt}
 use Rattle.record_measures.proofs.Members.{weight-bad, weight-good, serial-zero, first-zero, second-zero, none-zero}
