@@ -13,7 +13,6 @@ use Rattle.bench_words.proofs.Laws.{Good, GoodUp, length-store, inside, inside-
 use Rattle.bench_words.proofs.Maps.{store-map-out, store-map-interface, store-map-node}
 use Rattle.bench_words.specs.declared.Node.{Node}
 use Rattle.bench_words.specs.declared.Interface.{Interface}
-use Rattle.ledger_spec.specs.Bench as plain
 use Rattle.bench_views.specs.Canon.{Coded}
 
 pub coded-node : (b : List ℕ) (k : ℕ) (n : Node) → length b ≡ 6273 → k < 512 → Good n → Coded b → Coded (storeNode b k n)

@@ -5,7 +5,6 @@ use mathlib.Core.List.{List}
 use lib.ListN.{getD}
 use Rattle.bench_words.specs.Store.{nodeAt, interfaceAt}
 use Rattle.ledger_spec.specs.Bench.{Bench}
-use Rattle.ledger_spec.specs.Bench as plain
 use Rattle.ledger_spec.specs.Facts.{Sound}
 use Rattle.ledger_spec.proofs.Says.{says}
 use Rattle.ledger_spec.proofs.Bounds.{speed-bound, value-bound, sum-bound}

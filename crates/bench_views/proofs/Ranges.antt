@@ -12,7 +12,6 @@ use Rattle.kinds.specs.declared.GrowState.{GrowState}
 use Rattle.kinds.specs.declared.GrowState.the-variants.{Grow as Growing, Stay, Shrink}
 use Rattle.kinds.specs.declared.Class.the-variants.{Absent}
 use Rattle.bench_words.specs.Store.{nodeAt, interfaceAt}
-use Rattle.ledger_spec.specs.Bench as plain
 use Rattle.bench_views.specs.Records.{Steady, Ranged}
 use Rattle.bench_views.specs.View.{off, valueBy, sumUp, circleOf, view}
 use Rattle.bench_views.specs.Canon.{Within}

@@ -4,7 +4,6 @@ use bench_words::WORDS;
 use kinds::numbers;
 use outcomes::Made;
 ghost use mathlib.Core.Path.{_≡_};
-ghost use Prim.Native.Nat.{_<_};
 ghost use Rattle.ledger_spec.specs.Tests.{first};
 ghost use Rattle.ledger_spec.specs.Refuse.{blossomTests};
 ghost use Rattle.ledger_spec.specs.Calls.{Blossom};

@@ -7,7 +7,7 @@ use mathlib.Core.Option.{some}
 use mathlib.Core.List.{List, [], _∷_}
 use native.Mathlib.Decide.{ℕ-discrete}
 use native.Mathlib.Omega.{arith}
-use lib.ListN.{length, getD, set, length-set}
+use lib.ListN.{getD, set, length-set}
 use lib.Seq.{getD-set-same, getD-set-other}
 use Rattle.bench_words.specs.Store.{nodeAt, interfaceAt}
 use Rattle.bench_words.specs.declared.Node.{Node}
@@ -23,7 +23,7 @@ use Rattle.ledger_spec.proofs.Lists.{map-in, not-in-nil, tally-yes, tally-no, t
 use Rattle.ledger_spec.proofs.Knit.{same-self}
 use Rattle.ledger_spec.proofs.Passed.{node-has}
 use Rattle.ledger_spec.proofs.Walks.{Inner, inner as inner-of}
-use Rattle.bench_views.specs.View.{view, handleAt, memberAt, follow, circleOf, sumUp, nodeSeen}
+use Rattle.bench_views.specs.View.{view, handleAt, follow, circleOf, sumUp}
 use Rattle.bench_views.specs.Fit.{Fit}
 use Rattle.bench_views.proofs.Rings.{Blossoms, slot-blossom}
 use Rattle.bench_views.proofs.Slots.{follow-more, follow-none}
@@ -32,7 +32,7 @@ use Rattle.bench_links.proofs.Rising.{seen-some}
 use Rattle.bench_vertices.specs.Under.{Placed}
 use Rattle.bench_vertices.proofs.Circling.{standing, shown, member-placed}
 use Rattle.bench_vertices.proofs.Named.{size-at}
-use Rattle.check_nests.specs.Nest.{before, Lies, outer, inner, Noted, Nests}
+use Rattle.check_nests.specs.Nest.{before, Lies, inner, Noted, Nests}
 use Rattle.check_nests.proofs.Lying.{before-here, before-past, part, lies-within}
 
 -- ---- a table with one word more

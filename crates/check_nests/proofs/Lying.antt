@@ -1,13 +1,13 @@
 -- Two nodes of one outermost blossom that share a vertex stand one under the other, and the one with the lower serial is the one below: circles split
 -- a blossom's vertices among its members, in circle order. Assumes nothing.
-use Prim.Native.Nat.{ℕ, zero, suc, _+_, _-_, _≤_, _<_}
+use Prim.Native.Nat.{ℕ, _+_, _-_, _≤_, _<_}
 use mathlib.Core.Path.{_≡_, refl, sym, _∙_, ap, subst}
 use mathlib.Core.Logic.{_⊎_, inl, inr}
 use mathlib.Core.Bool.{Bool, true, false, true≢false}
 use mathlib.Core.Option.{Option, none, some}
 use mathlib.Core.List.{List, [], _∷_}
 use native.Mathlib.Omega.{arith}
-use Rattle.ledger_spec.specs.Bench.{Handle, Member, Node, Bench}
+use Rattle.ledger_spec.specs.Bench.{Handle, Node, Bench}
 use Rattle.ledger_spec.specs.Look.{nodeNamed, slotOf, top, sameHandle}
 use Rattle.ledger_spec.specs.Deeds.{sizeOf, sizes, members}
 use Rattle.ledger_spec.specs.Walk.{parentIn, outermost}

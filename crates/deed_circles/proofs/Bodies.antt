@@ -12,6 +12,7 @@ use Rattle.kinds.specs.declared.Handle.{Handle as Packed}
 use Rattle.bench_words.specs.Codec.{handleOf}
 use Rattle.slot_map.specs.Slots.{put}
 use Rattle.bench_words.specs.Store.{nodeAt, interfaceAt, storeNode, mapAt, storeMap}
+use Rattle.bench_words.proofs.Laws.{good-interface}
 use Rattle.bench_words.specs.declared.Node.{Node}
 use Rattle.bench_words.specs.declared.Interface.{Interface}
 use Rattle.ledger_spec.specs.Look.{freeSlot}
@@ -19,14 +20,15 @@ use Rattle.ledger_spec.specs.Tests.{first}
 use Rattle.ledger_spec.specs.Refuse.{blossomTests, expandTests}
 use Rattle.ledger_spec.specs.Deeds.{newHandle, addBlossom, removeBlossom}
 use Rattle.ledger_spec.specs.Named.{handleNamed}
+use Rattle.ledger_spec.proofs.Passed.{Open}
 use Rattle.bench_views.specs.Records.{Steady, Ranged, rateOf, noNode}
-use Rattle.bench_views.specs.View.{lagOf, view}
+use Rattle.bench_views.specs.View.{lagOf, sumUp, view}
 use Rattle.bench_views.specs.Fit.{Fit, Done}
-use Rattle.bench_trees.specs.Climb.{Climbs}
 use Rattle.deed_nodes.specs.Steps.{noSeat, remarked, paced, pushed}
 use Rattle.deed_nodes.specs.declared.Seat.{Seat}
 use Rattle.deed_nodes.proofs.Puts.{rate-small}
-use Rattle.deed_nodes.proofs.Needs.{open-paced}
+use Rattle.bench_views.proofs.Sums.{sumUp-le, sumUp-same}
+use Rattle.deed_nodes.proofs.Needs.{open-paced, open-total}
 use Rattle.deed_nodes.proofs.Adding.{new-handle}
 use Rattle.deed_circles.specs.Given.{handsGiven, pairsGiven, spotOf, spotAt, nextSpot, touchWord}
 use Rattle.deed_circles.specs.Members.{seatOf, takenNode, freedNode, blossomNode}
@@ -54,16 +56,28 @@ pub touch-some : (ms ts : List ℕ) (i d : ℕ) (r : Packed) → (length ts ≡ 
 unfolding touchWord
 touch-some ms ts i d r l e = rw (ne-eqb (length ts) 0 l) e
 
+-- ---- T, worked out once for the interface that the call is on
+pub total-here : (b : List ℕ) {home unit t : ℕ} → Steady b → home < 8 → t ≡ sumUp 8 (interfaceAt b) unit → home ≡ unit → (t ≡ sumUp 8 (interfaceAt b) home) × (t ≤ 8796093022208)
+total-here b {home} st l e q =
+    let x = e ∙ ap (sumUp 8 (interfaceAt b)) (sym q) in
+    (x, omega (arith, x, sumUp-le b st 8 home l))
+
+-- it stays while members are taken in or let out
+total-stays : (b b₁ : List ℕ) {u t : ℕ} {f : Interface} → Fit b → Open (view b) u → ((v : ℕ) → v < 8 → interfaceAt b₁ v ≡ interfaceAt b v) → f ≡ interfaceAt b u → t ≡ lagOf f → t ≡ sumUp 8 (interfaceAt b₁) u
+total-stays b b₁ {u} F o same ef et =
+    et ∙ ap lagOf ef ∙ sym (open-total b F u o)
+    ∙ sym (sumUp-same (interfaceAt b) (interfaceAt b₁) (λ v l. good-interface b v) (λ v l. ap (λ (f : Interface). f .parent) (same v l)) (λ v l. ap lagOf (same v l)) 8 u (o .low))
+
 -- ---- a member taken in
 pub ranged-at : (b : List ℕ) (n : Node) {k j : ℕ} → n ≡ nodeAt b k → k ≡ j → Ranged (nodeAt b j) → Ranged n
 ranged-at b n e q r = rw (e, q) r
 
-pub take-by : (b : List ℕ) (w : ℕ) (s : Seat) (n m : Node) {k top t rate : ℕ} {b' : List ℕ} → k ≡ spotOf w → Climbs b (k / 64) top t → n ≡ nodeAt b k → m ≡ remarked n t Stay s
+pub take-by : (b : List ℕ) (w : ℕ) (s : Seat) (n m : Node) {k t rate : ℕ} {b' : List ℕ} → k ≡ spotOf w → t ≡ sumUp 8 (interfaceAt b) (k / 64) → n ≡ nodeAt b k → m ≡ remarked n t Stay s
     → b' ≡ storeNode b k m → rate ≡ rateOf (n .state) → rate ≤ 2
     → (b' ≡ storeNode b (spotOf w) (takenNode (interfaceAt b) (nodeAt b) (spotOf w) s)) × (n .size ≡ nodeAt b (spotOf w) .size) × (rate ≡ rateOf (nodeAt b (spotOf w) .state)) × (rate ≤ 2)
 take-by b w s n m ek ec en em e' er le =
     let here = en ∙ ap (nodeAt b) ek in
-    (simp (e', em, ec .total, en, ek), ap (λ (x : Node). x .size) here, er ∙ ap (λ (x : Node). rateOf (x .state)) here, le)
+    (simp (e', em, ec, en, ek), ap (λ (x : Node). x .size) here, er ∙ ap (λ (x : Node). rateOf (x .state)) here, le)
 
 taking-at : {b : List ℕ} {u : ℕ} {ms ts : List ℕ} {q : Packed} {b₁ : List ℕ} {size speed i size' speed' i' : ℕ} → Taking b u ms ts q b₁ size speed i → size ≡ size' → speed ≡ speed' → i ≡ i'
     → Taking b u ms ts q b₁ size' speed' i'
@@ -88,6 +102,9 @@ module _ {b : List ℕ} {u : ℕ} {ms ts : List ℕ} {q : Packed} {b₁ : List �
 
   pub loop-steady : Steady b₁
   loop-steady = L .taking .steady
+
+  pub loop-total : (f : Interface) {t : ℕ} → f ≡ interfaceAt b u → t ≡ lagOf f → t ≡ sumUp 8 (interfaceAt b₁) u
+  loop-total f = total-stays b b₁ (L .fit) (L .ring .root) (L .taking .interfaces)
 
   pub loop-ranged : i < length ms → Ranged (nodeAt b₁ (spotAt ms i))
   loop-ranged l = turn-ranged b u ms ts (L .fit) (L .ring) b₁ size speed i (L .taking) l
@@ -127,9 +144,9 @@ module _ {b : List ℕ} {u : ℕ} {ms ts : List ℕ} {q : Packed} {b₁ : List �
       (rw e (blossomed b u ms ts F R b₁ G'), ap handleNamed (L .mine) ∙ new-handle b u Q refl refl refl)
 
 -- ---- a member let out
-pub release-by : (b : List ℕ) (at : ℕ) (n m : Node) {top t : ℕ} {s : Seat} {b' : List ℕ} → Climbs b (at / 64) top t → n ≡ nodeAt b at → s ≡ noSeat → m ≡ remarked n t Growing s → b' ≡ storeNode b at m
+pub release-by : (b : List ℕ) (at : ℕ) (n m : Node) {t : ℕ} {s : Seat} {b' : List ℕ} → t ≡ sumUp 8 (interfaceAt b) (at / 64) → n ≡ nodeAt b at → s ≡ noSeat → m ≡ remarked n t Growing s → b' ≡ storeNode b at m
     → (b' ≡ storeNode b at (freedNode (interfaceAt b) (nodeAt b) at)) × (n .next ≡ nodeAt b at .next)
-release-by b at n m ec en es em e' = (simp (e', em, es, ec .total, en), ap (λ (x : Node). x .next) en)
+release-by b at n m ec en es em e' = (simp (e', em, es, ec, en), ap (λ (x : Node). x .next) en)
 
 freeing-at : {b : List ℕ} {f : ℕ} {b₁ : List ℕ} {p i f' i' : ℕ} → Freeing b f b₁ p i → f ≡ f' → i ≡ i' → Freeing b f' b₁ p i'
 freeing-at G x y = rw (← x, ← y) G
@@ -161,9 +178,11 @@ module _ (b : List ℕ) (t : ℕ) (h : Packed) (F : Fit b) (p : first (expandTes
       }
 
   module _ (n : Node) (en : n ≡ nodeAt b (h .unit * 64 + h .slot)) where
-    pub expand-can : {b₁ : List ℕ} {at i : ℕ} → Freeing b (n .first) b₁ at i → i < n .count → (at < 512) × Steady b₁ × Ranged (nodeAt b₁ at)
-    expand-can {b₁} {at} {i} G l =
-        free-can b t (handleNamed h) F X₀ b₁ at i (subst (λ (x : ℕ). Freeing b x b₁ at i) (ap (λ (x : Node). x .first) en) G) (subst (λ (x : ℕ). i < x) (ap (λ (x : Node). x .count) en) l)
+    pub expand-can : {b₁ : List ℕ} {at i x : ℕ} {f : Interface} → Freeing b (n .first) b₁ at i → i < n .count → f ≡ interfaceAt b t → x ≡ lagOf f
+        → (at < 512) × Steady b₁ × Ranged (nodeAt b₁ at) × (x ≡ sumUp 8 (interfaceAt b₁) t)
+    expand-can {b₁} {at} {i} G l ef ex =
+        let r = free-can b t (handleNamed h) F X₀ b₁ at i (subst (λ (x : ℕ). Freeing b x b₁ at i) (ap (λ (x : Node). x .first) en) G) (subst (λ (x : ℕ). i < x) (ap (λ (x : Node). x .count) en) l) in
+        (r .0, r .1, r .2, total-stays b b₁ F (X₀ .root) (G .interfaces) ef ex)
 
     pub expand-turns : {b₁ : List ℕ} {at i : ℕ} (b₂ : List ℕ) (p' : ℕ) → Freeing b (n .first) b₁ at i → i < n .count → b₂ ≡ storeNode b₁ at (freedNode (interfaceAt b₁) (nodeAt b₁) at) → p' ≡ nodeAt b₁ at .next
         → Freeing b (n .first) b₂ p' (i + 1)

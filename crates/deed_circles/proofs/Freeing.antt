@@ -39,9 +39,10 @@ use Rattle.bench_views.proofs.Circles.{same-eq, circle-same}
 use Rattle.bench_views.proofs.Rings.{Ringed, ringed, slot-blossom}
 use Rattle.bench_views.proofs.Ranges.{ranged}
 use Rattle.bench_views.proofs.Codes.{coded-node}
+use Rattle.deed_raises.proofs.Kept.{node-steady}
 use Rattle.deed_nodes.specs.Steps.{noSeat, remarked}
 use Rattle.deed_nodes.proofs.Needs.{Stands, stands, stands-free, stands-blossom}
-use Rattle.deed_nodes.proofs.Stores.{node-next, node-steady}
+use Rattle.deed_nodes.proofs.Stores.{node-next}
 use Rattle.deed_nodes.proofs.Keeps.{walk-in}
 use Rattle.deed_circles.specs.Members.{freedNode}
 use Rattle.deed_circles.proofs.Rounds.{turned, turn-here, turn-else, turn-coming}
@@ -204,7 +205,7 @@ module _ (b : List ℕ) (t : ℕ) (h : Handle) (F : Fit b) (X : Expandable b t h
         rw q
         (record {
           at = ep ∙ ap (λ (n : Node). n .next) node-now;
-          steady = node-steady b₁ k x lk good (G .steady);
+          steady = node-steady b₁ k x lk (G .steady);
           coded = coded-node b₁ k x len lk good (G .coded);
           next = node-next b₁ k x lk good len ∙ G .next;
           interfaces = λ v lv. store-node-interface b₁ k x len lk v lv ∙ G .interfaces v lv;

@@ -27,11 +27,12 @@ use Rattle.bench_views.specs.Fit.{Fit}
 use Rattle.bench_views.proofs.Offsets.{rates}
 use Rattle.bench_views.proofs.Sums.{sumUp-le}
 use Rattle.bench_views.proofs.Rings.{ring-near, slot-blossom}
+use Rattle.deed_raises.proofs.Kept.{climb-in}
 use Rattle.deed_nodes.specs.Steps.{noSeat}
 use Rattle.deed_nodes.proofs.Puts.{value-low, rate-small, slot-share, speed-turns, put-in}
 use Rattle.deed_nodes.proofs.Needs.{stands, open-paced}
 use Rattle.deed_nodes.proofs.Keeps.{not-blossom}
-use Rattle.deed_circles.proofs.Rounds.{instead, instead-here, instead-else, pacing, pacing-here, pacing-else, climb-in, turned, turn-off, turn-head, turns-view}
+use Rattle.deed_circles.proofs.Rounds.{instead, instead-here, instead-else, pacing, pacing-here, pacing-else, turned, turn-off, turn-head, turns-view}
 use Rattle.deed_circles.proofs.Freeing.{Expandable, k₁, f₁, m₁, at₁, T₁, lu, ls, member, apart, member-ranged, still, not-top, ring-kept}
 
 module _ (b : List ℕ) (t : ℕ) (h : Handle) (F : Fit b) (X : Expandable b t h) where

@@ -3,13 +3,12 @@
 use Prim.Native.Nat.{ℕ, zero, suc, _+_, _*_, _/_, _%_, _<_, _≤_}
 use mathlib.Core.Path.{_≡_, refl, ap, ap₂, sym, _∙_, fun-ext}
 use mathlib.Core.Logic.{_≢_, by-cases}
-use mathlib.Core.Option.{Option, none}
+use mathlib.Core.Option.{Option}
 use mathlib.Core.List.{List, [], _∷_}
-use native.Mathlib.Decide.{ℕ-discrete, decLt}
+use native.Mathlib.Decide.{ℕ-discrete}
 use native.Mathlib.Omega.{arith}
 use lib.Dec.{eqb}
 use lib.IntN.{pos}
-use lib.ListN.{List·getD-eq-default}
 use borrow.Author.Tests.{eq-eqb, ne-eqb}
 use Rattle.kinds.specs.declared.GrowState.{GrowState}
 use Rattle.kinds.specs.declared.Class.the-variants.{Absent, Blossom}
@@ -17,17 +16,17 @@ use Rattle.bench_words.specs.Codec.{pick}
 use Rattle.bench_words.proofs.Laws.{GoodUp}
 use Rattle.bench_words.specs.declared.Node.{Node}
 use Rattle.bench_words.specs.declared.Interface.{Interface}
-use Rattle.ledger_spec.specs.Bench.{Handle, Bench, fresh}
+use Rattle.ledger_spec.specs.Bench.{Handle, Bench}
 use Rattle.ledger_spec.specs.Bench as plain
-use Rattle.ledger_spec.specs.Look.{climb, interface}
+use Rattle.ledger_spec.specs.Look.{climb}
 use Rattle.ledger_spec.specs.Change.{mark, markAll}
 use Rattle.ledger_spec.specs.Named.{stateNamed, parentNamed}
-use Rattle.ledger_spec.proofs.Tops.{climb-same}
 use Rattle.bench_views.specs.Records.{rateOf}
 use Rattle.bench_views.specs.Tab.{tab}
 use Rattle.bench_views.specs.View.{off, upSeen, halvesSeen, marksSeen, lagOf, sumUp, slotSeen, interfaceIn, viewIn, circleOf, valueBy}
 use Rattle.bench_views.proofs.Sums.{sumUp-same}
-use Rattle.bench_views.proofs.Views.{interface-in, view-next, view-plain, view-parent, view-eight, view-is}
+use Rattle.bench_views.proofs.Views.{interface-in, view-next, view-plain, view-eight, view-is}
+use Rattle.deed_raises.proofs.Kept.{climb-in}
 use Rattle.deed_nodes.specs.Steps.{remarked}
 use Rattle.deed_nodes.specs.declared.Seat.{Seat}
 use Rattle.deed_nodes.proofs.Puts.{mark-in}
@@ -98,17 +97,6 @@ view-interfaces n U U' A good same = view-is n U' A (viewIn n U A) (view-next n 
           marks = marksSeen (f .marks);
         })
         (same v lv) (sums v lv)
-
--- the same parents, the same climb
-pub climb-in : (n n' : ℕ) (U U' : ℕ → Interface) (A A' : ℕ → Node) → ((v : ℕ) → v < 8 → U' v .parent ≡ U v .parent) → (k u : ℕ) → climb k (viewIn n' U' A') u ≡ climb k (viewIn n U A) u
-climb-in n n' U U' A A' ps k u = climb-same (viewIn n U A) (viewIn n' U' A') (λ w. go w (decLt w 8)) k u
-  where
-    none-of : (m : ℕ) (W : ℕ → Interface) (B : ℕ → Node) (w : ℕ) → (w < 8 → ⊥) → interface (viewIn m W B) w .parent ≡ none
-    none-of m W B w q = ap (λ (f : plain.Interface). f .parent) (List·getD-eq-default (viewIn m W B .interfaces) fresh (omega (arith, view-eight m W B, q)))
-
-    go : (w : ℕ) → Dec (w < 8) → interface (viewIn n' U' A') w .parent ≡ interface (viewIn n U A) w .parent
-    go w (yes l) = view-parent n' U' A' w l ∙ ap upSeen (ps w l) ∙ sym (view-parent n U A w l)
-    go w (no q) = none-of n' U' A' w q ∙ sym (none-of n U A w q)
 
 -- the definition's own clauses
 marked-one : (B : Bench) (h : Handle) (l : List Handle) (s : plain.State) (p : Option Handle) → markAll (mark B h s p) l s p ≡ markAll B (h ∷ l) s p

@@ -32,10 +32,11 @@ use Rattle.bench_views.proofs.Sums.{sumUp-le, sumUp-same}
 use Rattle.bench_views.proofs.Circles.{same-eq, circle-same}
 use Rattle.bench_views.proofs.Rings.{Ringed, ringed}
 use Rattle.bench_views.proofs.Codes.{coded-node}
+use Rattle.deed_raises.proofs.Kept.{node-steady}
 use Rattle.deed_nodes.specs.Steps.{remarked}
 use Rattle.deed_nodes.proofs.Puts.{value-low, rate-small}
 use Rattle.deed_nodes.proofs.Needs.{open-paced}
-use Rattle.deed_nodes.proofs.Stores.{node-next, node-steady}
+use Rattle.deed_nodes.proofs.Stores.{node-next}
 use Rattle.bench_views.specs.Given.{handGiven}
 use Rattle.deed_circles.specs.Given.{handsGiven, spotAt}
 use Rattle.deed_circles.specs.Members.{seatOf, takenNode}
@@ -168,7 +169,7 @@ module _ (b : List ℕ) (u : ℕ) (ms ts : List ℕ) (F : Fit b) (R : Ringable b
         rw e
         (record {
           within = l;
-          steady = node-steady b₁ k x lk good (G .steady);
+          steady = node-steady b₁ k x lk (G .steady);
           coded = coded-node b₁ k x len lk good (G .coded);
           next = node-next b₁ k x lk good len ∙ G .next;
           interfaces = λ v lv. store-node-interface b₁ k x len lk v lv ∙ G .interfaces v lv;

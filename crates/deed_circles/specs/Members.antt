@@ -1,16 +1,15 @@
 -- A node as it is taken into a circle, and as it is let out of one; and a new blossom. Assumes nothing.
-use Prim.Native.Nat.{ℕ, _-_, _/_}
+use Prim.Native.Nat.{ℕ, _/_}
 use mathlib.Core.List.{List}
-use Rattle.kinds.specs.Names.{noCode}
 use Rattle.kinds.specs.declared.GrowState.the-variants.{Grow as Growing, Stay}
 use Rattle.kinds.specs.declared.Class.the-variants.{Blossom}
 use Rattle.kinds.specs.declared.Handle.{Handle as Packed}
-use Rattle.kinds.specs.declared.Parent.the-variants.{Outermost, Inside}
-use Rattle.bench_words.specs.Codec.{valueOffset, handleOf}
+use Rattle.kinds.specs.declared.Parent.the-variants.{Inside}
+use Rattle.bench_words.specs.Codec.{handleOf}
 use Rattle.bench_words.specs.declared.Node.{Node}
 use Rattle.bench_words.specs.declared.Interface.{Interface}
 use Rattle.bench_views.specs.View.{sumUp}
-use Rattle.deed_nodes.specs.Steps.{noSeat, remarked}
+use Rattle.deed_nodes.specs.Steps.{noSeat, newNode, remarked}
 use Rattle.deed_nodes.specs.declared.Seat.{Seat}
 use Rattle.deed_circles.specs.Given.{nextSpot, touchWord}
 
@@ -26,20 +25,6 @@ takenNode U A k s = remarked (A k) (sumUp 8 U (k / 64)) Stay s
 abbrev pub freedNode : (ℕ → Interface) → (ℕ → Node) → ℕ → Node
 freedNode U A k = remarked (A k) (sumUp 8 U (k / 64)) Growing noSeat
 
--- a new blossom: value 0 at T = t, growing
+-- a new blossom
 abbrev pub blossomNode : (serial first count size t : ℕ) → Node
-blossomNode serial first count size t =
-    record {
-      serial = record { 0 = serial };
-      class = Blossom;
-      state = Growing;
-      parent = Outermost;
-      place = 0;
-      next = 0;
-      left = noCode;
-      right = noCode;
-      bias = valueOffset - t;
-      size = size;
-      first = first;
-      count = count;
-    }
+blossomNode serial first count size t = newNode serial Blossom size first count t

@@ -1,6 +1,5 @@
 // The work of add blossom and expand, over the words that the caller lends, against the plain ledger's own definitions. Members come as packed
 // handles, their touching handles two a member, or none. No refusal is left: each asks that its tests pass on words that fit. Assumes nothing.
-use bench_words::Node;
 use bench_words::WORDS;
 use deed_nodes::Seat;
 use kinds::Class;
@@ -20,10 +19,10 @@ ghost use Rattle.ledger_spec.specs.Refuse.{blossomTests, expandTests};
 ghost use Rattle.ledger_spec.specs.Deeds.{newHandle, addBlossom, removeBlossom};
 ghost use Rattle.ledger_spec.specs.Named.{handleNamed};
 ghost use Rattle.bench_views.specs.Records.{Steady, Ranged, rateOf};
-ghost use Rattle.bench_views.specs.View.{view};
+ghost use Rattle.bench_views.specs.View.{sumUp, view};
 ghost use Rattle.bench_views.specs.Fit.{Fit, Done};
 ghost use Rattle.deed_circles.specs.Given.{spotOf, handsGiven, pairsGiven, nextSpot, touchWord};
-ghost use Rattle.deed_circles.specs.Members.{seatOf, takenNode, freedNode, blossomNode};
+ghost use Rattle.deed_circles.specs.Members.{seatOf, takenNode, freedNode};
 
 // What a member adds to its blossom: its size, and its share of the speed, one higher than it is.
 struct Share {
@@ -77,41 +76,31 @@ fn seat(members: &[u64], touching: &[u64], i: usize, q: Handle) -> Seat
     }
 }
 
-// The member that word w names stays, in its seat; what it adds.
-fn take_in(b: &mut [u64; WORDS], w: u64, seat: Seat) -> Share
-    requires { ⌜ Steady (now b) × Ranged (nodeAt (now b) (spotOf w)) ⌝ }
+// T of an interface, where t is that of `unit`, in which most members of a circle stand.
+fn total_of(b: &[u64; WORDS], home: usize, unit: usize, t: u64) -> u64
+    requires { ⌜ Steady (now b) × (home < 8) × (t ≡ sumUp 8 (interfaceAt (now b)) unit) ⌝ }
+    ensures { λ r. ⌜ (r ≡ sumUp 8 (interfaceAt (now (b .entry))) home) × (r ≤ 8796093022208) ⌝ }
+{
+    if home == unit {
+        return t;
+    }
+    let up = bench_trees::climb(b, home);
+    up.total
+}
+
+// The member that word w names stays, in its seat; what it adds. T of `unit` is t.
+fn take_in(b: &mut [u64; WORDS], w: u64, unit: usize, t: u64, seat: Seat) -> Share
+    requires { ⌜ Steady (now b) × Ranged (nodeAt (now b) (spotOf w)) × (t ≡ sumUp 8 (interfaceAt (now b)) unit) ⌝ }
     ensures { λ r. ⌜ (now (b .exit) ≡ storeNode (now (b .entry)) (spotOf w) (takenNode (interfaceAt (now (b .entry))) (nodeAt (now (b .entry))) (spotOf w) seat)) × (r .size ≡ nodeAt (now (b .entry)) (spotOf w) .size) × (r .rate ≡ rateOf (nodeAt (now (b .entry)) (spotOf w) .state)) × (r .rate ≤ 2) ⌝ }
 {
     let k = spot(w);
-    let up = bench_trees::climb(b, k / 64);
+    let total = total_of(b, k / 64, unit, t);
     let n = bench_words::load_node(b, k);
     let old = n.state;
-    let m = deed_nodes::remark(n, up.total, GrowState::Stay, seat);
+    let m = deed_nodes::remark(n, total, GrowState::Stay, seat);
     bench_words::store_node(b, k, m);
     let rate = bench_trees::rate_of(old);
     Share { size: n.size, rate }
-}
-
-// A new blossom, growing from value 0 at T = t.
-fn new_blossom(serial: Serial, first: u64, count: u64, size: u64, t: u64) -> Node
-    requires { ⌜ t ≤ 1099511627776 ⌝ }
-    ensures { λ r. ⌜ r ≡ blossomNode (serial .0) first count size t ⌝ }
-{
-    let nobody = Handle::nobody();
-    Node {
-        serial,
-        class: Class::Blossom,
-        state: GrowState::Grow,
-        parent: Parent::Outermost,
-        place: 0,
-        next: 0,
-        left: nobody,
-        right: nobody,
-        bias: Node::OFFSET - t,
-        size,
-        first,
-        count,
-    }
 }
 
 // Adds a blossom: its members stay and get their seats; then the blossom, growing from value 0. Gives its handle.
@@ -120,6 +109,7 @@ pub fn add_blossom(b: &mut [u64; WORDS], unit: usize, members: &[u64], touching:
     ensures { λ r. ⌜ Done (now (b .exit)) (addBlossom (view (now (b .entry))) unit (handsGiven (now (members .entry))) (pairsGiven (now (touching .entry)))) × (handleNamed r ≡ newHandle (view (now (b .entry))) unit) ⌝ }
 {
     let f = bench_words::load_interface(b, unit);
+    let t = bench_trees::lag(f.marks.plain, f.progress);
     let slot = bench_slots::free_slot(b, unit);
     let next = bench_words::load_next(b);
     let serial = Serial(next as u32);
@@ -132,27 +122,26 @@ pub fn add_blossom(b: &mut [u64; WORDS], unit: usize, members: &[u64], touching:
     let mut speed = f.speed;
     let mut i: usize = 0;
     while i < members.len() {
-        let s = take_in(b, members[i], seat(members, touching, i, q));
+        let s = take_in(b, members[i], unit, t, seat(members, touching, i, q));
         size = size + s.size;
         speed = speed + 1 - s.rate;
         i = i + 1;
     }
     let first = spot(members[0]) as u64;
-    let t = bench_trees::lag(f.marks.plain, f.progress);
-    let n = new_blossom(serial, first, i as u64, size, t);
+    let n = deed_nodes::new_node(serial, Class::Blossom, size, first, i as u64, t);
     deed_nodes::push(b, unit, slot, n, speed + 1);
     q
 }
 
-// The member at a position loses its seat and grows; the position of the next.
-fn release(b: &mut [u64; WORDS], at: u64) -> u64
-    requires { ⌜ (at < 512) × Steady (now b) × Ranged (nodeAt (now b) at) ⌝ }
+// The member at a position loses its seat and grows; the position of the next. T of `unit` is t.
+fn release(b: &mut [u64; WORDS], at: u64, unit: usize, t: u64) -> u64
+    requires { ⌜ (at < 512) × Steady (now b) × Ranged (nodeAt (now b) at) × (t ≡ sumUp 8 (interfaceAt (now b)) unit) ⌝ }
     ensures { λ r. ⌜ (now (b .exit) ≡ storeNode (now (b .entry)) at (freedNode (interfaceAt (now (b .entry))) (nodeAt (now (b .entry))) at)) × (r ≡ nodeAt (now (b .entry)) at .next) ⌝ }
 {
     let k = at as usize;
-    let up = bench_trees::climb(b, k / 64);
+    let total = total_of(b, k / 64, unit, t);
     let n = bench_words::load_node(b, k);
-    let m = deed_nodes::remark(n, up.total, GrowState::Grow, deed_nodes::no_seat());
+    let m = deed_nodes::remark(n, total, GrowState::Grow, deed_nodes::no_seat());
     bench_words::store_node(b, k, m);
     n.next
 }
@@ -174,11 +163,12 @@ pub fn remove_blossom(b: &mut [u64; WORDS], unit: usize, h: Handle)
     let k = (h.unit as usize) * 64 + (h.slot as usize);
     let n = bench_words::load_node(b, k);
     let f = bench_words::load_interface(b, unit);
+    let t = bench_trees::lag(f.marks.plain, f.progress);
     let count = n.count;
     let mut at = n.first;
     let mut i: u64 = 0;
     while i < count {
-        at = release(b, at);
+        at = release(b, at, unit, t);
         i = i + 1;
     }
     let old = n.state;

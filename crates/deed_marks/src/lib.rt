@@ -1,7 +1,5 @@
 // The work of the two marks, over the words that the caller lends, against the plain ledger's own definition. No refusal is left: each asks that its
 // tests pass on words that fit. Assumes nothing.
-use bench_words::Interface;
-use bench_words::Marks;
 use bench_words::WORDS;
 ghost use mathlib.Core.Path.{_≡_};
 ghost use Rattle.ledger_spec.specs.Bench.{filling, floor};
@@ -16,27 +14,9 @@ pub fn mark_filling(b: &mut [u64; WORDS], unit: usize)
     requires { ⌜ Fit (now b) × (first (markTests (view (now b)) unit) ≡ 0) ⌝ }
     ensures { λ _. ⌜ Done (now (b .exit)) (choose (view (now (b .entry))) unit filling) ⌝ }
 {
-    let f = bench_words::load_interface(b, unit);
-    let parent = f.parent;
-    let old = f.marks;
-    bench_words::store_interface(
-        b,
-        unit,
-        Interface {
-            used: f.used,
-            progress: f.progress,
-            sum: f.sum,
-            speed: f.speed,
-            parent,
-            left: f.left,
-            right: f.right,
-            marks: Marks {
-                fills: true,
-                floored: old.floored,
-                plain: old.plain,
-            },
-        },
-    );
+    let mut f = bench_words::load_interface(b, unit);
+    f.marks.fills = true;
+    bench_words::store_interface(b, unit, f);
 }
 
 // From now on, and until it is cleared, no growth takes a value of the interface's tree below zero.
@@ -44,25 +24,7 @@ pub fn mark_floored(b: &mut [u64; WORDS], unit: usize)
     requires { ⌜ Fit (now b) × (first (markTests (view (now b)) unit) ≡ 0) ⌝ }
     ensures { λ _. ⌜ Done (now (b .exit)) (choose (view (now (b .entry))) unit floor) ⌝ }
 {
-    let f = bench_words::load_interface(b, unit);
-    let parent = f.parent;
-    let old = f.marks;
-    bench_words::store_interface(
-        b,
-        unit,
-        Interface {
-            used: f.used,
-            progress: f.progress,
-            sum: f.sum,
-            speed: f.speed,
-            parent,
-            left: f.left,
-            right: f.right,
-            marks: Marks {
-                fills: old.fills,
-                floored: true,
-                plain: old.plain,
-            },
-        },
-    );
+    let mut f = bench_words::load_interface(b, unit);
+    f.marks.floored = true;
+    bench_words::store_interface(b, unit, f);
 }

@@ -7,12 +7,8 @@ use mathlib.Core.List.{List}
 use native.Mathlib.Numerals.{add-one}
 use native.Mathlib.Omega.{arith}
 use lib.ListN.{getD, set}
-use Rattle.kinds.specs.Names.{noCode}
 use Rattle.kinds.specs.declared.GrowState.{GrowState}
-use Rattle.kinds.specs.declared.GrowState.the-variants.{Grow as Growing}
-use Rattle.kinds.specs.declared.Class.the-variants.{Defect}
 use Rattle.kinds.specs.declared.Handle.{Handle as Packed}
-use Rattle.kinds.specs.declared.Parent.the-variants.{Outermost}
 use Rattle.kinds.specs.declared.Vertex.{Vertex}
 use Rattle.slot_map.specs.Slots.{put}
 use Rattle.bench_words.specs.Store.{nodeAt, interfaceAt, storeNode, storeInterface, mapAt, storeMap, setSpeed}
@@ -101,10 +97,9 @@ module _ (b : List ℕ) (u : ℕ) (v : Vertex) (F : Fit b) (t : first (defectTes
       let P = pushable b u F t in
       record { top = P .root .low; canon = F .canon; room = P .slot .room; next = P .next; short = omega (arith, F .canon .steady .progress u (P .root .low), lag-le (interfaceAt b u)); fast = open-paced b F u (P .root) .fast }
 
-  pub defect-by : (U : Interface) {k x w : ℕ} {none : Packed} {b' : List ℕ} → v .0 < 4294967296 → U ≡ interfaceAt b u → k ≡ freeSlot (view b) u → x ≡ getD b 0 0 → none ≡ noCode → w ≡ lagOf U
-      → b' ≡ pushed b u k (record { serial = record { 0 = x }; class = Defect v; state = Growing; parent = Outermost; place = 0; next = 0; left = none; right = none; bias = 1152921504606846976 - w; size = 1; first = 0; count = 0 }) (U .speed + 1)
+  pub defect-by : (U : Interface) {k x w : ℕ} {n : Node} {b' : List ℕ} → v .0 < 4294967296 → U ≡ interfaceAt b u → k ≡ freeSlot (view b) u → x ≡ getD b 0 0 → w ≡ lagOf U → n ≡ defectNode x v w → b' ≡ pushed b u k n (U .speed + 1)
       → Done b' (addDefect (view b) u (v .0)) × (handleNamed (record { unit = u; slot = k; serial = record { 0 = x } }) ≡ newHandle (view b) u)
-  defect-by U {k} {x} {b' = b'} fits eU ek ex en ew e' =
+  defect-by U {k} {x} {b' = b'} fits eU ek ex ew en e' =
       let P = pushable b u F t in
-      let q : b' ≡ pushed b u (freeSlot (view b) u) (defectNode (getD b 0 0) v (lagOf (interfaceAt b u))) (interfaceAt b u .speed + 1) = simp (e', ek, ex, en, ew, eU) in
+      let q : b' ≡ pushed b u (freeSlot (view b) u) (defectNode (getD b 0 0) v (lagOf (interfaceAt b u))) (interfaceAt b u .speed + 1) = simp (e', en, ek, ex, ew, eU) in
       (rw q (defect-added b u v F P fits), new-handle b u (record { unit = u; slot = k; serial = record { 0 = x } }) refl ek ex)

@@ -1,6 +1,6 @@
 -- Growth in the plain engine: no T changes, every node of the tree is raised, and no class and no link changes. Assumes nothing.
-use Prim.Native.Nat.{ℕ, _+_, _-_, _*_, _/_, _%_, _<_, _≤_}
-use mathlib.Core.Path.{_≡_, refl, ap, ap₂, sym, _∙_, subst}
+use Prim.Native.Nat.{ℕ, _+_, _-_, _*_, _/_, _<_, _≤_}
+use mathlib.Core.Path.{_≡_, refl, ap, sym, _∙_}
 use mathlib.Core.Bool.{Bool, true, false}
 use mathlib.Core.List.{List}
 use native.Mathlib.Decide.{decLt}
@@ -36,7 +36,7 @@ use Rattle.deed_raises.specs.Raises.{Movable, TreeMovable, Raised}
 use Rattle.deed_nodes.specs.Steps.{noted}
 use Rattle.deed_nodes.proofs.Needs.{Paced, open-paced, Growable, growable}
 use Rattle.deed_nodes.proofs.Stores.{stored-part, stored-next, stored-steady}
-use Rattle.deed_nodes.proofs.Keeps.{Sim, canon-like, halves-kept}
+use Rattle.deed_nodes.proofs.Keeps.{canon-like, halves-kept}
 
 stay-grow : {g : GrowState} → g ≡ Stay → g ≡ Growing → ⊥
 stay-grow p q = let z : Stay ≡ Growing = sym p ∙ q in let z2 : _≡_ {A = ℕ} 0 1 = cc in omega arith

@@ -22,7 +22,7 @@ use Rattle.bench_words.specs.declared.Up.{Up}
 use Rattle.bench_words.specs.declared.Up.the-variants.{Top, Under}
 use Rattle.ledger_spec.specs.Bench.{Handle, Member, defect, blossom}
 use Rattle.ledger_spec.specs.Bench as plain
-use Rattle.ledger_spec.specs.Look.{interface, climb, freeSlot}
+use Rattle.ledger_spec.specs.Look.{climb, freeSlot}
 use Rattle.ledger_spec.specs.Look as look
 use Rattle.ledger_spec.specs.Tests.{first}
 use Rattle.ledger_spec.specs.Refuse.{defectTests, stateTests, growTests}

@@ -17,6 +17,7 @@ use Rattle.bench_words.specs.declared.Interface.{Interface}
 use Rattle.bench_views.specs.Records.{withUsed, Steady}
 use Rattle.bench_views.specs.Canon.{Coded}
 use Rattle.bench_views.proofs.Codes.{coded-node, coded-interface, coded-first, coded-map}
+use Rattle.deed_raises.proofs.Kept.{node-steady}
 use Rattle.deed_nodes.specs.Steps.{paced, pushed}
 
 -- ---- one interface stored
@@ -47,15 +48,6 @@ module _ (b : List ℕ) (u : ℕ) (f : Interface) (len : length b ≡ 6273) (lu 
 module _ (b : List ℕ) (k : ℕ) (n : Node) (lk : k < 512) (good : Good n) where
   pub node-next : length b ≡ 6273 → getD (storeNode b k n) 0 0 ≡ getD b 0 0
   node-next len = store-out b k n len lk 0 (λ i l e. omega arith)
-
-  pub node-steady : Steady b → Steady (storeNode b k n)
-  node-steady s =
-      record {
-        len = length-store b k n (s .len) lk;
-        slots = λ v lv. rw (store-node-interface b k n (s .len) lk v lv) (s .slots v lv);
-        progress = λ v lv. rw (store-node-interface b k n (s .len) lk v lv) (s .progress v lv);
-        rising = λ v p lv e. s .rising v p lv (ap (λ (x : Interface). x .parent) (sym (store-node-interface b k n (s .len) lk v lv)) ∙ e);
-      }
 
 -- ---- one map stored
 module _ (b : List ℕ) (u w : ℕ) (lu : u < 8) where
@@ -112,7 +104,7 @@ module _ (b : List ℕ) (k : ℕ) (n : Node) (t s : ℕ) (st : Steady b) (lk : k
   pub put-steady : Steady B₂
   unfolding paced
   put-steady =
-      let s₁ = node-steady b k n lk good st in
+      let s₁ = node-steady b k n lk st in
       stored-steady B₁ t (setSpeed (interfaceAt B₁ t) s) len₁ lt (good-interface B₁ t) s₁ (s₁ .slots t lt) (s₁ .progress t lt) refl
 
   pub put-coded : Coded b → Coded B₂

@@ -8,6 +8,7 @@ use Rattle.bench_words.specs.Codec.{valueOffset}
 use Rattle.kinds.specs.Names.{noCode}
 use Rattle.kinds.specs.declared.GrowState.{GrowState}
 use Rattle.kinds.specs.declared.GrowState.the-variants.{Grow as Growing}
+use Rattle.kinds.specs.declared.Class.{Class}
 use Rattle.kinds.specs.declared.Class.the-variants.{Defect}
 use Rattle.kinds.specs.declared.Parent.the-variants.{Outermost}
 use Rattle.kinds.specs.declared.Vertex.{Vertex}
@@ -40,12 +41,12 @@ remarked n t g s =
       count = n .count;
     }
 
--- a new defect: value 0 at T = t, growing
-abbrev pub defectNode : ℕ → Vertex → ℕ → Node
-defectNode serial v t =
+-- a new node: value 0 at T = t, growing
+abbrev pub newNode : ℕ → Class → (size first count t : ℕ) → Node
+newNode serial class size first count t =
     record {
       serial = record { 0 = serial };
-      class = Defect v;
+      class = class;
       state = Growing;
       parent = Outermost;
       place = 0;
@@ -53,10 +54,14 @@ defectNode serial v t =
       left = noCode;
       right = noCode;
       bias = valueOffset - t;
-      size = 1;
-      first = 0;
-      count = 0;
+      size = size;
+      first = first;
+      count = count;
     }
+
+-- a new defect
+abbrev pub defectNode : ℕ → Vertex → ℕ → Node
+defectNode serial v t = newNode serial (Defect v) 1 0 0 t
 
 -- interface u has speed s
 unfoldable pub paced : List ℕ → ℕ → ℕ → List ℕ

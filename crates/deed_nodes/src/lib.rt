@@ -1,6 +1,5 @@
 // The work of grow, set state and add defect, over the words that the caller lends, against the plain ledger's own definitions; and the steps
 // that blossoms need too. No refusal is left: each asks that its tests pass on words that fit. Assumes nothing.
-use bench_words::Interface;
 use bench_words::Node;
 use bench_words::WORDS;
 use kinds::Class;
@@ -23,7 +22,7 @@ ghost use Rattle.ledger_spec.specs.Named.{stateNamed, handleNamed};
 ghost use Rattle.bench_views.specs.Records.{Ranged, noNode};
 ghost use Rattle.bench_views.specs.View.{view};
 ghost use Rattle.bench_views.specs.Fit.{Fit, Done};
-ghost use Rattle.deed_nodes.specs.Steps.{noSeat, remarked, paced, noted, Room, pushed};
+ghost use Rattle.deed_nodes.specs.Steps.{noSeat, newNode, remarked, paced, noted, Room, pushed};
 
 // Where a node stands: the blossom that it is a member of, its place in the circle, the position of the next member, its two touching handles.
 pub struct Seat {
@@ -69,6 +68,28 @@ pub fn no_node() -> Node
     }
 }
 
+// A new node, growing from value 0 at T = t. The first position and the count are of its circle: both 0 for a defect.
+pub fn new_node(serial: Serial, class: Class, size: u64, first: u64, count: u64, t: u64) -> Node
+    requires { ⌜ t ≤ 1099511627776 ⌝ }
+    ensures { λ r. ⌜ r ≡ newNode (serial .0) class size first count t ⌝ }
+{
+    let nobody = Handle::nobody();
+    Node {
+        serial,
+        class,
+        state: GrowState::Grow,
+        parent: Parent::Outermost,
+        place: 0,
+        next: 0,
+        left: nobody,
+        right: nobody,
+        bias: Node::OFFSET - t,
+        size,
+        first,
+        count,
+    }
+}
+
 // The node with another state and seat. Its value stays, at T = t.
 pub fn remark(n: Node, t: u64, state: GrowState, seat: Seat) -> Node
     requires { ⌜ Ranged n × (t ≤ 8796093022208) ⌝ }
@@ -103,23 +124,9 @@ pub fn pace(b: &mut [u64; WORDS], unit: usize, speed: u64)
     requires { ⌜ unit < 8 ⌝ }
     ensures { λ _. ⌜ now (b .exit) ≡ paced (now (b .entry)) unit speed ⌝ }
 {
-    let f = bench_words::load_interface(b, unit);
-    let parent = f.parent;
-    let marks = f.marks;
-    bench_words::store_interface(
-        b,
-        unit,
-        Interface {
-            used: f.used,
-            progress: f.progress,
-            sum: f.sum,
-            speed,
-            parent,
-            left: f.left,
-            right: f.right,
-            marks,
-        },
-    );
+    let mut f = bench_words::load_interface(b, unit);
+    f.speed = speed;
+    bench_words::store_interface(b, unit, f);
 }
 
 // How many slots count as used once one more is filled: up to the highest that was.
@@ -137,27 +144,13 @@ pub fn push(b: &mut [u64; WORDS], unit: usize, slot: u8, n: Node, speed: u64)
     requires { ⌜ (unit < 8) × (slot < 64) × (getD (now b) 0 0 < 4294967296) ⌝ }
     ensures { λ _. ⌜ now (b .exit) ≡ pushed (now (b .entry)) unit slot n speed ⌝ }
 {
-    let old = bench_words::load_interface(b, unit);
+    let mut home = bench_words::load_interface(b, unit);
+    home.used = used_with(home.used, slot);
+    home.speed = speed;
     let next = bench_words::load_next(b);
     let map = bench_words::load_map(b, unit);
-    let used = used_with(old.used, slot);
-    let parent = old.parent;
-    let marks = old.marks;
     bench_words::store_node(b, unit * 64 + (slot as usize), n);
-    bench_words::store_interface(
-        b,
-        unit,
-        Interface {
-            used,
-            progress: old.progress,
-            sum: old.sum,
-            speed,
-            parent,
-            left: old.left,
-            right: old.right,
-            marks,
-        },
-    );
+    bench_words::store_interface(b, unit, home);
     bench_words::store_map(b, unit, slot_map::with(map, slot));
     bench_words::store_next(b, next + 1);
 }
@@ -168,23 +161,10 @@ fn note_growth(b: &mut [u64; WORDS], unit: usize, length: u64)
     requires { ⌜ Room (interfaceAt (now b) unit) length ⌝ }
     ensures { λ _. ⌜ now (b .exit) ≡ noted (now (b .entry)) unit length ⌝ }
 {
-    let f = bench_words::load_interface(b, unit);
-    let parent = f.parent;
-    let marks = f.marks;
-    bench_words::store_interface(
-        b,
-        unit,
-        Interface {
-            used: f.used,
-            progress: f.progress + length,
-            sum: f.sum + length * f.speed - length * 1024,
-            speed: f.speed,
-            parent,
-            left: f.left,
-            right: f.right,
-            marks,
-        },
-    );
+    let mut f = bench_words::load_interface(b, unit);
+    f.progress = f.progress + length;
+    f.sum = f.sum + length * f.speed - length * 1024;
+    bench_words::store_interface(b, unit, f);
 }
 
 // Grows a tree by a length, at its top: in the plain engine every node of it first.
@@ -230,27 +210,8 @@ pub fn add_defect(b: &mut [u64; WORDS], unit: usize, vertex: Vertex) -> Handle
     let slot = bench_slots::free_slot(b, unit);
     let next = bench_words::load_next(b);
     let serial = Serial(next as u32);
-    let nobody = Handle::nobody();
-    push(
-        b,
-        unit,
-        slot,
-        Node {
-            serial,
-            class: Class::Defect(Vertex(v as u32)),
-            state: GrowState::Grow,
-            parent: Parent::Outermost,
-            place: 0,
-            next: 0,
-            left: nobody,
-            right: nobody,
-            bias: Node::OFFSET - t,
-            size: 1,
-            first: 0,
-            count: 0,
-        },
-        f.speed + 1,
-    );
+    let n = new_node(serial, Class::Defect(Vertex(v as u32)), 1, 0, 0, t);
+    push(b, unit, slot, n, f.speed + 1);
     Handle {
         unit: unit as u8,
         slot,

@@ -3,42 +3,29 @@ use Prim.Native.Nat.{ℕ, _+_, _-_, _*_, _/_, _<_, _≤_}
 use mathlib.Core.Path.{_≡_, refl, ap, sym, _∙_, subst}
 use mathlib.Core.Logic.{by-cases}
 use mathlib.Core.Bool.{Bool, true, false}
-use mathlib.Core.Option.{none}
 use mathlib.Core.List.{List}
 use native.Mathlib.Decide.{ℕ-discrete, decLt}
 use native.Mathlib.Omega.{arith}
 use lib.Dec.{eqb}
 use borrow.Author.Tests.{eq-eqb, ne-eqb}
-use lib.ListN.{length, getD, List·getD-eq-default}
+use lib.ListN.{getD}
 use Rattle.bench_words.specs.Codec.{pick}
-use Rattle.bench_words.specs.Store.{nodeAt, interfaceAt, storeNode, storeBias, setBias}
-use Rattle.bench_words.proofs.Laws.{Good, good-node, length-store, store-out, load-same, load-other, store-node-interface}
+use Rattle.bench_words.specs.Store.{nodeAt, interfaceAt, storeNode, storeBias}
+use Rattle.bench_words.proofs.Laws.{Good, good-node, store-out, load-same, load-other, store-node-interface}
 use Rattle.bench_words.proofs.Maps.{store-node-map}
 use Rattle.bench_words.specs.declared.Node.{Node}
 use Rattle.bench_words.specs.declared.Interface.{Interface}
-use Rattle.ledger_spec.specs.Bench.{fresh}
-use Rattle.ledger_spec.specs.Bench as plain
-use Rattle.ledger_spec.specs.Look.{interface, climb}
-use Rattle.ledger_spec.proofs.Tops.{climb-same}
+use Rattle.ledger_spec.specs.Look.{climb}
 use Rattle.bench_views.specs.Records.{Steady, noNode}
-use Rattle.bench_views.specs.View.{view, upSeen, valueBy, raised}
+use Rattle.bench_views.specs.View.{view, valueBy, raised}
 use Rattle.bench_views.specs.Canon.{Coded}
-use Rattle.bench_views.proofs.Views.{view-eight, view-parent}
 use Rattle.bench_views.proofs.Codes.{coded-node, bias-stored}
+use Rattle.deed_raises.proofs.Kept.{node-steady, climb-in}
 use Rattle.deed_raises.specs.Raises.{Movable, AllMovable, Bare, RaisedIn, RaisedUnder, Raised}
 
 -- ---- one slot
 good-raised : (l : ℕ) (n : Node) → Good n → Good (raised l n)
 good-raised l n g = record { serial = g .serial; class = g .class; parent = g .parent; left = g .left; right = g .right }
-
-node-steady : (b : List ℕ) (k : ℕ) (n : Node) → k < 512 → Steady b → Steady (storeNode b k n)
-node-steady b k n lk s =
-    record {
-      len = length-store b k n (s .len) lk;
-      slots = λ v lv. rw (store-node-interface b k n (s .len) lk v lv) (s .slots v lv);
-      progress = λ v lv. rw (store-node-interface b k n (s .len) lk v lv) (s .progress v lv);
-      rising = λ v p lv e. s .rising v p lv (ap (λ (x : Interface). x .parent) (sym (store-node-interface b k n (s .len) lk v lv)) ∙ e);
-    }
 
 pub raised-none : (b : List ℕ) (v l : ℕ) → Steady b → Coded b → RaisedIn b v l b 0
 raised-none b v l st co = record { steady = st; coded = co; next = refl; interfaces = λ w lw. refl; maps = λ w lw. refl; done = λ s ls. absurd (omega arith); kept = λ k o. refl }
@@ -79,17 +66,6 @@ module _ (b : List ℕ) (v l : ℕ) (lv : v < 8) (b₁ : List ℕ) (n : ℕ) (R 
 pub raised-all : {b : List ℕ} {v l : ℕ} {b₁ : List ℕ} {n m : ℕ} → RaisedIn b v l b₁ n → n ≡ m → RaisedIn b v l b₁ m
 raised-all R e = rw (← e) R
 
--- ---- a climb depends on parents alone
-out : (x : List ℕ) (v : ℕ) → (v < 8 → ⊥) → interface (view x) v .parent ≡ none
-out x v q = ap (λ (f : plain.Interface). f .parent) (List·getD-eq-default (view x .interfaces) fresh (omega (arith, view-eight (getD x 0 0) (interfaceAt x) (nodeAt x), q)))
-
-tops-kept : (b b₁ : List ℕ) → ((v : ℕ) → v < 8 → interfaceAt b₁ v ≡ interfaceAt b v) → (u : ℕ) → climb 8 (view b₁) u ≡ climb 8 (view b) u
-tops-kept b b₁ same u = climb-same (view b) (view b₁) (λ v. go v (decLt v 8)) 8 u
-  where
-    go : (v : ℕ) → Dec (v < 8) → interface (view b₁) v .parent ≡ interface (view b) v .parent
-    go v (yes l) = view-parent (getD b₁ 0 0) (interfaceAt b₁) (nodeAt b₁) v l ∙ ap (λ (f : Interface). upSeen (f .parent)) (same v l) ∙ sym (view-parent (getD b 0 0) (interfaceAt b) (nodeAt b) v l)
-    go v (no q) = out b₁ v q ∙ sym (out b v q)
-
 -- ---- one interface
 pub begun : (b : List ℕ) (u l : ℕ) → Steady b → Coded b → Raised b u l b 0
 begun b u l st co = record { steady = st; coded = co; next = refl; interfaces = λ v lv. refl; maps = λ v lv. refl; done = λ k lk. absurd (omega arith); kept = λ k lk. refl }
@@ -101,7 +77,7 @@ module _ (b : List ℕ) (u l : ℕ) (bare : Bare b) (b₁ : List ℕ) (v : ℕ) 
       rw (R .kept (v * 64 + i) (omega arith)) (m i i2)
 
   found : climb 8 (view b₁) v ≡ climb 8 (view b) v
-  found = tops-kept b b₁ (R .interfaces) v
+  found = climb-in (getD b 0 0) (getD b₁ 0 0) (interfaceAt b) (interfaceAt b₁) (nodeAt b) (nodeAt b₁) (λ w lw. ap (λ (f : Interface). f .parent) (R .interfaces w lw)) 8 v
 
   at-home : (k : ℕ) → v * 64 ≤ k → k < v * 64 + 64 → (c : Bool) → eqb (climb 8 (view b) v) u ≡ c → eqb (climb 8 (view b) (k / 64)) u ≡ c
   at-home k lo hi c e = let z : k / 64 ≡ v = omega arith in rw z e

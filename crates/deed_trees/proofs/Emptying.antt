@@ -15,7 +15,8 @@ use Rattle.bench_words.specs.declared.Up.the-variants.{Top, Under}
 use Rattle.bench_views.specs.Records.{Steady, noNode}
 use Rattle.bench_views.specs.Canon.{Coded}
 use Rattle.bench_views.proofs.Codes.{coded-node, coded-interface, coded-map}
-use Rattle.deed_nodes.proofs.Stores.{node-next, node-steady, map-next, map-steady, stored-next}
+use Rattle.deed_raises.proofs.Kept.{node-steady}
+use Rattle.deed_nodes.proofs.Stores.{node-next, map-next, map-steady, stored-next}
 use Rattle.deed_trees.specs.Empty.{Emptied, Reset}
 
 good-none : Good noNode
@@ -32,7 +33,7 @@ emptied-more b u b₁ b₂ n e E lu ln ee e₂ =
     let q : b₂ ≡ storeNode b₁ k noNode = e₂ ∙ ap (storeNode b₁ k) ee in
     rw q
     (record {
-      steady = node-steady b₁ k noNode lk good-none (E .steady);
+      steady = node-steady b₁ k noNode lk (E .steady);
       coded = coded-node b₁ k noNode len lk good-none (E .coded);
       next = node-next b₁ k noNode lk good-none len ∙ E .next;
       interfaces = λ v lv. store-node-interface b₁ k noNode len lk v lv ∙ E .interfaces v lv;

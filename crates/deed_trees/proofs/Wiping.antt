@@ -7,11 +7,10 @@ use mathlib.Core.Option.{Option, none, some}
 use mathlib.Core.List.{List}
 use native.Mathlib.Decide.{ℕ-discrete, decLt}
 use native.Mathlib.Omega.{arith}
-use lib.ListN.{getD, List·getD-eq-default}
+use lib.ListN.{getD}
 use Rattle.bench_words.specs.Store.{nodeAt, interfaceAt, noInterface, mapAt}
 use Rattle.bench_words.specs.declared.Interface.{Interface}
-use Rattle.ledger_spec.specs.Bench.{Bench, fresh}
-use Rattle.ledger_spec.specs.Bench as plain
+use Rattle.ledger_spec.specs.Bench.{Bench}
 use Rattle.ledger_spec.specs.Look.{interface, top, climb}
 use Rattle.ledger_spec.specs.Tests.{first}
 use Rattle.ledger_spec.specs.Refuse.{unitTests}
@@ -19,11 +18,11 @@ use Rattle.ledger_spec.specs.Frame.{Frame}
 use Rattle.ledger_spec.proofs.Tops.{climb-none, climb-some}
 use Rattle.ledger_spec.proofs.Accepted.{clear-passed}
 use Rattle.bench_views.specs.Records.{Steady, noNode}
-use Rattle.bench_views.specs.View.{off, upSeen, view}
+use Rattle.bench_views.specs.View.{off, view}
 use Rattle.bench_views.specs.Canon.{Coded}
 use Rattle.bench_views.specs.Fit.{Fit}
-use Rattle.bench_views.proofs.Views.{view-eight, view-parent}
 use Rattle.bench_trees.specs.Climb.{Climbs}
+use Rattle.deed_raises.proofs.Kept.{parent-in}
 use Rattle.deed_trees.specs.Empty.{Reset}
 
 -- ---- climbs
@@ -47,10 +46,6 @@ climb-above B B' F w same (suc k) u l = go (interface B u .parent) refl (climb-a
     go none e ih = climb-none (suc k) B' u (same u l ∙ e) ∙ sym (climb-none (suc k) B u e)
     go (some p) e ih = climb-some k B' u p (same u l ∙ e) ∙ ih p (let r = F .rising u p e .0 in omega arith) ∙ sym (climb-some k B u p e)
 
--- an interface that no bench has
-out : (x : List ℕ) (v : ℕ) → (v < 8 → ⊥) → interface (view x) v .parent ≡ none
-out x v q = ap (λ (f : plain.Interface). f .parent) (List·getD-eq-default (view x .interfaces) fresh (omega (arith, view-eight (getD x 0 0) (interfaceAt x) (nodeAt x), q)))
-
 below : (v w : ℕ) → v < w + 1 → v ≢ w → v < w
 below v w l ne = omega arith
 
@@ -70,6 +65,10 @@ pub record Wiping (b : List ℕ) (u : ℕ) (b₁ : List ℕ) (w : ℕ) : Type 0 
 module _ (b : List ℕ) (u : ℕ) (F : Fit b) (T : first (unitTests (view b) u) ≡ 0) where
   pub wipe-low : u < 8
   wipe-low = clear-passed (view b) u T .low
+
+  -- the top is its own
+  pub top-own : top (view b) u ≡ u
+  top-own = climb-none 8 (view b) u (clear-passed (view b) u T .free)
 
   pub wiping-begins : Wiping b u b 0
   wiping-begins =
@@ -94,11 +93,8 @@ module _ (b : List ℕ) (u : ℕ) (F : Fit b) (T : first (unitTests (view b) u) 
     interface-now = G .kept w lw (λ z. absurd (omega arith))
 
     climb-now : climb 8 (view b₁) w ≡ top (view b) w
-    climb-now = climb-above (view b) (view b₁) (F .frame) w (λ v lv. go v lv (decLt v 8)) 8 w (omega arith)
-      where
-        go : (v : ℕ) → w ≤ v → Dec (v < 8) → interface (view b₁) v .parent ≡ interface (view b) v .parent
-        go v lv (yes l8) = view-parent (getD b₁ 0 0) (interfaceAt b₁) (nodeAt b₁) v l8 ∙ ap (λ (f : Interface). upSeen (f .parent)) (G .kept v l8 (λ z. absurd (omega arith))) ∙ sym (view-parent (getD b 0 0) (interfaceAt b) (nodeAt b) v l8)
-        go v lv (no q) = out b₁ v q ∙ sym (out b v q)
+    climb-now = climb-above (view b) (view b₁) (F .frame) w
+        (λ v lv. parent-in (getD b 0 0) (getD b₁ 0 0) (interfaceAt b) (interfaceAt b₁) (nodeAt b) (nodeAt b₁) v (λ l8. ap (λ (f : Interface). f .parent) (G .kept v l8 (λ z. absurd (omega arith))))) 8 w (omega arith)
 
     -- one that is not of the tree
     pub wiping-past : {t s : ℕ} → Climbs b₁ w t s → t ≢ u → Wiping b u b₁ (w + 1)
@@ -120,9 +116,11 @@ module _ (b : List ℕ) (u : ℕ) (F : Fit b) (T : first (unitTests (view b) u) 
         }
 
     -- one that is
-    pub wiping-reset : {t s : ℕ} (b₂ : List ℕ) → Climbs b₁ w t s → t ≡ u → Reset b₁ w b₂ → Wiping b u b₂ (w + 1)
-    wiping-reset b₂ c e R =
-        let mine : top (view b) w ≡ u = sym climb-now ∙ sym (c .top) ∙ e in
+    pub of-tree : {t s : ℕ} → Climbs b₁ w t s → t ≡ u → top (view b) w ≡ u
+    of-tree c e = sym climb-now ∙ sym (c .top) ∙ e
+
+    pub wiping-reset : (b₂ : List ℕ) → top (view b) w ≡ u → Reset b₁ w b₂ → Wiping b u b₂ (w + 1)
+    wiping-reset b₂ mine R =
         let st = G .steady in
         let few = st .slots w lw in
         let aside : (v : ℕ) → (v < w + 1 → top (view b) v ≢ u) → v < w → top (view b) v ≢ u = λ v h z. h (omega arith) in

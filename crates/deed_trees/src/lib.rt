@@ -116,19 +116,21 @@ fn reset(b: &mut [u64; WORDS], unit: usize)
     bench_words::store_interface(b, unit, no_interface(f.marks.plain));
 }
 
-// Clears a tree at its top. Parents have higher numbers, so each climb goes over interfaces that are not reset yet, and none above the top is of its tree.
+// Clears a tree at its top, which is reset last. Parents have higher numbers, so each climb goes over interfaces that are not reset yet, and none above the top is
+// of its tree.
 pub fn wipe(b: &mut [u64; WORDS], unit: usize)
     requires { ⌜ Fit (now b) × (numberOf (unitTests (view (now b)) unit) ≡ 0) ⌝ }
     ensures { λ _. ⌜ Done (now (b .exit)) (wiped (view (now (b .entry))) unit) ⌝ }
 {
     let mut w: usize = 0;
-    while w <= unit {
+    while w < unit {
         let up = bench_trees::climb(b, w);
         if up.top == unit {
             reset(b, w);
         }
         w = w + 1;
     }
+    reset(b, unit);
 }
 
 // All words are zero.

@@ -64,13 +64,13 @@ module _ (b : List ℕ) where
   SettledOnce c = (n m : ℕ) (b′ b″ : List ℕ) → Settled b c n b′ → Settled b c m b″ → (n ≡ m) × (b′ ≡ b″)
 
   called : (c : Call) → CalledOnce c
-  called c n m ws ws′ ws″ b′ b″ x y = called-once x y
+  called c n m ws ws′ ws″ b′ b″ x y = called-once ws x y
 
   left : (c : Call) → LeftOnce c
   left c n m b′ b″ x y = left-once x y
 
   told : (c : Call) → ToldOnce c
-  told c n m ws ws′ ws″ b′ b″ x y = told-once x y
+  told c n m ws ws′ ws″ b′ b″ x y = told-once ws x y
 
   settled : (c : Call) → SettledOnce c
   settled c n m b′ b″ x y = settled-once x y

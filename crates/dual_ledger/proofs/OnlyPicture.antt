@@ -1,6 +1,6 @@
 -- No second answer of the exported pictures: number, length and every byte of the lent slice. Assumes nothing.
 use Prim.Native.Nat.{ℕ}
-use mathlib.Core.Path.{_≡_, sym, _∙_}
+use mathlib.Core.Path.{sym, _∙_}
 use mathlib.Core.List.{List}
 use Rattle.bench_views.specs.View.{view}
 use Rattle.sound_lent.specs.Verdict.{readWords}

@@ -4,15 +4,14 @@ use Prim.Native.Nat.{ℕ}
 use mathlib.Core.Path.{_≡_, refl, sym, _∙_}
 use mathlib.Core.Bool.{Bool, true, false}
 use mathlib.Core.List.{List}
-use Rattle.bench_views.proofs.Unique.{words-same}
-use Rattle.bench_views.proofs.Fits.{fit-of}
 use Rattle.sound_bench.specs.Sound.{soundWords}
+use Rattle.outcomes.proofs.Outcomes.{sound-words-same}
 use Rattle.dual_ledger.specs.Texts.{LineBy, LineLeft}
 
 module _ {b line : List ℕ} {n k v w n₂ k₂ v₂ w₂ : ℕ} {b′ b″ : List ℕ} where
   pub only-trusted-text-line : LineBy b line n k v w b′ → LineBy b line n₂ k₂ v₂ w₂ b″ → (_≡_ {A = ℕ × ℕ × ℕ × ℕ} (n, k, v, w) (n₂, k₂, v₂, w₂)) × (b′ ≡ b″)
   only-trusted-text-line x y =
-      (x .numbers ∙ sym (y .numbers), words-same b′ b″ (x .words .canon) (y .words .canon) (fit-of b′ (x .words) .within) (x .seen ∙ sym (y .seen)))
+      (x .numbers ∙ sym (y .numbers), sound-words-same (x .words) (y .words) (x .seen ∙ sym (y .seen)))
 
   pub only-text-line : LineLeft b line n k v w b′ → LineLeft b line n₂ k₂ v₂ w₂ b″ → (_≡_ {A = ℕ × ℕ × ℕ × ℕ} (n, k, v, w) (n₂, k₂, v₂, w₂)) × (b′ ≡ b″)
   only-text-line x y = go (soundWords b) refl

@@ -3,8 +3,6 @@
 use Prim.Native.Nat.{ℕ, zero, suc, _+_, _≤_, _<_, _^_}
 use mathlib.Core.Path.{_≡_, refl, sym, _∙_, ap, subst}
 use mathlib.Core.Bool.{Bool, true, false, true≢false}
-use mathlib.Core.Logic.{_⊎_, inl, inr}
-use mathlib.Core.Option.{none, some}
 use mathlib.Core.List.{List, [], _∷_, _++_, map, append-nil}
 use native.Mathlib.Omega.{arith}
 use borrow.Author.Tests.{ltb-false}
@@ -17,24 +15,25 @@ use Rattle.ledger_spec.specs.Bench.{Handle, State, stays, grows, Node, Bench}
 use Rattle.ledger_spec.specs.Look.{interface, freeSlot, slotOf, nodeNamed}
 use Rattle.ledger_spec.specs.Tests.{first}
 use Rattle.ledger_spec.specs.Deeds.{newHandle, members}
-use Rattle.ledger_spec.specs.Calls.{Call, Defect, Blossom, Expand, SetState, Grow, Fuse, Clear, Mark, nobody}
+use Rattle.ledger_spec.specs.Calls.{Call, Defect, Blossom, Expand, SetState, Grow, Fuse, Clear, Mark}
 use Rattle.ledger_spec.specs.Notices.{Notice, defectAdded, stateSet, shrinkPrepared, blossomAdded, blossomRemoved, grown, tells}
 use Rattle.ledger_spec.specs.Answers.{Answer as Plain, broken, answer}
 use Rattle.ledger_spec.specs.Knit.{mk, In, here, there, Has, Down}
 use Rattle.ledger_spec.specs.Facts.{Sound, Touching}
 use Rattle.ledger_spec.proofs.Says.{says}
 use Rattle.ledger_spec.proofs.Passed.{Open}
-use Rattle.ledger_spec.proofs.Accepted.{Named, DefectPassed, defect-passed, BlossomPassed, blossom-passed, ExpandPassed, expand-passed, StatePassed, state-passed, GrowPassed, grow-passed}
+use Rattle.ledger_spec.proofs.Accepted.{defect-passed, blossom-passed, ExpandPassed, expand-passed, state-passed, GrowPassed, grow-passed}
 use Rattle.ledger_laws.proofs.CameCalls.{named-touch}
 use Rattle.ledger_laws.proofs.Answered.{testsOf, nodeOf, zero-sound, zero-tests, zero-node, zero-notices, refused-node, refused-notices, few-notices}
 use Rattle.bench_views.specs.View.{view}
 use Rattle.bench_words.specs.Codec.{handleOf}
 use Rattle.sound_bench.specs.Sound.{soundWords}
+use Rattle.outcomes.specs.Outcome.{answerOn}
 use Rattle.outcome_notices.specs.Laid.{circleIn}
 use Rattle.call_told.specs.declared.Answer.{Answer as Value}
-use Rattle.call_told.specs.Told.{Told, answerOn, Called}
+use Rattle.call_told.specs.Told.{Told, Called}
 use Rattle.link_told.proofs.Back.{Good, GoodTold, GoodRing, noticesRead, Written, says-notices, says-node}
-use Rattle.dual_ledger.specs.Linked.{ToldBy, CalledBy}
+use Rattle.dual_ledger.specs.Linked.{Wrote, ToldBy, CalledBy}
 
 -- ---- notices whose handles are packed ones and whose lengths have 64 bits, and a circle of at most 64
 abbrev GoodPlain : Notice → Type 0
@@ -144,27 +143,24 @@ written b c = go (answer b c .number) refl
 
 -- and of any words, with either verdict on them
 pub written-on : (s : Bool) (ws : List ℕ) (c : Call) → Written (answerOn s ws c)
-unfolding answerOn broken
+unfolding broken
 written-on true ws c = written (view ws) c
 written-on false ws c = written-of (broken (view ws)) (omega arith) (omega arith, omega arith, omega arith) tt
 
 -- ---- the words that a call writes say what the call by value answers (crates call_told, call_any)
-module _ {b : List ℕ} {c : Call} {n : ℕ} {ws ws′ b′ : List ℕ} {r : Value} {b″ : List ℕ} (long : length ws ≡ 199) where
-  pub told-value : ToldBy b c n ws ws′ b′ → Told b c r b″ → (n ≡ r .number) × ((handleOf (getD ws′ 0 0) ≡ r .node) × (noticesRead ws′ ≡ r .notices))
-  told-value x y = (
-    x .number ∙ sym (ap (λ (a : Value). a .number) (y .reply)),
-    (
-      ap (λ (v : List ℕ). handleOf (getD v 0 0)) (x .told) ∙ says-node (written (view b) c) ws long ∙ sym (ap (λ (a : Value). a .node) (y .reply)),
-      ap noticesRead (x .told) ∙ says-notices (written (view b) c) ws long ∙ sym (ap (λ (a : Value). a .notices) (y .reply)),
-    ),
-  )
-
-  pub called-value : CalledBy b c n ws ws′ b′ → Called (soundWords b) b c r b″ → (n ≡ r .number) × ((handleOf (getD ws′ 0 0) ≡ r .node) × (noticesRead ws′ ≡ r .notices))
-  called-value x y =
-      let W = written-on (soundWords b) b c in (
-        x .left .number ∙ sym (ap (λ (a : Value). a .number) (y .reply)),
+module _ {b : List ℕ} {c : Call} {n : ℕ} (ws : List ℕ) {ws′ b′ : List ℕ} {r : Value} {b″ : List ℕ} (long : length ws ≡ 199) where
+  value-on : (s : Bool) → Wrote s b c n ws ws′ b′ → Called s b c r b″ → (n ≡ r .number) × ((handleOf (getD ws′ 0 0) ≡ r .node) × (noticesRead ws′ ≡ r .notices))
+  value-on s x y =
+      let W = written-on s b c in (
+        x .0 .number ∙ sym (y .0 .number),
         (
-          ap (λ (v : List ℕ). handleOf (getD v 0 0)) (x .told) ∙ says-node W ws long ∙ sym (ap (λ (a : Value). a .node) (y .reply)),
-          ap noticesRead (x .told) ∙ says-notices W ws long ∙ sym (ap (λ (a : Value). a .notices) (y .reply)),
+          ap (λ (v : List ℕ). handleOf (getD v 0 0)) (x .1) ∙ says-node W ws long ∙ sym (ap (λ (a : Value). a .node) (y .1)),
+          ap noticesRead (x .1) ∙ says-notices W ws long ∙ sym (ap (λ (a : Value). a .notices) (y .1)),
         ),
       )
+
+  pub told-value : ToldBy b c n ws ws′ b′ → Told b c r b″ → (n ≡ r .number) × ((handleOf (getD ws′ 0 0) ≡ r .node) × (noticesRead ws′ ≡ r .notices))
+  told-value x y = value-on true x y
+
+  pub called-value : CalledBy b c n ws ws′ b′ → Called (soundWords b) b c r b″ → (n ≡ r .number) × ((handleOf (getD ws′ 0 0) ≡ r .node) × (noticesRead ws′ ≡ r .notices))
+  called-value x y = value-on (soundWords b) x y

@@ -12,7 +12,7 @@ use Rattle.ledger_spec.specs.Grammar.{Line}
 use Rattle.ledger_spec.specs.Program.{answers, texts}
 use Rattle.ledger_spec.specs.Book.{Gone, wrote, writes, Book, turn, turns}
 use Rattle.engine_laws.specs.Engines.{inEngine, bookIn}
-use Rattle.engine_laws.specs.Alike.{Heard, heard, after, Twins, BothEngines}
+use Rattle.engine_laws.specs.Alike.{Heard, heard, after, Lookalikes, BothEngines}
 use Rattle.engine_laws.proofs.Looks.{top-in}
 use Rattle.engine_laws.proofs.Answered.{answer-engine}
 use Rattle.engine_laws.proofs.Asked.{read-engine}
@@ -65,11 +65,11 @@ module _ (n : ℕ) (cs : List Call) where
   other : after (setUpIn true n) cs ≡ inEngine true lazy
   other = after-engine true (setUpIn false n) cs
 
-  twins : Twins (inEngine true lazy) lazy
+  twins : Lookalikes (inEngine true lazy) lazy
   twins = record { plain = refl; lazy = kept-through (setUpIn false n) cs; next = refl; interfaces = refl; asked = read-engine true lazy }
 
   pub both-engines : BothEngines n cs
-  both-engines = record { answers = heard-engine true (setUpIn false n) cs; benches = subst (λ (d : Bench). Twins d lazy) (sym other) twins }
+  both-engines = record { answers = heard-engine true (setUpIn false n) cs; benches = subst (λ (d : Bench). Lookalikes d lazy) (sym other) twins }
 
 -- ---- lines
 pub both-texts : (n : ℕ) (ls : List Line) → texts (answers (setUpIn true n) ls) ≡ texts (answers (setUpIn false n) ls)

@@ -2,12 +2,14 @@
 use Prim.Native.Nat.{ℕ}
 use mathlib.Core.Path.{_≡_, refl, ap, _∙_}
 use mathlib.Core.Bool.{Bool}
+use mathlib.Core.Option.{none, some}
 use mathlib.Core.List.{List, [], _∷_, map}
 use Rattle.ledger_spec.specs.Bench.{Bench}
 use Rattle.ledger_spec.specs.Calls.{Call, Defect, Blossom, Expand, SetState, Grow, Fuse, Clear}
 use Rattle.ledger_spec.specs.SoundTree.{units}
 use Rattle.ledger_spec.specs.Answers.{Answer, answer}
-use Rattle.ledger_spec.specs.Grammar.{Line, D, B, E, S, G, F, C, K, wrong}
+use Rattle.ledger_spec.specs.Operations.{D, B, E, S, G, F, C, K}
+use Rattle.ledger_spec.specs.Grammar.{Line}
 use Rattle.ledger_spec.specs.Lines.{LineAnswer, seek, named, shown, calls, checks, says}
 use Rattle.ledger_spec.specs.Program.{answers, afterLines, texts}
 use Rattle.engine_laws.specs.Engines.{inEngine, lineIn}
@@ -39,15 +41,15 @@ module _ (m : Bool) where
 
     pub says-engine : (l : Line) → says (inEngine m b) l ≡ lineIn m (says b l)
     unfolding says
-    says-engine (D u v) = calls-in u (Defect u v) (Defect u v) refl
-    says-engine (B u ks) = calls-in u (Blossom u (map (named (inEngine m b)) ks) []) (Blossom u (map (named b) ks) []) (λ i. Blossom u (map (λ k. named-in k i) ks) [])
-    says-engine (E u k) = calls-in u (Expand u (named (inEngine m b) k)) (Expand u (named b k)) (λ i. Expand u (named-in k i))
-    says-engine (S u k s) = calls-in u (SetState u (named (inEngine m b) k) s) (SetState u (named b k) s) (λ i. SetState u (named-in k i) s)
-    says-engine (G u l) = calls-in u (Grow u l) (Grow u l) refl
-    says-engine (F p l r) = calls-in p (Fuse p l r) (Fuse p l r) refl
-    says-engine (C u) = calls-in u (Clear u) (Clear u) refl
-    says-engine (K u) = checks-in u
-    says-engine wrong = refl
+    says-engine (some (D u v)) = calls-in u (Defect u v) (Defect u v) refl
+    says-engine (some (B u ks)) = calls-in u (Blossom u (map (named (inEngine m b)) ks) []) (Blossom u (map (named b) ks) []) (λ i. Blossom u (map (λ k. named-in k i) ks) [])
+    says-engine (some (E u k)) = calls-in u (Expand u (named (inEngine m b) k)) (Expand u (named b k)) (λ i. Expand u (named-in k i))
+    says-engine (some (S u k s)) = calls-in u (SetState u (named (inEngine m b) k) s) (SetState u (named b k) s) (λ i. SetState u (named-in k i) s)
+    says-engine (some (G u l)) = calls-in u (Grow u l) (Grow u l) refl
+    says-engine (some (F p l r)) = calls-in p (Fuse p l r) (Fuse p l r) refl
+    says-engine (some (C u)) = calls-in u (Clear u) (Clear u) refl
+    says-engine (some (K u)) = checks-in u
+    says-engine none = refl
 
   -- the four numbers of each line, and the bench after all
   pub lines-engine : (b : Bench) (ls : List Line) → answers (inEngine m b) ls ≡ answers b ls

@@ -25,7 +25,7 @@ after b [] = b
 after b (c ∷ cs) = after (answer b c .bench) cs
 
 -- a plain and a lazy bench that nobody can tell apart: the same serials, values, sums, speeds, links and marks, and the same answer to every question
-pub record Twins (p l : Bench) : Type 0 where
+pub record Lookalikes (p l : Bench) : Type 0 where
   pub plain : p .plain ≡ true
   pub lazy : l .plain ≡ false
   pub next : p .next ≡ l .next
@@ -35,4 +35,4 @@ pub record Twins (p l : Bench) : Type 0 where
 -- any calls from set-up, from any first serial
 pub record BothEngines (n : ℕ) (cs : List Call) : Type 0 where
   pub answers : heard (setUpIn true n) cs ≡ heard (setUpIn false n) cs
-  pub benches : Twins (after (setUpIn true n) cs) (after (setUpIn false n) cs)
+  pub benches : Lookalikes (after (setUpIn true n) cs) (after (setUpIn false n) cs)

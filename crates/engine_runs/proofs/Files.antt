@@ -12,12 +12,13 @@ use Rattle.bench_words.specs.Codec.{pick}
 use Rattle.ledger_spec.specs.Numbers.{SMALL, FILE}
 use Rattle.ledger_spec.specs.Bench.{Bench}
 use Rattle.ledger_spec.specs.Calls.{Defect, Blossom, Expand, SetState, Grow, Fuse, Clear}
+use Rattle.ledger_spec.specs.Operations.{D, B, E, S, G, F, C, K}
 use Rattle.ledger_spec.specs.Lines.{named}
 use Rattle.bench_views.specs.View.{view}
 use Rattle.bench_views.specs.Fit.{SoundWords}
 use Rattle.sound_bench.specs.Sound.{soundWords}
 use Rattle.sound_bench.proofs.Theorem.{sound-holds}
-use Rattle.record_spec.specs.Operations.{Member, Operation, D, B, E, S, G, F, C, K}
+use Rattle.record_spec.specs.Operations.{Member, Op}
 use Rattle.record_spec.specs.Files.{fileOps}
 use Rattle.record_says.specs.Says.{memberNamed, pairNamed, saysOp, answersOps, afterOps}
 use Rattle.record_says.specs.Runs.{inFours, Run, refused, answered, runOps, runFile}
@@ -32,7 +33,7 @@ module _ (m : Bool) where
   abbrev runIn : Run → Run
   runIn a = record { number = a .number; count = a .count; bench = inEngine m (a .bench); slice = a .slice }
 
-  says-op : (b : Bench) (op : Operation) → saysOp (inEngine m b) op ≡ lineIn m (saysOp b op)
+  says-op : (b : Bench) (op : Op) → saysOp (inEngine m b) op ≡ lineIn m (saysOp b op)
   unfolding saysOp
   says-op b (D u v) = calls-in m b u (Defect u v) (Defect u v) refl
   says-op b (B u ms) = calls-in m b u (Blossom u (map (memberNamed (inEngine m b)) ms) (map (pairNamed (inEngine m b)) ms)) (Blossom u (map (memberNamed b) ms) (map (pairNamed b) ms))
@@ -44,22 +45,22 @@ module _ (m : Bool) where
   says-op b (C u) = calls-in m b u (Clear u) (Clear u) refl
   says-op b (K u) = checks-in m b u
 
-  answers-in : (b : Bench) (ops : List Operation) → answersOps (inEngine m b) ops ≡ answersOps b ops
+  answers-in : (b : Bench) (ops : List Op) → answersOps (inEngine m b) ops ≡ answersOps b ops
   unfolding answersOps
   answers-in b [] = refl
   answers-in b (op ∷ ops) = (λ i. says-op b op i .numbers ∷ answersOps (says-op b op i .bench) ops) ∙ ap (_∷_ (saysOp b op .numbers)) (answers-in (saysOp b op .bench) ops)
 
-  after-in : (b : Bench) (ops : List Operation) → afterOps (inEngine m b) ops ≡ inEngine m (afterOps b ops)
+  after-in : (b : Bench) (ops : List Op) → afterOps (inEngine m b) ops ≡ inEngine m (afterOps b ops)
   unfolding afterOps
   after-in b [] = refl
   after-in b (op ∷ ops) = (λ i. afterOps (says-op b op i .bench) ops) ∙ after-in (saysOp b op .bench) ops
 
   module _ (b : Bench) (slice : List ℤ) where
-    answered-in : (ops : List Operation) → answered (inEngine m b) ops slice ≡ runIn (answered b ops slice)
+    answered-in : (ops : List Op) → answered (inEngine m b) ops slice ≡ runIn (answered b ops slice)
     unfolding answered
     answered-in ops = λ i. record { number = 0; count = length ops; bench = after-in b ops i; slice = inFours (answers-in b ops i) ++ drop (4 * length ops) slice }
 
-    ops-in : (ops : List Operation) → runOps (inEngine m b) ops slice ≡ runIn (runOps b ops slice)
+    ops-in : (ops : List Op) → runOps (inEngine m b) ops slice ≡ runIn (runOps b ops slice)
     unfolding runOps
     ops-in ops = (λ i. choose (leb (4 * length ops) (length slice)) (inEngine m b) (answered-in ops i)) ∙ go (leb (4 * length ops) (length slice))
       where
@@ -74,7 +75,7 @@ module _ (m : Bool) where
     unfolding runFile
     file-engine file = go (fileOps file)
       where
-        go : (o : Option (List Operation)) → elim o [ none ↦ refused FILE (inEngine m b) slice | some ops ↦ runOps (inEngine m b) ops slice ] ≡ runIn (elim o [ none ↦ refused FILE b slice | some ops ↦ runOps b ops slice ])
+        go : (o : Option (List Op)) → elim o [ none ↦ refused FILE (inEngine m b) slice | some ops ↦ runOps (inEngine m b) ops slice ] ≡ runIn (elim o [ none ↦ refused FILE b slice | some ops ↦ runOps b ops slice ])
         go none = refl
         go (some ops) = ops-in ops
 
@@ -111,6 +112,6 @@ module _ {m : Bool} {p l : List ℕ} (T : Twins m p l) (file : List ℕ) (slice 
       on : {w : List ℕ} {A : Type 0} (Z : Type 0) → SoundWords w → pick (soundWords w) A Z → A
       on {w} {A} Z W x = subst (λ (c : Bool). pick c A Z) (sound-holds w W) x
 
-      go : (f : Option (List Operation)) → RanOf f p file slice r p′ o → RanOf f l file slice s l′ o′ → FilesAlike m r s p′ l′ o o′
+      go : (f : Option (List Op)) → RanOf f p file slice r p′ o → RanOf f l file slice s l′ o′ → FilesAlike m r s p′ l′ o o′
       go none x y = not-read 23 x y
       go (some ops) x y = run-alike (on (Refused 2 p slice r p′ o) (T .one) x) (on (Refused 2 l slice s l′ o′) (T .other) y)

@@ -2,10 +2,9 @@
 use Prim.Native.Nat.{ℕ}
 use mathlib.Core.Path.{_≡_, refl, sym, _∙_, ap}
 use mathlib.Core.Bool.{Bool, true, false}
-use mathlib.Core.Option.{some}
 use mathlib.Core.List.{List, [], _∷_, _++_}
 use lib.IntN.{pos}
-use Rattle.ledger_spec.specs.Bench.{setUp, setUpIn}
+use Rattle.ledger_spec.specs.Bench.{setUp}
 use Rattle.ledger_spec.specs.Fields.{upto, partsAfter}
 use Rattle.ledger_spec.specs.Opening.{chosen}
 use Rattle.ledger_spec.specs.Program.{linesOf, answers, textOf, texts, program}

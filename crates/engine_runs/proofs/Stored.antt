@@ -1,14 +1,13 @@
 -- THEOREM. In the plain engine the stored word of each node is its value, with its fixed offset, and an accepted growth adds L, 0 or -L to it. Assumes nothing.
-use Prim.Native.Nat.{ℕ, zero, suc, _+_, _-_, _*_, _<_, _≤_}
-use mathlib.Core.Path.{_≡_, refl, sym, ap, _∙_, subst}
-use mathlib.Core.Logic.{_≢_, by-cases}
+use Prim.Native.Nat.{ℕ, zero, suc, _+_, _-_, _*_, _<_}
+use mathlib.Core.Path.{_≡_, refl, sym, ap, _∙_}
 use mathlib.Core.Bool.{Bool, true}
 use mathlib.Core.Option.{Option, none, some}
-use mathlib.Core.List.{List, map}
+use mathlib.Core.List.{List}
 use native.Mathlib.Decide.{decLt}
 use native.Mathlib.Omega.{arith}
 use lib.IntN.{ℤ, _+ℤ_, _*ℤ_}
-use lib.ListN.{getD, length}
+use lib.ListN.{getD}
 use Rattle.kinds.specs.declared.GrowState.{GrowState}
 use Rattle.kinds.specs.declared.GrowState.the-variants.{Grow as Growing, Stay, Shrink}
 use Rattle.kinds.specs.declared.Class.{Class}
@@ -16,25 +15,24 @@ use Rattle.kinds.specs.declared.Class.the-variants.{Absent, Blossom, Defect}
 use Rattle.bench_words.specs.Codec.{valueOffset, pick}
 use Rattle.bench_words.specs.Store.{nodeAt, interfaceAt}
 use Rattle.bench_words.specs.declared.Node.{Node as Held}
-use Rattle.bench_words.specs.declared.Interface.{Interface}
 use Rattle.bench_words.specs.declared.Up.{Up}
 use Rattle.bench_words.specs.declared.Up.the-variants.{Top, Under}
 use Rattle.bench_words.proofs.Laws.{GoodUp, good-interface}
 use Rattle.ledger_spec.specs.Bench.{Bench, Node, Member, rate}
-use Rattle.ledger_spec.specs.Look.{interface, slotOf, top}
+use Rattle.ledger_spec.specs.Look.{slotOf}
 use Rattle.ledger_spec.specs.Calls.{Grow}
 use Rattle.ledger_spec.specs.Answers.{answer}
-use Rattle.ledger_spec.specs.Deeds.{growSlot, growBy}
+use Rattle.ledger_spec.specs.Deeds.{growBy}
 use Rattle.ledger_spec.proofs.TreeReadings.{grownNode, grow-node, grow-off, grow-plain}
 use Rattle.ledger_laws.proofs.Demand.{grew}
-use Rattle.bench_views.specs.View.{off, valueBy, over, sumUp, lagOf, slotSeen, slotIn, circleOf, view}
+use Rattle.bench_views.specs.View.{off, valueBy, over, sumUp, lagOf, slotSeen, circleOf, view}
 use Rattle.bench_views.specs.Fit.{SoundWords}
-use Rattle.bench_views.proofs.Views.{view-slot, view-past, view-out, view-plain, view-eight, view-count}
+use Rattle.bench_views.proofs.Views.{view-slot, view-past, view-out, view-plain}
 use Rattle.sound_bench.specs.Sound.{soundWords}
 use Rattle.call_told.specs.declared.Answer.{Answer}
 use Rattle.call_told.specs.Told.{Called}
 use Rattle.run_laws.proofs.Running.{number-is, shows, stays-sound}
-use Rattle.engine_runs.specs.Stored.{storedIn, HeldAsNumbers, GrewAsNumbers}
+use Rattle.engine_runs.specs.Stored.{HeldAsNumbers, GrewAsNumbers}
 
 -- ---- T is 0
 over-none : (p : Up) (f : ℕ → ℕ) → GoodUp p → ((q : ℕ) → q < 8 → f q ≡ 0) → over p 0 f ≡ 0

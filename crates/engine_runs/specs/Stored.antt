@@ -7,7 +7,7 @@ use mathlib.Core.List.{List}
 use lib.IntN.{ℤ, _+ℤ_, _*ℤ_}
 use Rattle.bench_words.specs.Codec.{valueOffset}
 use Rattle.bench_words.specs.Store.{nodeAt}
-use Rattle.ledger_spec.specs.Bench.{Bench, Node, rate}
+use Rattle.ledger_spec.specs.Bench.{Node, rate}
 use Rattle.ledger_spec.specs.Look.{slotOf, top}
 use Rattle.bench_views.specs.View.{off, view}
 

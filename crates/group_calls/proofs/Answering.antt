@@ -1,10 +1,10 @@
 -- The answer of add and extend by the tests that led to it: BROKEN, STALE and ROOM with the very group, else the ledger's group. Assumes nothing.
 use Prim.Native.Nat.{ℕ}
 use mathlib.Core.Path.{_≡_, refl, sym, ap, ap₂, _∙_}
-use mathlib.Core.Bool.{Bool, true, false, not, _&&_}
+use mathlib.Core.Bool.{Bool, true, false, false≢true, not, _&&_}
 use mathlib.Core.Option.{Option, none, some}
 use mathlib.Core.List.{List, [], _∷_}
-use borrow.Author.Tests.{not-false}
+use borrow.Author.Tests.{not-true, not-false}
 use Rattle.kinds.specs.declared.Obstacle.{Obstacle}
 use Rattle.ledger_spec.specs.Tests.{first, any, isSome}
 use Rattle.ledger_spec.specs.Reads.{said}
@@ -23,6 +23,7 @@ use Rattle.sound_lent.proofs.Asking.{no-bench, a-bench}
 use Rattle.group_adds.specs.Adds.{changed}
 use Rattle.group_adds.specs.declared.Changed.{Changed}
 use Rattle.group_extends.specs.Extends.{wholeBy as keptBy, wholeOf}
+use Rattle.group_calls.specs.Ready.{Ready}
 use Rattle.group_calls.specs.Whole.{wholeBy, whole}
 
 abbrev refusal : ℕ → Code → Changed
@@ -62,7 +63,7 @@ room-of z g h Conflicts Conflicts = room (extended (viewed Conflicts g) (viewed 
 module _ (b : List ℕ) {s : Bool} (v : Verdict b s) where
   module _ (p : ℕ × Group) (g h : Code) where
     -- words that hold no sound bench
-    pub no-words : not s ≡ true → refusal 2 g ≡ whole (asked b (groupOf g) p) g h
+    no-words : not s ≡ true → refusal 2 g ≡ whole (asked b (groupOf g) p) g h
     unfolding wholeBy
     no-words t = ap (λ (a : ℕ × Group). whole a g h) (no-bench b (groupOf g) p v t)
 
@@ -97,7 +98,7 @@ module _ (b : List ℕ) {s : Bool} (v : Verdict b s) where
       unfolding add
       by-tests e = e ∙ on-words (add (view b) (groupOf g) o) g g t
 
-      pub add-broken : soundGroup (groupOf g) ≡ false → refusal 2 g ≡ answer
+      add-broken : soundGroup (groupOf g) ≡ false → refusal 2 g ≡ answer
       add-broken e = by-tests (broken unfit missing after (groupOf g) g g (unfit-is e))
 
       module _ (e : soundGroup (groupOf g) ≡ true) where
@@ -128,7 +129,7 @@ module _ (b : List ℕ) {s : Bool} (v : Verdict b s) where
       unfolding extend
       by-tests′ e = e ∙ on-words (extend (view b) (groupOf g) (groupOf h)) g (wholeOf g h) t
 
-      pub own-broken : soundGroup (groupOf g) ≡ false → refusal 2 g ≡ answer′
+      own-broken : soundGroup (groupOf g) ≡ false → refusal 2 g ≡ answer′
       own-broken e = by-tests′ (broken unfit′ missing′ after′ (groupOf g) g (wholeOf g h) (unfit′-is e refl))
 
       module _ (e : soundGroup (groupOf g) ≡ true) where
@@ -141,3 +142,34 @@ module _ (b : List ℕ) {s : Bool} (v : Verdict b s) where
 
           pub extend-goes : missing′ ≡ false → (r : Changed) → r ≡ changed after′ (wholeOf g h) → r ≡ answer′
           extend-goes n r m = by-tests′ (m ∙ room-of (groupOf g) g h (g .kind) (h .kind) ∙ passed unfit′ missing′ after′ (groupOf g) g (wholeOf g h) (unfit′-is e f) n)
+
+-- ---- by the test that both calls begin with
+module _ (b : List ℕ) (g : Code) {r : Bool} (R : Ready b (groupOf g) r) where
+  module _ (e : not r ≡ true) where
+    pub add-unready : (o : Obstacle) → refusal 2 g ≡ whole (asked b (groupOf g) (add (view b) (groupOf g) o)) g g
+    add-unready o = go (R .bench) (R .verdict) (R .both)
+      where
+        go : (s : Bool) → Verdict b s → r ≡ (s && soundGroup (groupOf g)) → refusal 2 g ≡ whole (asked b (groupOf g) (add (view b) (groupOf g) o)) g g
+        go false v x = no-words b v (add (view b) (groupOf g) o) g g refl
+        go true v x = add-broken b v refl g o (sym x ∙ not-true r e)
+
+    pub extend-unready : (h : Code) → refusal 2 g ≡ whole (asked b (groupOf g) (extend (view b) (groupOf g) (groupOf h))) g (wholeOf g h)
+    extend-unready h = go (R .bench) (R .verdict) (R .both)
+      where
+        go : (s : Bool) → Verdict b s → r ≡ (s && soundGroup (groupOf g)) → refusal 2 g ≡ whole (asked b (groupOf g) (extend (view b) (groupOf g) (groupOf h))) g (wholeOf g h)
+        go false v x = no-words b v (extend (view b) (groupOf g) (groupOf h)) g (wholeOf g h) refl
+        go true v x = own-broken b v refl g h (sym x ∙ not-true r e)
+
+  module _ (e : not r ≡ false) where
+    both : (R .bench ≡ true) × (soundGroup (groupOf g) ≡ true)
+    both = go (R .bench) (R .both)
+      where
+        go : (s : Bool) → r ≡ (s && soundGroup (groupOf g)) → (s ≡ true) × (soundGroup (groupOf g) ≡ true)
+        go false x = absurd (false≢true (sym x ∙ not-false r e))
+        go true x = (refl, sym x ∙ not-false r e)
+
+    pub on-bench : not (R .bench) ≡ false
+    on-bench = ap not (both .0)
+
+    pub own-sound : soundGroup (groupOf g) ≡ true
+    own-sound = both .1

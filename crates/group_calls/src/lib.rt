@@ -13,29 +13,35 @@ ghost use Rattle.bench_views.specs.View.{view};
 ghost use Rattle.sound_lent.specs.Verdict.{asked};
 ghost use Rattle.groups.specs.View.{groupOf};
 ghost use Rattle.group_extends.specs.Extends.{wholeOf};
+ghost use Rattle.group_calls.specs.Ready.{Ready};
 ghost use Rattle.group_calls.specs.Whole.{whole};
+
+// Whether the words hold a sound bench and the group is sound: else BROKEN.
+fn is_ready(b: &[u64; WORDS], g: Group) -> bool
+    ensures { λ r. ⌜ Ready (now (b .entry)) (groupOf g) r ⌝ }
+{
+    if !sound_lent::is_bench(b) {
+        return false;
+    }
+    groups::group_is_sound(g)
+}
+
+// The number, and the very group.
+fn refused(number: u8, group: Group) -> Changed
+    ensures { λ r. ⌜ r ≡ record { number = number; group = group } ⌝ }
+{
+    Changed { number, group }
+}
 
 // STALE where a node that the obstacle names is not present.
 pub fn add(b: &[u64; WORDS], g: Group, o: Obstacle) -> Changed
     ensures { λ r. ⌜ r ≡ whole (asked (now (b .entry)) (groupOf g) (add (view (now (b .entry))) (groupOf g) o)) g g ⌝ }
 {
-    if !sound_lent::is_bench(b) {
-        return Changed {
-            number: numbers::BROKEN,
-            group: g,
-        };
-    }
-    if !groups::group_is_sound(g) {
-        return Changed {
-            number: numbers::BROKEN,
-            group: g,
-        };
+    if !is_ready(b, g) {
+        return refused(numbers::BROKEN, g);
     }
     if presence::names_gone(b, o) {
-        return Changed {
-            number: numbers::STALE,
-            group: g,
-        };
+        return refused(numbers::STALE, g);
     }
     let first = presence::vertex_of(b, o);
     group_adds::add(g, o, first)
@@ -45,29 +51,14 @@ pub fn add(b: &[u64; WORDS], g: Group, o: Obstacle) -> Changed
 pub fn extend(b: &[u64; WORDS], g: Group, other: Group) -> Changed
     ensures { λ r. ⌜ r ≡ whole (asked (now (b .entry)) (groupOf g) (extend (view (now (b .entry))) (groupOf g) (groupOf other))) g (wholeOf g other) ⌝ }
 {
-    if !sound_lent::is_bench(b) {
-        return Changed {
-            number: numbers::BROKEN,
-            group: g,
-        };
-    }
-    if !groups::group_is_sound(g) {
-        return Changed {
-            number: numbers::BROKEN,
-            group: g,
-        };
+    if !is_ready(b, g) {
+        return refused(numbers::BROKEN, g);
     }
     if !groups::group_is_sound(other) {
-        return Changed {
-            number: numbers::BROKEN,
-            group: g,
-        };
+        return refused(numbers::BROKEN, g);
     }
     if presence::group_gone(b, other) {
-        return Changed {
-            number: numbers::STALE,
-            group: g,
-        };
+        return refused(numbers::STALE, g);
     }
     group_extends::extend(g, other)
 }

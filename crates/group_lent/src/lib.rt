@@ -5,7 +5,7 @@ ghost use mathlib.Core.Path.{_≡_};
 ghost use Prim.Native.Nat.{_+_, _≤_};
 ghost use lib.ListN.{length};
 ghost use lib.Seq.{sets};
-ghost use Rattle.group_lent.specs.Forms.{lengthOf, sameHand, fiveWords, isForm, fiveAt};
+ghost use Rattle.group_lent.specs.Forms.{lengthOf, sameHand, five, fiveWords, isForm, fiveAt};
 ghost use Rattle.group_lent.specs.Moves.{slid};
 
 pub const OBSTACLE: usize = 5;
@@ -69,16 +69,37 @@ pub fn is_form(f: Five) -> bool
     }
 }
 
+// Five zeros, where there is no obstacle.
+pub fn no_obstacle() -> Five
+    ensures { λ r. ⌜ r ≡ five 0 0 0 0 0 ⌝ }
+{
+    Five {
+        kind: 0,
+        a: 0,
+        b: 0,
+        c: 0,
+        d: 0,
+    }
+}
+
+// Five words from `at` on.
+pub fn five_of(w: &[u64], at: usize) -> Five
+    requires { ⌜ at + 5 ≤ length (now w) ⌝ }
+    ensures { λ r. ⌜ r ≡ fiveAt (now (w .entry)) at ⌝ }
+{
+    Five {
+        kind: w[at],
+        a: w[at + 1],
+        b: w[at + 2],
+        c: w[at + 3],
+        d: w[at + 4],
+    }
+}
+
 pub fn five_in(w: &[u64; OBSTACLE]) -> Five
     ensures { λ r. ⌜ r ≡ fiveAt (now (w .entry)) 0 ⌝ }
 {
-    Five {
-        kind: w[0],
-        a: w[1],
-        b: w[2],
-        c: w[3],
-        d: w[4],
-    }
+    five_of(w, 0)
 }
 
 pub fn put_in(w: &mut [u64; OBSTACLE], f: Five)
@@ -98,13 +119,7 @@ pub fn five_at(w: &[u64; GROUP], at: usize) -> Five
     requires { ⌜ at + 5 ≤ 1413 ⌝ }
     ensures { λ r. ⌜ r ≡ fiveAt (now (w .entry)) at ⌝ }
 {
-    Five {
-        kind: w[at],
-        a: w[at + 1],
-        b: w[at + 2],
-        c: w[at + 3],
-        d: w[at + 4],
-    }
+    five_of(w, at)
 }
 
 pub fn put_five(w: &mut [u64; GROUP], at: usize, f: Five)

@@ -6,9 +6,10 @@ use mathlib.Core.List.{List}
 use borrow.Author.Tests.{not-true, not-false}
 use Rattle.bench_words.specs.Codec.{pick}
 use Rattle.ledger_spec.specs.Groups.{Group}
+use Rattle.sound_bench.specs.Sound.{soundWords}
 use Rattle.group_lent.specs.Place.{groupIn, SoundGroup}
 use Rattle.group_lent_sound.specs.Test.{soundIn}
-use Rattle.group_lent_any.specs.Any.{Judged, askedOf}
+use Rattle.group_lent_any.specs.Any.{Judged, Ready, askedOf}
 
 pub picks : (b : Bool) (X Y : Type 0) → b ≡ true → X → pick b X Y
 picks true X Y e x = x
@@ -18,17 +19,28 @@ pub skips : (b : Bool) (X Y : Type 0) → b ≡ false → Y → pick b X Y
 skips true X Y e y = absurd (true≢false e)
 skips false X Y e y = y
 
-pub first-fails : (a b c : Bool) → a ≡ false → (a && (b && c)) ≡ false
-first-fails a b c e = rw e
+two-fail : (a b c : Bool) → (a && b) ≡ false → (a && (b && c)) ≡ false
+two-fail false b c e = refl
+two-fail true b c e = rw e
 
-pub second-fails : (a b c : Bool) → a ≡ true → b ≡ false → (a && (b && c)) ≡ false
-second-fails a b c e f = rw (e, f)
+third-fails : (a b c : Bool) → (a && b) ≡ true → c ≡ false → (a && (b && c)) ≡ false
+third-fails false b c e f = refl
+third-fails true b c e f = rw (e, f)
 
-pub third-fails : (a b c : Bool) → a ≡ true → b ≡ true → c ≡ false → (a && (b && c)) ≡ false
-third-fails a b c e f g = rw (e, f, g)
+all-pass : (a b c : Bool) → (a && b) ≡ true → c ≡ true → (a && (b && c)) ≡ true
+all-pass false b c e f = e
+all-pass true b c e f = rw (e, f)
 
-pub all-pass : (a b c : Bool) → a ≡ true → b ≡ true → c ≡ true → (a && (b && c)) ≡ true
-all-pass a b c e f g = rw (e, f, g)
+-- of a call that also asks for t
+module _ (b ws : List ℕ) (s : Bool) (R : Ready b ws s) (t : Bool) (X Y : Type 0) where
+  pub not-ready : not s ≡ true → Y → pick (soundWords b && (soundIn ws && t)) X Y
+  not-ready n y = skips _ X Y (two-fail (soundWords b) (soundIn ws) t (sym (R .is) ∙ not-true s n)) y
+
+  pub not-fit : not s ≡ false → t ≡ false → Y → pick (soundWords b && (soundIn ws && t)) X Y
+  not-fit n e y = skips _ X Y (third-fails (soundWords b) (soundIn ws) t (sym (R .is) ∙ not-false s n) e) y
+
+  pub all-fit : not s ≡ false → t ≡ true → X → pick (soundWords b && (soundIn ws && t)) X Y
+  all-fit n e x = picks _ X Y (all-pass (soundWords b) (soundIn ws) t (sym (R .is) ∙ not-false s n) e) x
 
 module _ (ws : List ℕ) (s : Bool) (J : Judged ws s) where
   pub is-not : not s ≡ true → soundIn ws ≡ false

@@ -5,6 +5,7 @@ use mathlib.Core.Bool.{Bool, true, _&&_}
 use mathlib.Core.List.{List, [], _∷_}
 use Rattle.bench_words.specs.Codec.{pick}
 use Rattle.ledger_spec.specs.Groups.{Group}
+use Rattle.bench_views.specs.Fit.{SoundWords}
 use Rattle.sound_bench.specs.Sound.{soundWords}
 use Rattle.group_lent.specs.Forms.{isForm, fiveAt}
 use Rattle.group_lent.specs.Place.{groupIn, SoundGroup}
@@ -15,6 +16,11 @@ use Rattle.group_lent_calls.specs.Calls.{Peeked, Popped, Spared, Added, Extende
 pub record Judged (ws : List ℕ) (s : Bool) : Type 0 where
   pub is : s ≡ soundIn ws
   pub says : s ≡ true → SoundGroup ws
+
+-- the verdict on the words of a bench and on those of a group
+pub record Ready (b ws : List ℕ) (s : Bool) : Type 0 where
+  pub is : s ≡ (soundWords b && soundIn ws)
+  pub says : s ≡ true → SoundWords b × SoundGroup ws
 
 -- a read f of the group in words, where z is its answer's value if refused
 abbrev pub askedOf : {A : Type 0} → List ℕ → A → (Group → ℕ × A) → ℕ × A

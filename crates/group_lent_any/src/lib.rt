@@ -1,7 +1,6 @@
 // Every call on groups over any words (include/dual_ledger.h): tested once, then the call on sound words. BROKEN (2) where they hold no sound group, no sound
 // bench or no obstacle; refused, every word of the group stays. Assumes nothing.
 use bench_words::WORDS;
-use group_lent::Five;
 use group_lent::GROUP;
 use group_lent::OBSTACLE;
 use groups::Asked;
@@ -13,7 +12,7 @@ ghost use mathlib.Core.Bool.{false};
 ghost use mathlib.Core.Option.{none};
 ghost use Rattle.ledger_spec.specs.GroupCalls.{isEmpty, isActive, growthOf};
 ghost use Rattle.groups.specs.Shown.{shownTold, shownAsked};
-ghost use Rattle.group_lent_any.specs.Any.{Judged, askedOf, noObstacle, PeekedAny, PoppedAny, SparedAny, AddedAny, ExtendedAny};
+ghost use Rattle.group_lent_any.specs.Any.{Judged, Ready, askedOf, noObstacle, PeekedAny, PoppedAny, SparedAny, AddedAny, ExtendedAny};
 
 // Whether the words hold a sound group.
 pub fn is_group(w: &[u64; GROUP]) -> bool
@@ -27,10 +26,8 @@ pub fn is_empty(w: &[u64; GROUP]) -> Told
     ensures { λ r. ⌜ shownTold r ≡ askedOf (now (w .entry)) false isEmpty ⌝ }
 {
     if !is_group(w) {
-        return Told {
-            number: numbers::BROKEN,
-            yes: false,
-        };
+        let number = numbers::BROKEN;
+        return Told { number, yes: false };
     }
     let yes = group_lent_takes::is_empty(w);
     Told { number: 0, yes }
@@ -40,10 +37,8 @@ pub fn is_active(w: &[u64; GROUP]) -> Told
     ensures { λ r. ⌜ shownTold r ≡ askedOf (now (w .entry)) false isActive ⌝ }
 {
     if !is_group(w) {
-        return Told {
-            number: numbers::BROKEN,
-            yes: false,
-        };
+        let number = numbers::BROKEN;
+        return Told { number, yes: false };
     }
     let yes = group_lent_takes::is_active(w);
     Told { number: 0, yes }
@@ -65,14 +60,7 @@ pub fn get_none_zero_growth(w: &[u64; GROUP]) -> Asked
 fn broken(o: &mut [u64; OBSTACLE]) -> u8
     ensures { λ r. ⌜ (r ≡ 2) × (now (o .exit) ≡ noObstacle) ⌝ }
 {
-    let none = Five {
-        kind: 0,
-        a: 0,
-        b: 0,
-        c: 0,
-        d: 0,
-    };
-    group_lent::put_in(o, none);
+    group_lent::put_in(o, group_lent::no_obstacle());
     numbers::BROKEN
 }
 
@@ -104,14 +92,21 @@ pub fn pop_sparing_stops(w: &mut [u64; GROUP], o: &mut [u64; OBSTACLE]) -> u8
     group_lent_calls::pop_sparing_stops(w, o)
 }
 
+// Whether the words hold a sound bench and a sound group: else BROKEN.
+fn is_ready(b: &[u64; WORDS], w: &[u64; GROUP]) -> bool
+    ensures { λ r. ⌜ Ready (now (b .entry)) (now (w .entry)) r ⌝ }
+{
+    if !sound_lent::is_bench(b) {
+        return false;
+    }
+    is_group(w)
+}
+
 // BROKEN too where the obstacle's words are no obstacle's.
 pub fn add(b: &[u64; WORDS], w: &mut [u64; GROUP], o: &[u64; OBSTACLE]) -> u8
     ensures { λ r. ⌜ AddedAny (now (b .entry)) (now (w .entry)) (now (o .entry)) r (now (w .exit)) ⌝ }
 {
-    if !sound_lent::is_bench(b) {
-        return numbers::BROKEN;
-    }
-    if !is_group(w) {
+    if !is_ready(b, w) {
         return numbers::BROKEN;
     }
     let f = group_lent::five_in(o);
@@ -125,10 +120,7 @@ pub fn add(b: &[u64; WORDS], w: &mut [u64; GROUP], o: &[u64; OBSTACLE]) -> u8
 pub fn extend(b: &[u64; WORDS], w: &mut [u64; GROUP], other: &[u64; GROUP]) -> u8
     ensures { λ r. ⌜ ExtendedAny (now (b .entry)) (now (w .entry)) (now (other .entry)) r (now (w .exit)) ⌝ }
 {
-    if !sound_lent::is_bench(b) {
-        return numbers::BROKEN;
-    }
-    if !is_group(w) {
+    if !is_ready(b, w) {
         return numbers::BROKEN;
     }
     if !is_group(other) {

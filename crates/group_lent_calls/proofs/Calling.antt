@@ -26,7 +26,6 @@ use Rattle.group_lent_stops.proofs.Branches.{add-growth}
 use Rattle.group_lent_nodes.proofs.Named.{names-none}
 use Rattle.group_lent_nodes.proofs.Turns.{none-has}
 use Rattle.group_lent_extends.specs.Extends as extends
-use Rattle.group_lent_extends.specs.Extends.{extendedWords}
 use Rattle.group_lent_calls.specs.Calls.{Popped, Spared, addedBy, Added, extendedBy, Extended}
 
 -- by the three tests: x of BROKEN, y of STALE, and whether there is a group a

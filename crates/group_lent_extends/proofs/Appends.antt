@@ -3,14 +3,14 @@ use Prim.Native.Nat.{ℕ, _+_, _-_, _*_, _<_, _≤_}
 use mathlib.Core.Path.{_≡_, refl, ap, ap₂, _∙_}
 use mathlib.Core.Bool.{true}
 use mathlib.Core.Logic.{by-cases}
-use mathlib.Core.Option.{Option, some}
+use mathlib.Core.Option.{Option}
 use mathlib.Core.List.{List, [], _∷_, _++_}
 use native.Mathlib.Decide.{decLt}
 use native.Mathlib.Omega.{arith}
-use lib.ListN.{length, getD, set}
+use lib.ListN.{length, getD}
 use lib.Seq.{length-sets}
 use Rattle.kinds.specs.declared.Entry.{Entry}
-use Rattle.ledger_spec.specs.Groups.{Group, conflicts, Lists, risingFrom, soundGroup, grouped, andThen, addStops, extended}
+use Rattle.ledger_spec.specs.Groups.{conflicts, Lists, risingFrom, soundGroup, grouped, andThen, addStops, extended}
 use Rattle.ledger_laws.proofs.GroupSound.{fine-of, of-fine, extended-sound}
 use Rattle.group_lent.specs.Groups.{entryForm, entryAt, stopAt}
 use Rattle.group_lent.specs.Place.{run, kindIn, listed, stopped, listIn, stopsIn, Listing, SoundGroup}

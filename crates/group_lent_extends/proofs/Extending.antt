@@ -11,7 +11,7 @@ use borrow.Author.Tests.{eq-eqb, ne-eqb}
 use lib.Dec.{eqb}
 use Rattle.bench_words.specs.Codec.{pick}
 use Rattle.ledger_spec.specs.Tests.{isSome}
-use Rattle.ledger_spec.specs.Groups.{Group, growth, conflicts, Lists, largest, eqZ, smallerPair, roomFor, grouped, andThen, addStops, extended}
+use Rattle.ledger_spec.specs.Groups.{Group, growth, conflicts, Lists, largest, eqZ, smallerPair, grouped, andThen, addStops, extended}
 use Rattle.ledger_spec.specs.GroupCalls.{orElse}
 use Rattle.group_lent.specs.Forms.{lengthOf}
 use Rattle.group_lent.specs.Place.{kindIn, lengthIn, flagIn, listed, stopped, listIn, stopsIn, groupIn, Listing, SoundGroup}

@@ -5,14 +5,13 @@ use mathlib.Core.Bool.{Bool, true, false, cond, _&&_}
 use mathlib.Core.Logic.{inl}
 use mathlib.Core.List.{List, [], _∷_}
 use native.Mathlib.Omega.{arith}
-use borrow.Author.Tests.{eq-eqb}
 use lib.Dec.{eqb}
 use lib.IntN.{ℤ}
 use lib.ListN.{length}
 use lib.Seq.{sets, length-sets}
 use lib.Signed.{ltZ}
 use Rattle.bench_words.specs.Codec.{pick}
-use Rattle.ledger_spec.specs.Groups.{Group, growth, largest, eqZ, smallerPair}
+use Rattle.ledger_spec.specs.Groups.{growth, largest, eqZ, smallerPair}
 use Rattle.group_lent.specs.Forms.{lengthOf}
 use Rattle.group_lent.specs.Place.{kindIn, lengthIn, flagIn, groupIn, Growing, SoundGroup}
 use Rattle.group_lent.proofs.Stores.{sets-out, sets-in}

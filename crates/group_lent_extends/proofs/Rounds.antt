@@ -1,21 +1,20 @@
 -- The other's stops come one after the other: what is left to add to the words so far is what was to be added at first. Assumes nothing.
-use Prim.Native.Nat.{ℕ, zero, suc, _+_, _-_, _<_, _≤_}
+use Prim.Native.Nat.{ℕ, suc, _+_, _-_, _<_, _≤_}
 use mathlib.Core.Path.{_≡_, refl, sym, ap, ap₂, _∙_}
-use mathlib.Core.Bool.{Bool, true, false, false≢true, _&&_}
+use mathlib.Core.Bool.{true, false, false≢true, _&&_}
 use borrow.Author.Tests.{ltb-true}
 use mathlib.Core.Logic.{_⊎_, inl, inr}
 use mathlib.Core.Option.{Option, none, some}
-use mathlib.Core.List.{List, [], _∷_}
+use mathlib.Core.List.{List, _∷_}
 use native.Mathlib.Omega.{arith}
 use lib.Dec.{eqb, ltb}
 use lib.ListN.{getD}
-use Rattle.kinds.specs.Obstacles.{isStop}
 use Rattle.kinds.specs.declared.Entry.{Entry}
 use Rattle.kinds.specs.declared.Stop.{Stop}
 use Rattle.ledger_spec.specs.Tests.{isSome}
 use Rattle.ledger_spec.specs.Groups.{Group, growth, conflicts, Lists, addStop, grouped, andThen, addStops, added}
 use Rattle.ledger_spec.specs.GroupCalls.{orElse}
-use Rattle.group_lent.specs.Forms.{lengthOf, isForm, fiveAt, obstacleOf}
+use Rattle.group_lent.specs.Forms.{lengthOf, isForm, obstacleOf}
 use Rattle.group_lent.specs.Groups.{stopRead, stopForm, stopAt}
 use Rattle.group_lent.specs.Place.{run, kindIn, lengthIn, flagIn, stopped, listIn, stopsIn, groupIn, Growing, Listing, SoundGroup}
 use Rattle.group_lent.proofs.Stores.{and-left, and-right}

@@ -1,14 +1,13 @@
 -- A growth extended by conflicts: the words hold the conflicts. Assumes nothing.
 use Prim.Native.Nat.{ℕ, _+_, _*_, _<_, _≤_}
 use mathlib.Core.Path.{_≡_, refl, ap, ap₂, _∙_}
-use mathlib.Core.Bool.{true}
 use mathlib.Core.List.{List}
 use native.Mathlib.Omega.{arith}
 use lib.ListN.{length, getD}
 use lib.Seq.{length-sets}
 use Rattle.ledger_spec.specs.Groups.{conflicts}
-use Rattle.group_lent.specs.Groups.{entryForm, entryAt, stopForm, stopAt}
-use Rattle.group_lent.specs.Place.{run, kindIn, listed, stopped, listIn, stopsIn, groupIn, Listing, SoundGroup}
+use Rattle.group_lent.specs.Groups.{entryAt, stopAt}
+use Rattle.group_lent.specs.Place.{run, listed, stopped, listIn, stopsIn, groupIn, Listing, SoundGroup}
 use Rattle.group_lent.proofs.Stores.{sets-in, run-same}
 use Rattle.group_lent.proofs.Seen.{Reads, out-reads, then-reads, stop-same, stop-form, entry-same, entry-form, seen-conflicts, to-listing}
 use Rattle.group_lent_takes.specs.After.{headWords}

@@ -13,13 +13,13 @@ use Rattle.ledger_spec.specs.Groups.{extended}
 use Rattle.ledger_spec.specs.GroupCalls.{orElse}
 use Rattle.group_lent.specs.Forms.{lengthOf}
 use Rattle.group_lent.specs.Place.{kindIn, lengthIn, flagIn, listed, stopped, groupIn, SoundGroup}
-use Rattle.group_lent_takes.specs.After.{headWords}
+use Rattle.group_lent_takes.specs.After.{leastWord, headWords}
 use Rattle.group_lent_stops.specs.Stops.{spot, stopFive, stopOut}
 
 -- ---- a growth by a growth: the length and the flag after it
 
 unfoldable pub lengthAfter : ℕ → ℕ → ℕ
-lengthAfter a b = pick (eqb b 9223372036854775807) a (pick (ltZ (lengthOf b) (lengthOf a)) b a)
+lengthAfter a b = pick (eqb b 9223372036854775807) a (leastWord a b)
 
 unfoldable pub flagAfter : ℕ → ℕ → ℕ → ℕ → ℕ
 flagAfter a f b h =

@@ -20,12 +20,7 @@ fn length_after(a: u64, b: u64) -> u64
     if b == LARGEST {
         return a;
     }
-    let x = group_lent::length_of(a);
-    let y = group_lent::length_of(b);
-    if y < x {
-        return b;
-    }
-    a
+    group_lent_takes::least(a, b)
 }
 
 fn flag_after(a: u64, f: u64, b: u64, h: u64) -> u64

@@ -1,20 +1,18 @@
 -- Whether any of some nodes has a property, found in turn: the first that has it decides, else the rest do; then for the entries and the stops of a group
 -- in words. Assumes nothing.
-use Prim.Native.Nat.{ℕ, zero, suc, _+_, _-_, _*_, _<_, _≤_}
-use mathlib.Core.Path.{_≡_, refl, sym, ap, ap₂, _∙_}
+use Prim.Native.Nat.{ℕ, suc, _+_, _-_, _*_, _<_, _≤_}
+use mathlib.Core.Path.{_≡_, refl, sym, ap, _∙_}
 use mathlib.Core.Bool.{Bool, true, false, _||_}
 use mathlib.Core.List.{List, [], _∷_, _++_}
 use native.Mathlib.Omega.{arith}
 use lib.ListN.{getD}
 use Rattle.kinds.specs.declared.Handle.{Handle}
-use Rattle.kinds.specs.declared.Entry.{Entry}
-use Rattle.kinds.specs.declared.Stop.{Stop}
 use Rattle.ledger_spec.specs.Tests.{any}
-use Rattle.ledger_spec.specs.Groups.{Group, growth, conflicts}
+use Rattle.ledger_spec.specs.Groups.{Group}
 use Rattle.ledger_spec.specs.GroupCalls.{handlesOf, listHandles, stopHandles, groupHandles}
 use Rattle.group_lent.specs.Forms.{fiveAt, isForm, obstacleOf}
 use Rattle.group_lent.specs.Groups.{entryForm, entryAt, stopRead, stopForm, stopAt}
-use Rattle.group_lent.specs.Place.{run, kindIn, listed, stopped, listIn, stopsIn, groupIn, Listing, SoundGroup}
+use Rattle.group_lent.specs.Place.{run, kindIn, listed, stopped, listIn, stopsIn, groupIn, Listing}
 use Rattle.group_lent.specs.declared.Five.{Five}
 use Rattle.group_lent.proofs.Stores.{and-right}
 use Rattle.group_lent.proofs.Seen.{seen-growth, seen-conflicts}

@@ -8,7 +8,7 @@ use kinds::Handle;
 ghost use mathlib.Core.Path.{_≡_};
 ghost use mathlib.Core.Bool.{true};
 ghost use mathlib.Core.List.{[], _∷_};
-ghost use Prim.Native.Nat.{_≤_, _<_};
+ghost use Prim.Native.Nat.{_<_};
 ghost use Rattle.ledger_spec.specs.Tests.{any};
 ghost use Rattle.ledger_spec.specs.GroupCalls.{staleCode, handlesOf, listHandles, stopHandles, groupHandles, vertexOf};
 ghost use Rattle.bench_views.specs.Canon.{Canon};

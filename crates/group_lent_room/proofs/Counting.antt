@@ -4,7 +4,7 @@ use mathlib.Core.Path.{_≡_, refl, sym, ap, ap₂, _∙_}
 use mathlib.Core.Bool.{Bool, true, false, cond, _&&_}
 use mathlib.Core.Logic.{by-cases}
 use mathlib.Core.Option.{Option, none, some}
-use mathlib.Core.List.{List, [], _∷_, _++_}
+use mathlib.Core.List.{List, _∷_, _++_}
 use native.Mathlib.Decide.{ℕ-discrete}
 use native.Mathlib.Omega.{arith}
 use borrow.Author.Tests.{leb-true, le-leb, lt-leb}
@@ -14,14 +14,13 @@ use Rattle.kinds.specs.Obstacles.{isStop}
 use Rattle.kinds.specs.declared.Entry.{Entry}
 use Rattle.kinds.specs.declared.Stop.{Stop}
 use Rattle.ledger_spec.specs.Tests.{isSome}
-use Rattle.ledger_spec.specs.Groups.{Group, conflicts, Lists, risingFrom, roomFor, backOf, addStop, grouped, andThen, addStops, extended}
+use Rattle.ledger_spec.specs.Groups.{Group, Lists, risingFrom, roomFor, backOf, grouped, andThen, addStops, extended}
 use Rattle.ledger_laws.proofs.GroupSound.{fine-of}
 use Rattle.group_lent.specs.Groups.{entryAt, stopAt}
-use Rattle.group_lent.specs.Place.{run, kindIn, listed, stopped, listIn, stopsIn, groupIn, Listing}
+use Rattle.group_lent.specs.Place.{run, listed, stopped, listIn, stopsIn, groupIn, Listing}
 use Rattle.group_lent.proofs.Stores.{and-left, and-right, run-long}
 use Rattle.group_lent.proofs.Seen.{seen-conflicts}
 use Rattle.group_lent_stops.specs.Stops.{spot, stopFive}
-use Rattle.group_lent_stops.proofs.Changes.{stopOf}
 use Rattle.group_lent_room.specs.Coming.{comes, listedBy, stoppedBy, comingIn}
 use Rattle.group_lent_room.proofs.Arrivals.{Came, came}
 use Rattle.group_lent_room.proofs.Words.{coming-is, other-stop, other-is}

@@ -2,7 +2,7 @@
 use Prim.Native.Nat.{ℕ, zero, suc, _+_, _-_, _<_, _≤_}
 use mathlib.Core.Path.{_≡_, refl, sym, ap, ap₂, _∙_}
 use mathlib.Core.Bool.{Bool, true, false, cond, _&&_}
-use mathlib.Core.List.{List, [], _∷_}
+use mathlib.Core.List.{List}
 use native.Mathlib.Omega.{arith}
 use borrow.Author.Tests.{eqb-true, eq-eqb, ne-eqb, ltb-true, lt-ltb, le-ltb}
 use lib.Dec.{eqb, ltb}
@@ -11,13 +11,12 @@ use Rattle.kinds.specs.Obstacles as kinds
 use Rattle.kinds.specs.Obstacles.{isStop}
 use Rattle.kinds.specs.declared.Stop.{Stop}
 use Rattle.kinds.specs.declared.MaybePair.{MaybePair}
-use Rattle.kinds.specs.declared.MaybePair.the-variants.{NoPair, WithPair}
 use Rattle.bench_words.specs.Codec.{pick}
 use Rattle.ledger_spec.specs.Groups.{frontOf, backOf}
 use Rattle.ledger_laws.proofs.GroupSound.{fine-of}
 use Rattle.group_lent.specs.Forms.{sameHand, pairOf, fiveAt, obstacleOf}
 use Rattle.group_lent.specs.Groups.{stopRead, stopForm, stopAt}
-use Rattle.group_lent.specs.Place.{run, listed, stopped, listIn, stopsIn, Listing}
+use Rattle.group_lent.specs.Place.{run, stopped, listIn, stopsIn, Listing}
 use Rattle.group_lent.specs.declared.Five.{Five}
 use Rattle.group_lent.proofs.Stores.{and-left}
 use Rattle.group_lent_stops.specs.Stops.{spot, stopFive, placeIn}

@@ -1,6 +1,6 @@
 -- THEOREM, of the exported pop that spares the stops: any run of it on words that hold a sound group answers as the ledger's pops do; so conflicts come out
 -- whole, the list from its end, then the stops by rising vertex, each once, and then none for ever. Assumes nothing.
-use Prim.Native.Nat.{ℕ, zero, suc, _+_}
+use Prim.Native.Nat.{ℕ, _+_}
 use mathlib.Core.Path.{_≡_, refl, sym, ap, ap₂, _∙_}
 use mathlib.Core.Bool.{Bool, true, false, false≢true}
 use mathlib.Core.Option.{Option}
@@ -10,13 +10,11 @@ use lib.ListN.{length}
 use Rattle.kinds.specs.declared.Obstacle.{Obstacle}
 use Rattle.bench_words.specs.Codec.{pick}
 use Rattle.ledger_spec.specs.Groups.{Group, conflicts}
-use Rattle.ledger_sparing.specs.Sparing.{popSparing}
-use Rattle.ledger_sparing.specs.Drain.{Answer, answers, left, entriesOf, givenOut, nothings}
+use Rattle.ledger_sparing.specs.Drain.{answers, left, entriesOf, givenOut, nothings}
 use Rattle.ledger_sparing.proofs.Drains.{drained}
 use Rattle.group_lent.specs.Forms.{fiveWords, fiveAt}
 use Rattle.group_lent.specs.Groups.{entryAt, stopAt}
 use Rattle.group_lent.specs.Place.{kindIn, listed, stopped, listIn, stopsIn, groupIn, Listing, SoundGroup}
-use Rattle.group_lent.specs.declared.Five.{Five}
 use Rattle.group_lent.proofs.Stores.{run-long}
 use Rattle.group_lent.proofs.Seen.{seen-conflicts, is-listing}
 use Rattle.group_lent_takes.specs.After.{topFive}

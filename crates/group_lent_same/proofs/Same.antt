@@ -1,12 +1,9 @@
 -- THEOREM, one for each call: where the words lent and the group by value say the same group, the call in place and the call by value answer the same, and
 -- the words after the one and the group of the other say the same group again. A result by value is one that meets the call's contract. Assumes nothing.
 use Prim.Native.Nat.{ℕ}
-use mathlib.Core.Path.{_≡_, refl, sym, ap, _∙_}
+use mathlib.Core.Path.{_≡_, sym, ap, _∙_}
 use mathlib.Core.Bool.{Bool, true}
-use mathlib.Core.Option.{Option}
 use mathlib.Core.List.{List}
-use lib.IntN.{ℤ}
-use Rattle.kinds.specs.declared.Obstacle.{Obstacle}
 use Rattle.ledger_spec.specs.Groups.{Group}
 use Rattle.ledger_spec.specs.GroupCalls.{isEmpty, isActive, growthOf, peek, pop, add, extend}
 use Rattle.ledger_sparing.specs.Sparing.{popSparing}
@@ -19,7 +16,7 @@ use Rattle.groups.specs.Shown.{emptyOf, shownTold, shownAsked}
 use Rattle.groups.specs.declared.Group.{Group as Code}
 use Rattle.groups.specs.declared.Told.{Told}
 use Rattle.groups.specs.declared.Asked.{Asked}
-use Rattle.group_takes.specs.Takes.{maybe, shownPeeked, shownPopped}
+use Rattle.group_takes.specs.Takes.{shownPeeked, shownPopped}
 use Rattle.group_takes.specs.declared.Peeked.{Peeked}
 use Rattle.group_takes.specs.declared.Popped.{Popped}
 use Rattle.group_adds.specs.declared.Changed.{Changed}

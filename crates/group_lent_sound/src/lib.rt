@@ -1,30 +1,14 @@
 // Whether any words hold a sound group, in place: only the words that count are looked at. Assumes nothing.
-use group_lent::Five;
 ghost use mathlib.Core.Path.{_≡_};
 ghost use Prim.Native.Nat.{_+_, _≤_, _<_};
 ghost use lib.ListN.{length};
-ghost use Rattle.group_lent.specs.Forms.{fiveAt};
 ghost use Rattle.group_lent_sound.specs.Test.{entryFits, stopFits, entriesFit, stopsFit, headFits, soundIn};
-
-// Five words of a slice (`five_at` of crate group_lent is of a whole group's array).
-fn five_of(w: &[u64], at: usize) -> Five
-    requires { ⌜ at + 5 ≤ length (now w) ⌝ }
-    ensures { λ r. ⌜ r ≡ fiveAt (now (w .entry)) at ⌝ }
-{
-    Five {
-        kind: w[at],
-        a: w[at + 1],
-        b: w[at + 2],
-        c: w[at + 3],
-        d: w[at + 4],
-    }
-}
 
 fn entry_fits(w: &[u64], i: usize) -> bool
     requires { ⌜ (length (now w) ≡ 1413) × (i < 128) ⌝ }
     ensures { λ r. ⌜ r ≡ entryFits (now (w .entry)) i ⌝ }
 {
-    let f = five_of(w, 5 + i * 5);
+    let f = group_lent::five_of(w, 5 + i * 5);
     let ok = group_lent::is_form(f);
     ok & ((f.kind != 1) & (f.kind < 5))
 }
@@ -34,7 +18,7 @@ fn stop_fits(w: &[u64], least: u64, i: usize) -> bool
     ensures { λ r. ⌜ r ≡ stopFits (now (w .entry)) least i ⌝ }
 {
     let v = w[645 + i * 6];
-    let f = five_of(w, 645 + i * 6 + 1);
+    let f = group_lent::five_of(w, 645 + i * 6 + 1);
     let ok = group_lent::is_form(f);
     ((v < 4294967296) & ok) & ((5 <= f.kind) & (least <= v))
 }

@@ -8,13 +8,11 @@ use mathlib.Core.List.{List, [], _∷_}
 use native.Mathlib.Omega.{arith}
 use borrow.Author.Tests.{eqb-true, eqb-false}
 use lib.Dec.{eqb}
-use lib.ListN.{length, getD, set}
+use lib.ListN.{getD, set}
 use lib.Seq.{sets, length-sets}
-use Rattle.kinds.specs.declared.Entry.{Entry}
-use Rattle.kinds.specs.declared.Stop.{Stop}
 use Rattle.kinds.specs.declared.Obstacle.{Obstacle}
 use Rattle.bench_words.specs.Codec.{pick}
-use Rattle.ledger_spec.specs.Groups.{Group, growth, conflicts, soundGroup, lastOf, allButLast}
+use Rattle.ledger_spec.specs.Groups.{Group, growth, conflicts, lastOf, allButLast}
 use Rattle.ledger_spec.specs.GroupCalls.{peek}
 use Rattle.ledger_sparing.specs.Sparing.{spared, popSparing}
 use Rattle.ledger_sparing.specs.Drain.{oneEmpty}

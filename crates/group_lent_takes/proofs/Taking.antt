@@ -1,6 +1,6 @@
 -- What stands on top of conflicts, and what is left when it goes: the last entry and the first stop. Assumes nothing.
 use Prim.Native.Nat.{ℕ, zero, suc, _+_, _-_, _*_, _<_, _≤_}
-use mathlib.Core.Path.{_≡_, refl, sym, ap, ap₂, _∙_}
+use mathlib.Core.Path.{_≡_, refl, sym, ap, ap₂, _∙_, subst}
 use mathlib.Core.Bool.{Bool, true, false, false≢true, not}
 use mathlib.Core.Option.{Option, none, some}
 use mathlib.Core.List.{List, [], _∷_}
@@ -25,6 +25,7 @@ use Rattle.group_lent.proofs.Stores.{and-right}
 use Rattle.group_lent.specs.Place.{run, kindIn, lengthIn, flagIn, listed, stopped, listIn, stopsIn, groupIn, Listing, SoundGroup}
 use Rattle.group_lent_takes.specs.After.{topBy, topFive, poppedWords}
 use Rattle.group_lent.specs.Moves.{slid}
+use Rattle.group_lent_takes.specs.declared.Top.{Top}
 use Rattle.group_lent_takes.specs.Made.{maybeSeen, Popped}
 use Rattle.group_lent.proofs.Stores.{sets-out, sets-in, run-same, run-next, run-front, run-top}
 use Rattle.group_lent.proofs.Seen.{Reads, out-reads, then-reads, entry-same, entry-form, stop-same, stop-form, seen-growth, seen-conflicts, is-listing, to-listing}
@@ -125,9 +126,9 @@ module _ (ws : List ℕ) (s : SoundGroup ws) where
         ap (λ (o : Option Obstacle). (0, o)) (seen-top n)
         ∙ peek-conflicts (groupIn ws) (listIn ws) (stopsIn ws) (seen-conflicts ws (l .kind)) (l .sound)
 
-    pub pop-refused : kindIn ws ≡ 1 → Popped ws (record { number = 10; obstacle = f }) ws
+    refused : kindIn ws ≡ 1 → Popped ws (record { number = 10; obstacle = f }) ws
     unfolding poppedWords
-    pop-refused e = record {
+    refused e = record {
       top = t;
       words = rw e;
       seen = ap (λ (g : Five). (10, (maybeSeen g, groupIn ws))) (t ∙ sym (top-growth e)) ∙ pop-growth (groupIn ws) (lengthOf (lengthIn ws)) (eqb (flagIn ws) 1) (seen-growth ws e);
@@ -210,7 +211,7 @@ module _ (ws : List ℕ) (s : SoundGroup ws) where
           (ap₂ conflicts list-left stops-left)
           (popped-sound (listIn ws) (stopsIn ws) (l .sound))
 
-      pub pop-made : Popped ws (record { number = 0; obstacle = f }) left
+      pop-made : Popped ws (record { number = 0; obstacle = f }) left
       unfolding poppedWords
       pop-made = record {
         top = t;
@@ -222,6 +223,14 @@ module _ (ws : List ℕ) (s : SoundGroup ws) where
         refused = λ n. absurd (n refl);
       }
 
-      -- the same, as the code leaves it
-      pub pop-left : (d : List ℕ) (a b : ℕ) → a ≡ listed ws - 1 → b ≡ stopped ws - 1 → d ≡ slid ws 645 (b * 6) → Popped ws (record { number = 0; obstacle = f }) (set (set d 3 a) 4 b)
-      pop-left d a b e g h = rw (h, e, g) pop-made
+  -- the same, as the code leaves it, from what peek answers
+  module _ (r : Top) (t : r .obstacle ≡ topFive ws) (p : (r .number, maybeSeen (r .obstacle)) ≡ peek (groupIn ws)) where
+    pub pop-refused : kindIn ws ≡ 1 → Popped ws r ws
+    pop-refused e =
+        let q : r .number ≡ 10 = ap (λ (x : ℕ × Option Obstacle). x .0) (p ∙ sym (peek-refused (r .obstacle) t e)) in
+        subst (λ (x : ℕ). Popped ws (record { number = x; obstacle = r .obstacle }) ws) (sym q) (refused (r .obstacle) t e)
+
+    pub pop-left : (kindIn ws ≡ 1 → ⊥) → (d : List ℕ) (a b : ℕ) → a ≡ listed ws - 1 → b ≡ stopped ws - 1 → d ≡ slid ws 645 (b * 6) → Popped ws r (set (set d 3 a) 4 b)
+    pop-left n d a b e g h =
+        let q : r .number ≡ 0 = ap (λ (x : ℕ × Option Obstacle). x .0) (p ∙ sym (peek-made (r .obstacle) t n)) in
+        rw (h, e, g) (subst (λ (x : ℕ). Popped ws (record { number = x; obstacle = r .obstacle }) (left (r .obstacle) t n)) (sym q) (pop-made (r .obstacle) t n))

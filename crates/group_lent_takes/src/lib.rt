@@ -79,7 +79,8 @@ pub fn get_none_zero_growth(w: &[u64; GROUP]) -> Asked
 
 // ---- add of a growth
 
-fn least(a: u64, b: u64) -> u64
+// The word of the lesser length.
+pub fn least(a: u64, b: u64) -> u64
     ensures { λ r. ⌜ r ≡ leastWord a b ⌝ }
 {
     let x = group_lent::length_of(a);
@@ -150,15 +151,8 @@ fn top_of(w: &[u64; GROUP]) -> Five
     requires { ⌜ SoundGroup (now w) ⌝ }
     ensures { λ r. ⌜ r ≡ topFive (now (w .entry)) ⌝ }
 {
-    let zero = Five {
-        kind: 0,
-        a: 0,
-        b: 0,
-        c: 0,
-        d: 0,
-    };
     if w[0] == 1 {
-        return zero;
+        return group_lent::no_obstacle();
     }
     let n = w[3] as usize;
     if 0 < n {
@@ -167,7 +161,7 @@ fn top_of(w: &[u64; GROUP]) -> Five
     if 0 < w[4] {
         return group_lent::five_at(w, 646);
     }
-    zero
+    group_lent::no_obstacle()
 }
 
 // KIND (10) of a growth.
@@ -189,7 +183,8 @@ pub fn peek(w: &[u64; GROUP]) -> Top
     }
 }
 
-fn less(n: usize) -> usize
+// One fewer, where there is one.
+fn less(n: u64) -> u64
     ensures { λ r. ⌜ r ≡ n - 1 ⌝ }
 {
     if n == 0 {
@@ -203,20 +198,14 @@ pub fn pop(w: &mut [u64; GROUP]) -> Top
     requires { ⌜ SoundGroup (now w) ⌝ }
     ensures { λ r. ⌜ Popped (now (w .entry)) r (now (w .exit)) ⌝ }
 {
-    let obstacle = top_of(w);
+    let top = peek(w);
     if w[0] == 1 {
-        return Top {
-            number: numbers::KIND,
-            obstacle,
-        };
+        return top;
     }
-    let n = less(w[3] as usize);
-    let m = less(w[4] as usize);
-    group_lent::slide(w, 645, m * 6);
-    w[3] = n as u64;
-    w[4] = m as u64;
-    Top {
-        number: 0,
-        obstacle,
-    }
+    let n = less(w[3]);
+    let m = less(w[4]);
+    group_lent::slide(w, 645, (m as usize) * 6);
+    w[3] = n;
+    w[4] = m;
+    top
 }

@@ -1,6 +1,6 @@
 -- A turn by the tests that lead to it. Assumes nothing.
 use Prim.Native.Nat.{ℕ, _≤_, _<_}
-use mathlib.Core.Path.{_≡_, refl, sym, ap, _∙_}
+use mathlib.Core.Path.{_≡_, sym, ap, _∙_}
 use borrow.Author.Tests.{lt-ltb, le-ltb, le-leb, lt-leb}
 use Rattle.kinds.specs.Obstacles.{pairOf}
 use Rattle.kinds.specs.declared.Pair.{Pair}

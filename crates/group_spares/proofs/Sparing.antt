@@ -3,15 +3,14 @@
 use Prim.Native.Nat.{ℕ, zero, suc, _-_, _≤_, _<_}
 use mathlib.Core.Path.{_≡_, refl, sym, ap, ap₂, _∙_}
 use mathlib.Core.Logic.{_≢_}
-use mathlib.Core.Bool.{Bool, true, false, true≢false}
-use mathlib.Core.Option.{Option, none}
-use mathlib.Core.List.{List, [], _∷_}
+use mathlib.Core.Bool.{true, false, true≢false}
+use mathlib.Core.Option.{Option}
+use mathlib.Core.List.{List}
 use native.Mathlib.Omega.{arith}
-use lib.ListN.{length, take}
+use lib.ListN.{length}
 use Rattle.kinds.specs.declared.Entry.{Entry}
-use Rattle.kinds.specs.declared.Stop.{Stop}
 use Rattle.kinds.specs.declared.Obstacle.{Obstacle}
-use Rattle.ledger_spec.specs.Groups.{Group, growth, conflicts, soundGroup, lastOf, allButLast}
+use Rattle.ledger_spec.specs.Groups.{Group, conflicts, soundGroup, lastOf, allButLast}
 use Rattle.ledger_spec.specs.GroupCalls.{isGrowth, peek, pop}
 use Rattle.ledger_sparing.specs.Sparing.{popSparing}
 use Rattle.ledger_sparing.specs.Drain.{oneEmpty}

@@ -4,6 +4,7 @@ use Prim.Native.Nat.{ℕ, zero, suc, _<_, _^_}
 use mathlib.Core.Path.{_≡_, refl, sym, _∙_, ap}
 use mathlib.Core.Logic.{_≢_}
 use mathlib.Core.Bool.{Bool, true, false, _||_, true≢false}
+use mathlib.Core.Option.{none, some}
 use mathlib.Core.List.{List, [], _∷_, map}
 use native.Mathlib.Omega.{arith}
 use lib.Dec.{eqb}
@@ -18,7 +19,8 @@ use Rattle.ledger_spec.specs.Check.{verdict, checkOf}
 use Rattle.ledger_spec.specs.Sound.{sound}
 use Rattle.ledger_spec.specs.Answers.{answer, ask}
 use Rattle.ledger_spec.specs.Book.{turns, newBook}
-use Rattle.ledger_spec.specs.Grammar.{Line, D, B, E, S, G, F, C, K, wrong}
+use Rattle.ledger_spec.specs.Operations.{D, B, E, S, G, F, C, K}
+use Rattle.ledger_spec.specs.Grammar.{Line}
 use Rattle.ledger_spec.specs.Lines.{named, shown, calls, checks, says}
 use Rattle.ledger_spec.specs.Program.{afterLines}
 use Rattle.ledger_spec.specs.Facts.{Sound}
@@ -57,15 +59,15 @@ ask-always n h cs z r = ask-true (turns (newBook n) cs .bench) z r (always-sound
 -- ---- lines
 pub line-sound : (b : Bench) (l : Line) → Sound b → Sound (says b l .bench)
 unfolding says calls checks
-line-sound b (D u v) T = answered-sound b T (Defect u v)
-line-sound b (B u ks) T = answered-sound b T (Blossom u (map (named b) ks) [])
-line-sound b (E u k) T = answered-sound b T (Expand u (named b k))
-line-sound b (S u k s) T = answered-sound b T (SetState u (named b k) s)
-line-sound b (G u l) T = answered-sound b T (Grow u l)
-line-sound b (F p l r) T = answered-sound b T (Fuse p l r)
-line-sound b (C u) T = answered-sound b T (Clear u)
-line-sound b (K u) T = T
-line-sound b wrong T = T
+line-sound b (some (D u v)) T = answered-sound b T (Defect u v)
+line-sound b (some (B u ks)) T = answered-sound b T (Blossom u (map (named b) ks) [])
+line-sound b (some (E u k)) T = answered-sound b T (Expand u (named b k))
+line-sound b (some (S u k s)) T = answered-sound b T (SetState u (named b k) s)
+line-sound b (some (G u l)) T = answered-sound b T (Grow u l)
+line-sound b (some (F p l r)) T = answered-sound b T (Fuse p l r)
+line-sound b (some (C u)) T = answered-sound b T (Clear u)
+line-sound b (some (K u)) T = T
+line-sound b none T = T
 
 pub lines-sound : (b : Bench) (ls : List Line) → Sound b → Sound (afterLines b ls)
 unfolding afterLines
@@ -107,12 +109,12 @@ check-not-two b u T e = unit-not-two b u (sym (shown-number (ask b (0, 0) (check
 
 pub line-not-broken : (b : Bench) (l : Line) → Sound b → says b l .numbers .0 ≢ 2
 unfolding says
-line-not-broken b (D u v) T = call-not-two b u (Defect u v) T
-line-not-broken b (B u ks) T = call-not-two b u (Blossom u (map (named b) ks) []) T
-line-not-broken b (E u k) T = call-not-two b u (Expand u (named b k)) T
-line-not-broken b (S u k s) T = call-not-two b u (SetState u (named b k) s) T
-line-not-broken b (G u l) T = call-not-two b u (Grow u l) T
-line-not-broken b (F p l r) T = call-not-two b p (Fuse p l r) T
-line-not-broken b (C u) T = call-not-two b u (Clear u) T
-line-not-broken b (K u) T = check-not-two b u T
-line-not-broken b wrong T = λ e. omega (arith, e)
+line-not-broken b (some (D u v)) T = call-not-two b u (Defect u v) T
+line-not-broken b (some (B u ks)) T = call-not-two b u (Blossom u (map (named b) ks) []) T
+line-not-broken b (some (E u k)) T = call-not-two b u (Expand u (named b k)) T
+line-not-broken b (some (S u k s)) T = call-not-two b u (SetState u (named b k) s) T
+line-not-broken b (some (G u l)) T = call-not-two b u (Grow u l) T
+line-not-broken b (some (F p l r)) T = call-not-two b p (Fuse p l r) T
+line-not-broken b (some (C u)) T = call-not-two b u (Clear u) T
+line-not-broken b (some (K u)) T = check-not-two b u T
+line-not-broken b none T = λ e. omega (arith, e)

@@ -1,12 +1,11 @@
 -- The handles that calls answered as made, in order: one for each defect and each blossom that was accepted; and the handles that a call names.
 -- Assumes nothing.
 use Prim.Native.Nat.{ℕ}
-use mathlib.Core.Path.{_≡_}
 use mathlib.Core.Logic.{_≢_}
 use mathlib.Core.Bool.{Bool, true, false, _&&_}
 use mathlib.Core.List.{List, [], _∷_, _++_}
 use lib.Dec.{eqb}
-use Rattle.ledger_spec.specs.Bench.{Handle, Bench}
+use Rattle.ledger_spec.specs.Bench.{Handle}
 use Rattle.ledger_spec.specs.Tests.{both}
 use Rattle.ledger_spec.specs.Calls.{Call, Defect, Blossom, Expand, SetState, Grow, Fuse, Clear, Mark}
 use Rattle.ledger_spec.specs.Answers.{answer}

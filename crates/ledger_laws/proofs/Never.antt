@@ -12,7 +12,6 @@ use borrow.Author.Tests.{eqb-true}
 use Rattle.ledger_spec.specs.Bench.{Handle, Node, Bench}
 use Rattle.ledger_spec.specs.Look.{slotOf, nodeNamed}
 use Rattle.ledger_spec.specs.Tests.{first}
-use Rattle.ledger_spec.specs.Deeds.{newHandle}
 use Rattle.ledger_spec.specs.Calls.{Call, Defect, Blossom, Expand, SetState, Grow, Fuse, Clear, Mark}
 use Rattle.ledger_spec.specs.Answers.{answer}
 use Rattle.ledger_spec.specs.Book.{Book, turn, turns}
@@ -29,7 +28,6 @@ use Rattle.ledger_spec.proofs.TreeReadings.{joins, grow-next, join-next, wipe-n
 use Rattle.ledger_laws.proofs.Stems.{Stem, New, Came}
 use Rattle.ledger_laws.proofs.CameCalls.{still, grown, defect-came, blossom-came, expand-came, state-came, grow-came, fuse-came, choose-came, clear-came}
 use Rattle.ledger_laws.proofs.Answered.{testsOf, deedOf, nodeOf, zero-sound, zero-tests, zero-bench, zero-node, refused-bench}
-use Rattle.ledger_laws.proofs.Always.{turns-sound}
 use Rattle.ledger_laws.proofs.Made.{makes, madeOf, made, Different}
 
 -- ---- the next serial

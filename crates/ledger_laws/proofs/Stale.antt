@@ -1,10 +1,10 @@
 -- What a bench answers about a handle that names no present node: 8 to every read of a node, no to belonging, and to every call that names it 8 or a
 -- lower number. Assumes nothing.
-use Prim.Native.Nat.{ℕ, zero, suc, _≤_, _<_}
-use mathlib.Core.Path.{_≡_, refl, sym, _∙_, ap, ap₂}
+use Prim.Native.Nat.{ℕ, zero, suc, _≤_}
+use mathlib.Core.Path.{_≡_, refl, sym, _∙_, ap}
 use mathlib.Core.Logic.{_≢_}
 use mathlib.Core.Bool.{Bool, true, false, _&&_, _||_, not, true≢false}
-use mathlib.Core.Option.{Option, none, some}
+use mathlib.Core.Option.{none}
 use mathlib.Core.List.{List, [], _∷_, _++_}
 use native.Mathlib.Omega.{arith}
 use lib.Dec.{eqb, ltb}
@@ -20,7 +20,7 @@ use Rattle.ledger_spec.specs.Walk.{outerOf, belowTests, belowOf, firstVertex, s
 use Rattle.ledger_spec.specs.Sound.{sound}
 use Rattle.ledger_spec.specs.Answers.{answer}
 use Rattle.ledger_spec.specs.Knit.{In, here, there}
-use Rattle.ledger_spec.proofs.Lists.{not-in-nil, in-cases}
+use Rattle.ledger_spec.proofs.Lists.{not-in-nil}
 use Rattle.ledger_laws.proofs.Answered.{testsOf, answer-number}
 use Rattle.ledger_laws.proofs.Made.{names}
 

@@ -3,7 +3,7 @@
 use Prim.Native.Nat.{ℕ, zero, suc, _≤_}
 use mathlib.Core.Path.{_≡_, refl, sym, _∙_, ap, subst}
 use mathlib.Core.Logic.{_⊎_, inl, inr}
-use mathlib.Core.Bool.{Bool, true, false, _&&_, true≢false}
+use mathlib.Core.Bool.{Bool, true, false, true≢false}
 use mathlib.Core.Option.{Option, none, some}
 use mathlib.Core.List.{List, [], _∷_}
 use native.Mathlib.Omega.{arith}
@@ -19,7 +19,7 @@ use Rattle.ledger_spec.specs.Chain.{Chain, end, link}
 use Rattle.ledger_spec.proofs.Lists.{and-true, both-true, not-in-nil, in-cases}
 use Rattle.ledger_spec.proofs.Knit.{some-eq, none-some, same-handle, same-self}
 use Rattle.ledger_spec.proofs.Chains.{chain, links-most}
-use Rattle.ledger_laws.specs.Clean.{Entry, Clean, Descends, itself, inside, Strict}
+use Rattle.ledger_laws.specs.Clean.{Entry, Descends, itself, inside, Strict}
 use Rattle.ledger_laws.proofs.Steps.{strict-defect, strict-blossom, strict-on, strict-bad, strict-empty, strict-vertex, strict-ring, strict-six, strict-none}
 use Rattle.ledger_laws.proofs.Clean.{zero-clean, clean-zero}
 

@@ -1,9 +1,9 @@
 -- When the two pops agree: in number and answer always; in the group that they leave exactly where the list or the stops are empty, or the call is refused.
 -- Assumes nothing.
 use Prim.Native.Nat.{ℕ, zero, suc}
-use mathlib.Core.Path.{_≡_, refl, sym, ap, _∙_}
+use mathlib.Core.Path.{_≡_, refl, ap}
 use mathlib.Core.Logic.{_≢_}
-use mathlib.Core.Bool.{Bool, true, false, false≢true}
+use mathlib.Core.Bool.{true, false, false≢true}
 use mathlib.Core.Option.{Option, none}
 use mathlib.Core.List.{List, [], _∷_}
 use native.Mathlib.Omega.{arith}
@@ -13,7 +13,7 @@ use Rattle.kinds.specs.declared.Stop.{Stop}
 use Rattle.kinds.specs.declared.Obstacle.{Obstacle}
 use Rattle.ledger_spec.specs.Tests.{first}
 use Rattle.ledger_spec.specs.Reads.{said}
-use Rattle.ledger_spec.specs.Groups.{Group, growth, conflicts, soundGroup, allButLast, popped}
+use Rattle.ledger_spec.specs.Groups.{Group, growth, conflicts, soundGroup, allButLast}
 use Rattle.ledger_spec.specs.GroupCalls.{lastIn, takeTests, peek, afterPop, pop}
 use Rattle.ledger_sparing.specs.Sparing.{spared, afterSparing, popSparing}
 use Rattle.ledger_sparing.specs.Drain.{oneEmpty}

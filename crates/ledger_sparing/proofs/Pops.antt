@@ -13,7 +13,7 @@ use Rattle.kinds.specs.declared.Stop.{Stop}
 use Rattle.kinds.specs.declared.Obstacle.{Obstacle}
 use Rattle.ledger_spec.specs.Tests.{first}
 use Rattle.ledger_spec.specs.Reads.{said}
-use Rattle.ledger_spec.specs.Groups.{Group, growth, conflicts, soundGroup, lastOf, allButLast, popped}
+use Rattle.ledger_spec.specs.Groups.{Group, growth, conflicts, soundGroup, lastOf, allButLast}
 use Rattle.ledger_spec.specs.GroupCalls.{isGrowth, lastIn, takeTests}
 use Rattle.ledger_laws.proofs.GroupSound.{Fine, fine-of, of-fine, popped-sound}
 use Rattle.ledger_sparing.specs.Sparing.{spared, afterSparing, popSparing}

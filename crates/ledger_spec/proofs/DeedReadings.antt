@@ -1,7 +1,7 @@
 -- What stands in each slot after a defect or a blossom was added or a blossom expanded, and the numbers that go with it. A place is the new one, a
 -- member's, or another. Assumes nothing.
 use Prim.Native.Nat.{ℕ, suc, _≤_, _<_, max}
-use mathlib.Core.Path.{_≡_, refl, sym, _∙_, ap}
+use mathlib.Core.Path.{_≡_, refl, _∙_, ap}
 use mathlib.Core.Option.{Option, none, some}
 use mathlib.Core.List.{List}
 use native.Mathlib.Omega.{arith}

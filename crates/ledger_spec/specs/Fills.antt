@@ -3,7 +3,7 @@
 use Prim.Native.Nat.{ℕ, zero, suc}
 use mathlib.Core.Path.{_≡_, refl}
 use mathlib.Core.List.{List, [], _∷_, _++_, map}
-use Rattle.ledger_spec.specs.Bench.{Handle, grows, filling, Bench}
+use Rattle.ledger_spec.specs.Bench.{Handle, grows, filling}
 use Rattle.ledger_spec.specs.Calls.{Call, Defect, Blossom, Expand, SetState, Fuse, Clear, Mark}
 use Rattle.ledger_spec.specs.Answers.{Answer, answer}
 use Rattle.ledger_spec.specs.Book.{turns, newBook}

@@ -7,20 +7,16 @@ use lib.Dec.{eqb, ltb}
 use lib.ListN.{length}
 use lib.IntN.{ℤ, pos, negsuc}
 use Rattle.ledger_spec.specs.Bench.{State, grows, stays, shrinks}
+use Rattle.ledger_spec.specs.Operations.{Operation, D, B, E, S, G, F, C, K}
 use Rattle.ledger_spec.specs.Decimals.{numberWithin, integer}
 use Rattle.ledger_spec.specs.Fields.{cut}
 
--- what a line says, or that it is not of the grammar
-pub data Line : Type 0 where
-  D : (unit vertex : ℕ) → Line
-  B : (unit : ℕ) (serials : List ℕ) → Line
-  E : (unit serial : ℕ) → Line
-  S : (unit serial : ℕ) (to : State) → Line
-  G : (unit : ℕ) (by : ℤ) → Line
-  F : (parent left right : ℕ) → Line
-  C : (unit : ℕ) → Line
-  K : (unit : ℕ) → Line
-  wrong : Line
+-- what a line says, or none where it is not of the grammar
+abbrev pub Line : Type 0
+Line = Option (Operation ℕ)
+
+abbrev pub wrong : Line
+wrong = none
 
 -- ---- fields
 
@@ -77,7 +73,7 @@ allSerials (f ∷ fs) = elim (aSerial f) [ none ↦ none | some n ↦ elim (allS
 
 abbrev pub gathered : ℕ → Option (List ℕ) → Line
 gathered u none = wrong
-gathered u (some ns) = B u ns
+gathered u (some ns) = some (B u ns)
 
 -- at least one
 abbrev pub some-serials : ℕ → Fields → Line
@@ -93,14 +89,14 @@ pick false a b = b
 -- after the letter and the first number, a unit (of a fuse: the parent)
 unfoldable pub rest : ℕ → ℕ → Fields → Line
 rest letter u fs =
-    pick (eqb letter 68) (then aVertex (λ v. noMore (D u v)) fs)  -- D unit vertex
+    pick (eqb letter 68) (then aVertex (λ v. noMore (some (D u v))) fs)  -- D unit vertex
     (pick (eqb letter 66) (some-serials u fs)  -- B unit serial..
-    (pick (eqb letter 69) (then aSerial (λ n. noMore (E u n)) fs)  -- E unit serial
-    (pick (eqb letter 83) (then aSerial (λ n. then aState (λ g. noMore (S u n g))) fs)  -- S unit serial state
-    (pick (eqb letter 71) (then anAmount (λ l. noMore (G u l)) fs)  -- G unit length
-    (pick (eqb letter 70) (then aUnit (λ l. then aUnit (λ r. noMore (F u l r))) fs)  -- F parent left right
-    (pick (eqb letter 67) (noMore (C u) fs)  -- C unit
-    (pick (eqb letter 75) (noMore (K u) fs)  -- K unit
+    (pick (eqb letter 69) (then aSerial (λ n. noMore (some (E u n))) fs)  -- E unit serial
+    (pick (eqb letter 83) (then aSerial (λ n. then aState (λ g. noMore (some (S u n g)))) fs)  -- S unit serial state
+    (pick (eqb letter 71) (then anAmount (λ l. noMore (some (G u l))) fs)  -- G unit length
+    (pick (eqb letter 70) (then aUnit (λ l. then aUnit (λ r. noMore (some (F u l r)))) fs)  -- F parent left right
+    (pick (eqb letter 67) (noMore (some (C u)) fs)  -- C unit
+    (pick (eqb letter 75) (noMore (some (K u)) fs)  -- K unit
     wrong)))))))
 
 -- a field of one byte

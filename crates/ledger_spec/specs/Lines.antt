@@ -13,7 +13,8 @@ use Rattle.ledger_spec.specs.Calls.{Call, Defect, Blossom, Expand, SetSt
 use Rattle.ledger_spec.specs.Reads.{gather}
 use Rattle.ledger_spec.specs.SoundTree.{units}
 use Rattle.ledger_spec.specs.Answers.{answer, read, checkRead}
-use Rattle.ledger_spec.specs.Grammar.{Line, D, B, E, S, G, F, C, K, wrong}
+use Rattle.ledger_spec.specs.Operations.{D, B, E, S, G, F, C, K}
+use Rattle.ledger_spec.specs.Grammar.{Line}
 
 -- the present node with a serial, or a handle of interface 8, which names none
 unfoldable pub seek : ℕ → List (ℕ × ℕ × Option Node) → Handle
@@ -45,12 +46,12 @@ unfoldable pub checks : Bench → ℕ → LineAnswer
 checks b u = record { numbers = shown (read b (checkRead b u) .0) (read b (checkRead b u) .1 .0) b u; bench = b }
 
 unfoldable pub says : Bench → Line → LineAnswer
-says b (D u v) = calls b u (Defect u v)
-says b (B u ks) = calls b u (Blossom u (map (named b) ks) [])
-says b (E u k) = calls b u (Expand u (named b k))
-says b (S u k s) = calls b u (SetState u (named b k) s)
-says b (G u l) = calls b u (Grow u l)
-says b (F p l r) = calls b p (Fuse p l r)
-says b (C u) = calls b u (Clear u)
-says b (K u) = checks b u
-says b wrong = record { numbers = (LINE, 0, pos 0, pos 0); bench = b }
+says b (some (D u v)) = calls b u (Defect u v)
+says b (some (B u ks)) = calls b u (Blossom u (map (named b) ks) [])
+says b (some (E u k)) = calls b u (Expand u (named b k))
+says b (some (S u k s)) = calls b u (SetState u (named b k) s)
+says b (some (G u l)) = calls b u (Grow u l)
+says b (some (F p l r)) = calls b p (Fuse p l r)
+says b (some (C u)) = calls b u (Clear u)
+says b (some (K u)) = checks b u
+says b none = record { numbers = (LINE, 0, pos 0, pos 0); bench = b }

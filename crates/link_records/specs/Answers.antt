@@ -4,12 +4,12 @@ use mathlib.Core.Option.{Option, none, some}
 use mathlib.Core.List.{List}
 use lib.ListN.{length}
 use Rattle.ledger_spec.specs.Numbers.{FILE}
-use Rattle.record_spec.specs.Operations.{Operation}
+use Rattle.record_spec.specs.Operations.{Op}
 use Rattle.record_spec.specs.Moves.{Moved}
 use Rattle.record_packs.specs.Packs.{MovedAs}
 
 -- 0 and how many records, or FILE
-abbrev pub counted : Option (List Operation) → ℕ × ℕ
+abbrev pub counted : Option (List Op) → ℕ × ℕ
 counted none = (FILE, 0)
 counted (some ops) = (0, length ops)
 

@@ -1,8 +1,10 @@
 -- By the lengths lent and the verdict on the words: refused with everything as it was, or done. Assumes nothing.
 use Prim.Native.Nat.{ℕ, _/_, _<_, _≤_}
 use mathlib.Core.Path.{_≡_, refl, sym, _∙_}
+use mathlib.Core.Logic.{by-cases}
 use mathlib.Core.Bool.{Bool, not, true, false, true≢false}
 use mathlib.Core.List.{List, [], _∷_}
+use native.Mathlib.Decide.{decLe}
 use native.Mathlib.Omega.{arith}
 use borrow.Author.Tests.{lt-ltb, le-ltb, not-true, not-false}
 use lib.Dec.{ltb}
@@ -17,49 +19,44 @@ use Rattle.text_calls.specs.Turned.{Turned}
 use Rattle.text_sessions.specs.Session.{ChunkDone, OpeningDone, Finished}
 use Rattle.sound_bench.specs.Sound.{soundWords}
 use Rattle.sound_lent.specs.Verdict.{Verdict}
+use Rattle.link_text.specs.declared.Chunked.{Chunked}
 use Rattle.link_text.specs.Text.{chunkNo, ChunkBy, ChunkOn, OpeningBy, LineOn, EndBy}
 
 -- ---- a chunk, by the lengths
 
-much-held : (h c r : ℕ) → 1024 < h → 2 ≡ chunkNo h c r
+pub much-held : (h c r : ℕ) → 1024 < h → 2 ≡ chunkNo h c r
 unfolding chunkNo first
 much-held h c r l = rw (lt-ltb 1024 h l)
 
-small : (h c r : ℕ) → h ≤ 1024 → r / 57 < c → 19 ≡ chunkNo h c r
+pub small : (h c r : ℕ) → h ≤ 1024 → r / 57 < c → 19 ≡ chunkNo h c r
 unfolding chunkNo first
 small h c r l m = rw (le-ltb 1024 h l, lt-ltb (r / 57) c m)
 
-enough : (h c r : ℕ) → h ≤ 1024 → c ≤ r / 57 → 0 ≡ chunkNo h c r
+pub enough : (h c r : ℕ) → h ≤ 1024 → c ≤ r / 57 → 0 ≡ chunkNo h c r
 unfolding chunkNo first
 enough h c r l m = rw (le-ltb 1024 h l, le-ltb (r / 57) c m)
 
+-- and only then
+pub fits : (h c r : ℕ) → chunkNo h c r ≡ 0 → (h ≤ 1024) × (c ≤ r / 57)
+fits h c r e = by-cases (decLe h 1024)
+    (λ (l : h ≤ 1024). by-cases (decLe c (r / 57)) (λ (m : c ≤ r / 57). (l, m)) (λ (m : c ≤ r / 57 → ⊥). absurd (omega (arith, e, small h c r l (omega arith)))))
+    (λ (l : h ≤ 1024 → ⊥). absurd (omega (arith, e, much-held h c r (omega arith))))
+
 module _ (b chunk buf : List ℕ) (held : ℕ) (out : List ℕ) where
-  refused : (n : ℕ) → n ≡ chunkNo held (length chunk) (length out) → (n ≡ 0 → ⊥) → ChunkBy b chunk buf held out b buf out n held 0
-  refused n e q = record { number = e; done = λ z. absurd (q z); refused = λ _. (refl, refl, refl, refl, refl) }
+  module _ (n : ℕ) (is : n ≡ chunkNo held (length chunk) (length out)) where
+    module _ (q : n ≡ 0 → ⊥) (r : Chunked) (e : r ≡ record { number = n; held = held; wrote = 0 }) where
+      pub chunk-refused : ChunkBy b chunk buf held out b buf out (r .number) (r .held) (r .wrote)
+      chunk-refused = rw e (record { number = is; done = λ z. absurd (q z); refused = λ _. (refl, refl, refl, refl, refl) })
 
-  pub chunk-held : 1024 < held → ChunkBy b chunk buf held out b buf out 2 held 0
-  chunk-held l = refused 2 (much-held held (length chunk) (length out) l) (λ z. omega arith)
+      pub opening-refused : OpeningBy b chunk buf held out b buf out (r .number) (r .held) (r .wrote)
+      opening-refused = rw e (record { number = is; done = λ z. absurd (q z); refused = λ _. (refl, refl, refl, refl, refl) })
 
-  pub chunk-small : held ≤ 1024 → length out / 57 < length chunk → ChunkBy b chunk buf held out b buf out 19 held 0
-  chunk-small l m = refused 19 (small held (length chunk) (length out) l m) (λ z. omega arith)
+    module _ (z : n ≡ 0) {b′ buf′ out′ : List ℕ} {held′ wrote : ℕ} where
+      pub chunk-done : ChunkDone b chunk (take held buf) out b′ buf′ out′ held′ wrote → ChunkBy b chunk buf held out b′ buf′ out′ 0 held′ wrote
+      chunk-done d = record { number = sym z ∙ is; done = λ _. d; refused = λ q. absurd (q refl) }
 
-  module _ {b′ buf′ out′ : List ℕ} {held′ wrote : ℕ} where
-    pub chunk-done : held ≤ 1024 → length chunk ≤ length out / 57 → ChunkDone b chunk (take held buf) out b′ buf′ out′ held′ wrote → ChunkBy b chunk buf held out b′ buf′ out′ 0 held′ wrote
-    chunk-done l m d = record { number = enough held (length chunk) (length out) l m; done = λ _. d; refused = λ q. absurd (q refl) }
-
-  -- ---- an opening chunk, by the same lengths
-  unopened : (n : ℕ) → n ≡ chunkNo held (length chunk) (length out) → (n ≡ 0 → ⊥) → OpeningBy b chunk buf held out b buf out n held 0
-  unopened n e q = record { number = e; done = λ z. absurd (q z); refused = λ _. (refl, refl, refl, refl, refl) }
-
-  pub opening-held : 1024 < held → OpeningBy b chunk buf held out b buf out 2 held 0
-  opening-held l = unopened 2 (much-held held (length chunk) (length out) l) (λ z. omega arith)
-
-  pub opening-small : held ≤ 1024 → length out / 57 < length chunk → OpeningBy b chunk buf held out b buf out 19 held 0
-  opening-small l m = unopened 19 (small held (length chunk) (length out) l m) (λ z. omega arith)
-
-  module _ {b′ buf′ out′ : List ℕ} {held′ wrote : ℕ} where
-    pub opening-done : held ≤ 1024 → length chunk ≤ length out / 57 → OpeningDone chunk (take held buf) out b′ buf′ out′ held′ wrote → OpeningBy b chunk buf held out b′ buf′ out′ 0 held′ wrote
-    opening-done l m d = record { number = enough held (length chunk) (length out) l m; done = λ _. d; refused = λ q. absurd (q refl) }
+      pub opening-done : OpeningDone chunk (take held buf) out b′ buf′ out′ held′ wrote → OpeningBy b chunk buf held out b′ buf′ out′ 0 held′ wrote
+      opening-done d = record { number = sym z ∙ is; done = λ _. d; refused = λ q. absurd (q refl) }
 
 -- ---- by the verdict on the words
 
@@ -80,8 +77,8 @@ module _ (b : List ℕ) (s : Bool) (v : Verdict b s) where
   line-sound line r b′ t T = record { sound = λ _. T; broken = λ y. sounds t y }
 
   module _ (chunk buf : List ℕ) (held : ℕ) (out : List ℕ) where
-    pub chunk-broken : not s ≡ true → ChunkOn b chunk buf held out b buf out 2 held 0
-    chunk-broken t = record { sound = λ y. unsound t y; broken = λ _. (refl, refl, refl, refl, refl, refl) }
+    pub chunk-broken : not s ≡ true → (r : Chunked) → r ≡ record { number = 2; held = held; wrote = 0 } → ChunkOn b chunk buf held out b buf out (r .number) (r .held) (r .wrote)
+    chunk-broken t r e = rw e (record { sound = λ y. unsound t y; broken = λ _. (refl, refl, refl, refl, refl, refl) })
 
     pub chunk-sound : {b′ buf′ out′ : List ℕ} {n held′ wrote : ℕ} → not s ≡ false → ChunkBy b chunk buf held out b′ buf′ out′ n held′ wrote → ChunkOn b chunk buf held out b′ buf′ out′ n held′ wrote
     chunk-sound t C = record { sound = λ _. C; broken = λ y. sounds t y }
@@ -100,8 +97,8 @@ nonzero : (n : ℕ) → 0 < n → n ≡ 0 → ⊥
 nonzero n l z = omega arith
 
 module _ (held : ℕ) (out : List ℕ) where
-  pub end-small : length out < 57 → EndBy held out out 19 0
-  end-small l = record { number = end-no (length out) l; done = λ z. absurd (nonzero 19 (omega arith) z); refused = λ _. (refl, refl) }
+  pub end-small : length out < 57 → (r : Chunked) → r ≡ record { number = 19; held = held; wrote = 0 } → EndBy held out out (r .number) (r .wrote)
+  end-small l r e = rw e (record { number = end-no (length out) l; done = λ z. absurd (nonzero 19 (omega arith) z); refused = λ _. (refl, refl) })
 
   pub end-done : {out′ : List ℕ} {wrote : ℕ} → 57 ≤ length out → Finished held out 0 out′ wrote → EndBy held out out′ 0 wrote
   end-done l f = record { number = end-yes (length out) l; done = λ _. f; refused = λ q. absurd (q refl) }

@@ -5,10 +5,11 @@ use bench_serials::HINTS;
 use bench_words::WORDS;
 use kinds::numbers;
 use text_numbers::Reply;
+ghost use mathlib.Core.Path.{_≡_};
 ghost use Rattle.ledger_spec.specs.Grammar.{lineOf};
 ghost use Rattle.bench_views.specs.Fit.{SoundWords};
 ghost use Rattle.text_calls.specs.Turned.{Turned};
-ghost use Rattle.link_text.specs.Text.{ChunkBy, LineOn, ChunkOn, OpeningBy, EndBy};
+ghost use Rattle.link_text.specs.Text.{chunkNo, ChunkBy, LineOn, ChunkOn, OpeningBy, EndBy};
 
 // How many bytes of a line that is not ended are held at most.
 pub const HELD: usize = 1024;
@@ -18,6 +19,29 @@ pub struct Chunked {
     pub number: u8,
     pub held: usize,
     pub wrote: usize,
+}
+
+fn refused(number: u8, held: usize) -> Chunked
+    ensures { λ r. ⌜ r ≡ record { number = number; held = held; wrote = 0 } ⌝ }
+{
+    Chunked {
+        number,
+        held,
+        wrote: 0,
+    }
+}
+
+// The number that a chunk is refused by, from what is held, its bytes and the bytes of room for its answers.
+fn chunk_no(held: usize, bytes: usize, room: usize) -> u8
+    ensures { λ r. ⌜ r ≡ chunkNo held bytes room ⌝ }
+{
+    if HELD < held {
+        return numbers::BROKEN;
+    }
+    if room / 57 < bytes {
+        return numbers::SMALL;
+    }
+    0
 }
 
 // A line, its newline left out, on words that hold a sound bench.
@@ -52,19 +76,9 @@ pub fn chunk_on_sound(
     requires { ⌜ SoundWords (now b) ⌝ }
     ensures { λ r. ⌜ ChunkBy (now (b .entry)) (now (chunk .entry)) (now (buf .entry)) held (now (out .entry)) (now (b .exit)) (now (buf .exit)) (now (out .exit)) (r .number) (r .held) (r .wrote) ⌝ }
 {
-    if HELD < held {
-        return Chunked {
-            number: numbers::BROKEN,
-            held,
-            wrote: 0,
-        };
-    }
-    if out.len() / 57 < chunk.len() {
-        return Chunked {
-            number: numbers::SMALL,
-            held,
-            wrote: 0,
-        };
+    let number = chunk_no(held, chunk.len(), out.len());
+    if number != 0 {
+        return refused(number, held);
     }
     let mut serials: [u64; text_calls::MOST] = [0; text_calls::MOST];
     let taken = text_sessions::answer_chunk(b, chunk, buf, held, &mut serials, hints, out);
@@ -87,11 +101,7 @@ pub fn chunk_on_any(
     ensures { λ r. ⌜ ChunkOn (now (b .entry)) (now (chunk .entry)) (now (buf .entry)) held (now (out .entry)) (now (b .exit)) (now (buf .exit)) (now (out .exit)) (r .number) (r .held) (r .wrote) ⌝ }
 {
     if !sound_lent::is_bench(b) {
-        return Chunked {
-            number: numbers::BROKEN,
-            held,
-            wrote: 0,
-        };
+        return refused(numbers::BROKEN, held);
     }
     chunk_on_sound(b, chunk, buf, held, hints, out)
 }
@@ -108,20 +118,9 @@ pub fn opening(
 ) -> Chunked
     ensures { λ r. ⌜ OpeningBy (now (b .entry)) (now (chunk .entry)) (now (buf .entry)) held (now (out .entry)) (now (b .exit)) (now (buf .exit)) (now (out .exit)) (r .number) (r .held) (r .wrote) ⌝ }
 {
-    if HELD < held {
-        return Chunked {
-            number: numbers::BROKEN,
-            held,
-            wrote: 0,
-        };
-    }
-    let answers = out.len() / 57;
-    if answers < chunk.len() {
-        return Chunked {
-            number: numbers::SMALL,
-            held,
-            wrote: 0,
-        };
+    let number = chunk_no(held, chunk.len(), out.len());
+    if number != 0 {
+        return refused(number, held);
     }
     let mut serials: [u64; text_calls::MOST] = [0; text_calls::MOST];
     let taken = text_sessions::answer_opening(b, chunk, buf, held, &mut serials, hints, out);
@@ -137,11 +136,7 @@ pub fn end(held: usize, out: &mut [u8]) -> Chunked
     ensures { λ r. ⌜ EndBy held (now (out .entry)) (now (out .exit)) (r .number) (r .wrote) ⌝ }
 {
     if out.len() < 57 {
-        return Chunked {
-            number: numbers::SMALL,
-            held,
-            wrote: 0,
-        };
+        return refused(numbers::SMALL, held);
     }
     let wrote = text_sessions::finish(held, out, 0);
     Chunked {

@@ -6,7 +6,7 @@ use mathlib.Core.List.{List, [], _∷_, _++_, map, append-assoc}
 use native.Mathlib.Omega.{arith}
 use lib.Dec.{eqb}
 use lib.IntN.{ℤ, pos, negsuc}
-use lib.ListN.{length, take, drop, getD, set, length-map, length-set}
+use lib.ListN.{length, take, drop, getD, set, length-map}
 use lib.Seq.{sets, sets-eq, length-sets, take-set-le, take-at, drop-at, getD-take, getD-set-same, getD-set-other, length-take-le}
 use mir.Syntax.{w64}
 use mir.Val.{SFits, toZ, ofZ}

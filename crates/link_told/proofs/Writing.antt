@@ -21,7 +21,7 @@ use Rattle.outcome_notices.proofs.Pads.{map-more}
 use Rattle.outcome_notices.proofs.Reaching.{few, members-low}
 use Rattle.outcome_notices.proofs.Telling.{nodes-suc, circle-made, circle-none}
 use Rattle.link_answers.specs.Forms.{nodeWord}
-use Rattle.link_told.specs.Answers.{kindWord, whatWord, toldWords, frontWords, saidOver}
+use Rattle.link_told.specs.Answers.{kindWord, whatWord, toldWords, saidOver}
 use Rattle.link_told.specs.Circles.{staying, growing, Walked}
 
 -- ---- runs of stores

@@ -5,10 +5,10 @@ use mathlib.Core.Path.{_≡_, refl, _∙_, ap}
 use mathlib.Core.Bool.{Bool, true}
 use mathlib.Core.Option.{Option, none, some}
 use mathlib.Core.List.{List, map}
-use Rattle.ledger_spec.specs.Bench.{Handle, State, Member, Class, defect, blossom, Node, Interface, Bench}
+use Rattle.ledger_spec.specs.Bench.{Handle, Member, Class, defect, blossom, Node, Bench}
 use Rattle.ledger_spec.specs.Reads.{slotsOf}
 use Rattle.ledger_spec.specs.Check.{indexIn}
-use Rattle.picture_spec.specs.Sketch.{Linked, circle, Seen, linked, shapeOf, seenOf, indexed, indexOf, slotSeenBy, sketchOf}
+use Rattle.picture_spec.specs.Sketch.{circle, linked, shapeOf, seenOf, indexed, indexOf, slotSeenBy, sketchOf}
 use Rattle.picture_spec.specs.Text.{namesBy, textOf}
 use Rattle.picture_spec.specs.Picture.{picture}
 use Rattle.patch_laws.specs.Patch.{Patch, mine}

@@ -7,7 +7,6 @@ use lib.ListN.{length}
 use lib.IntN.{ℤ, natAbs}
 use lib.Seq.{sets}
 use Rattle.ledger_spec.specs.Answers.{answer}
-use Rattle.recorded_spec.specs.Recorded.{Steps}
 use Rattle.recorded_groups.specs.Recording.{recordingOf}
 use Rattle.patch_laws.specs.Patch.{Patch, Apart, unitsNamed, unitsOf}
 use Rattle.patch_laws.specs.Runs.{Side, answerTo, after, seen, told, theirs, ours, asked, opened}

@@ -1,10 +1,7 @@
 -- What a patch sees of such a run over stored words is what it sees of the plain ledger; so two runs show it the same. Assumes nothing.
-use Prim.Native.Nat.{ℕ, _<_, _^_}
+use Prim.Native.Nat.{ℕ}
 use mathlib.Core.Path.{_≡_, refl, sym, _∙_, ap, ap₂, subst}
-use mathlib.Core.List.{List, [], _∷_, map}
-use lib.ListN.{length}
-use lib.IntN.{ℤ, natAbs}
-use lib.Seq.{sets}
+use mathlib.Core.List.{List, [], _∷_}
 use Rattle.ledger_spec.specs.Answers.{answer}
 use Rattle.bench_views.specs.View.{view}
 use Rattle.bench_views.specs.Fit.{SoundWords}
@@ -13,12 +10,12 @@ use Rattle.recorded_steps.specs.declared.Passed.{Passed}
 use Rattle.recorded_sound.specs.Answers.{RecordedAs}
 use Rattle.recorded_any.proofs.Verdicts.{any-sound}
 use Rattle.patch_laws.specs.Patch.{Table}
-use Rattle.patch_laws.specs.Runs.{Seen, Side, after, seen, told, sees, ours, asked, opened}
-use Rattle.patch_runs.specs.Woven.{tableAfter, seenOf, readSeen}
+use Rattle.patch_laws.specs.Runs.{Seen, Side, after, seen, told, sees, opened}
+use Rattle.patch_runs.specs.Woven.{tableAfter, seenOf}
 use Rattle.patch_runs.specs.Woven as woven
 use Rattle.patch_runs.proofs.Words.{as-plain}
 use Rattle.patch_recorded.specs.Plays.{grown, afterGrowth}
-use Rattle.patch_played.specs.Played.{Lent, Turn, step, Sight, saw, wrote, Grew, Played, stop, other, call, read, otherGrowth, ownGrowth, AllFresh, TwoPlayed}
+use Rattle.patch_played.specs.Played.{Lent, Turn, Sight, saw, wrote, Grew, Played, stop, other, call, read, otherGrowth, ownGrowth, AllFresh, TwoPlayed}
 use Rattle.patch_played.proofs.Sights.{plainly, writes, sights, as-alone}
 
 -- the first of a list

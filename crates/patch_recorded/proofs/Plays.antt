@@ -1,6 +1,6 @@
 -- Ask 13 with growth over recordings: the link between the patch alone and the patch on a shared bench is kept by such a growth of either patch, which is one
 -- growth or none, and the watched one's shows it the same. Assumes nothing.
-use Prim.Native.Nat.{ℕ, zero, suc, _<_, _^_}
+use Prim.Native.Nat.{ℕ, _<_, _^_}
 use mathlib.Core.Path.{_≡_, refl, sym, _∙_, ap, ap₂, subst, subst₂}
 use mathlib.Core.Logic.{_≢_, by-cases}
 use mathlib.Core.Bool.{Bool, true, false}
@@ -8,7 +8,7 @@ use mathlib.Core.List.{List, [], _∷_, append-nil}
 use native.Mathlib.Omega.{arith}
 use native.Mathlib.Decide.{ℕ-discrete}
 use lib.IntN.{ℤ, pos}
-use Rattle.ledger_spec.specs.Bench.{Bench, Handle}
+use Rattle.ledger_spec.specs.Bench.{Bench}
 use Rattle.ledger_spec.specs.Tests.{first}
 use Rattle.ledger_spec.specs.Refuse.{unitTests, growTests}
 use Rattle.ledger_spec.specs.Calls.{Call}
@@ -16,7 +16,6 @@ use Rattle.ledger_spec.specs.Answers.{answer}
 use Rattle.ledger_spec.specs.Sound.{sound}
 use Rattle.ledger_spec.proofs.Holds.{holds}
 use Rattle.ledger_laws.proofs.Answered.{testsOf, answer-number}
-use Rattle.recorded_spec.specs.Recorded.{growRecorded}
 use Rattle.recorded_spec.proofs.Whole.{one-growth}
 use Rattle.patch_laws.specs.Patch.{Patch, Apart, Script, Table, written, unitsNamed, unitsOf}
 use Rattle.patch_laws.specs.Runs.{Side, answerTo, after, seen, theirs, ours, asked, opened}
@@ -25,7 +24,7 @@ use Rattle.patch_laws.proofs.Alike.{Each}
 use Rattle.patch_laws.proofs.Links.{Link, theirs-link, ours-turn, ours-link, ours-seen}
 use Rattle.patch_laws.proofs.Told.{told-same}
 use Rattle.patch_laws.proofs.Patches.{each, opened-link}
-use Rattle.patch_recorded.specs.Plays.{Recording, Play, step, theirGrowth, ourGrowth, Sight, saw, grew, grown, afterGrowth, sights, ownPlays, AllPlay, AllFresh, TwoPlays}
+use Rattle.patch_recorded.specs.Plays.{Recording, Play, step, theirGrowth, ourGrowth, saw, grew, grown, afterGrowth, sights, ownPlays, AllPlay, AllFresh, TwoPlays}
 use Rattle.patch_recorded.proofs.Same.{grown-alike, growth-refused}
 
 -- ---- a growth over a recording is one growth, or none

@@ -1,13 +1,12 @@
 -- What a patch sees of a run over stored words is what it sees of the plain ledger; so two runs show it the same. Assumes nothing.
-use Prim.Native.Nat.{ℕ, zero, suc, _<_, _^_}
+use Prim.Native.Nat.{ℕ, zero, suc}
 use mathlib.Core.Path.{_≡_, refl, sym, _∙_, ap, ap₂, subst}
 use mathlib.Core.List.{List, [], _∷_, map}
 use native.Mathlib.Omega.{arith}
 use Rattle.ledger_spec.specs.Bench.{Bench}
 use Rattle.ledger_spec.specs.Calls.{Call}
 use Rattle.ledger_spec.specs.Notices.{Notice}
-use Rattle.ledger_spec.specs.Answers.{Answer as Plain, Read as Asking, ask, answer, read as plainRead}
-use Rattle.ledger_spec.specs.Named.{handleNamed}
+use Rattle.ledger_spec.specs.Answers.{Read as Asking, answer, read as plainRead}
 use Rattle.ledger_laws.proofs.Answered.{zero-notices, refused-notices}
 use Rattle.ledger_laws.proofs.Asked.{ask-true}
 use Rattle.bench_words.specs.Codec.{pick}
@@ -18,13 +17,11 @@ use Rattle.sound_bench.proofs.Theorem.{sound-holds}
 use Rattle.sound_lent.specs.Verdict.{asked as askedWords, readWords}
 use Rattle.outcome_notices.specs.Laid.{laid, noticesOf}
 use Rattle.outcome_notices.proofs.Back.{told-back}
-use Rattle.call_told.specs.declared.Answer.{Answer}
-use Rattle.call_told.specs.Shown.{shown}
 use Rattle.call_told.specs.Told.{Called}
 use Rattle.run_laws.proofs.Running.{says, shows, stays-sound}
-use Rattle.patch_laws.specs.Patch.{Patch, Apart, Script, Table, written, nameOf}
-use Rattle.patch_laws.specs.Runs.{Read, Seen, answered, heard, after, seen, readBy, Side, told, Step, theirs, ours, asked, sees, opened, own}
-use Rattle.patch_laws.specs.Statement.{AllFit, Unworn}
+use Rattle.patch_laws.specs.Patch.{Table, written, nameOf}
+use Rattle.patch_laws.specs.Runs.{Read, Seen, answered, heard, after, seen, readBy, Side, told, Step, sees, opened, own}
+use Rattle.patch_laws.specs.Statement.{Unworn}
 use Rattle.patch_laws.proofs.Patches.{two-patches}
 use Rattle.patch_runs.specs.Woven.{tableAfter, seenOf, readSeen, Woven, stop, other, call, read, TwoRuns}
 

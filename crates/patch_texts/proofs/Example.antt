@@ -5,13 +5,15 @@ use mathlib.Core.Path.{_≡_, refl, sym, _∙_, ap}
 use mathlib.Core.Bool.{Bool, false}
 use mathlib.Core.List.{List, [], _∷_, map}
 use native.Mathlib.Omega.{arith}
+use mathlib.Core.Option.{some}
 use lib.Dec.{eqb, ltb}
 use lib.ListN.{length, getD, drop, replicate}
 use lib.IntN.{pos}
 use borrow.Author.Tests.{ltb-true, eqb-false}
 use Rattle.ledger_spec.specs.Bench.{setUp}
 use Rattle.ledger_spec.specs.SoundTree.{all}
-use Rattle.ledger_spec.specs.Grammar.{Line, D, B, E, G, F, C, K, wrong}
+use Rattle.ledger_spec.specs.Operations.{D, B, E, G, F, C, K}
+use Rattle.ledger_spec.specs.Grammar.{Line, wrong}
 use Rattle.ledger_spec.specs.Bytes.{bytes}
 use Rattle.ledger_spec.specs.Program.{linesOf, answers}
 use Rattle.ledger_spec.specs.Opened.{run}
@@ -32,11 +34,11 @@ unfolding other watched
 disjoint u x y = omega (arith, ltb-true u 3 x, ltb-true 2 u y)
 
 pub alone : List Step
-alone = ours (D 3 8) ∷ ours (D 3 9) ∷ ours (G 3 (pos 2)) ∷ ours (B 3 (0 ∷ 1 ∷ [])) ∷ ours (E 3 2) ∷ ours (K 3) ∷ ours (E 3 2) ∷ ours (D 9 1) ∷ ours wrong ∷ []
+alone = ours (some (D 3 8)) ∷ ours (some (D 3 9)) ∷ ours (some (G 3 (pos 2))) ∷ ours (some (B 3 (0 ∷ 1 ∷ []))) ∷ ours (some (E 3 2)) ∷ ours (some (K 3)) ∷ ours (some (E 3 2)) ∷ ours (some (D 9 1)) ∷ ours wrong ∷ []
 
 pub shared : List Step
-shared = theirs (D 0 7) ∷ ours (D 3 8) ∷ theirs (D 1 7) ∷ ours (D 3 9) ∷ theirs (F 2 0 1) ∷ theirs (E 2 2) ∷ ours (G 3 (pos 2)) ∷ ours (B 3 (0 ∷ 1 ∷ [])) ∷ theirs wrong ∷ ours (E 3 2) ∷ theirs (C 2) ∷ ours (K 3)
-    ∷ theirs (K 2) ∷ ours (E 3 2) ∷ ours (D 9 1) ∷ ours wrong ∷ []
+shared = theirs (some (D 0 7)) ∷ ours (some (D 3 8)) ∷ theirs (some (D 1 7)) ∷ ours (some (D 3 9)) ∷ theirs (some (F 2 0 1)) ∷ theirs (some (E 2 2)) ∷ ours (some (G 3 (pos 2))) ∷ ours (some (B 3 (0 ∷ 1 ∷ []))) ∷ theirs wrong ∷ ours (some (E 3 2)) ∷ theirs (some (C 2)) ∷ ours (some (K 3))
+    ∷ theirs (some (K 2)) ∷ ours (some (E 3 2)) ∷ ours (some (D 9 1)) ∷ ours wrong ∷ []
 
 pub alone-input : List ℕ
 alone-input = bytes "D 3 8\nD 3 9\nG 3 2\nB 3 1 2\nE 3 3\nK 3\nE 3 3\nD 9 1\nX\n"
@@ -45,10 +47,10 @@ pub shared-input : List ℕ
 shared-input = bytes "D 0 7\nD 3 8\nD 1 7\nD 3 9\nF 2 0 1\nE 2 2\nG 3 2\nB 3 2 4\n?\nE 3 5\nC 2\nK 3\nK 2\nE 3 5\nD 9 1\nX\n"
 
 abbrev alone-typed : List Line
-alone-typed = D 3 8 ∷ D 3 9 ∷ G 3 (pos 2) ∷ B 3 (1 ∷ 2 ∷ []) ∷ E 3 3 ∷ K 3 ∷ E 3 3 ∷ D 9 1 ∷ wrong ∷ []
+alone-typed = some (D 3 8) ∷ some (D 3 9) ∷ some (G 3 (pos 2)) ∷ some (B 3 (1 ∷ 2 ∷ [])) ∷ some (E 3 3) ∷ some (K 3) ∷ some (E 3 3) ∷ some (D 9 1) ∷ wrong ∷ []
 
 abbrev shared-typed : List Line
-shared-typed = D 0 7 ∷ D 3 8 ∷ D 1 7 ∷ D 3 9 ∷ F 2 0 1 ∷ E 2 2 ∷ G 3 (pos 2) ∷ B 3 (2 ∷ 4 ∷ []) ∷ wrong ∷ E 3 5 ∷ C 2 ∷ K 3 ∷ K 2 ∷ E 3 5 ∷ D 9 1 ∷ wrong ∷ []
+shared-typed = some (D 0 7) ∷ some (D 3 8) ∷ some (D 1 7) ∷ some (D 3 9) ∷ some (F 2 0 1) ∷ some (E 2 2) ∷ some (G 3 (pos 2)) ∷ some (B 3 (2 ∷ 4 ∷ [])) ∷ wrong ∷ some (E 3 5) ∷ some (C 2) ∷ some (K 3) ∷ some (K 2) ∷ some (E 3 5) ∷ some (D 9 1) ∷ wrong ∷ []
 
 alone-said : linesOf alone-input ≡ alone-typed
 unfolding run alone-input

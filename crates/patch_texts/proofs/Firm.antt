@@ -5,12 +5,11 @@ use mathlib.Core.Option.{Option, none, some}
 use mathlib.Core.List.{List, [], _∷_}
 use native.Mathlib.Omega.{arith}
 use Rattle.ledger_spec.specs.Bench.{Handle, Node, Bench}
-use Rattle.ledger_spec.specs.Look.{slotOf, freeSlot, nodeNamed}
+use Rattle.ledger_spec.specs.Look.{slotOf, nodeNamed}
 use Rattle.ledger_spec.specs.Deeds.{newHandle}
-use Rattle.ledger_spec.specs.Tests.{first}
 use Rattle.ledger_spec.specs.Calls.{Call, Defect, Blossom}
 use Rattle.ledger_spec.specs.Answers.{answer}
-use Rattle.ledger_spec.specs.Book.{Book, turn, turns}
+use Rattle.ledger_spec.specs.Book.{turn, turns}
 use Rattle.ledger_spec.specs.Knit.{Has}
 use Rattle.ledger_spec.specs.Facts.{Sound}
 use Rattle.ledger_spec.proofs.Passed.{node-has}

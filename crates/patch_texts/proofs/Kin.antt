@@ -3,7 +3,7 @@ use Prim.Native.Nat.{ℕ, zero, suc, _<_}
 use mathlib.Core.Path.{_≡_, refl, sym, _∙_, ap, ap₂, subst}
 use mathlib.Core.Logic.{_⊎_, inl, inr}
 use mathlib.Core.Bool.{Bool, true, false, _||_}
-use mathlib.Core.Option.{Option}
+use mathlib.Core.Option.{Option, some}
 use mathlib.Core.List.{List, [], _∷_, _++_, map, map-append}
 use lib.Dec.{eqb}
 use lib.IntN.{ℤ, pos}
@@ -14,13 +14,14 @@ use Rattle.ledger_spec.specs.Tests.{outside, child}
 use Rattle.ledger_spec.specs.Calls.{Call}
 use Rattle.ledger_spec.specs.Calls as calls
 use Rattle.ledger_spec.specs.Answers.{Answer, answer}
-use Rattle.ledger_spec.specs.Grammar.{Line, D, B, E, S, G, F, C, K, wrong}
+use Rattle.ledger_spec.specs.Operations.{D, B, E, S, G, F, C}
+use Rattle.ledger_spec.specs.Grammar.{Line}
 use Rattle.ledger_spec.specs.Lines.{LineAnswer, named, shown, calls as lineCalls, says}
 use Rattle.ledger_spec.specs.Knit.{In}
 use Rattle.ledger_spec.specs.Facts.{Sound}
 use Rattle.ledger_spec.proofs.Lists.{not-in-nil, in-cases, in-append}
 use Rattle.ledger_laws.proofs.Never.{next-grows}
-use Rattle.patch_laws.specs.Patch.{Script, Defect, Blossom, Expand, SetState, Grow, Fuse, Clear, Mark, Table, given, unitsOf, written}
+use Rattle.patch_laws.specs.Patch.{Script, Defect, Blossom, Expand, SetState, Grow, Fuse, Clear, Mark, given, unitsOf, written}
 use Rattle.patch_laws.specs.Runs.{Side, made, answerTo, after}
 use Rattle.patch_laws.proofs.Renamed.{map-map}
 use Rattle.patch_texts.specs.Page.{Serials, serialAt, spelled, handed, numberFrom, field, Page}
@@ -88,47 +89,47 @@ pub record Says (l : Line) (c : Script) (u : ℕ) : Type 0 where
   pub units : unitsOf c ≡ unitsIn l
   pub by : (t : Serials) (k : ℕ) → field t l k ≡ numberFrom 0 t k
 
-pub d-says : (u v : ℕ) → Says (D u v) (Defect u v) u
+pub d-says : (u v : ℕ) → Says (some (D u v)) (Defect u v) u
 unfolding says spelled written lineCalls
 d-says u v = record { call = λ k S f. refl; hands = hands; units = refl; by = λ t k. refl }
   where
-    hands : (n : ℕ) (h : Handle) → handed (D u v) n (h .serial) ≡ map serialOf (made (Defect u v) n h)
+    hands : (n : ℕ) (h : Handle) → handed (some (D u v)) n (h .serial) ≡ map serialOf (made (Defect u v) n h)
     hands zero h = refl
     hands (suc n) h = refl
 
-pub b-says : (u : ℕ) (ks : List ℕ) → Says (B u ks) (Blossom u ks []) u
+pub b-says : (u : ℕ) (ks : List ℕ) → Says (some (B u ks)) (Blossom u ks []) u
 unfolding says spelled written lineCalls
 b-says u ks = record { call = call; hands = hands; units = refl; by = λ t k. refl }
   where
-    hands : (n : ℕ) (h : Handle) → handed (B u ks) n (h .serial) ≡ map serialOf (made (Blossom u ks []) n h)
+    hands : (n : ℕ) (h : Handle) → handed (some (B u ks)) n (h .serial) ≡ map serialOf (made (Blossom u ks []) n h)
     hands zero h = refl
     hands (suc n) h = refl
 
-    call : (k : Side) → Sound (k .bench) → ((h : Handle) → In h (k .table) → Firm (k .bench) h) → says (k .bench) (spelled (map serialOf (k .table)) (B u ks)) ≡ lineOf (answerTo k (Blossom u ks [])) u
+    call : (k : Side) → Sound (k .bench) → ((h : Handle) → In h (k .table) → Firm (k .bench) h) → says (k .bench) (spelled (map serialOf (k .table)) (some (B u ks))) ≡ lineOf (answerTo k (Blossom u ks [])) u
     call k Z f = ap (λ (hs : List Handle). lineOf (answer (k .bench) (calls.Blossom u hs [])) u) (map-map (serialAt (map serialOf (k .table))) (named (k .bench)) finds (λ x. refl) ks)
         ∙ ap (λ (a : Answer). lineOf a u) (blossom-twins (k .bench) Z u finds (given (k .table)) (λ x. twin-at (k .bench) Z (k .table) f x) ks)
       where
         finds : ℕ → Handle
         finds x = named (k .bench) (serialAt (map serialOf (k .table)) x)
 
-pub e-says : (u i : ℕ) → Says (E u i) (Expand u i) u
+pub e-says : (u i : ℕ) → Says (some (E u i)) (Expand u i) u
 unfolding says spelled written lineCalls
 e-says u i = record { call = λ k Z f. ap (λ (a : Answer). lineOf a u) (expand-twins (k .bench) Z u _ _ (twin-at (k .bench) Z (k .table) f i)); hands = λ n h. refl; units = refl; by = λ t k. refl }
 
-pub s-says : (u i : ℕ) (to : State) → Says (S u i to) (SetState u i to) u
+pub s-says : (u i : ℕ) (to : State) → Says (some (S u i to)) (SetState u i to) u
 unfolding says spelled written lineCalls
 s-says u i to = record { call = λ k Z f. ap (λ (a : Answer). lineOf a u) (state-twins (k .bench) Z u _ _ to (twin-at (k .bench) Z (k .table) f i)); hands = λ n h. refl; units = refl; by = λ t k. refl }
 
 module _ (u : ℕ) where
-  pub g-says : (l : ℤ) → Says (G u l) (Grow u l) u
+  pub g-says : (l : ℤ) → Says (some (G u l)) (Grow u l) u
   unfolding says spelled written lineCalls
   g-says l = record { call = λ k Z f. refl; hands = λ n h. refl; units = refl; by = λ t k. refl }
 
-  pub f-says : (l r : ℕ) → Says (F u l r) (Fuse u l r) u
+  pub f-says : (l r : ℕ) → Says (some (F u l r)) (Fuse u l r) u
   unfolding says spelled written lineCalls
   f-says l r = record { call = λ k Z f. refl; hands = λ n h. refl; units = refl; by = λ t k. refl }
 
-  pub c-says : Says (C u) (Clear u) u
+  pub c-says : Says (some (C u)) (Clear u) u
   unfolding says spelled written lineCalls
   c-says = record { call = λ k Z f. refl; hands = λ n h. refl; units = refl; by = λ t k. refl }
 

@@ -2,7 +2,7 @@
 -- give it the same. Assumes nothing.
 use Prim.Native.Nat.{ℕ, suc, _<_, _^_}
 use mathlib.Core.Path.{_≡_, refl, sym, _∙_, ap, ap₂, subst}
-use mathlib.Core.Logic.{_≢_, _⊎_, inl, inr}
+use mathlib.Core.Logic.{_≢_}
 use mathlib.Core.Bool.{Bool, true, false, _||_}
 use mathlib.Core.Option.{Option, none, some}
 use mathlib.Core.List.{List, [], _∷_, _++_, map, append-nil}
@@ -13,9 +13,10 @@ use Rattle.ledger_spec.specs.Bench.{Handle, Interface, Bench, setUp}
 use Rattle.ledger_spec.specs.Look.{interface}
 use Rattle.ledger_spec.specs.Tests.{outside}
 use Rattle.ledger_spec.specs.Calls.{Call, Defect, Blossom, Expand, SetState, Grow, Fuse, Clear}
-use Rattle.ledger_spec.specs.Answers.{Answer, answer, read, checkRead}
+use Rattle.ledger_spec.specs.Answers.{answer, read, checkRead}
 use Rattle.ledger_spec.specs.Fields.{upto, partsAfter, cut}
-use Rattle.ledger_spec.specs.Grammar.{Line, D, B, E, S, G, F, C, K, wrong}
+use Rattle.ledger_spec.specs.Operations.{D, B, E, S, G, F, C, K}
+use Rattle.ledger_spec.specs.Grammar.{Line, wrong}
 use Rattle.ledger_spec.specs.Lines.{LineAnswer, named, calls, checks, says}
 use Rattle.ledger_spec.specs.Opening.{chosen}
 use Rattle.ledger_spec.specs.Program.{ended, linesOf, answers, openAnswers}
@@ -32,7 +33,7 @@ use Rattle.patch_laws.proofs.Patches.{opened-one, opened-link, each}
 use Rattle.patch_texts.specs.Page.{Serials, spelled, numberFrom, field, Page, Step, theirs, ours, reads, lines, own, ownOf}
 use Rattle.patch_texts.specs.Page as page
 use Rattle.patch_texts.specs.Inputs.{unitsIn, AllFit, Unworn, butSerial, TwoTexts, TwoInputs, TwoPrograms}
-use Rattle.patch_texts.proofs.Kin.{serialOf, Four, hidden, paid, row, readRow, shown-is, Kin, kin-kept, Says, d-says, b-says, e-says, s-says, g-says, f-says, c-says, line-is, kin-after, read-is}
+use Rattle.patch_texts.proofs.Kin.{serialOf, Four, hidden, paid, readRow, shown-is, Kin, kin-kept, Says, d-says, b-says, e-says, s-says, g-says, f-says, c-says, kin-after, read-is}
 
 -- ---- a line of the other patch: a call, or nothing
 pub data Moves (b : Bench) (l : Line) : Type 0 where
@@ -41,15 +42,15 @@ pub data Moves (b : Bench) (l : Line) : Type 0 where
 
 moves : (b : Bench) (l : Line) → Moves b l
 unfolding says calls checks
-moves b (D u v) = moved (Defect u v) refl refl
-moves b (B u ks) = moved (Blossom u (map (named b) ks) []) refl refl
-moves b (E u k) = moved (Expand u (named b k)) refl refl
-moves b (S u k s) = moved (SetState u (named b k) s) refl refl
-moves b (G u l) = moved (Grow u l) refl refl
-moves b (F p l r) = moved (Fuse p l r) refl refl
-moves b (C u) = moved (Clear u) refl refl
-moves b (K u) = still refl
-moves b wrong = still refl
+moves b (some (D u v)) = moved (Defect u v) refl refl
+moves b (some (B u ks)) = moved (Blossom u (map (named b) ks) []) refl refl
+moves b (some (E u k)) = moved (Expand u (named b k)) refl refl
+moves b (some (S u k s)) = moved (SetState u (named b k) s) refl refl
+moves b (some (G u l)) = moved (Grow u l) refl refl
+moves b (some (F p l r)) = moved (Fuse p l r) refl refl
+moves b (some (C u)) = moved (Clear u) refl refl
+moves b (some (K u)) = still refl
+moves b none = still refl
 
 -- ---- numbers do not feel a renaming
 numbers-same : (ρ : ℕ → ℕ) → ((i j : ℕ) → eqb (ρ i) (ρ j) ≡ eqb i j) → (n : ℕ) (t : List Handle) (k : ℕ) → numberFrom n (map serialOf (map (by ρ .handle) t)) (ρ k) ≡ numberFrom n (map serialOf t) k
@@ -86,14 +87,14 @@ abbrev checkRow : Bench → ℕ → ℕ × (ℕ × ℕ) → page.Read
 checkRow b u r = (r .0, some (r .1 .0), paid (hidden (r .0) b u) (interface b u .speed), paid (hidden (r .0) b u) (interface b u .sum))
 
 module _ (k : Side) (q : Page) (N : Kin k q) where
-  check-is : (u : ℕ) → page.readOf q (K u) ≡ checkRow (k .bench) u (read (k .bench) (checkRead (k .bench) u))
+  check-is : (u : ℕ) → page.readOf q (some (K u)) ≡ checkRow (k .bench) u (read (k .bench) (checkRead (k .bench) u))
   unfolding page.readOf says spelled checks
-  check-is u = ap (λ (x : Four). (x .0, some (x .1), x .2, x .3)) ((λ i. says (N .bench i) (K u) .numbers) ∙ shown-is (r .0) (r .1 .0) (k .bench) u)
+  check-is u = ap (λ (x : Four). (x .0, some (x .1), x .2, x .3)) ((λ i. says (N .bench i) (some (K u)) .numbers) ∙ shown-is (r .0) (r .1 .0) (k .bench) u)
     where
       r : ℕ × (ℕ × ℕ)
       r = read (k .bench) (checkRead (k .bench) u)
 
-  check-kin : (u : ℕ) → Kin k (page.after q (K u))
+  check-kin : (u : ℕ) → Kin k (page.after q (some (K u)))
   unfolding page.after says spelled checks
   check-kin u = record { bench = N .bench; serials = append-nil (q .serials) ∙ N .serials; firm = N .firm; old = N .old }
 
@@ -120,7 +121,7 @@ module _ (p : Patch) (ρ : ℕ → ℕ) (k₀ k : Side) (L : Link p ρ k₀ k) (
         ∙ ap (λ (n : ℕ). readRow (map serialOf (after k₀ c .table)) n (answerTo k₀ c .node .serial) (answerTo k₀ c .bench) u) (T .number) ∙ sym (read-is k₀ q₀ N₀ (L .sound₀) Y)
 
   -- that checks, or is wrong: the page does not change
-  check-read : (u : ℕ) → mine p u ≡ true → page.readOf q (K u) ≡ page.readOf q₀ (K u)
+  check-read : (u : ℕ) → mine p u ≡ true → page.readOf q (some (K u)) ≡ page.readOf q₀ (some (K u))
   check-read u m = check-is k q N₁ u ∙ (λ i. (n, some (r .1 .0), speed-was p ρ k₀ k L u m n i, sum-was p ρ k₀ k L u m n i)) ∙ ap (checkRow (k₀ .bench) u) (check-was p ρ k₀ k L u m) ∙ sym (check-is k₀ q₀ N₀ u)
     where
       r : ℕ × (ℕ × ℕ)
@@ -155,15 +156,15 @@ module _ (a p : Patch) (apart : Apart a p) where
     by-nothing l e M₀ M₁ x = ap₂ _∷_ e (rest ρ k₀ k L (page.after q₀ l) (page.after q l) M₀ M₁ fit (x .1))
 
     by-line : (l : Line) → Each p (unitsIn l) → Unworn (reads q (ours l ∷ xs)) → reads q (ours l ∷ xs) ≡ reads q₀ (own (ours l ∷ xs))
-    by-line (D u v) w x = by-call (d-says u v) (here refl) w x
-    by-line (B u ks) w x = by-call (b-says u ks) (here refl) w x
-    by-line (E u i) w x = by-call (e-says u i) (here refl) w x
-    by-line (S u i t) w x = by-call (s-says u i t) (here refl) w x
-    by-line (G u l) w x = by-call (g-says u l) (here refl) w x
-    by-line (F u l r) w x = by-call (f-says u l r) (here refl) w x
-    by-line (C u) w x = by-call (c-says u) (here refl) w x
-    by-line (K u) w x = by-nothing (K u) (check-read p ρ k₀ k L q₀ q N₀ N₁ u (w u (here refl))) (check-kin k₀ q₀ N₀ u) (check-kin k q N₁ u) x
-    by-line wrong w x = by-nothing wrong (wrong-read p ρ k₀ k L q₀ q N₀ N₁) (wrong-kin k₀ q₀ N₀) (wrong-kin k q N₁) x
+    by-line (some (D u v)) w x = by-call (d-says u v) (here refl) w x
+    by-line (some (B u ks)) w x = by-call (b-says u ks) (here refl) w x
+    by-line (some (E u i)) w x = by-call (e-says u i) (here refl) w x
+    by-line (some (S u i t)) w x = by-call (s-says u i t) (here refl) w x
+    by-line (some (G u l)) w x = by-call (g-says u l) (here refl) w x
+    by-line (some (F u l r)) w x = by-call (f-says u l r) (here refl) w x
+    by-line (some (C u)) w x = by-call (c-says u) (here refl) w x
+    by-line (some (K u)) w x = by-nothing (some (K u)) (check-read p ρ k₀ k L q₀ q N₀ N₁ u (w u (here refl))) (check-kin k₀ q₀ N₀ u) (check-kin k q N₁ u) x
+    by-line none w x = by-nothing wrong (wrong-read p ρ k₀ k L q₀ q N₀ N₁) (wrong-kin k₀ q₀ N₀) (wrong-kin k q N₁) x
 
     by-other : (l : Line) → Each a (unitsIn l) → Unworn (reads q (theirs l ∷ xs)) → reads q (theirs l ∷ xs) ≡ reads q₀ (own (theirs l ∷ xs))
     unfolding reads own

@@ -3,13 +3,13 @@
 use Prim.Native.Nat.{ℕ, zero, suc}
 use mathlib.Core.Path.{_≡_, refl, sym, _∙_, ap, ap₂, subst}
 use mathlib.Core.Logic.{_≢_, _⊎_, inl, inr}
-use mathlib.Core.Bool.{Bool, true, false, _&&_, _||_, not}
+use mathlib.Core.Bool.{Bool, true, false, _||_, not}
 use mathlib.Core.Option.{Option, none, some}
 use mathlib.Core.List.{List, [], _∷_, _++_, map}
 use native.Mathlib.Omega.{arith}
 use native.Mathlib.Decide.{ℕ-discrete}
-use lib.Dec.{eqb, ltb}
-use lib.ListN.{length, getD, List·getD-map}
+use lib.Dec.{ltb}
+use lib.ListN.{length, List·getD-map}
 use Rattle.ledger_spec.specs.Bench.{Handle, State, Node, Bench}
 use Rattle.ledger_spec.specs.Look.{slotOf, nodeNamed}
 use Rattle.ledger_spec.specs.Tests.{first, any, isSome, empty, outside, child, stale, foreign, isDefect, hasParent, twice, full, worn, both}
@@ -26,7 +26,7 @@ use Rattle.ledger_spec.proofs.Holds.{holds}
 use Rattle.ledger_laws.proofs.Answered.{testsOf, answer-number, refused}
 use Rattle.bench_serials.proofs.Seeking.{named-none, named-one}
 use Rattle.patch_laws.specs.Patch.{Table, nowhere, given}
-use Rattle.patch_texts.specs.Page.{Serials, serialAt}
+use Rattle.patch_texts.specs.Page.{serialAt}
 use Rattle.patch_texts.proofs.Firm.{at, Firm}
 
 -- one handle, or two that name no node

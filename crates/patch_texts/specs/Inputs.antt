@@ -2,13 +2,14 @@
 use Prim.Native.Nat.{ℕ, _<_, _^_}
 use mathlib.Core.Path.{_≡_}
 use mathlib.Core.Logic.{_≢_}
-use mathlib.Core.Option.{none}
+use mathlib.Core.Option.{none, some}
 use mathlib.Core.List.{List, [], _∷_, map}
 use lib.IntN.{ℤ}
 use Rattle.ledger_spec.specs.Numbers.{WORN}
 use Rattle.ledger_spec.specs.Bench.{setUp}
 use Rattle.ledger_spec.specs.Fields.{upto, cut}
-use Rattle.ledger_spec.specs.Grammar.{Line, D, B, E, S, G, F, C, K, wrong}
+use Rattle.ledger_spec.specs.Operations.{D, B, E, S, G, F, C, K}
+use Rattle.ledger_spec.specs.Grammar.{Line}
 use Rattle.ledger_spec.specs.Opening.{chosen}
 use Rattle.ledger_spec.specs.Program.{linesOf, answers, openAnswers}
 use Rattle.patch_laws.specs.Patch.{Patch, Apart, Within}
@@ -16,15 +17,15 @@ use Rattle.patch_texts.specs.Page.{Read, Step, theirs, ours, reads, line
 
 -- the interfaces that a line names
 abbrev pub unitsIn : Line → List ℕ
-unitsIn (D u v) = u ∷ []
-unitsIn (B u ks) = u ∷ []
-unitsIn (E u k) = u ∷ []
-unitsIn (S u k s) = u ∷ []
-unitsIn (G u l) = u ∷ []
-unitsIn (F p l r) = p ∷ l ∷ r ∷ []
-unitsIn (C u) = u ∷ []
-unitsIn (K u) = u ∷ []
-unitsIn wrong = []
+unitsIn (some (D u v)) = u ∷ []
+unitsIn (some (B u ks)) = u ∷ []
+unitsIn (some (E u k)) = u ∷ []
+unitsIn (some (S u k s)) = u ∷ []
+unitsIn (some (G u l)) = u ∷ []
+unitsIn (some (F p l r)) = p ∷ l ∷ r ∷ []
+unitsIn (some (C u)) = u ∷ []
+unitsIn (some (K u)) = u ∷ []
+unitsIn none = []
 
 -- a line names interfaces of its own patch only; the other's serials may be any
 abbrev pub Fits : Patch → Patch → Step → Type 0

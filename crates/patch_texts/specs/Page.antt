@@ -9,7 +9,8 @@ use lib.ListN.{getD}
 use lib.IntN.{ℤ}
 use Rattle.ledger_spec.specs.Bench.{Bench}
 use Rattle.ledger_spec.specs.Calls.{setUpCall}
-use Rattle.ledger_spec.specs.Grammar.{Line, D, B, E, S, G, F, C, K, wrong}
+use Rattle.ledger_spec.specs.Operations.{D, B, E, S, G, F, C, K}
+use Rattle.ledger_spec.specs.Grammar.{Line}
 use Rattle.ledger_spec.specs.Lines.{LineAnswer, says}
 
 -- the serials that the patch's lines were answered as made, in order; 0 is no node's serial
@@ -21,29 +22,29 @@ serialAt t k = getD t k 0
 
 -- a line with serials in place of numbers
 unfoldable pub spelled : Serials → Line → Line
-spelled t (D u v) = D u v
-spelled t (B u ks) = B u (map (serialAt t) ks)
-spelled t (E u k) = E u (serialAt t k)
-spelled t (S u k s) = S u (serialAt t k) s
-spelled t (G u l) = G u l
-spelled t (F p l r) = F p l r
-spelled t (C u) = C u
-spelled t (K u) = K u
-spelled t wrong = wrong
+spelled t (some (D u v)) = some (D u v)
+spelled t (some (B u ks)) = some (B u (map (serialAt t) ks))
+spelled t (some (E u k)) = some (E u (serialAt t k))
+spelled t (some (S u k s)) = some (S u (serialAt t k) s)
+spelled t (some (G u l)) = some (G u l)
+spelled t (some (F p l r)) = some (F p l r)
+spelled t (some (C u)) = some (C u)
+spelled t (some (K u)) = some (K u)
+spelled t none = none
 
 -- an accepted creating line hands out a serial
 abbrev pub handed : Line → ℕ → ℕ → Serials
-handed (D u v) zero k = k ∷ []
-handed (D u v) (suc n) k = []
-handed (B u ks) zero k = k ∷ []
-handed (B u ks) (suc n) k = []
-handed (E u i) n k = []
-handed (S u i s) n k = []
-handed (G u l) n k = []
-handed (F p l r) n k = []
-handed (C u) n k = []
-handed (K u) n k = []
-handed wrong n k = []
+handed (some (D u v)) zero k = k ∷ []
+handed (some (D u v)) (suc n) k = []
+handed (some (B u ks)) zero k = k ∷ []
+handed (some (B u ks)) (suc n) k = []
+handed (some (E u i)) n k = []
+handed (some (S u i s)) n k = []
+handed (some (G u l)) n k = []
+handed (some (F p l r)) n k = []
+handed (some (C u)) n k = []
+handed (some (K u)) n k = []
+handed none n k = []
 
 -- and back: the number of a serial, none where the patch was not handed it
 unfoldable pub numberFrom : ℕ → Serials → ℕ → Option ℕ
@@ -52,15 +53,15 @@ numberFrom n (x ∷ t) k = elim (eqb x k) [ true ↦ some n | false ↦ numberFr
 
 -- the second field as the patch reads it: a verdict as it is, a serial by its number
 abbrev pub field : Serials → Line → ℕ → Option ℕ
-field t (D u v) k = numberFrom 0 t k
-field t (B u ks) k = numberFrom 0 t k
-field t (E u i) k = numberFrom 0 t k
-field t (S u i s) k = numberFrom 0 t k
-field t (G u l) k = numberFrom 0 t k
-field t (F p l r) k = numberFrom 0 t k
-field t (C u) k = numberFrom 0 t k
-field t (K u) k = some k
-field t wrong k = numberFrom 0 t k
+field t (some (D u v)) k = numberFrom 0 t k
+field t (some (B u ks)) k = numberFrom 0 t k
+field t (some (E u i)) k = numberFrom 0 t k
+field t (some (S u i s)) k = numberFrom 0 t k
+field t (some (G u l)) k = numberFrom 0 t k
+field t (some (F p l r)) k = numberFrom 0 t k
+field t (some (C u)) k = numberFrom 0 t k
+field t (some (K u)) k = some k
+field t none k = numberFrom 0 t k
 
 -- ---- a line by line account: the bench, and the serials that the patch was handed
 pub record Page : Type 0 where

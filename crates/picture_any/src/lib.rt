@@ -14,10 +14,8 @@ pub fn snapshot(b: &[u64; WORDS], unit: u8, short: bool, out: &mut [u8]) -> Coun
     ensures { λ r. ⌜ shownVertices r (now (out .exit)) ≡ readWords (now (b .entry)) (pictureRead (view (now (b .entry))) unit short (now (out .entry))) ⌝ }
 {
     if !sound_lent::is_bench(b) {
-        return Counted {
-            number: numbers::BROKEN,
-            count: 0,
-        };
+        let number = numbers::BROKEN;
+        return Counted { number, count: 0 };
     }
     picture_sound::snapshot(b, unit, short, out)
 }

@@ -1,9 +1,8 @@
 -- Along a circle: what is left of its list comes after what is put. Assumes nothing.
 use Prim.Native.Nat.{ℕ, _-_, _<_}
-use mathlib.Core.Path.{_≡_, refl, ap, sym, _∙_, subst}
+use mathlib.Core.Path.{_≡_, refl, ap, sym, subst}
 use mathlib.Core.Bool.{Bool}
 use mathlib.Core.List.{List, [], _∷_, _++_, map}
-use native.Mathlib.Omega.{arith}
 use Rattle.bench_words.specs.Store.{nodeAt}
 use Rattle.bench_words.specs.declared.Node.{Node}
 use Rattle.kinds.specs.declared.Class.the-variants.{Blossom}
@@ -14,10 +13,10 @@ use Rattle.bench_views.specs.Fit.{Fit}
 use Rattle.bench_views.proofs.Slots.{follow-more, follow-none}
 use Rattle.bench_vertices.specs.Under.{Placed}
 use Rattle.bench_vertices.proofs.Circling.{member-placed}
-use Rattle.picture_spec.specs.Sketch.{Linked, linked, indexOf}
+use Rattle.picture_spec.specs.Sketch.{linked, indexOf}
 use Rattle.picture_spec.specs.Text.{comma, items, array}
 use Rattle.picture_pieces.specs.Drawn.{Drawn}
-use Rattle.picture_pieces.proofs.Drawing.{chain, Making, making, relabel, items-on, items-end, ends, same-text}
+use Rattle.picture_pieces.proofs.Drawing.{chain, Making, making, relabel, items-on, items-end, ends}
 use Rattle.picture_circles.specs.Member.{memberText}
 
 abbrev close : List ℕ

@@ -1,6 +1,6 @@
 -- A member's item is what its words hold: its own index, or those of its two handles. Assumes nothing.
 use Prim.Native.Nat.{ℕ, _+_, _*_, _/_, _%_, _<_}
-use mathlib.Core.Path.{_≡_, refl, ap, ap₂, sym, _∙_, subst}
+use mathlib.Core.Path.{_≡_, ap, ap₂, sym, _∙_, subst}
 use mathlib.Core.Bool.{Bool, true, false}
 use mathlib.Core.List.{List, [], _∷_, _++_}
 use native.Mathlib.Omega.{arith}
@@ -8,7 +8,6 @@ use lib.ListN.{getD}
 use Rattle.bench_words.specs.Store.{nodeAt}
 use Rattle.bench_words.specs.declared.Node.{Node}
 use Rattle.kinds.specs.declared.Handle.{Handle as Code}
-use Rattle.ledger_spec.specs.Bench.{Handle}
 use Rattle.ledger_spec.specs.Named.{handleNamed}
 use Rattle.ledger_spec.specs.Decimals.{decimal}
 use Rattle.bench_views.specs.View.{view, handleAt, memberAt}

@@ -6,10 +6,9 @@ use mathlib.Core.Path.{_≡_, refl, sym, _∙_, ap, ap₂}
 use mathlib.Core.Bool.{Bool}
 use mathlib.Core.Option.{Option, none, some}
 use mathlib.Core.List.{List, [], _∷_, _++_, append-assoc, map}
-use lib.IntN.{ℤ}
 use Rattle.ledger_spec.specs.Bench.{State, grows, stays, shrinks, Bench}
 use Rattle.ledger_spec.specs.Bytes.{bytes}
-use Rattle.ledger_spec.specs.Decimals.{decimal, signed}
+use Rattle.ledger_spec.specs.Decimals.{decimal}
 use Rattle.picture_spec.specs.Sketch.{Linked, Shape, vertex, circle, Seen, Sketch, sketchOf}
 use Rattle.picture_spec.specs.Text.{Names, namesBy, quoted, key, array, pairText, indexText, circleText, touchText, vertexText, stateText, growthText, parentText, nodeText, slotText, textOf}
 use Rattle.picture_spec.specs.Picture.{picture}

@@ -26,7 +26,7 @@ use Rattle.bench_views.proofs.Views.{view-slot}
 use Rattle.bench_views.proofs.Slots.{slot-absent, slot-defect, slot-ring}
 use Rattle.bench_orders.specs.Order.{AtIndex}
 use Rattle.bench_vertices.specs.Under.{Placed}
-use Rattle.picture_spec.specs.Sketch.{vertex, circle, Seen, linked, shapeOf, indexed, seenOf, indexOf, slotSeenBy}
+use Rattle.picture_spec.specs.Sketch.{vertex, circle, linked, shapeOf, indexed, seenOf, indexOf, slotSeenBy}
 use Rattle.picture_spec.specs.Text.{parentText}
 use Rattle.picture_nodes.specs.Rest.{Lowly}
 

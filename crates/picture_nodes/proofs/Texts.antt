@@ -7,7 +7,7 @@ use mathlib.Core.List.{List, [], _∷_, _++_, append-assoc}
 use Rattle.ledger_spec.specs.Bench.{State}
 use Rattle.ledger_spec.specs.Bytes.{bytes}
 use Rattle.ledger_spec.specs.Decimals.{decimal}
-use Rattle.picture_spec.specs.Sketch.{Linked, vertex, circle, Seen}
+use Rattle.picture_spec.specs.Sketch.{Linked, vertex, circle}
 use Rattle.picture_spec.specs.Text.{short, full, namesBy, quoted, key, array, circleText, touchText, vertexText, stateText, growthText, parentText, nodeText, slotText}
 use Rattle.picture_pieces.specs.Drawn.{either}
 use Rattle.picture_circles.specs.Member.{memberText}

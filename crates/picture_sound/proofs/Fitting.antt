@@ -1,6 +1,6 @@
 -- What was measured says whether the text fits, since every slice is shorter than the largest place. Assumes nothing.
 use Prim.Native.Nat.{ℕ, _+_, _<_, _≤_}
-use mathlib.Core.Path.{_≡_, ap, ap₂, sym, _∙_}
+use mathlib.Core.Path.{_≡_, ap, ap₂, _∙_}
 use mathlib.Core.Logic.{by-cases}
 use mathlib.Core.List.{List, _++_}
 use native.Mathlib.Decide.{decLt}

@@ -1,6 +1,6 @@
 -- The links that the read of the outermost blossom answers, on any words: the length of the one parent chain, at most the present blossoms of the tree. On
 -- a sound bench the walk is the chain (ledger_spec, Chains); refused, the read follows none. Assumes nothing.
-use Prim.Native.Nat.{ℕ, suc, _≤_}
+use Prim.Native.Nat.{ℕ, _≤_}
 use mathlib.Core.Path.{_≡_, refl, sym, ap, _∙_, subst}
 use mathlib.Core.Bool.{Bool, true, false}
 use mathlib.Core.Option.{Option, none, some}

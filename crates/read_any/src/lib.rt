@@ -15,6 +15,8 @@ use read_sound::Represented;
 use read_sound::Second;
 use read_sound::Weighed;
 ghost use mathlib.Core.Path.{_≡_};
+ghost use mathlib.Core.Bool.{false};
+ghost use lib.IntN.{pos};
 ghost use Rattle.ledger_spec.specs.Named.{handleNamed};
 ghost use Rattle.bench_views.specs.View.{view};
 ghost use Rattle.read_sound.specs.Shown.{shownWeight, shownCount, shownBelongs, shownNode, shownAncestor, shownSecond, shownVertex, shownVertices};
@@ -22,14 +24,39 @@ ghost use Rattle.read_marks.specs.Shown.{shownMark};
 ghost use Rattle.sound_lent.specs.Verdict.{readWords};
 ghost use Rattle.ledger_spec.specs.Answers.{sumRead, speedRead, countRead, fillsRead, flooredRead, indexRead, belongsRead, valueRead, outerRead, belowRead, firstRead, verticesRead};
 
+// BROKEN, without a value.
+fn no_weight() -> Weighed
+    ensures { λ r. ⌜ shownWeight r ≡ (2, pos 0) ⌝ }
+{
+    Weighed {
+        number: numbers::BROKEN,
+        weight: 0,
+    }
+}
+
+fn no_count() -> Counted
+    ensures { λ r. ⌜ shownCount r ≡ (2, 0) ⌝ }
+{
+    Counted {
+        number: numbers::BROKEN,
+        count: 0,
+    }
+}
+
+fn no_mark() -> Marked
+    ensures { λ r. ⌜ shownMark r ≡ (2, false) ⌝ }
+{
+    Marked {
+        number: numbers::BROKEN,
+        marked: false,
+    }
+}
+
 pub fn sum_dual_variables(b: &[u64; WORDS], unit: u8) -> Weighed
     ensures { λ r. ⌜ shownWeight r ≡ readWords (now (b .entry)) (sumRead (view (now (b .entry))) unit) ⌝ }
 {
     if !sound_lent::is_bench(b) {
-        return Weighed {
-            number: numbers::BROKEN,
-            weight: 0,
-        };
+        return no_weight();
     }
     read_sound::sum_dual_variables(b, unit)
 }
@@ -38,10 +65,7 @@ pub fn sum_grow_speed(b: &[u64; WORDS], unit: u8) -> Weighed
     ensures { λ r. ⌜ shownWeight r ≡ readWords (now (b .entry)) (speedRead (view (now (b .entry))) unit) ⌝ }
 {
     if !sound_lent::is_bench(b) {
-        return Weighed {
-            number: numbers::BROKEN,
-            weight: 0,
-        };
+        return no_weight();
     }
     read_sound::sum_grow_speed(b, unit)
 }
@@ -51,10 +75,7 @@ pub fn nodes_count(b: &[u64; WORDS], unit: u8) -> Counted
     ensures { λ r. ⌜ shownCount r ≡ readWords (now (b .entry)) (countRead (view (now (b .entry))) unit) ⌝ }
 {
     if !sound_lent::is_bench(b) {
-        return Counted {
-            number: numbers::BROKEN,
-            count: 0,
-        };
+        return no_count();
     }
     read_sound::nodes_count(b, unit)
 }
@@ -64,10 +85,7 @@ pub fn is_filling(b: &[u64; WORDS], unit: u8) -> Marked
     ensures { λ r. ⌜ shownMark r ≡ readWords (now (b .entry)) (fillsRead (view (now (b .entry))) unit) ⌝ }
 {
     if !sound_lent::is_bench(b) {
-        return Marked {
-            number: numbers::BROKEN,
-            marked: false,
-        };
+        return no_mark();
     }
     read_marks::is_filling(b, unit)
 }
@@ -77,10 +95,7 @@ pub fn is_floored(b: &[u64; WORDS], unit: u8) -> Marked
     ensures { λ r. ⌜ shownMark r ≡ readWords (now (b .entry)) (flooredRead (view (now (b .entry))) unit) ⌝ }
 {
     if !sound_lent::is_bench(b) {
-        return Marked {
-            number: numbers::BROKEN,
-            marked: false,
-        };
+        return no_mark();
     }
     read_marks::is_floored(b, unit)
 }
@@ -115,10 +130,7 @@ pub fn get_dual_variable(b: &[u64; WORDS], h: Handle) -> Weighed
     ensures { λ r. ⌜ shownWeight r ≡ readWords (now (b .entry)) (valueRead (view (now (b .entry))) (handleNamed h)) ⌝ }
 {
     if !sound_lent::is_bench(b) {
-        return Weighed {
-            number: numbers::BROKEN,
-            weight: 0,
-        };
+        return no_weight();
     }
     read_sound::get_dual_variable(b, h)
 }
@@ -169,10 +181,7 @@ pub fn get_all_vertices(b: &[u64; WORDS], h: Handle, out: &mut [u32]) -> Counted
     ensures { λ r. ⌜ shownVertices r (now (out .exit)) ≡ readWords (now (b .entry)) (verticesRead (view (now (b .entry))) (handleNamed h) (now (out .entry))) ⌝ }
 {
     if !sound_lent::is_bench(b) {
-        return Counted {
-            number: numbers::BROKEN,
-            count: 0,
-        };
+        return no_count();
     }
     read_sound::get_all_vertices(b, h, out)
 }

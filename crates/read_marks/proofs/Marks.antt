@@ -1,9 +1,10 @@
 -- A refused read of a mark has its number and no; an accepted one the interface's own. Assumes nothing.
 use Prim.Native.Nat.{ℕ, _<_}
 use mathlib.Core.Path.{_≡_, ap, sym, _∙_}
-use mathlib.Core.Bool.{false}
+use mathlib.Core.Bool.{Bool, true, false}
 use mathlib.Core.List.{List}
 use lib.ListN.{getD}
+use Rattle.bench_words.specs.Codec.{pick}
 use Rattle.bench_words.specs.Store.{nodeAt, interfaceAt}
 use Rattle.bench_words.specs.declared.Interface.{Interface}
 use Rattle.ledger_spec.specs.Bench as plain
@@ -17,13 +18,17 @@ use Rattle.bench_views.proofs.Views.{interface-in}
 use Rattle.read_sound.proofs.Saying.{refused, accepted}
 
 module _ (b : List ℕ) (u n : ℕ) (e : n ≡ first (unitTests (view b) u)) where
-  pub fills-no : (n ≡ 0 → ⊥) → (n, false) ≡ fillsOf (view b) u
+  fills-no : (n ≡ 0 → ⊥) → (n, false) ≡ fillsOf (view b) u
   unfolding fillsOf
   fills-no q = refused (interface (view b) u .marks .fills) false n (first (unitTests (view b) u)) e q
 
-  pub floored-no : (n ≡ 0 → ⊥) → (n, false) ≡ flooredOf (view b) u
+  floored-no : (n ≡ 0 → ⊥) → (n, false) ≡ flooredOf (view b) u
   unfolding flooredOf
   floored-no q = refused (floored (view b) u) false n (first (unitTests (view b) u)) e q
+
+  pub mark-no : (n ≡ 0 → ⊥) → (floor : Bool) → (n, false) ≡ pick floor (flooredOf (view b) u) (fillsOf (view b) u)
+  mark-no q true = floored-no q
+  mark-no q false = fills-no q
 
   module _ (q : n ≡ 0) where
     pub low : u < 8

@@ -1,6 +1,6 @@
 -- The slots that a map marks are those that the ledger sees: of one interface, how many and which is the first from one on. Assumes nothing.
 use Prim.Native.Nat.{ℕ, zero, suc, _+_, _-_, _*_, _<_, _≤_}
-use mathlib.Core.Path.{_≡_, refl, ap, sym, _∙_, subst}
+use mathlib.Core.Path.{_≡_, ap, sym, _∙_, subst}
 use mathlib.Core.Logic.{by-cases}
 use mathlib.Core.Bool.{Bool, true, false, true≢false}
 use mathlib.Core.Option.{Option, none, some}
@@ -17,7 +17,7 @@ use Rattle.kinds.specs.declared.Class.the-variants.{Absent}
 use Rattle.bench_words.specs.Store.{nodeAt, interfaceAt, mapAt}
 use Rattle.bench_words.specs.declared.Node.{Node}
 use Rattle.ledger_spec.specs.Bench as plain
-use Rattle.ledger_spec.specs.Look.{interface, slotOf}
+use Rattle.ledger_spec.specs.Look.{interface}
 use Rattle.ledger_spec.specs.Tests.{isSome}
 use Rattle.ledger_spec.specs.Reads.{slotsFrom}
 use Rattle.bench_views.specs.View.{view, slotSeen, sumUp, circleOf}

@@ -27,7 +27,7 @@ use Rattle.read_sound.proofs.Numbers.{first-no, first-none}
 use Rattle.read_sound.proofs.Saying.{accepted, refused}
 use Rattle.read_present.specs.Present.{presentIn, nextFrom}
 use Rattle.read_present.specs.Shown.{handIn, walkOf}
-use Rattle.read_present.proofs.Presence.{slots-present, none-here, Met, met}
+use Rattle.read_present.proofs.Presence.{slots-present, none-here, met}
 
 -- ---- what holds at each turn
 pub record Summing (b : List ℕ) (unit i n : ℕ) : Type 0 where

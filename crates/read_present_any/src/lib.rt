@@ -18,10 +18,8 @@ pub fn present_count(b: &[u64; WORDS], unit: u8) -> Counted
     ensures { λ r. ⌜ shownCount r ≡ readWords (now (b .entry)) (presentRead (view (now (b .entry))) unit) ⌝ }
 {
     if !sound_lent::is_bench(b) {
-        return Counted {
-            number: numbers::BROKEN,
-            count: 0,
-        };
+        let number = numbers::BROKEN;
+        return Counted { number, count: 0 };
     }
     read_present::present_count(b, unit)
 }

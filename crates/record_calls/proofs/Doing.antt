@@ -5,13 +5,13 @@ use native.Mathlib.Decide.{decLt}
 use mathlib.Core.Path.{_≡_, refl, sym, _∙_, ap, subst}
 use mathlib.Core.Logic.{by-cases}
 use mathlib.Core.Option.{Option, some}
-use mathlib.Core.List.{List, [], _∷_, _++_, map}
+use mathlib.Core.List.{List, [], map}
 use lib.ListN.{length, take, drop, getD, length-map}
 use lib.Seq.{sets, length-take-le, getD-take, getD-drop}
 use Rattle.kinds.specs.declared.Handle.{Handle}
-use Rattle.ledger_spec.specs.Bench as plain
 use Rattle.ledger_spec.specs.Bench.{Bench}
-use Rattle.ledger_spec.specs.Calls.{Call, Blossom, perform}
+use Rattle.ledger_spec.specs.Calls.{Blossom, perform}
+use Rattle.ledger_spec.specs.Operations.{D, B, E, S, G, F, C, K}
 use Rattle.ledger_spec.specs.Grammar.{Line as Said}
 use Rattle.ledger_spec.specs.Lines.{LineAnswer, shown, says}
 use Rattle.bench_views.specs.View.{view}
@@ -20,17 +20,16 @@ use Rattle.bench_views.specs.Given.{handGiven}
 use Rattle.outcomes.specs.Answered.{Answered}
 use Rattle.deed_circles.specs.Given.{handsGiven, pairsGiven}
 use Rattle.text_lines.specs.declared.Line.{Line}
-use Rattle.text_lines.specs.Shown.{serialsIn, lineShown, ReadAs}
+use Rattle.text_lines.specs.Shown.{serialsIn, ReadAs}
 use Rattle.text_lines.specs.Texts.{letterOf}
 use Rattle.text_members.specs.Names.{AllNamed}
 use Rattle.text_members.proofs.Circles.{Alike, alike}
 use Rattle.text_numbers.specs.declared.Reply.{Reply}
 use Rattle.text_numbers.specs.Numbers.{numbersOf}
 use Rattle.text_calls.specs.Turned.{Gave, Turned, Few}
-use Rattle.text_calls.proofs.Members.{few-low}
 use Rattle.text_calls.proofs.Turning.{gave}
 use Rattle.record_spec.specs.Numbers.{Bytes}
-use Rattle.record_spec.specs.Operations.{Member, Operation, D, B, E, S, G, F, C, K, serialOf, lineSaid}
+use Rattle.record_spec.specs.Operations.{Member, Op, serialOf, lineSaid}
 use Rattle.record_spec.specs.Records.{bytesOf}
 use Rattle.record_spec.specs.Reader.{recordIn}
 use Rattle.record_spec.specs.Places.{at}
@@ -41,12 +40,12 @@ use Rattle.record_reads.specs.Reads.{Recorded, lineFound}
 use Rattle.record_reads.proofs.Reading.{op-B}
 use Rattle.record_says.specs.Says.{memberNamed, pairNamed, saysOp}
 use Rattle.record_calls.specs.Done.{DoneAt, touches, Laid}
-use Rattle.record_calls.proofs.Circles.{same-given, many-given, touches-many}
+use Rattle.record_calls.proofs.Circles.{same-given, many-given}
 
 -- ---- an answer, of the record that stands there
 
 pub done-at : (b s : List ℕ) (p : ℕ) (R : Recorded s p) (r : Reply) (b′ : List ℕ) → Gave (saysOp (view b) (R .op)) r b′ → DoneAt b (recordIn (drop p s)) r b′
-done-at b s p R r b′ g = subst (λ (o : Option (Operation × List ℕ)). DoneAt b o r b′) (sym (R .read)) g
+done-at b s p R r b′ g = subst (λ (o : Option (Op × List ℕ)). DoneAt b o r b′) (sym (R .read)) g
 
 -- ---- a blossom
 
@@ -97,7 +96,7 @@ done-blossom b W s p R e count n c few m₀ t₀ m₁ t₁ m₂ t₂ room wide l
     let four : p + 2 + 2 ≡ p + 4 = omega arith in
     let o : R .op ≡ B u (membersAt count s (p + 4)) = op-B s p R e ∙ (λ i. B u (membersAt (sym c i) s (four i))) in
     let ms = membersAt count s (p + 4) in
-    done-at b s p R r b′ (subst (λ (x : Operation). Gave (saysOp (view b) x) r b′) (sym o)
+    done-at b s p R r b′ (subst (λ (x : Op). Gave (saysOp (view b) x) r b′) (sym o)
     (gave b W (saysOp (view b) (B u ms)) u (Blossom u (map (memberNamed (view b)) ms) (map (pairNamed (view b)) ms)) refl
     (Blossom u (handsGiven (take n m₂)) (pairsGiven (take (2 * n) t₂)))
     (same-call (view b) u s (p + 4) count n few m₀ t₀ m₁ t₁ m₂ t₂ room wide laid ns ts) k h b′ A r t))
@@ -110,11 +109,11 @@ blossom-letter s p u ms r h e =
     let zero : p ≡ p + 0 = omega arith in
     ap (λ (q : ℕ). getD s q 0) zero ∙ sym (getD-drop p s 0 0) ∙ ap (λ (l : List ℕ). getD l 0 0) (record-only (drop p s) (B u ms) r h e .are)
 
-record AsLine (b : Bench) (op : Operation) : Type 0 where
+record AsLine (b : Bench) (op : Op) : Type 0 where
   none-stored : serialsIn (lineSaid op) ≡ []
   same : saysOp b op ≡ says b (lineSaid op)
 
-as-line : (b : Bench) (s : List ℕ) (p : ℕ) → Bytes (drop p s) → (getD s p 0 ≡ 66 → ⊥) → (op : Operation) (r : List ℕ) → recordIn (drop p s) ≡ some (op, r) → AsLine b op
+as-line : (b : Bench) (s : List ℕ) (p : ℕ) → Bytes (drop p s) → (getD s p 0 ≡ 66 → ⊥) → (op : Op) (r : List ℕ) → recordIn (drop p s) ≡ some (op, r) → AsLine b op
 unfolding saysOp says
 as-line b s p h n (D u v) r e = record { none-stored = refl; same = refl }
 as-line b s p h n (B u ms) r e = absurd (n (blossom-letter s p u ms r h e))

@@ -7,11 +7,11 @@ use lib.ListN.{length, take}
 use Rattle.bench_views.specs.View.{view}
 use Rattle.text_numbers.specs.declared.Reply.{Reply}
 use Rattle.text_calls.specs.Turned.{Gave}
-use Rattle.record_spec.specs.Operations.{Member, Operation, serialOf}
+use Rattle.record_spec.specs.Operations.{Member, Op, serialOf}
 use Rattle.record_says.specs.Says.{saysOp}
 
 -- what the record that was read says
-abbrev pub DoneAt : List ℕ → Option (Operation × List ℕ) → Reply → List ℕ → Type 0
+abbrev pub DoneAt : List ℕ → Option (Op × List ℕ) → Reply → List ℕ → Type 0
 DoneAt b none r b′ = Unit {0}
 DoneAt b (some x) r b′ = Gave (saysOp (view b) (x .0)) r b′
 

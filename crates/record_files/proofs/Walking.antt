@@ -1,32 +1,31 @@
 -- The walk from record to record: what is scanned and what is left make the whole. Assumes nothing.
 use Prim.Native.Nat.{ℕ, zero, suc, _+_, _-_, _*_, _≤_, _<_}
 use native.Mathlib.Omega.{arith}
-use mathlib.Core.Path.{_≡_, refl, sym, _∙_, ap, subst}
-use mathlib.Core.Bool.{Bool, true, false, _&&_}
+use mathlib.Core.Path.{_≡_, refl, sym, _∙_, ap}
+use mathlib.Core.Bool.{Bool, true, _&&_}
 use mathlib.Core.Option.{Option, none, some}
 use mathlib.Core.List.{List, [], _∷_}
-use lib.ListN.{length, take, drop, getD, length-drop}
+use lib.ListN.{length, drop, length-drop}
 use lib.Seq.{drop-drop, drop-length}
-use borrow.Author.Tests.{eqb-true}
+use Rattle.ledger_spec.specs.Operations.{D, B, E, S, G, F, C, K}
 use Rattle.text_lines.specs.Texts.{letterOf}
 use Rattle.record_spec.specs.Numbers.{Bytes}
-use Rattle.record_spec.specs.Operations.{Operation, D, B, E, S, G, F, C, K, lineOfOp, self}
+use Rattle.record_spec.specs.Operations.{Op, lineOfOp, self}
 use Rattle.record_spec.specs.Records.{bytesOf}
 use Rattle.record_spec.specs.Reader.{recordIn}
 use Rattle.record_spec.specs.Files.{recordsIn}
 use Rattle.record_spec.specs.Places.{at, foursAt}
 use Rattle.record_spec.proofs.Records.{record-only}
-use Rattle.record_spec.proofs.Files.{onto}
 use Rattle.record_spec.proofs.Places.{record-ends, loop-step, loop-astray, loop-bad, loop-end, loop-more}
 use Rattle.record_measures.specs.declared.Measured.{Measured}
-use Rattle.record_measures.specs.Measures.{nothing, sizes, measuredOf}
+use Rattle.record_measures.specs.Measures.{sizes, measuredOf}
 use Rattle.record_files.specs.declared.Scanned.{Scanned}
 use Rattle.record_files.specs.Scans.{notFile, scannedOf}
-use Rattle.record_files.proofs.Adding.{same-scan, more, more-none, more-onto, more-end}
+use Rattle.record_files.proofs.Adding.{more, more-none, more-onto, more-end}
 
 -- ---- a record that was measured
 
-some-bytes : (op : Operation) → 0 < length (bytesOf op)
+some-bytes : (op : Op) → 0 < length (bytesOf op)
 unfolding bytesOf letterOf
 some-bytes (D u v) = omega arith
 some-bytes (B u ms) = omega arith
@@ -38,7 +37,7 @@ some-bytes (C u) = omega arith
 some-bytes (K u) = omega arith
 
 pub record Stands (t : List ℕ) (p : ℕ) (m : Measured) : Type 0 where
-  pub op : Operation
+  pub op : Op
   pub read : recordIn (drop p t) ≡ some (op, drop (p + length (bytesOf op)) t)
   pub fits : p + length (bytesOf op) ≤ length t
   pub short : length (lineOfOp op) ≤ 1023
@@ -48,7 +47,7 @@ module _ (t : List ℕ) (p : ℕ) (m : Measured) (is : m ≡ measuredOf (recordI
   pub stands : p ≤ length t → Bytes (drop p t) → (m .size ≡ 0 → ⊥) → Stands t p m
   stands l h n = go (recordIn (drop p t)) refl
     where
-      go : (o : Option (Operation × List ℕ)) → recordIn (drop p t) ≡ o → Stands t p m
+      go : (o : Option (Op × List ℕ)) → recordIn (drop p t) ≡ o → Stands t p m
       go none e = absurd (n (ap (λ (x : Measured). x .size) (is ∙ ap measuredOf e)))
       go (some r) e =
           let a = record-ends (drop p t) (r .0) (r .1) h e in
@@ -65,7 +64,7 @@ module _ (t : List ℕ) (p : ℕ) (m : Measured) (is : m ≡ measuredOf (recordI
   pub stands-not : m .size ≡ 0 → recordIn (drop p t) ≡ none
   stands-not z = go (recordIn (drop p t)) refl
     where
-      go : (o : Option (Operation × List ℕ)) → recordIn (drop p t) ≡ o → recordIn (drop p t) ≡ none
+      go : (o : Option (Op × List ℕ)) → recordIn (drop p t) ≡ o → recordIn (drop p t) ≡ none
       go none e = e
       go (some r) e = absurd (omega (arith, z, ap (λ (x : Measured). x .size) (is ∙ ap measuredOf e), some-bytes (r .0)))
 

@@ -5,7 +5,7 @@ use mathlib.Core.Option.{Option, none, some}
 use mathlib.Core.List.{List}
 use lib.Dec.{ltb}
 use lib.ListN.{length}
-use Rattle.record_spec.specs.Operations.{Operation}
+use Rattle.record_spec.specs.Operations.{Op}
 use Rattle.record_spec.specs.Reader.{pick}
 use Rattle.record_spec.specs.Files.{recordsOf, fitting}
 use Rattle.record_spec.specs.Places.{at}
@@ -16,7 +16,7 @@ use Rattle.record_files.specs.declared.Trailer.{Trailer}
 abbrev pub notFile : Scanned
 notFile = record { whole = false; count = 0; start = 0; text = 0; own = true }
 
-abbrev pub scannedOf : Option (List Operation) → Scanned
+abbrev pub scannedOf : Option (List Op) → Scanned
 scannedOf none = notFile
 scannedOf (some ops) = record { whole = true; count = length ops; start = length (recordsOf ops); text = length (textOf ops); own = allSelf ops }
 

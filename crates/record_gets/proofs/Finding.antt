@@ -11,7 +11,7 @@ use lib.Seq.{length-take-le, drop-append-le}
 use borrow.Author.Tests.{lt-ltb, ne-eqb}
 use Rattle.ledger_spec.specs.Numbers.{FILE, RANGE}
 use Rattle.record_spec.specs.Numbers.{Bytes}
-use Rattle.record_spec.specs.Operations.{Operation}
+use Rattle.record_spec.specs.Operations.{Op}
 use Rattle.record_spec.specs.Records.{bytesOf}
 use Rattle.record_spec.specs.Reader.{pick, recordIn}
 use Rattle.record_spec.specs.Places.{at}
@@ -50,7 +50,7 @@ begins-later (suc k) from h = refl
 -- ---- the record that the list gives
 
 -- what stands among the records stands in the file
-read-on : (s : List ℕ) (n p : ℕ) (op : Operation) (r : List ℕ) → Bytes s → n ≤ length s → p ≤ n → recordIn (drop p (take n s)) ≡ some (op, r) → recordIn (drop p s) ≡ some (op, r ++ drop n s)
+read-on : (s : List ℕ) (n p : ℕ) (op : Op) (r : List ℕ) → Bytes s → n ≤ length s → p ≤ n → recordIn (drop p (take n s)) ≡ some (op, r) → recordIn (drop p s) ≡ some (op, r ++ drop n s)
 read-on s n p op r h l m e =
     let x = record-only (drop p (take n s)) op r (drop-bytes p (take n s) (take-bytes n s h)) e in
     let a : drop p s ≡ bytesOf op ++ (r ++ drop n s) =
@@ -75,7 +75,7 @@ module _ (t : List ℕ) (from to : ℕ) where
   unfolding recordAt
   none-there e = rw e refl
 
-  pub ends-apart : (op : Operation) (r : List ℕ) → recordIn (drop from t) ≡ some (op, r) → (from + length (bytesOf op) ≡ to → ⊥) → recordAt t from to ≡ none
+  pub ends-apart : (op : Op) (r : List ℕ) → recordIn (drop from t) ≡ some (op, r) → (from + length (bytesOf op) ≡ to → ⊥) → recordAt t from to ≡ none
   unfolding recordAt
   ends-apart op r e n =
       then-back (recordIn (drop from t)) (λ o q. pick (eqb (from + length (bytesOf o)) to) (some o) none) op r e
@@ -83,7 +83,7 @@ module _ (t : List ℕ) (from to : ℕ) where
 
 -- a record that was measured
 pub record Measures (t : List ℕ) (p : ℕ) (m : Measured) : Type 0 where
-  pub op : Operation
+  pub op : Op
   pub after : List ℕ
   pub read : recordIn (drop p t) ≡ some (op, after)
   pub size : m .size ≡ length (bytesOf op)
@@ -92,7 +92,7 @@ pub record Measures (t : List ℕ) (p : ℕ) (m : Measured) : Type 0 where
 pub measures : (t : List ℕ) (p : ℕ) (m : Measured) → Bytes t → m ≡ measuredOf (recordIn (drop p t)) → (m .size ≡ 0 → ⊥) → Measures t p m
 measures t p m h is n = go (recordIn (drop p t)) refl
   where
-    go : (o : Option (Operation × List ℕ)) → recordIn (drop p t) ≡ o → Measures t p m
+    go : (o : Option (Op × List ℕ)) → recordIn (drop p t) ≡ o → Measures t p m
     go none e = absurd (n (ap (λ (x : Measured). x .size) (is ∙ ap measuredOf e)))
     go (some r) e =
         let z : m .size ≡ length (bytesOf (r .0)) = ap (λ (x : Measured). x .size) (is ∙ ap measuredOf e) in
@@ -112,7 +112,7 @@ module _ (s : List ℕ) (list count k : ℕ) (h : Bytes s) (room : list + 4 * co
   begun : (b : Bool) → begins k from ≡ b → begins k (at 4 s (list + 4 * k)) ≡ b
   begun b e = ap (begins k) (sym f) ∙ e
 
-  there : (o : Option Operation) → recordAt (take list s) from to ≡ o → recordAt (take list s) (at 4 s (list + 4 * k)) (endOf s list count k) ≡ o
+  there : (o : Option Op) → recordAt (take list s) from to ≡ o → recordAt (take list s) (at 4 s (list + 4 * k)) (endOf s list count k) ≡ o
   there o e = (λ i. recordAt (take list s) (sym f i) (sym t i)) ∙ e
 
   pub astray : begins k from ≡ false → Finds (listed s list count k) s (record { number = FILE; place = 0 })

@@ -8,7 +8,7 @@ use mathlib.Core.List.{List}
 use lib.ListN.{length}
 use Rattle.ledger_spec.specs.Numbers.{SMALL}
 use Rattle.record_spec.specs.Numbers.{Bytes}
-use Rattle.record_spec.specs.Operations.{Operation}
+use Rattle.record_spec.specs.Operations.{Op}
 use Rattle.record_spec.specs.Files.{fileOps}
 use Rattle.record_spec.specs.Moves.{Moved as Answer, refused}
 use Rattle.record_spec.proofs.Moves.{room, no-room}
@@ -19,7 +19,7 @@ use Rattle.record_gets.specs.Words.{wordsOf, wordsInto, getInto}
 use Rattle.record_gets.proofs.Whole.{kth-of-file}
 use Rattle.record_gets.proofs.Getting.{said}
 
-pub get-of-file : (s : List ℕ) (ops : List Operation) (k : ℕ) (out : List ℕ) → Bytes s → fileOps s ≡ some ops → getInto s k out ≡ wordsInto (kthIn ops k) out
+pub get-of-file : (s : List ℕ) (ops : List Op) (k : ℕ) (out : List ℕ) → Bytes s → fileOps s ≡ some ops → getInto s k out ≡ wordsInto (kthIn ops k) out
 get-of-file s ops k out h e = said s k out (kthIn ops k) (kth-of-file s ops k h e)
 
 pub refused-get : (s : List ℕ) (k : ℕ) (out o : List ℕ) (r : Moved) → MovedAs (getInto s k out) o r → (r .number ≡ 0 → ⊥) → (r .size ≡ 0) × (o ≡ out)
@@ -28,7 +28,7 @@ refused-get s k out o r is n = go (kthOf s k) refl
     left : (m : ℕ) → getInto s k out ≡ refused m out → (r .size ≡ 0) × (o ≡ out)
     left m e = (is .size ∙ ap (λ (x : Answer). x .size) e, is .output ∙ ap (λ (x : Answer). x .output) e)
 
-    fits : (op : Operation) → kthOf s k ≡ says op → Dec (length (wordsOf op) ≤ length out) → (r .size ≡ 0) × (o ≡ out)
+    fits : (op : Op) → kthOf s k ≡ says op → Dec (length (wordsOf op) ≤ length out) → (r .size ≡ 0) × (o ≡ out)
     fits op e (yes l) = absurd (n (is .number ∙ ap (λ (x : Answer). x .number) (said s k out (says op) e ∙ room (wordsOf op) out l)))
     fits op e (no l) = left SMALL (said s k out (says op) e ∙ no-room (wordsOf op) out (omega arith))
 

@@ -7,7 +7,7 @@ use mathlib.Core.List.{List, _++_}
 use lib.Dec.{eqb, ltb}
 use lib.ListN.{length, take, drop}
 use Rattle.record_spec.specs.Numbers.{Bytes}
-use Rattle.record_spec.specs.Operations.{Operation}
+use Rattle.record_spec.specs.Operations.{Op}
 use Rattle.record_spec.specs.Records.{bytesOf, Writable}
 use Rattle.record_spec.specs.Reader.{pick, recordIn}
 use Rattle.record_spec.specs.Files.{fitting}
@@ -23,23 +23,23 @@ abbrev isSaid : Asked → Bool
 isSaid (refusal n) = false
 isSaid (says op) = true
 
-abbrev saidOp : Asked → Operation → Operation
+abbrev saidOp : Asked → Op → Op
 saidOp (refusal n) d = d
 saidOp (says op) d = op
 
-other-way : (b : Bool) (n : ℕ) (a : Asked) (op : Operation) → pick b (refusal n) a ≡ says op → a ≡ says op
+other-way : (b : Bool) (n : ℕ) (a : Asked) (op : Op) → pick b (refusal n) a ≡ says op → a ≡ says op
 other-way true n a op e = absurd (true≢false (sym (ap isSaid e)))
 other-way false n a op e = e
 
-this-way : (b : Bool) (n : ℕ) (a : Asked) (op : Operation) → pick b a (refusal n) ≡ says op → a ≡ says op
+this-way : (b : Bool) (n : ℕ) (a : Asked) (op : Op) → pick b a (refusal n) ≡ says op → a ≡ says op
 this-way true n a op e = e
 this-way false n a op e = absurd (true≢false (sym (ap isSaid e)))
 
-was-some : (o : Option Operation) (op : Operation) → asked o ≡ says op → o ≡ some op
+was-some : (o : Option Op) (op : Op) → asked o ≡ says op → o ≡ some op
 was-some none op e = absurd (true≢false (sym (ap isSaid e)))
 was-some (some x) op e = ap (λ (a : Asked). some (saidOp a x)) e
 
-kept : (b : Bool) (o : Option Operation) (op : Operation) → pick b o none ≡ some op → o ≡ some op
+kept : (b : Bool) (o : Option Op) (op : Op) → pick b o none ≡ some op → o ≡ some op
 kept true o op e = e
 kept false o op e = absurd (Option·some-ne-none op (sym e))
 
@@ -49,12 +49,12 @@ kept false o op e = absurd (Option·some-ne-none op (sym e))
 abbrev pub listOf : List ℕ → ℕ
 listOf s = at 4 s (length s - 16)
 
-pub record Stood (s : List ℕ) (k : ℕ) (op : Operation) : Type 0 where
+pub record Stood (s : List ℕ) (k : ℕ) (op : Op) : Type 0 where
   pub after : List ℕ
   pub stands : drop (at 4 s (listOf s + 4 * k)) (take (listOf s) s) ≡ bytesOf op ++ after
   pub writable : Writable op
 
-pub kth-stands : (s : List ℕ) (k : ℕ) (op : Operation) → Bytes s → kthOf s k ≡ says op → Stood s k op
+pub kth-stands : (s : List ℕ) (k : ℕ) (op : Op) → Bytes s → kthOf s k ≡ says op → Stood s k op
 unfolding kthOf trailed listed standing recordAt
 kth-stands s k op h e =
     let n = length s - 16 in
@@ -70,4 +70,4 @@ kth-stands s k op h e =
     let x = then-only (recordIn (drop from t)) (λ o r. pick (eqb (from + length (bytesOf o)) to) (some o) none) op d in
     let y : x .value ≡ op = Option·some-injective (x .value) op (kept (eqb (from + length (bytesOf (x .value))) to) (some (x .value)) op (x .goes)) in
     let z = record-only (drop from t) (x .value) (x .after) (drop-bytes from t (take-bytes list s h)) (x .read) in
-    record { after = x .after; stands = z .are ∙ ap (λ (o : Operation). bytesOf o ++ x .after) y; writable = subst Writable y (z .writable) }
+    record { after = x .after; stands = z .are ∙ ap (λ (o : Op). bytesOf o ++ x .after) y; writable = subst Writable y (z .writable) }

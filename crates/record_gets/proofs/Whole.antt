@@ -12,7 +12,7 @@ use lib.Seq.{length-take-le}
 use borrow.Author.Tests.{lt-ltb, le-ltb, eq-eqb}
 use Rattle.ledger_spec.specs.Numbers.{RANGE, FILE}
 use Rattle.record_spec.specs.Numbers.{Bytes}
-use Rattle.record_spec.specs.Operations.{Operation}
+use Rattle.record_spec.specs.Operations.{Op}
 use Rattle.record_spec.specs.Records.{bytesOf}
 use Rattle.record_spec.specs.Reader.{pick, recordIn}
 use Rattle.record_spec.specs.Files.{recordsOf, recordsIn, fitting, fileOps}
@@ -25,8 +25,8 @@ use Rattle.record_gets.specs.Kth.{refusal, says, kthIn, begins, endOf, r
 
 -- ---- record k of those that a list of starts says
 
-pub record Stands (s t : List ℕ) (ops : List Operation) (p e n k : ℕ) : Type 0 where
-  pub op : Operation
+pub record Stands (s t : List ℕ) (ops : List Op) (p e n k : ℕ) : Type 0 where
+  pub op : Op
   pub after : List ℕ
   pub is : kthIn ops k ≡ says op
   pub first : k ≡ 0 → at 4 s (e + 4 * k) ≡ p
@@ -34,23 +34,23 @@ pub record Stands (s t : List ℕ) (ops : List Operation) (p e n k : ℕ) : Type
   pub next : suc k < n → at 4 s (e + 4 * k) + length (bytesOf op) ≡ at 4 s (e + 4 * suc k)
   pub last : n ≤ suc k → at 4 s (e + 4 * k) + length (bytesOf op) ≡ length t
 
-no-more : (ops : List Operation) → 0 ≡ length ops → length (recordsOf ops) ≡ 0
+no-more : (ops : List Op) → 0 ≡ length ops → length (recordsOf ops) ≡ 0
 unfolding recordsOf
 no-more [] e = refl
 no-more (op ∷ ops) e = absurd (omega (arith, e))
 
 -- the next start is where the record before it ends
-next-start : (n : ℕ) (s t : List ℕ) (p e : ℕ) (ops : List Operation) → Bytes t → p ≤ length t → recordsIn p (foursAt n s e) (drop p t) ≡ some ops → 0 < n → at 4 s e ≡ p
+next-start : (n : ℕ) (s t : List ℕ) (p e : ℕ) (ops : List Op) → Bytes t → p ≤ length t → recordsIn p (foursAt n s e) (drop p t) ≡ some ops → 0 < n → at 4 s e ≡ p
 unfolding foursAt
 next-start zero s t p e ops h l r m = absurd (omega arith)
 next-start (suc n) s t p e ops h l r m = step t p (at 4 s e) (foursAt n s (e + 4)) ops h l r .place
 
-last-end : (n : ℕ) (s t : List ℕ) (p e : ℕ) (ops : List Operation) → Bytes t → p ≤ length t → recordsIn p (foursAt n s e) (drop p t) ≡ some ops → n ≤ 0 → p ≡ length t
+last-end : (n : ℕ) (s t : List ℕ) (p e : ℕ) (ops : List Op) → Bytes t → p ≤ length t → recordsIn p (foursAt n s e) (drop p t) ≡ some ops → n ≤ 0 → p ≡ length t
 unfolding foursAt
 last-end zero s t p e ops h l r m = let c = counts [] t p ops h l r in omega (arith, c .1, no-more ops (c .0))
 last-end (suc n) s t p e ops h l r m = absurd (omega arith)
 
-pub stands : (k n : ℕ) (s t : List ℕ) (p e : ℕ) (ops : List Operation) → Bytes t → p ≤ length t → recordsIn p (foursAt n s e) (drop p t) ≡ some ops → k < n
+pub stands : (k n : ℕ) (s t : List ℕ) (p e : ℕ) (ops : List Op) → Bytes t → p ≤ length t → recordsIn p (foursAt n s e) (drop p t) ≡ some ops → k < n
     → Stands s t ops p e n k
 unfolding foursAt
 stands k zero s t p e ops h l r m = absurd (omega arith)
@@ -63,7 +63,7 @@ stands zero (suc n) s t p e ops h l r m =
     record {
       op = x .op;
       after = drop q t;
-      is = ap (λ (l : List Operation). kthIn l 0) (x .first);
+      is = ap (λ (l : List Op). kthIn l 0) (x .first);
       first = λ b. f;
       read = ap (λ (j : ℕ). recordIn (drop j t)) f ∙ x .read;
       next = λ b. ap (λ (j : ℕ). j + length (bytesOf (x .op))) f ∙ sym (next-start n s t q (e + 4) (x .more) h (x .fits) (x .after) (omega arith)) ∙ ap (at 4 s) y;
@@ -77,21 +77,21 @@ stands (suc k) (suc n) s t p e ops h l r m =
     record {
       op = y .op;
       after = y .after;
-      is = ap (λ (l : List Operation). kthIn l (suc k)) (x .first) ∙ y .is;
+      is = ap (λ (l : List Op). kthIn l (suc k)) (x .first) ∙ y .is;
       first = λ b. absurd (omega (arith, b));
       read = ap (λ (j : ℕ). recordIn (drop (at 4 s j) t)) (sym z) ∙ y .read;
       next = λ b. ap (λ (j : ℕ). at 4 s j + length (bytesOf (y .op))) (sym z) ∙ y .next (omega arith) ∙ ap (at 4 s) w;
       last = λ b. ap (λ (j : ℕ). at 4 s j + length (bytesOf (y .op))) (sym z) ∙ y .last (omega arith);
     }
 
-kth-past : (ops : List Operation) (k : ℕ) → length ops ≤ k → kthIn ops k ≡ refusal RANGE
+kth-past : (ops : List Op) (k : ℕ) → length ops ≤ k → kthIn ops k ≡ refusal RANGE
 kth-past [] k h = refl
 kth-past (op ∷ ops) zero h = absurd (omega arith)
 kth-past (op ∷ ops) (suc k) h = kth-past ops k (omega arith)
 
 -- ---- the answer, by what stands there
 
-pub record-fills : (s : List ℕ) (from to : ℕ) (op : Operation) (r : List ℕ) → recordIn (drop from s) ≡ some (op, r) → from + length (bytesOf op) ≡ to → recordAt s from to ≡ some op
+pub record-fills : (s : List ℕ) (from to : ℕ) (op : Op) (r : List ℕ) → recordIn (drop from s) ≡ some (op, r) → from + length (bytesOf op) ≡ to → recordAt s from to ≡ some op
 unfolding recordAt
 record-fills s from to op r e f =
     then-back (recordIn (drop from s)) (λ o q. pick (eqb (from + length (bytesOf o)) to) (some o) none) op r e
@@ -105,7 +105,7 @@ pub end-last : (s : List ℕ) (list count k : ℕ) → count ≤ suc k → endOf
 unfolding endOf
 end-last s list count k h = ap (λ (b : Bool). pick b (at 4 s (list + 4 * suc k)) list) (le-ltb (suc k) count h)
 
-pub said-by : (s : List ℕ) (list count k : ℕ) (op : Operation) → k < count → begins k (at 4 s (list + 4 * k)) ≡ true
+pub said-by : (s : List ℕ) (list count k : ℕ) (op : Op) → k < count → begins k (at 4 s (list + 4 * k)) ≡ true
     → recordAt (take list s) (at 4 s (list + 4 * k)) (endOf s list count k) ≡ some op → listed s list count k ≡ says op
 unfolding listed standing
 said-by s list count k op h b e = rw (lt-ltb k count h, b, e) refl
@@ -140,7 +140,7 @@ begins-at (suc k) from h = refl
 
 -- ---- the law
 
-pub kth-of-file : (s : List ℕ) (ops : List Operation) (k : ℕ) → Bytes s → fileOps s ≡ some ops → kthOf s k ≡ kthIn ops k
+pub kth-of-file : (s : List ℕ) (ops : List Op) (k : ℕ) → Bytes s → fileOps s ≡ some ops → kthOf s k ≡ kthIn ops k
 kth-of-file s ops k h e = go (decLt (length s) 16)
   where
     inside : (list count : ℕ) → list ≤ length s → recordsIn 0 (foursAt count s list) (take list s) ≡ some ops → Dec (k < count) → listed s list count k ≡ kthIn ops k

@@ -7,9 +7,10 @@ use mathlib.Core.List.{List, [], _∷_, _++_, map}
 use lib.ListN.{length, take, drop, getD, set, length-append}
 use lib.Seq.{sets, length-sets, getD-drop}
 use Rattle.ledger_spec.specs.Bench.{grows, stays, shrinks}
+use Rattle.ledger_spec.specs.Operations.{D, B, E, S, G, F, C, K}
 use Rattle.text_lines.specs.Texts.{letterOf}
 use Rattle.record_spec.specs.Numbers.{Bytes}
-use Rattle.record_spec.specs.Operations.{Member, Operation, D, B, E, S, G, F, C, K, serialOf}
+use Rattle.record_spec.specs.Operations.{Member, Op, serialOf}
 use Rattle.record_spec.specs.Records.{bytesOf}
 use Rattle.record_spec.specs.Reader.{recordIn}
 use Rattle.record_spec.specs.Places.{at}
@@ -24,7 +25,7 @@ use Rattle.record_gets.specs.Gets.{frontOf, frontWords}
 
 -- ---- an operation's words in two parts
 
-abbrev pub membersOf : Operation → List Member
+abbrev pub membersOf : Op → List Member
 membersOf (D u v) = []
 membersOf (B u ms) = ms
 membersOf (E u k) = []
@@ -34,14 +35,14 @@ membersOf (F p l r) = []
 membersOf (C u) = []
 membersOf (K u) = []
 
-abbrev pub front : Operation → Front
+abbrev pub front : Op → Front
 front op = frontOf (lineOfRecord op)
 
 map-many : (ms : List Member) → length (map serialOf ms) ≡ length ms
 map-many [] = refl
 map-many (m ∷ ms) = ap suc (map-many ms)
 
-pub members-count : (op : Operation) → front op .members ≡ length (membersOf op)
+pub members-count : (op : Op) → front op .members ≡ length (membersOf op)
 members-count (D u v) = refl
 members-count (B u ms) = map-many ms
 members-count (E u k) = refl
@@ -51,7 +52,7 @@ members-count (F p l r) = refl
 members-count (C u) = refl
 members-count (K u) = refl
 
-pub two-parts : (op : Operation) → wordsOf op ≡ frontWords (front op) ++ memberWords (membersOf op)
+pub two-parts : (op : Op) → wordsOf op ≡ frontWords (front op) ++ memberWords (membersOf op)
 unfolding wordsOf memberWords
 two-parts (D u v) = refl
 two-parts (B u ms) = ap (λ (n : ℕ). 66 ∷ u ∷ n ∷ memberWords ms) (sym (map-many ms))
@@ -73,7 +74,7 @@ pub record Few (f : Front) : Type 0 where
 few-of : (n a b c d m : ℕ) → 2 ≤ n → n ≤ 4 → length (take n (a ∷ b ∷ c ∷ d ∷ [])) ≡ n → Few (record { many = n; letter = a; unit = b; third = c; fourth = d; members = m })
 few-of n a b c d m x y z = record { least = x; most = y; are = z }
 
-pub few : (op : Operation) → Few (front op)
+pub few : (op : Op) → Few (front op)
 few (D u v) = few-of _ _ _ _ _ _ (omega arith) (omega arith) refl
 few (B u ms) = few-of _ _ _ _ _ _ (omega arith) (omega arith) refl
 few (E u k) = few-of _ _ _ _ _ _ (omega arith) (omega arith) refl
@@ -88,22 +89,22 @@ unfolding memberWords
 member-many [] = refl
 member-many (m ∷ ms) = let e = member-many ms in omega (arith, e)
 
-pub words-many : (op : Operation) → length (wordsOf op) ≡ front op .many + 3 * front op .members
+pub words-many : (op : Op) → length (wordsOf op) ≡ front op .many + 3 * front op .members
 words-many op =
     omega (arith, ap length (two-parts op), length-append (frontWords (front op)) (memberWords (membersOf op)), few op .are, member-many (membersOf op), members-count op)
 
 -- ---- the members stand after the count
 
 module _ (s : List ℕ) (p : ℕ) (h : Bytes (drop p s)) where
-  pub record Standing (op : Operation) : Type 0 where
+  pub record Standing (op : Op) : Type 0 where
     pub are : membersOf op ≡ membersAt (front op .members) s (p + 4)
     pub room : p + 4 + 12 * front op .members ≤ length s
 
-  none-there : (op : Operation) → p + 4 ≤ length s → membersOf op ≡ [] → front op .members ≡ 0 → Standing op
+  none-there : (op : Op) → p + 4 ≤ length s → membersOf op ≡ [] → front op .members ≡ 0 → Standing op
   unfolding membersAt
   none-there op l e f = record { are = e ∙ sym (ap (λ (n : ℕ). membersAt n s (p + 4)) f); room = omega (arith, f, l) }
 
-  pub standing : (op : Operation) (r : List ℕ) → recordIn (drop p s) ≡ some (op, r) → p + 4 ≤ length s → Standing op
+  pub standing : (op : Op) (r : List ℕ) → recordIn (drop p s) ≡ some (op, r) → p + 4 ≤ length s → Standing op
   unfolding bytesOf letterOf
   standing (D u v) r e l = none-there (D u v) l refl refl
   standing (B u ms) r e l =

@@ -10,7 +10,7 @@ use Rattle.ledger_spec.specs.Named.{stateNamed}
 use Rattle.text_lines.specs.declared.Line.{Line}
 use Rattle.text_lines.specs.declared.Line.the-variants.{Defect, Blossom, Expand, SetState, Grow, Fuse, Clear, Check, Wrong}
 use Rattle.record_spec.specs.Numbers.{complement}
-use Rattle.record_spec.specs.Operations.{Operation}
+use Rattle.record_spec.specs.Operations.{Op}
 use Rattle.record_spec.specs.Reader.{recordIn}
 use Rattle.record_gets.specs.Kth.{Asked, refusal, says}
 use Rattle.record_gets.specs.declared.Found.{Found}
@@ -20,7 +20,7 @@ use Rattle.record_gets.specs.declared.words.Front.{Front}
 
 -- what is asked for stands at place p
 pub record Holds (a : Asked) (s : List ℕ) (p : ℕ) : Type 0 where
-  pub op : Operation
+  pub op : Op
   pub after : List ℕ
   pub said : a ≡ says op
   pub read : recordIn (drop p s) ≡ some (op, after)

@@ -8,7 +8,7 @@ use lib.Dec.{eqb, ltb}
 use lib.ListN.{length, take, drop}
 use Rattle.ledger_spec.specs.Numbers.{RANGE, FILE}
 use Rattle.record_spec.specs.Numbers.{then}
-use Rattle.record_spec.specs.Operations.{Operation}
+use Rattle.record_spec.specs.Operations.{Op}
 use Rattle.record_spec.specs.Records.{bytesOf}
 use Rattle.record_spec.specs.Reader.{pick, recordIn}
 use Rattle.record_spec.specs.Files.{fitting}
@@ -17,14 +17,14 @@ use Rattle.record_spec.specs.Places.{at}
 -- what a record says, or the number by which it is refused
 pub data Asked : Type 0 where
   refusal : (number : ℕ) → Asked
-  says : (op : Operation) → Asked
+  says : (op : Op) → Asked
 
-abbrev pub asked : Option Operation → Asked
+abbrev pub asked : Option Op → Asked
 asked none = refusal FILE
 asked (some op) = says op
 
 -- operation k of a list, the first being 0
-abbrev pub kthIn : List Operation → ℕ → Asked
+abbrev pub kthIn : List Op → ℕ → Asked
 kthIn [] k = refusal RANGE
 kthIn (op ∷ ops) zero = says op
 kthIn (op ∷ ops) (suc k) = kthIn ops k
@@ -41,7 +41,7 @@ unfoldable pub endOf : List ℕ → ℕ → ℕ → ℕ → ℕ
 endOf s list count k = pick (ltb (suc k) count) (at 4 s (list + 4 * suc k)) list
 
 -- the record that stands from one place to another, all of it
-unfoldable pub recordAt : List ℕ → ℕ → ℕ → Option Operation
+unfoldable pub recordAt : List ℕ → ℕ → ℕ → Option Op
 recordAt s from to = then (recordIn (drop from s)) (λ op r. pick (eqb (from + length (bytesOf op)) to) (some op) none)
 
 -- record k, of which the list says that it starts at `from`

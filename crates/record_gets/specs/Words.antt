@@ -3,8 +3,9 @@ use Prim.Native.Nat.{ℕ}
 use mathlib.Core.List.{List, [], _∷_}
 use lib.ListN.{length}
 use Rattle.ledger_spec.specs.Bench.{rate}
+use Rattle.ledger_spec.specs.Operations.{D, B, E, S, G, F, C, K}
 use Rattle.record_spec.specs.Numbers.{complement}
-use Rattle.record_spec.specs.Operations.{Member, Operation, D, B, E, S, G, F, C, K}
+use Rattle.record_spec.specs.Operations.{Member, Op}
 use Rattle.record_spec.specs.Moves.{Moved, refused, written}
 use Rattle.record_gets.specs.Kth.{Asked, refusal, says, kthOf}
 
@@ -14,7 +15,7 @@ memberWords [] = []
 memberWords (m ∷ ms) = m .serial ∷ m .first ∷ m .second ∷ memberWords ms
 
 -- a state and a length in two's complement
-unfoldable pub wordsOf : Operation → List ℕ
+unfoldable pub wordsOf : Op → List ℕ
 wordsOf (D u v) = 68 ∷ u ∷ v ∷ []
 wordsOf (B u ms) = 66 ∷ u ∷ length ms ∷ memberWords ms
 wordsOf (E u k) = 69 ∷ u ∷ k ∷ []

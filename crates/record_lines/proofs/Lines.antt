@@ -1,8 +1,8 @@
 -- The record that stands at a place has the line that its numbers' places say. Assumes nothing.
-use Prim.Native.Nat.{ℕ, suc, _+_, _*_, _≤_, _<_}
+use Prim.Native.Nat.{ℕ, suc, _+_, _*_, _≤_}
 use native.Mathlib.Omega.{arith}
 use native.Mathlib.Decide.{decLe, ℕ-discrete}
-use mathlib.Core.Path.{_≡_, refl, sym, _∙_, ap, subst}
+use mathlib.Core.Path.{_≡_, refl, sym, _∙_, ap}
 use mathlib.Core.Bool.{Bool, true, false}
 use mathlib.Core.Option.{Option, none, some, Option·some-ne-none, Option·some-injective}
 use mathlib.Core.List.{List, [], _∷_, _++_, append-nil}
@@ -10,12 +10,13 @@ use lib.ListN.{length, drop, getD, set, length-drop, length-append, length-set}
 use borrow.Author.Tests.{ne-eqb}
 use Rattle.ledger_spec.specs.Bench.{State, grows, stays, shrinks, rate}
 use Rattle.ledger_spec.specs.Decimals.{decimal, digits, signed}
+use Rattle.ledger_spec.specs.Operations.{D, B, E, S, G, F, C, K}
 use Rattle.ledger_spec.specs.Grammar.{Fields}
 use Rattle.text_lines.specs.Texts.{spaced, letterOf, fieldsOf}
 use Rattle.text_decimals.specs.Wrote.{Wrote}
 use Rattle.text_decimals.proofs.Writes.{chain, after-byte, byte-wrote, same-text, length-wrote}
 use Rattle.record_spec.specs.Numbers.{lengthIn}
-use Rattle.record_spec.specs.Operations.{Operation, D, B, E, S, G, F, C, K, lineOfOp}
+use Rattle.record_spec.specs.Operations.{Op, lineOfOp}
 use Rattle.record_spec.specs.Reader.{stateIn, rest, good, recordIn}
 use Rattle.record_spec.specs.Places.{at}
 use Rattle.record_spec.proofs.Numbers.{same-value}
@@ -51,12 +52,12 @@ state-said n g e = go (ℕ-discrete n 0) (ℕ-discrete n 1) (ℕ-discrete n 255)
 
 -- ---- what stands after the unit
 
-module _ (t : List ℕ) (q u : ℕ) (op : Operation) (r : List ℕ) where
+module _ (t : List ℕ) (q u : ℕ) (op : Op) (r : List ℕ) where
   abbrev Said : ℕ → Type 0
   Said l = (lineOfOp op ≡ lineBy l u (fieldsAt l t q)) × (q + bytesAt l t q ≤ length t)
 
   module _ (l : ℕ) (h : rest l u (drop q t) ≡ some (op, r)) where
-    found : (k : ℕ) (fs : Fields) (n : ℕ) (o : Operation) (v : List ℕ) → l ≡ k → rest k u (drop q t) ≡ some (o, v) → lineOfOp o ≡ lineBy k u fs
+    found : (k : ℕ) (fs : Fields) (n : ℕ) (o : Op) (v : List ℕ) → l ≡ k → rest k u (drop q t) ≡ some (o, v) → lineOfOp o ≡ lineBy k u fs
         → (fieldsAt l t q ≡ fs) × (bytesAt l t q ≡ n) → q + n ≤ length t → Said l
     found k fs n o v e f g a b =
         let w : o ≡ op = same-value o op v r (sym f ∙ sym (ap (λ (x : ℕ). rest x u (drop q t)) e) ∙ h) in
@@ -133,11 +134,11 @@ module _ (t : List ℕ) (q u : ℕ) (op : Operation) (r : List ℕ) where
 
 -- ---- the record at a place
 
-pub record Stood (t : List ℕ) (p : ℕ) (op : Operation) : Type 0 where
+pub record Stood (t : List ℕ) (p : ℕ) (op : Op) : Type 0 where
   pub line : lineOfOp op ≡ lineBy (at 1 t p) (at 1 t (p + 1)) (fieldsAt (at 1 t p) t (p + 2))
   pub long : p + 2 + bytesAt (at 1 t p) t (p + 2) ≤ length t
 
-kept-only : (o : Option (Operation × List ℕ)) (op : Operation) (r : List ℕ) → kept o ≡ some (op, r) → o ≡ some (op, r)
+kept-only : (o : Option (Op × List ℕ)) (op : Op) (r : List ℕ) → kept o ≡ some (op, r) → o ≡ some (op, r)
 kept-only none op r e = absurd (Option·some-ne-none (op, r) (sym e ∙ kept-none none refl))
 kept-only (some x) op r e = go (good (x .0)) refl
   where
@@ -145,7 +146,7 @@ kept-only (some x) op r e = go (good (x .0)) refl
     go true g = sym (kept-good (some x) (x .0) (x .1) refl g) ∙ e
     go false g = absurd (Option·some-ne-none (op, r) (sym e ∙ kept-bad (some x) (x .0) (x .1) refl g))
 
-stood : (t : List ℕ) (p : ℕ) (op : Operation) (r : List ℕ) → recordIn (drop p t) ≡ some (op, r) → Stood t p op
+stood : (t : List ℕ) (p : ℕ) (op : Op) (r : List ℕ) → recordIn (drop p t) ≡ some (op, r) → Stood t p op
 stood t p op r e = go (decLe (p + 2) (length t))
   where
     go : Dec (p + 2 ≤ length t) → Stood t p op
@@ -157,7 +158,7 @@ stood t p op r e = go (decLe (p + 2) (length t))
 -- ---- its line written
 
 pub record Here (t : List ℕ) (p from room : ℕ) : Type 0 where
-  pub op : Operation
+  pub op : Op
   pub is : lineIn (recordIn (drop p t)) ≡ lineOfOp op ++ (10 ∷ [])
   pub stood : Stood t p op
   pub fits : from + suc (length (lineOfOp op)) ≤ room
@@ -165,7 +166,7 @@ pub record Here (t : List ℕ) (p from room : ℕ) : Type 0 where
 pub here : (t : List ℕ) (p from room : ℕ) → Ready (recordIn (drop p t)) from room → Here t p from room
 here t p from room x = go (recordIn (drop p t)) refl x
   where
-    go : (o : Option (Operation × List ℕ)) → recordIn (drop p t) ≡ o → Ready o from room → Here t p from room
+    go : (o : Option (Op × List ℕ)) → recordIn (drop p t) ≡ o → Ready o from room → Here t p from room
     go none e y = absurd y
     go (some z) e y = record { op = z .0; is = ap lineIn e; stood = stood t p (z .0) (z .1) e; fits = y }
 

@@ -1,13 +1,11 @@
 -- A line's fields, one after the other. Assumes nothing.
 use Prim.Native.Nat.{ℕ, _+_, _*_}
 use native.Mathlib.Omega.{arith}
-use mathlib.Core.Path.{_≡_, refl, sym, _∙_, ap, subst}
-use mathlib.Core.List.{List, [], _∷_, _++_, append-assoc, append-nil}
-use lib.Dec.{eqb}
-use lib.ListN.{length, set}
+use mathlib.Core.Path.{_≡_, sym, _∙_, ap, subst}
+use mathlib.Core.List.{List, [], _∷_, _++_, append-nil}
+use lib.ListN.{set}
 use borrow.Author.Tests.{ne-eqb}
 use Rattle.ledger_spec.specs.Decimals.{decimal, digits, signed}
-use Rattle.ledger_spec.specs.Grammar.{Fields}
 use Rattle.text_decimals.specs.Wrote.{Wrote}
 use Rattle.text_decimals.proofs.Writes.{after-byte}
 use Rattle.record_spec.specs.Numbers.{lengthIn}

@@ -6,7 +6,6 @@ use mathlib.Core.List.{List, [], _∷_, _++_}
 use lib.ListN.{length, length-append}
 use lib.Seq.{sets}
 use Rattle.ledger_spec.specs.Decimals.{decimal}
-use Rattle.ledger_spec.specs.Grammar.{Fields}
 use Rattle.text_decimals.specs.Wrote.{Wrote}
 use Rattle.text_decimals.proofs.Writes.{sets-append}
 use Rattle.record_spec.specs.Places.{at}

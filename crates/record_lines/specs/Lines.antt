@@ -7,19 +7,19 @@ use lib.ListN.{length}
 use Rattle.ledger_spec.specs.Decimals.{decimal, signed}
 use Rattle.ledger_spec.specs.Grammar.{Fields}
 use Rattle.record_spec.specs.Numbers.{lengthIn}
-use Rattle.record_spec.specs.Operations.{Operation, serialOf, lineOfOp}
+use Rattle.record_spec.specs.Operations.{Op, serialOf, lineOfOp}
 use Rattle.record_spec.specs.Reader.{pick}
 use Rattle.record_spec.specs.Places.{at}
 use Rattle.record_measures.specs.Measures.{membersAt}
 
 -- ---- the line with its newline, of a record that stands there
 
-abbrev pub lineIn : Option (Operation × List ℕ) → List ℕ
+abbrev pub lineIn : Option (Op × List ℕ) → List ℕ
 lineIn none = []
 lineIn (some p) = lineOfOp (p .0) ++ (10 ∷ [])
 
 -- the record is there, and so is room for its line from a place on
-abbrev pub Ready : Option (Operation × List ℕ) → ℕ → ℕ → Type 0
+abbrev pub Ready : Option (Op × List ℕ) → ℕ → ℕ → Type 0
 Ready none from room = ⊥
 Ready (some p) from room = from + suc (length (lineOfOp (p .0))) ≤ room
 

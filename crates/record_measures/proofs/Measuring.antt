@@ -4,59 +4,58 @@ use native.Mathlib.Omega.{arith}
 use mathlib.Core.Path.{_≡_, refl, sym, _∙_, ap}
 use mathlib.Core.Bool.{Bool, true, false}
 use mathlib.Core.Option.{Option, none, some}
-use mathlib.Core.List.{List, [], _∷_, _++_, map}
-use lib.Dec.{leb}
+use mathlib.Core.List.{List, [], _∷_, map}
 use lib.IntN.{ℤ}
 use lib.ListN.{length, drop, getD, length-drop}
-use borrow.Author.Tests.{le-leb, lt-leb}
 use Rattle.ledger_spec.specs.Bench.{State, rate}
 use Rattle.ledger_spec.specs.Decimals.{decimal, signed}
+use Rattle.ledger_spec.specs.Operations.{D, B, E, S, G, F, C, K}
 use Rattle.text_lines.specs.Texts.{letterOf, fieldsOf}
-use Rattle.record_spec.specs.Numbers.{bytes, then, number, complement}
-use Rattle.record_spec.specs.Operations.{Member, Operation, D, B, E, S, G, F, C, K, serialOf, lineOfOp, self, selves}
+use Rattle.record_spec.specs.Numbers.{bytes, then, number}
+use Rattle.record_spec.specs.Operations.{Member, Op, serialOf, lineOfOp, self}
 use Rattle.record_spec.specs.Records.{memberFields, fields, spelled, bytesOf}
-use Rattle.record_spec.specs.Reader.{rest, membersGood, serialsGood, good, recordIn}
+use Rattle.record_spec.specs.Reader.{rest, serialsGood, good, recordIn}
 use Rattle.record_spec.specs.Places.{at, total}
-use Rattle.record_spec.proofs.Numbers.{then-back, length-bytes}
-use Rattle.record_spec.proofs.Places.{number-at, number-short}
+use Rattle.record_spec.proofs.Numbers.{then-back}
+use Rattle.record_spec.proofs.Places.{number-at}
 use Rattle.record_spec.proofs.Sizes.{Plain, plain-good, length-spaced, length-blossom}
 use Rattle.record_spec.proofs.Writable.{Held}
 use Rattle.record_measures.specs.declared.Measured.{Measured}
-use Rattle.record_measures.specs.Measures.{nothing, sizes, measuredOf, kept, tried}
+use Rattle.record_measures.specs.Measures.{nothing, measuredOf, kept, tried}
 
 -- ---- kept or not
 
-pub kept-good : (o : Option (Operation × List ℕ)) (op : Operation) (r : List ℕ) → o ≡ some (op, r) → good op ≡ true → kept o ≡ some (op, r)
+pub kept-good : (o : Option (Op × List ℕ)) (op : Op) (r : List ℕ) → o ≡ some (op, r) → good op ≡ true → kept o ≡ some (op, r)
 unfolding kept
 kept-good o op r e g = then-back o (λ x q. elim (good x) [ true ↦ some (x, q) | false ↦ none ]) op r e ∙ rw g
 
-pub kept-bad : (o : Option (Operation × List ℕ)) (op : Operation) (r : List ℕ) → o ≡ some (op, r) → good op ≡ false → kept o ≡ none
+pub kept-bad : (o : Option (Op × List ℕ)) (op : Op) (r : List ℕ) → o ≡ some (op, r) → good op ≡ false → kept o ≡ none
 unfolding kept
 kept-bad o op r e g = then-back o (λ x q. elim (good x) [ true ↦ some (x, q) | false ↦ none ]) op r e ∙ rw g
 
-pub kept-none : (o : Option (Operation × List ℕ)) → o ≡ none → kept o ≡ none
+pub kept-none : (o : Option (Op × List ℕ)) → o ≡ none → kept o ≡ none
 unfolding kept
 kept-none o e = ap kept e
 
-pub none-measured : (o : Option (Operation × List ℕ)) → o ≡ none → nothing ≡ measuredOf (kept o)
+pub none-measured : (o : Option (Op × List ℕ)) → o ≡ none → nothing ≡ measuredOf (kept o)
 none-measured o e = sym (ap measuredOf (kept-none o e))
 
-pub bad-measured : (o : Option (Operation × List ℕ)) (op : Operation) (r : List ℕ) → o ≡ some (op, r) → good op ≡ false → nothing ≡ measuredOf (kept o)
+pub bad-measured : (o : Option (Op × List ℕ)) (op : Op) (r : List ℕ) → o ≡ some (op, r) → good op ≡ false → nothing ≡ measuredOf (kept o)
 bad-measured o op r e g = sym (ap measuredOf (kept-bad o op r e g))
 
 -- the three numbers of an operation that is kept
-pub good-measured : (o : Option (Operation × List ℕ)) (op : Operation) (r : List ℕ) → o ≡ some (op, r) → good op ≡ true
+pub good-measured : (o : Option (Op × List ℕ)) (op : Op) (r : List ℕ) → o ≡ some (op, r) → good op ≡ true
     → (a b : ℕ) (c : Bool) → a ≡ length (bytesOf op) → b ≡ suc (length (lineOfOp op)) → c ≡ self op
     → _≡_ {A = Measured} (record { size = a; line = b; own = c }) (measuredOf (kept o))
 good-measured o op r e g a b c x y z = (λ i. record { size = x i; line = y i; own = z i }) ∙ sym (ap measuredOf (kept-good o op r e g))
 
 -- no blossom: only the serials are tested
-pub plain-measured : (o : Option (Operation × List ℕ)) (op : Operation) (r : List ℕ) → o ≡ some (op, r) → Plain op → Held op → serialsGood op ≡ true
+pub plain-measured : (o : Option (Op × List ℕ)) (op : Op) (r : List ℕ) → o ≡ some (op, r) → Plain op → Held op → serialsGood op ≡ true
     → (a b : ℕ) → a ≡ length (bytesOf op) → b ≡ suc (length (lineOfOp op)) → true ≡ self op
     → _≡_ {A = Measured} (record { size = a; line = b; own = true }) (measuredOf (kept o))
 plain-measured o op r e p h s a b x y z = good-measured o op r e (plain-good op p h ∙ s) a b true x y z
 
-pub plain-unfit : (o : Option (Operation × List ℕ)) (op : Operation) (r : List ℕ) → o ≡ some (op, r) → Plain op → Held op → serialsGood op ≡ false → nothing ≡ measuredOf (kept o)
+pub plain-unfit : (o : Option (Op × List ℕ)) (op : Op) (r : List ℕ) → o ≡ some (op, r) → Plain op → Held op → serialsGood op ≡ false → nothing ≡ measuredOf (kept o)
 plain-unfit o op r e p h s = bad-measured o op r e (plain-good op p h ∙ s)
 
 -- ---- how long a line is
@@ -132,7 +131,7 @@ pub letter-none : (t : List ℕ) (p l u : ℕ) → p + 2 ≤ length t → getD t
 letter-none t p l u h e f n = letter-is t p l u nothing h e f (none-measured (rest l u (drop (p + 2) t)) n)
 
 -- the bytes after a record do not count
-pub whatever-after : (op : Operation) (r : List ℕ) → measuredOf (kept (some (op, r))) ≡ measuredOf (kept (some (op, [])))
+pub whatever-after : (op : Op) (r : List ℕ) → measuredOf (kept (some (op, r))) ≡ measuredOf (kept (some (op, [])))
 unfolding kept
 whatever-after op r = go (good op) refl
   where

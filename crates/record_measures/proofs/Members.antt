@@ -7,16 +7,16 @@ use mathlib.Core.Option.{some}
 use mathlib.Core.List.{List, [], _∷_, map}
 use lib.Dec.{eqb, leb}
 use lib.ListN.{length}
-use borrow.Author.Tests.{le-leb, lt-leb, leb-true, leb-false}
+use borrow.Author.Tests.{le-leb, lt-leb}
 use Rattle.ledger_spec.specs.Decimals.{decimal}
-use Rattle.record_spec.specs.Operations.{Member, Operation, B, serialOf, lineOfOp, self, selves}
-use Rattle.record_spec.specs.Records.{bytesOf}
+use Rattle.ledger_spec.specs.Operations.{B}
+use Rattle.record_spec.specs.Operations.{Member, serialOf, lineOfOp, self, selves}
 use Rattle.record_spec.specs.Reader.{membersGood, serialsGood, good}
-use Rattle.record_spec.specs.Places.{at, total}
+use Rattle.record_spec.specs.Places.{total}
 use Rattle.record_measures.specs.declared.Measured.{Measured}
 use Rattle.record_measures.specs.declared.blossoms.Weight.{Weight}
 use Rattle.record_measures.specs.Measures.{nothing, triedMembers, memberAt, membersAt, memberWeight}
-use Rattle.record_measures.proofs.Measuring.{bad-measured, good-measured, line-B, bytes-B}
+use Rattle.record_measures.proofs.Measuring.{bad-measured, good-measured, bytes-B}
 
 and-none : (b : Bool) → b && false ≡ false
 and-none true = refl

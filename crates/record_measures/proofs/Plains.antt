@@ -1,17 +1,18 @@
 -- The records of every letter but B, measured, from the numbers that were read. Assumes nothing.
-use Prim.Native.Nat.{ℕ, suc, _+_, _≤_, _<_}
+use Prim.Native.Nat.{ℕ, _+_, _≤_, _<_}
 use native.Mathlib.Omega.{arith}
-use mathlib.Core.Path.{_≡_, refl, sym, _∙_, ap}
-use mathlib.Core.Bool.{Bool, true, false}
+use mathlib.Core.Path.{_≡_, refl, _∙_, ap}
+use mathlib.Core.Bool.{true}
 use mathlib.Core.Option.{Option, none, some}
 use mathlib.Core.List.{List}
 use lib.ListN.{length, drop}
 use borrow.Author.Tests.{le-leb, lt-leb}
 use Rattle.ledger_spec.specs.Bench.{State, grows, stays, shrinks, rate}
 use Rattle.ledger_spec.specs.Decimals.{digits as digits-of, decimal, signed}
+use Rattle.ledger_spec.specs.Operations.{D, E, S, G, F, C, K}
 use Rattle.text_lines.specs.Texts.{letterOf}
 use Rattle.record_spec.specs.Numbers.{bytes, lengthIn}
-use Rattle.record_spec.specs.Operations.{D, E, S, G, F, C, K, self}
+use Rattle.record_spec.specs.Operations.{self}
 use Rattle.record_spec.specs.Records.{fields, spelled, bytesOf}
 use Rattle.record_spec.specs.Reader.{stateIn, rest, serialsGood}
 use Rattle.record_spec.specs.Places.{at}

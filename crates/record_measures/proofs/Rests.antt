@@ -2,14 +2,15 @@
 use Prim.Native.Nat.{ℕ, zero, suc, _+_, _*_, _≤_, _<_}
 use native.Mathlib.Omega.{arith}
 use native.Mathlib.Decide.{decLe}
-use mathlib.Core.Path.{_≡_, refl, sym, _∙_, ap}
-use mathlib.Core.Option.{Option, none, some, Option·some-ne-none}
+use mathlib.Core.Path.{_≡_, refl, _∙_, ap}
+use mathlib.Core.Option.{Option, none, some}
 use mathlib.Core.List.{List, [], _∷_}
 use lib.ListN.{length, drop, length-drop}
 use borrow.Author.Tests.{ne-eqb}
 use Rattle.ledger_spec.specs.Bench.{State}
+use Rattle.ledger_spec.specs.Operations.{D, B, E, S, G, F}
 use Rattle.record_spec.specs.Numbers.{then, number, lengthIn}
-use Rattle.record_spec.specs.Operations.{Member, Operation, D, B, E, S, G, F, C, K}
+use Rattle.record_spec.specs.Operations.{Member, Op}
 use Rattle.record_spec.specs.Reader.{stateIn, membersIn, rest}
 use Rattle.record_spec.specs.Places.{at}
 use Rattle.record_spec.proofs.Numbers.{then-only, then-back, same-after}
@@ -73,7 +74,7 @@ members-short n s h = go (membersIn n s) refl
 -- ---- the letters
 
 -- a state's byte, read
-abbrev stated : ℕ → ℕ → Option State → List ℕ → Option (Operation × List ℕ)
+abbrev stated : ℕ → ℕ → Option State → List ℕ → Option (Op × List ℕ)
 stated u k o r = elim o [ none ↦ none | some g ↦ some (S u k g, r) ]
 
 module _ (t : List ℕ) (q u : ℕ) where
@@ -83,7 +84,7 @@ module _ (t : List ℕ) (q u : ℕ) where
 
   pub short-D : length t < q + 4 → rest 68 u (drop q t) ≡ none
   unfolding rest
-  short-D h = ap (λ (o : Option (ℕ × List ℕ)). then {B = Operation × List ℕ} o (λ v r. some (D u v, r))) (no-number 4 t q (omega arith) h)
+  short-D h = ap (λ (o : Option (ℕ × List ℕ)). then {B = Op × List ℕ} o (λ v r. some (D u v, r))) (no-number 4 t q (omega arith) h)
 
   pub rest-E : q + 4 ≤ length t → rest 69 u (drop q t) ≡ some (E u (at 4 t q), drop (q + 4) t)
   unfolding rest
@@ -91,7 +92,7 @@ module _ (t : List ℕ) (q u : ℕ) where
 
   pub short-E : length t < q + 4 → rest 69 u (drop q t) ≡ none
   unfolding rest
-  short-E h = ap (λ (o : Option (ℕ × List ℕ)). then {B = Operation × List ℕ} o (λ v r. some (E u v, r))) (no-number 4 t q (omega arith) h)
+  short-E h = ap (λ (o : Option (ℕ × List ℕ)). then {B = Op × List ℕ} o (λ v r. some (E u v, r))) (no-number 4 t q (omega arith) h)
 
   in-S : q + 5 ≤ length t → rest 83 u (drop q t) ≡ stated u (at 4 t q) (stateIn (at 1 t (q + 4))) (drop (q + 4 + 1) t)
   unfolding rest
@@ -121,7 +122,7 @@ module _ (t : List ℕ) (q u : ℕ) where
 
   pub short-G : length t < q + 8 → rest 71 u (drop q t) ≡ none
   unfolding rest
-  short-G h = ap (λ (o : Option (ℕ × List ℕ)). then {B = Operation × List ℕ} o (λ n r. some (G u (lengthIn n), r))) (no-number 8 t q (omega arith) h)
+  short-G h = ap (λ (o : Option (ℕ × List ℕ)). then {B = Op × List ℕ} o (λ n r. some (G u (lengthIn n), r))) (no-number 8 t q (omega arith) h)
 
   pub rest-F : q + 2 ≤ length t → rest 70 u (drop q t) ≡ some (F u (at 1 t q) (at 1 t (q + 1)), drop (q + 1 + 1) t)
   unfolding rest
@@ -133,11 +134,11 @@ module _ (t : List ℕ) (q u : ℕ) where
   unfolding rest
   short-F h = go (decLe (q + 1) (length t))
     where
-      go : Dec (q + 1 ≤ length t) → then {B = Operation × List ℕ} (number 1 (drop q t)) (λ a v. then (number 1 v) (λ b r. some (F u a b, r))) ≡ none
-      go (no l) = ap (λ (o : Option (ℕ × List ℕ)). then {B = Operation × List ℕ} o (λ a v. then (number 1 v) (λ b r. some (F u a b, r)))) (no-number 1 t q (omega arith) (omega arith))
+      go : Dec (q + 1 ≤ length t) → then {B = Op × List ℕ} (number 1 (drop q t)) (λ a v. then (number 1 v) (λ b r. some (F u a b, r))) ≡ none
+      go (no l) = ap (λ (o : Option (ℕ × List ℕ)). then {B = Op × List ℕ} o (λ a v. then (number 1 v) (λ b r. some (F u a b, r)))) (no-number 1 t q (omega arith) (omega arith))
       go (yes l) =
           then-back (number 1 (drop q t)) (λ a v. then (number 1 v) (λ b r. some (F u a b, r))) (at 1 t q) (drop (q + 1) t) (number-at 1 t q l)
-          ∙ ap (λ (o : Option (ℕ × List ℕ)). then {B = Operation × List ℕ} o (λ b r. some (F u (at 1 t q) b, r))) (no-number 1 t (q + 1) (omega arith) (omega arith))
+          ∙ ap (λ (o : Option (ℕ × List ℕ)). then {B = Op × List ℕ} o (λ b r. some (F u (at 1 t q) b, r))) (no-number 1 t (q + 1) (omega arith) (omega arith))
 
   in-B : q + 2 ≤ length t → rest 66 u (drop q t) ≡ then (membersIn (at 2 t q) (drop (q + 2) t)) (λ ms r. some (B u ms, r))
   unfolding rest
@@ -151,11 +152,11 @@ module _ (t : List ℕ) (q u : ℕ) where
   pub few-B : q + 2 ≤ length t → length t < q + 2 + 12 * at 2 t q → rest 66 u (drop q t) ≡ none
   few-B h l =
       in-B h
-      ∙ ap (λ (o : Option (List Member × List ℕ)). then {B = Operation × List ℕ} o (λ ms r. some (B u ms, r))) (members-short (at 2 t q) (drop (q + 2) t) (omega (arith, length-drop (q + 2) t)))
+      ∙ ap (λ (o : Option (List Member × List ℕ)). then {B = Op × List ℕ} o (λ ms r. some (B u ms, r))) (members-short (at 2 t q) (drop (q + 2) t) (omega (arith, length-drop (q + 2) t)))
 
   pub short-B : length t < q + 2 → rest 66 u (drop q t) ≡ none
   unfolding rest
-  short-B h = ap (λ (o : Option (ℕ × List ℕ)). then {B = Operation × List ℕ} o (λ n v. then (membersIn n v) (λ ms r. some (B u ms, r)))) (no-number 2 t q (omega arith) h)
+  short-B h = ap (λ (o : Option (ℕ × List ℕ)). then {B = Op × List ℕ} o (λ n v. then (membersIn n v) (λ ms r. some (B u ms, r)))) (no-number 2 t q (omega arith) h)
 
 -- ---- any other letter
 

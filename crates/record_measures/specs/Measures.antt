@@ -1,15 +1,16 @@
 -- What the code answers of a record: its bytes, its line's bytes with the newline, whether every pair is the member. And members read by places.
 -- Assumes nothing.
 use Prim.Native.Nat.{ℕ, zero, suc, _+_}
-use mathlib.Core.Bool.{Bool, true, false, _&&_}
+use mathlib.Core.Bool.{true, false, _&&_}
 use mathlib.Core.Option.{Option, none, some}
 use mathlib.Core.List.{List, [], _∷_}
 use lib.Dec.{eqb, leb}
 use lib.ListN.{length}
 use Rattle.ledger_spec.specs.Bench.{State, rate}
 use Rattle.ledger_spec.specs.Decimals.{decimal, signed}
+use Rattle.ledger_spec.specs.Operations.{B}
 use Rattle.record_spec.specs.Numbers.{then}
-use Rattle.record_spec.specs.Operations.{Member, Operation, B, lineOfOp, self}
+use Rattle.record_spec.specs.Operations.{Member, Op, lineOfOp, self}
 use Rattle.record_spec.specs.Records.{bytesOf}
 use Rattle.record_spec.specs.Reader.{stateIn, rest, good}
 use Rattle.record_spec.specs.Places.{at}
@@ -21,15 +22,15 @@ use Rattle.record_measures.specs.declared.blossoms.Weight.{Weight}
 abbrev pub nothing : Measured
 nothing = record { size = 0; line = 0; own = true }
 
-abbrev pub sizes : Operation → Measured
+abbrev pub sizes : Op → Measured
 sizes op = record { size = length (bytesOf op); line = suc (length (lineOfOp op)); own = self op }
 
-abbrev pub measuredOf : Option (Operation × List ℕ) → Measured
+abbrev pub measuredOf : Option (Op × List ℕ) → Measured
 measuredOf none = nothing
 measuredOf (some p) = sizes (p .0)
 
 -- only a record whose line is not LINE
-unfoldable pub kept : Option (Operation × List ℕ) → Option (Operation × List ℕ)
+unfoldable pub kept : Option (Op × List ℕ) → Option (Op × List ℕ)
 kept o = then o (λ op r. elim (good op) [ true ↦ some (op, r) | false ↦ none ])
 
 -- after the letter and the unit

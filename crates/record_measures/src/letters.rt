@@ -121,23 +121,10 @@ pub fn fuse(t: &[u8], parent: u64, q: usize) -> Measured
     }
 }
 
-// C unit
-pub fn clear(unit: u64) -> Measured
+// C unit, K unit
+pub fn unit_alone(unit: u64) -> Measured
     requires { ⌜ unit < 256 ⌝ }
-    ensures { λ r. ⌜ ((s : List ℕ) → r ≡ tried 67 unit s) ⌝ }
-{
-    let a = crate::digits::digits(unit);
-    Measured {
-        size: 2,
-        line: 3 + a,
-        own: true,
-    }
-}
-
-// K unit
-pub fn check(unit: u64) -> Measured
-    requires { ⌜ unit < 256 ⌝ }
-    ensures { λ r. ⌜ ((s : List ℕ) → r ≡ tried 75 unit s) ⌝ }
+    ensures { λ r. ⌜ ((s : List ℕ) → (r ≡ tried 67 unit s) × (r ≡ tried 75 unit s)) ⌝ }
 {
     let a = crate::digits::digits(unit);
     Measured {

@@ -57,8 +57,8 @@ pub fn measure(t: &[u8], p: usize) -> Measured
         b'S' => letters::set_state(t, unit, q),
         b'G' => letters::grow(t, unit, q),
         b'F' => letters::fuse(t, unit, q),
-        b'C' => letters::clear(unit),
-        b'K' => letters::check(unit),
+        b'C' => letters::unit_alone(unit),
+        b'K' => letters::unit_alone(unit),
         _ => nothing(),
     }
 }

@@ -1,9 +1,9 @@
 -- Two runs of bytes stored at places that do not meet, in either order. Assumes nothing.
 use Prim.Native.Nat.{ℕ, zero, suc, _+_, _≤_, _<_}
 use native.Mathlib.Omega.{arith}
-use mathlib.Core.Path.{_≡_, refl, sym, _∙_, ap}
+use mathlib.Core.Path.{_≡_, refl, _∙_, ap}
 use mathlib.Core.List.{List, [], _∷_, _++_}
-use lib.ListN.{length, take, drop, set}
+use lib.ListN.{length, drop, set}
 use lib.Seq.{sets, sets-eq}
 
 set-set : (l : List ℕ) (i j a b : ℕ) → i < j → set (set l i a) j b ≡ set (set l j b) i a

@@ -6,18 +6,18 @@ use mathlib.Core.List.{List}
 use lib.ListN.{length}
 use lib.Seq.{sets}
 use Rattle.record_spec.specs.Numbers.{fours}
-use Rattle.record_spec.specs.Operations.{Operation}
+use Rattle.record_spec.specs.Operations.{Op}
 use Rattle.record_spec.specs.Files.{recordsOf, starts}
 use Rattle.record_spec.specs.Moves.{Moved as Answer}
 use Rattle.record_packs.specs.declared.Moved.{Moved}
 
 -- the operations are there, their records end at `start`, and there is room for the list after them
-abbrev pub Ready : Option (List Operation) → ℕ → ℕ → Type 0
+abbrev pub Ready : Option (List Op) → ℕ → ℕ → Type 0
 Ready none start room = ⊥
 Ready (some ops) start room = (length (recordsOf ops) ≡ start) × (start + 4 * length ops ≤ room)
 
 -- the records stand in front, and the list after them
-abbrev pub Filled : Option (List Operation) → List ℕ → ℕ → List ℕ → Type 0
+abbrev pub Filled : Option (List Op) → List ℕ → ℕ → List ℕ → Type 0
 Filled none out start out′ = Unit {0}
 Filled (some ops) out start out′ = out′ ≡ sets (sets out 0 (recordsOf ops)) start (fours (starts 0 ops))
 

@@ -1,8 +1,6 @@
 // A text moved to a file of records, into a lent slice: one pass tests and measures it, one writes. A text that does not move is FILE, a slice that is
 // too short SMALL, last; then the slice is as it was. Assumes nothing.
 use kinds::numbers;
-ghost use mathlib.Core.List.{_++_};
-ghost use mathlib.Core.Path.{_≡_};
 ghost use Prim.Native.Nat.{_+_, _*_, _≤_, _<_};
 ghost use lib.ListN.{length};
 ghost use Rattle.text_decimals.specs.Wrote.{Wrote};
@@ -40,7 +38,7 @@ fn fill(text: &[u8], out: &mut [u8], start: usize)
     let mut p: usize = 0;
     let mut entry = start;
     while from < text.len() {
-        let e = record_weights::line_end(text, from);
+        let e = text_fields::part_end(text, from, b'\n');
         let line = text_lines::read_line(&text[from..e], &mut serials);
         let next = record_puts::put_record(out, p, line, &serials);
         record_numbers::put_four(out, entry, p as u64);

@@ -2,15 +2,16 @@
 use Prim.Native.Nat.{ℕ, zero, suc, _+_, _*_, _^_, _≤_, _<_}
 use native.Mathlib.Omega.{arith}
 use mathlib.Core.Path.{_≡_, refl, sym, _∙_, ap, subst}
-use mathlib.Core.Option.{some, Option·some-injective}
+use mathlib.Core.Option.{Option·some-injective}
 use mathlib.Core.List.{List, [], _∷_, _++_, append-assoc}
 use lib.ListN.{length, take, drop, getD, length-append}
-use lib.Seq.{length-take-le, drop-cons, split-at, drop-append-seam, drop-at}
+use lib.Seq.{length-take-le, drop-cons, split-at, drop-append-seam}
+use Rattle.ledger_spec.specs.Operations.{C}
 use Rattle.record_spec.specs.Numbers.{Bytes, bytes, fours, number}
-use Rattle.record_spec.specs.Operations.{Operation, C}
+use Rattle.record_spec.specs.Operations.{Op}
 use Rattle.record_spec.specs.Records.{bytesOf, Writable}
 use Rattle.record_spec.specs.Reader.{recordIn}
-use Rattle.record_spec.specs.Files.{recordsOf, starts, trailer, fileOf, AllWritable, fileOps}
+use Rattle.record_spec.specs.Files.{recordsOf, starts, trailer, fileOf, AllWritable}
 use Rattle.record_spec.specs.Places.{at}
 use Rattle.record_spec.proofs.Numbers.{length-bytes, length-fours, number-back}
 use Rattle.record_spec.proofs.Records.{record-back}
@@ -31,24 +32,24 @@ at-of k pre n post h =
 
 -- ---- one of the operations
 
-writable-at : (ops : List Operation) (i : ℕ) (d : Operation) → AllWritable ops → i < length ops → Writable (getD ops i d)
+writable-at : (ops : List Op) (i : ℕ) (d : Op) → AllWritable ops → i < length ops → Writable (getD ops i d)
 writable-at [] i d h l = absurd (omega arith)
 writable-at (op ∷ ops) zero d h l = h .0
 writable-at (op ∷ ops) (suc i) d h l = writable-at ops i d (h .1) (omega arith)
 
-length-starts : (ops : List Operation) (from : ℕ) → length (starts from ops) ≡ length ops
+length-starts : (ops : List Op) (from : ℕ) → length (starts from ops) ≡ length ops
 unfolding starts
 length-starts [] from = refl
 length-starts (op ∷ ops) from = ap suc (length-starts ops (from + length (bytesOf op)))
 
-module _ (ops : List Operation) (i : ℕ) (l : i < length ops) where
-  op : Operation
+module _ (ops : List Op) (i : ℕ) (l : i < length ops) where
+  op : Op
   op = getD ops i (C 0)
 
-  before : List Operation
+  before : List Op
   before = take i ops
 
-  behind : List Operation
+  behind : List Op
   behind = drop (suc i) ops
 
   place : ℕ
@@ -69,7 +70,7 @@ module _ (ops : List Operation) (i : ℕ) (l : i < length ops) where
 
   starts-parts : fours (starts 0 ops) ≡ fours (starts 0 before) ++ (bytes 4 (0 + place) ++ later)
   unfolding starts fours later place
-  starts-parts = ap (λ (x : List Operation). fours (starts 0 x)) parts ∙ ap fours (starts-append before (op ∷ behind) 0) ∙ fours-append (starts 0 before) (starts (0 + length (recordsOf before)) (op ∷ behind))
+  starts-parts = ap (λ (x : List Op). fours (starts 0 x)) parts ∙ ap fours (starts-append before (op ∷ behind) 0) ∙ fours-append (starts 0 before) (starts (0 + length (recordsOf before)) (op ∷ behind))
 
   ending : List ℕ
   ending = trailer (length (recordsOf ops)) (length ops)
@@ -127,8 +128,8 @@ listed s list k h L p e ops w =
     let f = file-only s ops h w in
     let same : L .ops ≡ ops = Option·some-injective (L .ops) ops (sym (L .whole) ∙ w) in
     let q : p ≡ at 4 (fileOf ops) (length (recordsOf ops) + 4 * k) =
-    e ∙ (λ i. at 4 (f .0 i) ((L .starts ∙ ap (λ (x : List Operation). length (recordsOf x)) same) i + 4 * k)) in
-    let low : k < length ops = subst (λ (x : List Operation). k < length x) same (L .low) in
+    e ∙ (λ i. at 4 (f .0 i) ((L .starts ∙ ap (λ (x : List Op). length (recordsOf x)) same) i + 4 * k)) in
+    let low : k < length ops = subst (λ (x : List Op). k < length x) same (L .low) in
     subst (λ (x : List ℕ). Stands x ops k p) (sym (f .0)) (stands ops k low (f .1 .each) (omega (arith, f .1 .size)) p q)
 
 -- the entry stands before the trailer

@@ -1,5 +1,4 @@
 // Where a record starts, by the list of a file that is known to be whole: in constant time. Assumes nothing.
-ghost use Prim.Native.Nat.{_<_};
 ghost use Rattle.record_places.specs.Places.{Listed, Placed};
 
 // The start of record k, with the list at a place.

@@ -1,14 +1,14 @@
 -- A length's number in 8 bytes, where -1 - z stands for a z below 0, since -z need not fit. Assumes nothing.
-use Prim.Native.Nat.{ℕ, suc, _+_, _-_, _<_, _≤_}
+use Prim.Native.Nat.{ℕ, suc, _-_, _<_}
 use native.Mathlib.Omega.{arith}
-use mathlib.Core.Path.{_≡_, refl, sym, ap}
+use mathlib.Core.Path.{_≡_, refl, ap}
 use mathlib.Core.Bool.{true, false, true≢false}
 use lib.Dec.{T}
 use lib.Signed.{ltZ, nonNeg}
 use lib.IntN.{ℤ, pos, negsuc, natAbs, _-ℤ_}
 use borrow.Author.Tests.{ltb-true, le-ltb}
 use mir.Syntax.{w64}
-use mir.Val.{SFits, Fits, toZ, ofZ}
+use mir.Val.{SFits, Fits}
 use mir.Facts.{toZ-ofZ}
 use Rattle.text_decimals.proofs.Signs.{again}
 use Rattle.record_spec.specs.Numbers.{complement}

@@ -1,17 +1,18 @@
 -- Members written one by one: what is written and what is left make the whole; and each record from its parts. Assumes nothing.
-use Prim.Native.Nat.{ℕ, zero, suc, _+_, _-_, _*_, _≤_, _<_}
+use Prim.Native.Nat.{ℕ, suc, _+_, _-_, _*_, _≤_, _<_}
 use native.Mathlib.Omega.{arith}
 use mathlib.Core.Path.{_≡_, refl, sym, _∙_, ap}
-use mathlib.Core.List.{List, [], _∷_, _++_, append-assoc, map}
+use mathlib.Core.List.{List, [], _∷_, _++_, map}
 use lib.IntN.{ℤ}
-use lib.ListN.{length, take, drop, getD, length-append, length-map, length-drop}
-use lib.Seq.{sets, drop-cons, drop-length, length-take-le, getD-take}
+use lib.ListN.{length, drop, getD, length-append, length-map}
+use lib.Seq.{sets, drop-cons, drop-length}
 use Rattle.ledger_spec.specs.Bench.{State}
+use Rattle.ledger_spec.specs.Operations.{D, B, E, S, G, F, C, K}
 use Rattle.text_decimals.specs.Wrote.{Wrote}
 use Rattle.text_decimals.proofs.Writes.{sets-append}
 use Rattle.text_lines.specs.Texts.{letterOf}
 use Rattle.record_spec.specs.Numbers.{bytes, complement}
-use Rattle.record_spec.specs.Operations.{Member, itself, D, B, E, S, G, F, C, K}
+use Rattle.record_spec.specs.Operations.{itself}
 use Rattle.record_spec.specs.Records.{memberFields, fields, spelled, stateByte, bytesOf}
 use Rattle.record_spec.proofs.Numbers.{length-bytes}
 use Rattle.record_puts.specs.Puts.{headOf}

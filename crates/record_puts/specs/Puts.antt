@@ -3,10 +3,11 @@ use Prim.Native.Nat.{ℕ, _+_, _≤_}
 use mathlib.Core.List.{List, [], _++_, map}
 use lib.ListN.{length, take}
 use Rattle.ledger_spec.specs.Named.{stateNamed}
+use Rattle.ledger_spec.specs.Operations.{D, B, E, S, G, F, C, K}
 use Rattle.text_lines.specs.declared.Line.{Line}
 use Rattle.text_lines.specs.declared.Line.the-variants.{Defect, Blossom, Expand, SetState, Grow, Fuse, Clear, Check, Wrong}
 use Rattle.record_spec.specs.Numbers.{bytes}
-use Rattle.record_spec.specs.Operations.{itself, D, B, E, S, G, F, C, K}
+use Rattle.record_spec.specs.Operations.{itself}
 use Rattle.record_spec.specs.Records.{bytesOf}
 
 abbrev pub recordBy : Line → List ℕ → List ℕ

@@ -6,11 +6,11 @@ use mathlib.Core.Path.{_≡_, refl, sym, _∙_, ap}
 use mathlib.Core.Bool.{Bool, true, false}
 use mathlib.Core.Option.{Option, none, some, Option·some-ne-none, Option·some-injective}
 use mathlib.Core.List.{List}
-use lib.IntN.{ℤ}
 use lib.Dec.{ltb}
 use lib.ListN.{length, drop, getD, length-drop}
-use borrow.Author.Tests.{eq-eqb, ne-eqb}
+use borrow.Author.Tests.{ne-eqb}
 use Rattle.ledger_spec.specs.Bench.{State, grows, stays, shrinks}
+use Rattle.ledger_spec.specs.Operations.{D, B, E, S, G, F, C, K}
 use Rattle.kinds.specs.declared.GrowState.{GrowState}
 use Rattle.kinds.specs.declared.GrowState.the-variants.{Grow, Stay, Shrink}
 use Rattle.text_lines.specs.declared.Line.{Line}
@@ -18,7 +18,7 @@ use Rattle.text_lines.specs.declared.Line.the-variants.{SetState}
 use Rattle.text_lines.specs.Shown.{stateShown}
 use Rattle.group_lent.specs.Forms.{lengthOf}
 use Rattle.record_spec.specs.Numbers.{lengthIn}
-use Rattle.record_spec.specs.Operations.{Operation, D, B, E, S, G, F, C, K}
+use Rattle.record_spec.specs.Operations.{Op}
 use Rattle.record_spec.specs.Reader.{stateIn, rest, good, recordIn}
 use Rattle.record_spec.specs.Places.{at}
 use Rattle.record_measures.specs.Measures.{kept, membersAt}
@@ -70,7 +70,7 @@ state-known n g e = zero (ℕ-discrete n 0)
 
 -- ---- what is read is what stands there
 
-kept-only : (o : Option (Operation × List ℕ)) (op : Operation) (r : List ℕ) → kept o ≡ some (op, r) → o ≡ some (op, r)
+kept-only : (o : Option (Op × List ℕ)) (op : Op) (r : List ℕ) → kept o ≡ some (op, r) → o ≡ some (op, r)
 kept-only none op r e = absurd (Option·some-ne-none (op, r) (sym e ∙ kept-none none refl))
 kept-only (some x) op r e = go (good (x .0)) refl
   where
@@ -99,8 +99,8 @@ module _ (s : List ℕ) (p : ℕ) (R : Recorded s p) where
       ((λ i. kept (rest (sym (one-byte s p ∙ e) i) (sym (one-byte s (p + 1)) i) (drop (p + 2) s))) ∙ sym (opened s p two) ∙ R .read)
 
   -- an operation found there
-  same-op : (l : ℕ) → getD s p 0 ≡ l → (op : Operation) (r : List ℕ) → rest l unit (drop (p + 2) s) ≡ some (op, r) → R .op ≡ op
-  same-op l e op r q = ap (λ (x : Operation × List ℕ). x .0) (Option·some-injective (R .op, R .after) (op, r) (sym (rest-is l e) ∙ q))
+  same-op : (l : ℕ) → getD s p 0 ≡ l → (op : Op) (r : List ℕ) → rest l unit (drop (p + 2) s) ≡ some (op, r) → R .op ≡ op
+  same-op l e op r q = ap (λ (x : Op × List ℕ). x .0) (Option·some-injective (R .op, R .after) (op, r) (sym (rest-is l e) ∙ q))
 
   nothing-there : (l : ℕ) → getD s p 0 ≡ l → rest l unit (drop (p + 2) s) ≡ none → ⊥
   nothing-there l e q = Option·some-ne-none (R .op, R .after) (sym (rest-is l e) ∙ q)
@@ -113,7 +113,7 @@ module _ (s : List ℕ) (p : ℕ) (R : Recorded s p) where
       go (no n) = absurd (nothing-there l e (q (omega arith)))
 
   -- the line of what was found
-  pub line-is : (x : Line) (op : Operation) → R .op ≡ op → x ≡ lineOfRecord op → x ≡ lineFound (recordIn (drop p s))
+  pub line-is : (x : Line) (op : Op) → R .op ≡ op → x ≡ lineOfRecord op → x ≡ lineFound (recordIn (drop p s))
   line-is x op e q = q ∙ ap lineOfRecord (sym e) ∙ sym (ap lineFound (R .read))
 
   pub room-D : getD s p 0 ≡ 68 → p + 2 + 4 ≤ length s

@@ -10,19 +10,19 @@ use Rattle.kinds.specs.declared.GrowState.the-variants.{Grow as Grows, Stay, Sh
 use Rattle.text_lines.specs.declared.Line.{Line}
 use Rattle.text_lines.specs.declared.Line.the-variants.{SetState, Wrong}
 use Rattle.text_lines.specs.Shown.{lineShown}
-use Rattle.record_spec.specs.Operations.{Operation, lineSaid}
+use Rattle.record_spec.specs.Operations.{Op, lineSaid}
 use Rattle.record_spec.specs.Reader.{recordIn, pick}
 
 -- a record stands at place p
 pub record Recorded (s : List ℕ) (p : ℕ) : Type 0 where
-  pub op : Operation
+  pub op : Op
   pub after : List ℕ
   pub read : recordIn (drop p s) ≡ some (op, after)
 
-abbrev pub lineOfRecord : Operation → Line
+abbrev pub lineOfRecord : Op → Line
 lineOfRecord op = lineShown (lineSaid op)
 
-abbrev pub lineFound : Option (Operation × List ℕ) → Line
+abbrev pub lineFound : Option (Op × List ℕ) → Line
 lineFound none = Wrong
 lineFound (some x) = lineOfRecord (x .0)
 

@@ -1,17 +1,15 @@
 -- No second answer: two results that meet a run's contract have one number, one count, one bench, one slice. Assumes nothing.
 use Prim.Native.Nat.{ℕ}
-use mathlib.Core.Path.{_≡_, refl, sym, _∙_, ap}
+use mathlib.Core.Path.{_≡_, sym, _∙_, ap}
 use mathlib.Core.Bool.{Bool, true, false}
 use mathlib.Core.Option.{Option, none, some}
 use mathlib.Core.List.{List}
 use lib.IntN.{ℤ}
 use Rattle.bench_words.specs.Codec.{pick}
-use Rattle.bench_views.specs.View.{view}
-use Rattle.bench_views.specs.Fit.{SoundWords}
 use Rattle.bench_views.proofs.Unique.{words-same}
 use Rattle.bench_views.proofs.Fits.{fit-of}
 use Rattle.sound_bench.specs.Sound.{soundWords}
-use Rattle.record_spec.specs.Operations.{Operation}
+use Rattle.record_spec.specs.Operations.{Op}
 use Rattle.record_spec.specs.Files.{fileOps}
 use Rattle.record_says.specs.Runs.{Run}
 use Rattle.record_runs.specs.declared.Ran.{Ran as Said}
@@ -50,6 +48,6 @@ module _ (b file : List ℕ) (s : List ℤ) (r q : Said) (b′ b″ : List ℕ) 
       tested true x y = sound-once x y
       tested false x y = refused-once 2 b s r q b′ b″ s′ s″ x y
 
-      go : (o : Option (List Operation)) → RanOf o b file s r b′ s′ → RanOf o b file s q b″ s″ → Same r q b′ b″ s′ s″
+      go : (o : Option (List Op)) → RanOf o b file s r b′ s′ → RanOf o b file s q b″ s″ → Same r q b′ b″ s′ s″
       go none x y = refused-once 23 b s r q b′ b″ s′ s″ x y
       go (some ops) x y = tested (soundWords b) x y

@@ -1,7 +1,6 @@
 -- A run on lent words: what record_says has for the bench that they hold; BROKEN where they hold none, after FILE and before SMALL. Assumes nothing.
 use Prim.Native.Nat.{ℕ, _*_, _≤_}
 use mathlib.Core.Path.{_≡_}
-use mathlib.Core.Bool.{Bool}
 use mathlib.Core.Option.{Option, none, some}
 use mathlib.Core.List.{List, [], _∷_, _++_}
 use lib.IntN.{ℤ, pos}
@@ -12,7 +11,7 @@ use Rattle.bench_views.specs.View.{view}
 use Rattle.bench_views.specs.Fit.{SoundWords}
 use Rattle.sound_bench.specs.Sound.{soundWords}
 use Rattle.text_numbers.specs.declared.Reply.{Reply}
-use Rattle.record_spec.specs.Operations.{Operation}
+use Rattle.record_spec.specs.Operations.{Op}
 use Rattle.record_spec.specs.Files.{recordsOf, fileOps}
 use Rattle.record_says.specs.Says.{answersOps, afterOps}
 use Rattle.record_says.specs.Runs.{inFours, Run, runFile}
@@ -41,7 +40,7 @@ pub record Refused (number : ℕ) (b : List ℕ) (slice : List ℤ) (r : Said) (
   pub slices : slice′ ≡ slice
 
 -- on any words: FILE, then BROKEN, then what the run answers
-abbrev pub RanOf : Option (List Operation) → List ℕ → List ℕ → List ℤ → Said → List ℕ → List ℤ → Type 0
+abbrev pub RanOf : Option (List Op) → List ℕ → List ℕ → List ℤ → Said → List ℕ → List ℤ → Type 0
 RanOf none b file slice r b′ slice′ = Refused 23 b slice r b′ slice′
 RanOf (some ops) b file slice r b′ slice′ = pick (soundWords b) (Ran b file slice r b′ slice′) (Refused 2 b slice r b′ slice′)
 
@@ -50,18 +49,22 @@ RanAny b file slice r b′ slice′ = RanOf (fileOps file) b file slice r b′ s
 
 -- ---- inside a run
 
--- the file is whole, with its list at a place, as many records, and room for their answers
-pub record Ready (file : List ℕ) (list count room : ℕ) : Type 0 where
-  pub ops : List Operation
+-- the file is whole, with its list at a place, and as many records
+pub record Listing (file : List ℕ) (list count : ℕ) : Type 0 where
+  pub ops : List Op
   pub whole : fileOps file ≡ some ops
   pub starts : list ≡ length (recordsOf ops)
   pub many : count ≡ length ops
+
+-- and there is room for their answers
+pub record Ready (file : List ℕ) (list count room : ℕ) : Type 0 where
+  pub listing : Listing file list count
   pub fits : 4 * count ≤ room
 
-pub record AnswersOf (ops : List Operation) (b : List ℕ) (slice : List ℤ) (b′ : List ℕ) (slice′ : List ℤ) : Type 0 where
+pub record AnswersOf (ops : List Op) (b : List ℕ) (slice : List ℤ) (b′ : List ℕ) (slice′ : List ℤ) : Type 0 where
   pub words : SoundWords b′
   pub seen : view b′ ≡ afterOps (view b) ops
   pub slices : slice′ ≡ inFours (answersOps (view b) ops) ++ drop (4 * length ops) slice
 
 abbrev pub Answers : List ℕ → List ℕ → List ℤ → List ℕ → List ℤ → Type 0
-Answers b file slice b′ slice′ = (ops : List Operation) → fileOps file ≡ some ops → AnswersOf ops b slice b′ slice′
+Answers b file slice b′ slice′ = (ops : List Op) → fileOps file ≡ some ops → AnswersOf ops b slice b′ slice′

@@ -11,7 +11,7 @@ ghost use Prim.Native.Nat.{_+_, _*_, _≤_};
 ghost use lib.ListN.{length};
 ghost use lib.Seq.{sets};
 ghost use Rattle.bench_views.specs.Fit.{SoundWords};
-ghost use Rattle.record_runs.specs.Runs.{fourOf, Ready, Answers, Ran as «As-run», RanAny};
+ghost use Rattle.record_runs.specs.Runs.{fourOf, Listing, Ready, Answers, Ran as «As-run», RanAny};
 
 // A run's number, and how many operations it answered.
 pub struct Ran {
@@ -55,6 +55,24 @@ fn go(b: &mut [u64; WORDS], file: &[u8], list: usize, count: usize, answers: &mu
     }
 }
 
+// A file that is whole, with its list at a place, on words that hold a sound bench.
+fn run_whole(
+    b: &mut [u64; WORDS],
+    file: &[u8],
+    list: usize,
+    count: usize,
+    answers: &mut [i64],
+) -> Ran
+    requires { ⌜ SoundWords (now b) × Listing (now file) list count ⌝ }
+    ensures { λ r. ⌜ «As-run» (now (b .entry)) (now (file .entry)) (now (answers .entry)) r (now (b .exit)) (now (answers .exit)) ⌝ }
+{
+    if answers.len() / 4 < count {
+        return refused(numbers::SMALL);
+    }
+    go(b, file, list, count, answers);
+    Ran { number: 0, count }
+}
+
 // On words that hold a sound bench.
 pub fn run_sound(b: &mut [u64; WORDS], file: &[u8], answers: &mut [i64]) -> Ran
     requires { ⌜ SoundWords (now b) ⌝ }
@@ -64,12 +82,7 @@ pub fn run_sound(b: &mut [u64; WORDS], file: &[u8], answers: &mut [i64]) -> Ran
     if !scanned.whole {
         return refused(numbers::FILE);
     }
-    let count = scanned.count;
-    if answers.len() / 4 < count {
-        return refused(numbers::SMALL);
-    }
-    go(b, file, scanned.start, count, answers);
-    Ran { number: 0, count }
+    run_whole(b, file, scanned.start, scanned.count, answers)
 }
 
 // On any words.
@@ -83,10 +96,5 @@ pub fn run(b: &mut [u64; WORDS], file: &[u8], answers: &mut [i64]) -> Ran
     if !sound_lent::is_bench(b) {
         return refused(numbers::BROKEN);
     }
-    let count = scanned.count;
-    if answers.len() / 4 < count {
-        return refused(numbers::SMALL);
-    }
-    go(b, file, scanned.start, count, answers);
-    Ran { number: 0, count }
+    run_whole(b, file, scanned.start, scanned.count, answers)
 }

@@ -3,7 +3,7 @@ use Prim.Native.Nat.{ℕ}
 use mathlib.Core.Bool.{Bool, true, false, _&&_, _||_, true≢false}
 use mathlib.Core.Path.{_≡_, refl, sym, _∙_, ap}
 use mathlib.Core.Option.{Option, none, some}
-use mathlib.Core.List.{List, [], _∷_, _++_}
+use mathlib.Core.List.{List, [], _∷_}
 use lib.Dec.{eqb, leb}
 use lib.ListN.{length}
 use borrow.Author.Tests.{eqb-true}
@@ -15,7 +15,7 @@ use Rattle.ledger_spec.specs.Opening.{chosen}
 use Rattle.ledger_spec.specs.Program.{ended, linesOf}
 use Rattle.ledger_spec.specs.Opened.{run}
 use Rattle.ledger_spec.proofs.Knit.{none-some}
-use Rattle.record_spec.specs.Operations.{Operation, D, B, E, S, G, F, C, K, lineSaid, opOfLine, lineOfOp}
+use Rattle.record_spec.specs.Operations.{Op, lineSaid, opOfLine, lineOfOp}
 use Rattle.record_spec.specs.Files.{AllWritable, fileOf, largest}
 use Rattle.record_spec.specs.Moves.{opsOf, textOps, textOf, Moved, refused, written, toRecords}
 use Rattle.record_spec.proofs.Newlines.{line-free, cut-line}
@@ -50,28 +50,18 @@ chosen-wrong (a ∷ s ∷ d ∷ f ∷ l) m e = absurd (none-some refl e)
 
 -- ---- no operation has such a line
 
-said : (op : Operation) → isSome (opOfLine (lineSaid op)) ≡ true
-said (D u v) = refl
-said (B u ms) = refl
-said (E u k) = refl
-said (S u k g) = refl
-said (G u l) = refl
-said (F p l r) = refl
-said (C u) = refl
-said (K u) = refl
-
-line-unchosen : (op : Operation) → lineOf (lineOfOp op) ≡ lineSaid op → chosen (lineOfOp op) ≡ none
+line-unchosen : (op : Op) → lineOf (lineOfOp op) ≡ lineSaid op → chosen (lineOfOp op) ≡ none
 line-unchosen op h = go (chosen (lineOfOp op)) refl
   where
     go : (o : Option Bool) → chosen (lineOfOp op) ≡ o → o ≡ none
     go none e = refl
-    go (some m) e = absurd (true≢false (sym (said op) ∙ ap (λ (l : Line). isSome (opOfLine l)) (sym h ∙ chosen-wrong (lineOfOp op) m e)))
+    go (some m) e = absurd (none-some (chosen-wrong (lineOfOp op) m e) h)
 
 front : Fields → List ℕ
 front [] = []
 front (l ∷ ls) = l
 
-pub text-unchosen : (ops : List Operation) → AllWritable ops → chosen (upto 10 (textOf ops)) ≡ none
+pub text-unchosen : (ops : List Op) → AllWritable ops → chosen (upto 10 (textOf ops)) ≡ none
 unfolding textOf upto chosen front
 text-unchosen [] h = refl
 text-unchosen (op ∷ ops) h = ap (λ (ls : Fields). chosen (front ls)) (cut-line (lineOfOp op) (textOf ops) (line-free op)) ∙ line-unchosen op (line-reads op (h .0))
@@ -91,12 +81,12 @@ after-one : (l : Line) (ls : List Line) → opsOf ls ≡ none → opsOf (l ∷ l
 unfolding opsOf
 after-one l ls e = go (opOfLine l)
   where
-    go : (o : Option Operation) → _≡_ {A = Option (List Operation)} (elim o as (λ (u : Option Operation). Option (List Operation)) [
+    go : (o : Option Op) → _≡_ {A = Option (List Op)} (elim o as (λ (u : Option Op). Option (List Op)) [
       | none ↦ none
-      | some op ↦ elim (opsOf ls) as (λ (u : Option (List Operation)). Option (List Operation)) [ none ↦ none | some ops ↦ some (op ∷ ops) ]
+      | some op ↦ elim (opsOf ls) as (λ (u : Option (List Op)). Option (List Op)) [ none ↦ none | some ops ↦ some (op ∷ ops) ]
     ]) none
     go none = refl
-    go (some op) = ap (λ (r : Option (List Operation)). elim r as (λ (u : Option (List Operation)). Option (List Operation)) [ none ↦ none | some ops ↦ some (op ∷ ops) ]) e
+    go (some op) = ap (λ (r : Option (List Op)). elim r as (λ (u : Option (List Op)). Option (List Op)) [ none ↦ none | some ops ↦ some (op ∷ ops) ]) e
 
 unmoved : (ls : Fields) → choosing ls ≡ true → opsOf (ended ls) ≡ none
 unfolding ended choosing chosen
@@ -112,7 +102,7 @@ unmoved (l ∷ k ∷ ls) e = go (chosen l) refl e (unmoved (k ∷ ls))
 -- THEOREM. FILE for moving a text with an M, wherever it stands.
 pub m-is-file : (text out : List ℕ) → choosing (cut 10 text) ≡ true → toRecords text out ≡ refused FILE out
 unfolding toRecords textOps linesOf
-m-is-file text out e = ap (λ (r : Option (List Operation)). elim r as (λ (u : Option (List Operation)). Moved) [
+m-is-file text out e = ap (λ (r : Option (List Op)). elim r as (λ (u : Option (List Op)). Moved) [
   | none ↦ refused FILE out
   | some ops ↦ elim (leb (length (fileOf ops)) largest) as (λ (u : Bool). Moved) [ true ↦ written (fileOf ops) out | false ↦ refused FILE out ]
 ]) (unmoved (cut 10 text) e)

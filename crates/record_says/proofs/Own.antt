@@ -3,19 +3,19 @@ use Prim.Native.Nat.{ℕ}
 use mathlib.Core.Path.{_≡_, refl, sym, _∙_, ap}
 use mathlib.Core.Bool.{true, _&&_}
 use mathlib.Core.Option.{some}
-use mathlib.Core.List.{List, [], _∷_, _++_, map}
+use mathlib.Core.List.{List, [], _∷_, map}
 use lib.Dec.{eqb}
 use lib.IntN.{ℤ}
 use borrow.Author.Tests.{eqb-true}
 use Rattle.ledger_spec.specs.Bench.{Handle, Bench, setUp}
 use Rattle.ledger_spec.specs.Calls.{Blossom}
-use Rattle.ledger_spec.specs.Fields.{cut}
-use Rattle.ledger_spec.specs.Grammar.{Line, Fields, lineOf}
+use Rattle.ledger_spec.specs.Operations.{D, B, E, S, G, F, C, K}
+use Rattle.ledger_spec.specs.Grammar.{Line}
 use Rattle.ledger_spec.specs.Lines.{LineAnswer, named, calls, says}
 use Rattle.ledger_spec.specs.Program.{ended, linesOf, answers, afterLines, texts, program}
 use Rattle.ledger_spec.proofs.Openings.{program-lazy}
 use Rattle.record_spec.specs.Numbers.{Bytes}
-use Rattle.record_spec.specs.Operations.{Member, Operation, D, B, E, S, G, F, C, K, serialOf, lineSaid, lineOfOp, selves, self}
+use Rattle.record_spec.specs.Operations.{Member, Op, serialOf, lineSaid, lineOfOp, selves, self}
 use Rattle.record_spec.specs.Files.{AllWritable, fileOps}
 use Rattle.record_spec.specs.Moves.{textOps, textOf, allSelf}
 use Rattle.record_spec.proofs.Writable.{both}
@@ -41,7 +41,7 @@ pairs-named b (m ∷ ms) e =
     let y = both (eqb (m .first) (m .serial)) (eqb (m .second) (m .serial)) (x .0) in
     λ i. (named b (eqb-true (m .first) (m .serial) (y .0) i), named b (eqb-true (m .second) (m .serial) (y .1) i)) ∷ pairs-named b ms (x .1) i
 
-pub own-says : (b : Bench) (op : Operation) → self op ≡ true → saysOp b op ≡ says b (lineSaid op)
+pub own-says : (b : Bench) (op : Op) → self op ≡ true → saysOp b op ≡ says b (lineSaid op)
 unfolding saysOp says self
 own-says b (D u v) e = refl
 own-says b (B u ms) e =
@@ -55,11 +55,11 @@ own-says b (K u) e = refl
 
 -- ---- one after the other
 
-pub record AsLines (b : Bench) (ops : List Operation) (ls : List Line) : Type 0 where
+pub record AsLines (b : Bench) (ops : List Op) (ls : List Line) : Type 0 where
   pub answers : answersOps b ops ≡ answers b ls
   pub bench : afterOps b ops ≡ afterLines b ls
 
-pub own-lines : (b : Bench) (ops : List Operation) → allSelf ops ≡ true → AsLines b ops (map lineSaid ops)
+pub own-lines : (b : Bench) (ops : List Op) → allSelf ops ≡ true → AsLines b ops (map lineSaid ops)
 unfolding answersOps afterOps answers afterLines allSelf
 own-lines b [] e = record { answers = refl; bench = refl }
 own-lines b (op ∷ ops) e =
@@ -73,7 +73,7 @@ own-lines b (op ∷ ops) e =
 
 -- ---- the text
 
-pub text-lines : (ops : List Operation) → AllWritable ops → linesOf (textOf ops) ≡ map lineSaid ops
+pub text-lines : (ops : List Op) → AllWritable ops → linesOf (textOf ops) ≡ map lineSaid ops
 unfolding linesOf ended textOf
 text-lines [] h = ap ended cut-none
 text-lines (op ∷ ops) h =
@@ -81,15 +81,15 @@ text-lines (op ∷ ops) h =
     ∙ (λ i. line-reads op (h .0) i ∷ text-lines ops (h .1) i)
 
 -- a file that moves back is run as its text is
-pub file-as-text : (b : Bench) (f : List ℕ) (ops : List Operation) → Bytes f → fileOps f ≡ some ops → allSelf ops ≡ true → AsLines b ops (linesOf (textOf ops))
+pub file-as-text : (b : Bench) (f : List ℕ) (ops : List Op) → Bytes f → fileOps f ≡ some ops → allSelf ops ≡ true → AsLines b ops (linesOf (textOf ops))
 file-as-text b f ops h e o = rw (text-lines ops (file-only f ops h e .1 .each)) (own-lines b ops o)
 
 -- a text that moves to records is answered as they are
-pub text-as-file : (b : Bench) (t : List ℕ) (ops : List Operation) → textOps t ≡ some ops → AsLines b ops (linesOf t)
+pub text-as-file : (b : Bench) (t : List ℕ) (ops : List Op) → textOps t ≡ some ops → AsLines b ops (linesOf t)
 text-as-file b t ops e =
     let x = text-only t ops e in
     rw (x .are, text-lines ops (x .each)) (own-lines b ops (x .own))
 
 -- the text program on the moved-back file writes the run's answers: no line that an operation has chooses an engine
-pub program-as-run : (f : List ℕ) (ops : List Operation) → Bytes f → fileOps f ≡ some ops → allSelf ops ≡ true → program (textOf ops) ≡ texts (answersOps (setUp 1) ops)
+pub program-as-run : (f : List ℕ) (ops : List Op) → Bytes f → fileOps f ≡ some ops → allSelf ops ≡ true → program (textOf ops) ≡ texts (answersOps (setUp 1) ops)
 program-as-run f ops h e o = program-lazy (textOf ops) (text-unchosen ops (file-only f ops h e .1 .each)) ∙ ap texts (sym (file-as-text (setUp 1) f ops h e o .answers))

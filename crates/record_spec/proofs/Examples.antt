@@ -8,12 +8,13 @@ use mathlib.Core.List.{List, [], _∷_, _++_}
 use lib.ListN.{replicate}
 use Rattle.ledger_spec.specs.Decimals.{digits, decimal, signed, afterDigits, natural, between, integer}
 use Rattle.ledger_spec.specs.Fields.{upto, partsAfter}
+use Rattle.ledger_spec.specs.Operations.{B, K}
 use Rattle.ledger_spec.specs.Grammar.{step, allSerials, rest as lineRest, lineOf}
 use Rattle.ledger_spec.specs.Program.{ended, linesOf}
 use Rattle.ledger_spec.specs.Bytes.{bytes as text}
 use Rattle.text_lines.specs.Texts.{spaced, fieldsOf, letterOf}
 use Rattle.record_spec.specs.Numbers.{bytes, fours, number, foursIn, complement, lengthIn}
-use Rattle.record_spec.specs.Operations.{Operation, B, K, itself, selves, self}
+use Rattle.record_spec.specs.Operations.{Op, itself, selves, self}
 use Rattle.record_spec.specs.Records.{memberFields, fields, spelled, bytesOf}
 use Rattle.record_spec.specs.Reader.{stateIn, membersIn, rest, membersGood, serialsGood, good, recordIn}
 use Rattle.record_spec.specs.Files.{mark, recordsOf, starts, trailer, fileOf, recordsIn, fitting, fileOps}
@@ -59,7 +60,7 @@ empty : fileOf [] ≡ 0 ∷ 0 ∷ 0 ∷ 0 ∷ 0 ∷ 0 ∷ 0 ∷ 0 ∷ 0 ∷ 0 �
 unfolding fileOf recordsOf starts trailer fours bytes text
 empty = refl
 
-abbrev pair : ℕ → Operation
+abbrev pair : ℕ → Op
 pair n = B 0 (itself 7 ∷ record { serial = 1; first = 1; second = n } ∷ [])
 
 -- a pair that is not the member; a serial 0 in a pair, and after a record that is SELF

@@ -15,20 +15,21 @@ use Rattle.text_decimals.proofs.Back.{read-back, number-back}
 use Rattle.text_decimals.proofs.Values.{between-low}
 use Rattle.ledger_spec.specs.Bench.{rate}
 use Rattle.ledger_spec.specs.Decimals.{decimal, signed, between}
-use Rattle.ledger_spec.specs.Grammar.{Line, wrong, Fields, aUnit, aSerial, aState, letter, follow, then, noMore, allSerials, gathered, rest, lineOf, E as lineE, S as lineS}
+use Rattle.ledger_spec.specs.Operations.{D, B, E, S, G, F, C, K}
+use Rattle.ledger_spec.specs.Grammar.{Line, wrong, Fields, aUnit, aSerial, aState, letter, follow, then, noMore, allSerials, gathered, rest, lineOf}
 use Rattle.text_fields.proofs.Steps.{step-some, step-none}
 use Rattle.text_lines.specs.Texts.{spaced, letterOf, fieldsOf, Fit}
 use Rattle.text_lines.proofs.Spaces.{AllFree, free-decimal, free-signed, cut-spaced}
 use Rattle.text_lines.proofs.Serials.{before, serials-bad, serials-cons}
 use Rattle.text_lines.proofs.Texts.{text-reads}
 use Rattle.text_lines.proofs.Whole.{line-long, line-short}
-use Rattle.record_spec.specs.Operations.{Member, Operation, D, B, E, S, G, F, C, K, serialOf, lineSaid, lineOfOp}
+use Rattle.record_spec.specs.Operations.{Member, Op, serialOf, lineSaid, lineOfOp}
 use Rattle.record_spec.specs.Records.{Pairs, PairsOf, Writable}
 use Rattle.record_spec.specs.Reader.{membersGood, serialsGood, good}
 use Rattle.record_spec.proofs.Writable.{joined, Words, Held, good-writable}
 
 -- the line of a writable operation says the operation
-pub line-reads : (op : Operation) → Writable op → lineOf (lineOfOp op) ≡ lineSaid op
+pub line-reads : (op : Op) → Writable op → lineOf (lineOfOp op) ≡ lineSaid op
 line-reads op w = text-reads (lineSaid op) (w .fit) (w .short)
 
 -- ---- a line after letter and unit
@@ -68,7 +69,7 @@ all-free : (ns : List ℕ) → AllFree (map decimal ns)
 all-free [] = tt
 all-free (n ∷ ns) = (free-decimal n, all-free ns)
 
-serials-wrong : (op : Operation) → Held op → PairsOf op → length (lineOfOp op) ≤ 1023 → serialsGood op ≡ false → lineOf (lineOfOp op) ≡ wrong
+serials-wrong : (op : Op) → Held op → PairsOf op → length (lineOfOp op) ≤ 1023 → serialsGood op ≡ false → lineOf (lineOfOp op) ≡ wrong
 unfolding serialsGood letterOf fieldsOf rest
 serials-wrong (D u v) h p s e = absurd (true≢false e)
 serials-wrong (B u []) h p s e = opened 66 u [] (λ x. omega arith) tt (omega (arith, h .0)) s
@@ -77,10 +78,10 @@ serials-wrong (B u (m ∷ ms)) h p s e =
     ∙ ap (gathered u) (serials-zero (m ∷ ms) (h .2) p (rw (le-leb 1 (suc (length ms)) (omega arith)) at e))
 serials-wrong (E u k) h p s e =
     opened 69 u (decimal k ∷ []) (λ x. omega arith) (free-decimal k, tt) (omega (arith, h .0)) s
-    ∙ stops aSerial (λ n. noMore (lineE u n)) (decimal k) [] (serial-zero k (leb-false 1 k e))
+    ∙ stops aSerial (λ n. noMore (some (E u n))) (decimal k) [] (serial-zero k (leb-false 1 k e))
 serials-wrong (S u k g) h p s e =
     opened 83 u (decimal k ∷ signed (rate g) ∷ []) (λ x. omega arith) (free-decimal k, (free-signed (rate g), tt)) (omega (arith, h .0)) s
-    ∙ stops aSerial (λ n. then aState (λ y. noMore (lineS u n y))) (decimal k) (signed (rate g) ∷ []) (serial-zero k (leb-false 1 k e))
+    ∙ stops aSerial (λ n. then aState (λ y. noMore (some (S u n y)))) (decimal k) (signed (rate g) ∷ []) (serial-zero k (leb-false 1 k e))
 serials-wrong (G u l) h p s e = absurd (true≢false e)
 serials-wrong (F q l r) h p s e = absurd (true≢false e)
 serials-wrong (C u) h p s e = absurd (true≢false e)
@@ -88,7 +89,7 @@ serials-wrong (K u) h p s e = absurd (true≢false e)
 
 -- ---- both ways
 
-pub good-exactly : (op : Operation) → Held op → PairsOf op → (good op ≡ true) ↔ (lineOf (lineOfOp op) ≡ wrong → ⊥)
+pub good-exactly : (op : Op) → Held op → PairsOf op → (good op ≡ true) ↔ (lineOf (lineOfOp op) ≡ wrong → ⊥)
 unfolding good
 good-exactly op h p =
     ((λ g e. let w = good-writable op h g in subst Fit (sym (line-reads op w) ∙ e) (w .fit)), (λ n. short n (decLe (length (lineOfOp op)) 1023)))

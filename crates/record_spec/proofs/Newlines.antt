@@ -10,10 +10,11 @@ use Rattle.text_decimals.proofs.Digits.{decimal-small, decimal-more}
 use Rattle.ledger_spec.specs.Bench.{rate}
 use Rattle.ledger_spec.specs.Decimals.{decimal, signed}
 use Rattle.ledger_spec.specs.Fields.{upto, partsAfter, cut}
+use Rattle.ledger_spec.specs.Operations.{D, B, E, S, G, F, C, K}
 use Rattle.ledger_spec.specs.Grammar.{Fields}
 use Rattle.text_fields.proofs.Cuts.{upto-none, upto-here, upto-on, after-none, after-here, after-on}
 use Rattle.text_lines.specs.Texts.{spaced, letterOf, fieldsOf}
-use Rattle.record_spec.specs.Operations.{Operation, D, B, E, S, G, F, C, K, serialOf, lineSaid, lineOfOp}
+use Rattle.record_spec.specs.Operations.{Op, serialOf, lineSaid, lineOfOp}
 
 -- ---- no newline
 
@@ -25,7 +26,7 @@ abbrev AllFree : Fields → Type 0
 AllFree [] = Unit {0}
 AllFree (f ∷ fs) = Free f × AllFree fs
 
-pub free-append : (a b : List ℕ) → Free a → Free b → Free (a ++ b)
+free-append : (a b : List ℕ) → Free a → Free b → Free (a ++ b)
 free-append [] b p q = q
 free-append (c ∷ a) b p q = (p .0, free-append a b (p .1) q)
 
@@ -57,7 +58,7 @@ unfolding spaced
 spaced-free f [] p q = p
 spaced-free f (g ∷ fs) p q = free-append f (32 ∷ spaced g fs) p (λ h. omega arith, spaced-free g fs (q .0) (q .1))
 
-letter-free : (op : Operation) → Free (letterOf (lineSaid op))
+letter-free : (op : Op) → Free (letterOf (lineSaid op))
 unfolding letterOf
 letter-free (D u v) = (λ h. omega arith, tt)
 letter-free (B u ms) = (λ h. omega arith, tt)
@@ -68,7 +69,7 @@ letter-free (F p l r) = (λ h. omega arith, tt)
 letter-free (C u) = (λ h. omega arith, tt)
 letter-free (K u) = (λ h. omega arith, tt)
 
-fields-free : (op : Operation) → AllFree (fieldsOf (lineSaid op))
+fields-free : (op : Op) → AllFree (fieldsOf (lineSaid op))
 unfolding fieldsOf
 fields-free (D u v) = (number-free u, (number-free v, tt))
 fields-free (B u ms) = (number-free u, numbers-free (map serialOf ms))
@@ -79,7 +80,7 @@ fields-free (F p l r) = (number-free p, (number-free l, (number-free r, tt)))
 fields-free (C u) = (number-free u, tt)
 fields-free (K u) = (number-free u, tt)
 
-pub line-free : (op : Operation) → Free (lineOfOp op)
+pub line-free : (op : Op) → Free (lineOfOp op)
 line-free op = spaced-free (letterOf (lineSaid op)) (fieldsOf (lineSaid op)) (letter-free op) (fields-free op)
 
 -- ---- joined and cut

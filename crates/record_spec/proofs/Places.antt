@@ -9,7 +9,7 @@ use lib.ListN.{length, take, drop, getD, length-append, length-drop}
 use lib.Seq.{drop-cons, drop-at}
 use borrow.Author.Tests.{ne-eqb, eq-eqb}
 use Rattle.record_spec.specs.Numbers.{Bytes, then, number, foursIn}
-use Rattle.record_spec.specs.Operations.{Operation}
+use Rattle.record_spec.specs.Operations.{Op}
 use Rattle.record_spec.specs.Records.{bytesOf}
 use Rattle.record_spec.specs.Reader.{recordIn}
 use Rattle.record_spec.specs.Files.{recordsIn, fitting, fileOps}
@@ -46,7 +46,7 @@ fours-at (suc n) s p h =
 
 -- ---- a record: what is left stands at the place after it
 
-pub record-ends : (s : List ℕ) (op : Operation) (r : List ℕ) → Bytes s → recordIn s ≡ some (op, r)
+pub record-ends : (s : List ℕ) (op : Op) (r : List ℕ) → Bytes s → recordIn s ≡ some (op, r)
     → (r ≡ drop (length (bytesOf op)) s) × (length (bytesOf op) ≤ length s)
 record-ends s op r h e =
     let a = record-only s op r h e in (
@@ -57,7 +57,7 @@ record-ends s op r h e =
 -- ---- the records: a step of the loop, and each way to stop
 
 module _ (t : List ℕ) (p : ℕ) (places : List ℕ) where
-  pub loop-step : (op : Operation) → recordIn (drop p t) ≡ some (op, drop (p + length (bytesOf op)) t)
+  pub loop-step : (op : Op) → recordIn (drop p t) ≡ some (op, drop (p + length (bytesOf op)) t)
       → recordsIn p (p ∷ places) (drop p t) ≡ onto op (recordsIn (p + length (bytesOf op)) places (drop (p + length (bytesOf op)) t))
   loop-step op e = records-step p places (drop p t) (drop (p + length (bytesOf op)) t) op e
 
@@ -92,7 +92,7 @@ pub file-short : (s : List ℕ) → length s < 16 → fileOps s ≡ none
 unfolding fileOps
 file-short s h = go (fileOps s) refl
   where
-    go : (o : Option (List Operation)) → fileOps s ≡ o → fileOps s ≡ none
+    go : (o : Option (List Op)) → fileOps s ≡ o → fileOps s ≡ none
     go none e = e
     go (some ops) e =
         let a = then-only (number 4 (drop (length s - 16) s)) (λ x t. then (number 4 t) (λ y v. then (number 4 v) (λ z w. then (number 4 w) (λ o r. inside s x y z o)))) ops e in

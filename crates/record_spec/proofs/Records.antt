@@ -9,9 +9,10 @@ use mathlib.Core.List.{List, [], _∷_, _++_, append-assoc}
 use lib.ListN.{length}
 use borrow.Author.Tests.{ne-eqb}
 use Rattle.ledger_spec.specs.Bench.{State, grows, stays, shrinks}
+use Rattle.ledger_spec.specs.Operations.{D, B, E, S, G, F, C, K}
 use Rattle.text_lines.specs.Texts.{letterOf}
 use Rattle.record_spec.specs.Numbers.{Bytes, bytes, then, number, complement, lengthIn}
-use Rattle.record_spec.specs.Operations.{Member, Operation, D, B, E, S, G, F, C, K, lineSaid}
+use Rattle.record_spec.specs.Operations.{Member, Op, lineSaid}
 use Rattle.record_spec.specs.Records.{stateByte, memberFields, fields, spelled, bytesOf, Writable}
 use Rattle.record_spec.specs.Reader.{stateIn, membersIn, rest, good, recordIn}
 use Rattle.record_spec.proofs.Numbers.{then-only, then-back, same-value, same-after, number-back, number-only, length-back, complement-small, length-only}
@@ -124,7 +125,7 @@ members-only (suc n) s ms r h e =
 -- ---- written, then read
 
 -- after the letter and the unit
-from-rest : (c u : ℕ) (fs : List (ℕ × ℕ)) (op : Operation) (r : List ℕ)
+from-rest : (c u : ℕ) (fs : List (ℕ × ℕ)) (op : Op) (r : List ℕ)
     → u < 256 → good op ≡ true → rest c u (spelled fs ++ r) ≡ some (op, r) → recordIn (c ∷ (spelled ((1, u) ∷ fs) ++ r)) ≡ some (op, r)
 unfolding recordIn
 from-rest c u fs op r h g e =
@@ -134,10 +135,10 @@ from-rest c u fs op r h g e =
     ∙ then-back (rest c u (spelled fs ++ r)) kept op r e
     ∙ rw g
   where
-    kept : Operation → List ℕ → Option (Operation × List ℕ)
+    kept : Op → List ℕ → Option (Op × List ℕ)
     kept o q = elim (good o) [ true ↦ some (o, q) | false ↦ none ]
 
-written-read : (op : Operation) (r : List ℕ) → Held op → good op ≡ true → recordIn (bytesOf op ++ r) ≡ some (op, r)
+written-read : (op : Op) (r : List ℕ) → Held op → good op ≡ true → recordIn (bytesOf op ++ r) ≡ some (op, r)
 unfolding bytesOf letterOf fields rest spelled
 written-read (D u v) r h g =
     from-rest 68 u ((4, v) ∷ []) (D u v) r (h .0) g (then-back (number 4 (spelled ((4, v) ∷ []) ++ r)) (λ x q. some (D u x, q)) v r (next 4 v [] r (h .1)))
@@ -173,23 +174,23 @@ written-read (F p a b) r h g =
 written-read (C u) r h g = from-rest 67 u [] (C u) r h g refl
 written-read (K u) r h g = from-rest 75 u [] (K u) r h g refl
 
-pub record-back : (op : Operation) (r : List ℕ) → Writable op → recordIn (bytesOf op ++ r) ≡ some (op, r)
+pub record-back : (op : Op) (r : List ℕ) → Writable op → recordIn (bytesOf op ++ r) ≡ some (op, r)
 record-back op r w = written-read op r (writable-held op w) (writable-good op w)
 
 -- ---- read, then written
 
-record Rest (c u : ℕ) (s : List ℕ) (op : Operation) (r : List ℕ) : Type 0 where
+record Rest (c u : ℕ) (s : List ℕ) (op : Op) (r : List ℕ) : Type 0 where
   letters : letterOf (lineSaid op) ≡ c ∷ []
   are : (t : List ℕ) → t ≡ bytes 1 u ++ s → t ≡ spelled (fields op) ++ r
   held : u < 256 → Held op
   left : Bytes r
 
-module _ (c u : ℕ) (s : List ℕ) (op : Operation) (r : List ℕ) (h : Bytes s) where
+module _ (c u : ℕ) (s : List ℕ) (op : Op) (r : List ℕ) (h : Bytes s) where
   -- the operation found, and the bytes after it
-  found : (o : Operation) (q : List ℕ) → Rest c u s o q → _≡_ {A = Option (Operation × List ℕ)} (some (o, q)) (some (op, r)) → Rest c u s op r
-  found o q x e = subst (λ (p : Operation × List ℕ). Rest c u s (p .0) (p .1)) (Option·some-injective (o, q) (op, r) e) x
+  found : (o : Op) (q : List ℕ) → Rest c u s o q → _≡_ {A = Option (Op × List ℕ)} (some (o, q)) (some (op, r)) → Rest c u s op r
+  found o q x e = subst (λ (p : Op × List ℕ). Rest c u s (p .0) (p .1)) (Option·some-injective (o, q) (op, r) e) x
 
-  only-D : c ≡ 68 → then {B = Operation × List ℕ} (number 4 s) (λ v q. some (D u v, q)) ≡ some (op, r) → Rest c u s op r
+  only-D : c ≡ 68 → then {B = Op × List ℕ} (number 4 s) (λ v q. some (D u v, q)) ≡ some (op, r) → Rest c u s op r
   unfolding letterOf fields
   only-D p e =
       let a = then-only (number 4 s) (λ v q. some (D u v, q)) (op, r) e in
@@ -201,7 +202,7 @@ module _ (c u : ℕ) (s : List ℕ) (op : Operation) (r : List ℕ) (h : Bytes s
         left = x .left;
       }) (a .goes)
 
-  only-B : c ≡ 66 → then {B = Operation × List ℕ} (number 2 s) (λ n t. then (membersIn n t) (λ ms q. some (B u ms, q))) ≡ some (op, r) → Rest c u s op r
+  only-B : c ≡ 66 → then {B = Op × List ℕ} (number 2 s) (λ n t. then (membersIn n t) (λ ms q. some (B u ms, q))) ≡ some (op, r) → Rest c u s op r
   unfolding letterOf fields
   only-B p e =
       let a = then-only (number 2 s) (λ n t. then (membersIn n t) (λ ms q. some (B u ms, q))) (op, r) e in
@@ -218,7 +219,7 @@ module _ (c u : ℕ) (s : List ℕ) (op : Operation) (r : List ℕ) (h : Bytes s
         left = y .left;
       }) (b .goes)
 
-  only-E : c ≡ 69 → then {B = Operation × List ℕ} (number 4 s) (λ k q. some (E u k, q)) ≡ some (op, r) → Rest c u s op r
+  only-E : c ≡ 69 → then {B = Op × List ℕ} (number 4 s) (λ k q. some (E u k, q)) ≡ some (op, r) → Rest c u s op r
   unfolding letterOf fields
   only-E p e =
       let a = then-only (number 4 s) (λ k q. some (E u k, q)) (op, r) e in
@@ -230,7 +231,7 @@ module _ (c u : ℕ) (s : List ℕ) (op : Operation) (r : List ℕ) (h : Bytes s
         left = x .left;
       }) (a .goes)
 
-  only-S : c ≡ 83 → then {B = Operation × List ℕ} (number 4 s) (λ k t. then (number 1 t) (λ n q. elim (stateIn n) [ none ↦ none | some g ↦ some (S u k g, q) ])) ≡ some (op, r) → Rest c u s op r
+  only-S : c ≡ 83 → then {B = Op × List ℕ} (number 4 s) (λ k t. then (number 1 t) (λ n q. elim (stateIn n) [ none ↦ none | some g ↦ some (S u k g, q) ])) ≡ some (op, r) → Rest c u s op r
   unfolding letterOf fields
   only-S p e =
       let a = then-only (number 4 s) (λ k t. then (number 1 t) (λ n q. elim (stateIn n) [ none ↦ none | some g ↦ some (S u k g, q) ])) (op, r) e in
@@ -238,7 +239,7 @@ module _ (c u : ℕ) (s : List ℕ) (op : Operation) (r : List ℕ) (h : Bytes s
       go (a .value) (a .after) (b .value) (b .after) (a .read) (b .read) (stateIn (b .value)) refl (b .goes)
     where
       go : (k : ℕ) (t : List ℕ) (n : ℕ) (q : List ℕ) → number 4 s ≡ some (k, t) → number 1 t ≡ some (n, q)
-          → (o : Option State) → stateIn n ≡ o → _≡_ {A = Option (Operation × List ℕ)} (elim o [ none ↦ none | some g ↦ some (S u k g, q) ]) (some (op, r)) → Rest c u s op r
+          → (o : Option State) → stateIn n ≡ o → _≡_ {A = Option (Op × List ℕ)} (elim o [ none ↦ none | some g ↦ some (S u k g, q) ]) (some (op, r)) → Rest c u s op r
       go k t n q e f none i j = absurd (Option·some-ne-none (op, r) (sym j))
       go k t n q e f (some g) i j =
           let x = number-only 4 s k t h e in
@@ -251,7 +252,7 @@ module _ (c u : ℕ) (s : List ℕ) (op : Operation) (r : List ℕ) (h : Bytes s
             left = y .left;
           }) j
 
-  only-G : c ≡ 71 → then {B = Operation × List ℕ} (number 8 s) (λ n q. some (G u (lengthIn n), q)) ≡ some (op, r) → Rest c u s op r
+  only-G : c ≡ 71 → then {B = Op × List ℕ} (number 8 s) (λ n q. some (G u (lengthIn n), q)) ≡ some (op, r) → Rest c u s op r
   unfolding letterOf fields
   only-G p e =
       let a = then-only (number 8 s) (λ n q. some (G u (lengthIn n), q)) (op, r) e in
@@ -265,7 +266,7 @@ module _ (c u : ℕ) (s : List ℕ) (op : Operation) (r : List ℕ) (h : Bytes s
         left = x .left;
       }) (a .goes)
 
-  only-F : c ≡ 70 → then {B = Operation × List ℕ} (number 1 s) (λ a t. then (number 1 t) (λ b q. some (F u a b, q))) ≡ some (op, r) → Rest c u s op r
+  only-F : c ≡ 70 → then {B = Op × List ℕ} (number 1 s) (λ a t. then (number 1 t) (λ b q. some (F u a b, q))) ≡ some (op, r) → Rest c u s op r
   unfolding letterOf fields
   only-F p e =
       let a = then-only (number 1 s) (λ a t. then (number 1 t) (λ b q. some (F u a b, q))) (op, r) e in
@@ -280,11 +281,11 @@ module _ (c u : ℕ) (s : List ℕ) (op : Operation) (r : List ℕ) (h : Bytes s
         left = y .left;
       }) (b .goes)
 
-  only-C : c ≡ 67 → _≡_ {A = Option (Operation × List ℕ)} (some (C u, s)) (some (op, r)) → Rest c u s op r
+  only-C : c ≡ 67 → _≡_ {A = Option (Op × List ℕ)} (some (C u, s)) (some (op, r)) → Rest c u s op r
   unfolding letterOf fields
   only-C p e = found (C u) s (record { letters = ap (λ (d : ℕ). d ∷ []) (sym p); are = λ t z. spell 1 u [] t s s z (spell-end s); held = λ z. z; left = h }) e
 
-  only-K : c ≡ 75 → _≡_ {A = Option (Operation × List ℕ)} (some (K u, s)) (some (op, r)) → Rest c u s op r
+  only-K : c ≡ 75 → _≡_ {A = Option (Op × List ℕ)} (some (K u, s)) (some (op, r)) → Rest c u s op r
   unfolding letterOf fields
   only-K p e = found (K u) s (record { letters = ap (λ (d : ℕ). d ∷ []) (sym p); are = λ t z. spell 1 u [] t s s z (spell-end s); held = λ z. z; left = h }) e
 
@@ -327,12 +328,12 @@ module _ (c u : ℕ) (s : List ℕ) (op : Operation) (r : List ℕ) (h : Bytes s
       go-D (no p) = go-B p (ℕ-discrete c 66)
 
 -- bytes that begin with a record
-pub record Found (s : List ℕ) (op : Operation) (r : List ℕ) : Type 0 where
+pub record Found (s : List ℕ) (op : Op) (r : List ℕ) : Type 0 where
   pub are : s ≡ bytesOf op ++ r
   pub writable : Writable op
   pub left : Bytes r
 
-pub record-only : (s : List ℕ) (op : Operation) (r : List ℕ) → Bytes s → recordIn s ≡ some (op, r) → Found s op r
+pub record-only : (s : List ℕ) (op : Op) (r : List ℕ) → Bytes s → recordIn s ≡ some (op, r) → Found s op r
 unfolding recordIn bytesOf
 record-only s op r h e =
     let a = then-only (number 1 s) (λ c t. then (number 1 t) (λ u v. then (rest c u v) kept)) (op, r) e in
@@ -340,17 +341,17 @@ record-only s op r h e =
     let c = then-only (rest (a .value) (b .value) (b .after)) kept (op, r) (b .goes) in
     go (a .value) (a .after) (b .value) (b .after) (c .value) (c .after) (a .read) (b .read) (c .read) (good (c .value)) refl (c .goes)
   where
-    kept : Operation → List ℕ → Option (Operation × List ℕ)
+    kept : Op → List ℕ → Option (Op × List ℕ)
     kept o q = elim (good o) [ true ↦ some (o, q) | false ↦ none ]
 
-    go : (c : ℕ) (t : List ℕ) (u : ℕ) (v : List ℕ) (o : Operation) (q : List ℕ) → number 1 s ≡ some (c, t) → number 1 t ≡ some (u, v) → rest c u v ≡ some (o, q)
-        → (g : Bool) → good o ≡ g → _≡_ {A = Option (Operation × List ℕ)} (elim g [ true ↦ some (o, q) | false ↦ none ]) (some (op, r)) → Found s op r
+    go : (c : ℕ) (t : List ℕ) (u : ℕ) (v : List ℕ) (o : Op) (q : List ℕ) → number 1 s ≡ some (c, t) → number 1 t ≡ some (u, v) → rest c u v ≡ some (o, q)
+        → (g : Bool) → good o ≡ g → _≡_ {A = Option (Op × List ℕ)} (elim g [ true ↦ some (o, q) | false ↦ none ]) (some (op, r)) → Found s op r
     go c t u v o q i j k false m n = absurd (Option·some-ne-none (op, r) (sym n))
     go c t u v o q i j k true m n =
         let x = number-only 1 s c t h i in
         let y = number-only 1 t u v (x .left) j in
         let z = rest-only c u v o q (y .left) k in
-        subst (λ (p : Operation × List ℕ). Found s (p .0) (p .1)) (Option·some-injective (o, q) (op, r) n) (record {
+        subst (λ (p : Op × List ℕ). Found s (p .0) (p .1)) (Option·some-injective (o, q) (op, r) n) (record {
           are = one-only c s c t i ∙ ap (λ (l : List ℕ). c ∷ l) (z .are t (y .are)) ∙ ap (λ (l : List ℕ). (l ++ spelled (fields o)) ++ q) (sym (z .letters));
           writable = good-writable o (z .held (y .small)) m;
           left = z .left;

@@ -9,9 +9,10 @@ use borrow.Author.Tests.{le-leb}
 use Rattle.text_decimals.proofs.Widths.{width, signed-width}
 use Rattle.ledger_spec.specs.Bench.{State, grows, stays, shrinks, rate}
 use Rattle.ledger_spec.specs.Decimals.{decimal, signed}
+use Rattle.ledger_spec.specs.Operations.{D, B, E, S, G, F, C, K}
 use Rattle.ledger_spec.specs.Grammar.{Fields}
 use Rattle.text_lines.specs.Texts.{spaced, letterOf, fieldsOf}
-use Rattle.record_spec.specs.Operations.{Member, Operation, D, B, E, S, G, F, C, K, serialOf, lineOfOp}
+use Rattle.record_spec.specs.Operations.{Member, Op, serialOf, lineOfOp}
 use Rattle.record_spec.specs.Reader.{serialsGood, good}
 use Rattle.record_spec.specs.Places.{total}
 use Rattle.record_spec.proofs.Writable.{Held}
@@ -27,7 +28,7 @@ unfolding letterOf fieldsOf total
 length-blossom u ms = length-spaced (66 ∷ []) (decimal u ∷ map decimal (map serialOf ms))
 
 -- no blossom
-abbrev pub Plain : Operation → Type 0
+abbrev pub Plain : Op → Type 0
 Plain (D u v) = Unit {0}
 Plain (B u ms) = ⊥
 Plain (E u k) = Unit {0}
@@ -42,7 +43,7 @@ state-width grows = signed-width (rate grows) (record { sfits = omega arith })
 state-width stays = signed-width (rate stays) (record { sfits = omega arith })
 state-width shrinks = signed-width (rate shrinks) (record { sfits = omega arith })
 
-pub plain-short : (op : Operation) → Plain op → Held op → length (lineOfOp op) ≤ 1023
+pub plain-short : (op : Op) → Plain op → Held op → length (lineOfOp op) ≤ 1023
 unfolding letterOf fieldsOf total
 plain-short (D u v) p h = omega (arith, length-spaced (68 ∷ []) (decimal u ∷ decimal v ∷ []), width 2 u (omega (arith, h .0)), width 9 v (omega (arith, h .1)))
 plain-short (B u ms) p h = absurd p
@@ -56,6 +57,6 @@ plain-short (C u) p h = omega (arith, length-spaced (67 ∷ []) (decimal u ∷ [
 plain-short (K u) p h = omega (arith, length-spaced (75 ∷ []) (decimal u ∷ []), width 2 u (omega (arith, h)))
 
 -- then only the serials are tested
-pub plain-good : (op : Operation) → Plain op → Held op → good op ≡ serialsGood op
+pub plain-good : (op : Op) → Plain op → Held op → good op ≡ serialsGood op
 unfolding good
 plain-good op p h = rw (le-leb (length (lineOfOp op)) 1023 (plain-short op p h)) (and-true (serialsGood op))

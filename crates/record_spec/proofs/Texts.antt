@@ -9,12 +9,13 @@ use lib.Dec.{eqb}
 use lib.ListN.{length}
 use borrow.Author.Tests.{eq-eqb, eqb-true}
 use Rattle.ledger_spec.specs.Fields.{upto, partsAfter, cut}
-use Rattle.ledger_spec.specs.Grammar.{Line, wrong, Fields, lineOf, D as lineD, B as lineB, E as lineE, S as lineS, G as lineG, F as lineF, C as lineC, K as lineK}
+use Rattle.ledger_spec.specs.Operations.{Operation, D, B, E, S, G, F, C, K, writtenBy}
+use Rattle.ledger_spec.specs.Grammar.{Line, Fields, lineOf}
 use Rattle.ledger_spec.specs.Program.{ended, linesOf}
 use Rattle.text_lines.specs.Texts.{lineText, Serials, Fit}
 use Rattle.text_lines.proofs.Texts.{text-reads}
 use Rattle.text_lines.proofs.Spelling.{line-spelt}
-use Rattle.record_spec.specs.Operations.{Member, Operation, D, B, E, S, G, F, C, K, serialOf, lineSaid, lineOfOp, itself, opOfLine, selves, self}
+use Rattle.record_spec.specs.Operations.{Member, Op, serialOf, lineSaid, lineOfOp, itself, opOfLine, selves, self}
 use Rattle.record_spec.specs.Records.{Pairs, PairsOf, Writable}
 use Rattle.record_spec.specs.Files.{AllWritable}
 use Rattle.record_spec.specs.Moves.{opsOf, textOps, textOf, allSelf}
@@ -33,7 +34,7 @@ members-back (m ∷ ms) e =
     let q = eqb-true (m .second) (m .serial) (b .1) in
     λ i. record { serial = m .serial; first = sym p i; second = sym q i } ∷ members-back ms (a .1) i
 
-op-back : (op : Operation) → self op ≡ true → opOfLine (lineSaid op) ≡ some op
+op-back : (op : Op) → self op ≡ true → opOfLine (lineSaid op) ≡ some op
 unfolding self
 op-back (D u v) e = refl
 op-back (B u ms) e = ap (λ (l : List Member). some (B u l)) (members-back ms e)
@@ -57,32 +58,33 @@ pairs-fit : (ks : List ℕ) → Serials ks → Pairs (map itself ks)
 pairs-fit [] h = tt
 pairs-fit (k ∷ ks) h = (h .0, h .0, pairs-fit ks (h .1))
 
-record OfLine (l : Line) (op : Operation) : Type 0 where
+record OfLine (l : Line) (op : Op) : Type 0 where
   said : lineSaid op ≡ l
   own : self op ≡ true
   pairs : Fit l → PairsOf op
 
-op-only : (l : Line) (op : Operation) → opOfLine l ≡ some op → OfLine l op
+op-own : (a : Operation ℕ) → OfLine (some a) (writtenBy itself a)
 unfolding self
-op-only (lineD u v) op e = subst (λ (o : Operation). OfLine (lineD u v) o) (Option·some-injective (D u v) op e) (record { said = refl; own = refl; pairs = λ h. tt })
-op-only (lineB u ks) op e =
-    subst (λ (o : Operation). OfLine (lineB u ks) o) (Option·some-injective (B u (map itself ks)) op e)
-    (record { said = ap (lineB u) (serials-same ks); own = selves-true ks; pairs = λ h. pairs-fit ks (h .2) })
-op-only (lineE u k) op e = subst (λ (o : Operation). OfLine (lineE u k) o) (Option·some-injective (E u k) op e) (record { said = refl; own = refl; pairs = λ h. tt })
-op-only (lineS u k g) op e = subst (λ (o : Operation). OfLine (lineS u k g) o) (Option·some-injective (S u k g) op e) (record { said = refl; own = refl; pairs = λ h. tt })
-op-only (lineG u l) op e = subst (λ (o : Operation). OfLine (lineG u l) o) (Option·some-injective (G u l) op e) (record { said = refl; own = refl; pairs = λ h. tt })
-op-only (lineF p l r) op e = subst (λ (o : Operation). OfLine (lineF p l r) o) (Option·some-injective (F p l r) op e) (record { said = refl; own = refl; pairs = λ h. tt })
-op-only (lineC u) op e = subst (λ (o : Operation). OfLine (lineC u) o) (Option·some-injective (C u) op e) (record { said = refl; own = refl; pairs = λ h. tt })
-op-only (lineK u) op e = subst (λ (o : Operation). OfLine (lineK u) o) (Option·some-injective (K u) op e) (record { said = refl; own = refl; pairs = λ h. tt })
-op-only wrong op e = absurd (Option·some-ne-none op (sym e))
+op-own (D u v) = record { said = refl; own = refl; pairs = λ h. tt }
+op-own (B u ks) = record { said = ap (λ (l : List ℕ). some (B u l)) (serials-same ks); own = selves-true ks; pairs = λ h. pairs-fit ks (h .2) }
+op-own (E u k) = record { said = refl; own = refl; pairs = λ h. tt }
+op-own (S u k g) = record { said = refl; own = refl; pairs = λ h. tt }
+op-own (G u l) = record { said = refl; own = refl; pairs = λ h. tt }
+op-own (F p l r) = record { said = refl; own = refl; pairs = λ h. tt }
+op-own (C u) = record { said = refl; own = refl; pairs = λ h. tt }
+op-own (K u) = record { said = refl; own = refl; pairs = λ h. tt }
+
+op-only : (l : Line) (op : Op) → opOfLine l ≡ some op → OfLine l op
+op-only none op e = absurd (Option·some-ne-none op (sym e))
+op-only (some a) op e = subst (λ (o : Op). OfLine (some a) o) (Option·some-injective (writtenBy itself a) op e) (op-own a)
 
 -- a line that has an operation is its text, byte for byte
-pub record Spelt (f : List ℕ) (op : Operation) : Type 0 where
+pub record Spelt (f : List ℕ) (op : Op) : Type 0 where
   pub are : f ≡ lineOfOp op
   pub own : self op ≡ true
   pub writable : Writable op
 
-pub line-only : (f : List ℕ) (op : Operation) → opOfLine (lineOf f) ≡ some op → Spelt f op
+pub line-only : (f : List ℕ) (op : Op) → opOfLine (lineOf f) ≡ some op → Spelt f op
 line-only f op e =
     let a = op-only (lineOf f) op e in
     let b = line-spelt f (lineOf f) (λ p. Option·some-ne-none op (sym e ∙ ap opOfLine p)) refl in
@@ -95,19 +97,19 @@ line-only f op e =
 
 -- ---- the text of operations, read
 
-unfoldable pub onto : Operation → Option (List Operation) → Option (List Operation)
+unfoldable pub onto : Op → Option (List Op) → Option (List Op)
 onto op none = none
 onto op (some ops) = some (op ∷ ops)
 
-pub ops-step : (l : Line) (ls : List Line) (op : Operation) → opOfLine l ≡ some op → opsOf (l ∷ ls) ≡ onto op (opsOf ls)
+pub ops-step : (l : Line) (ls : List Line) (op : Op) → opOfLine l ≡ some op → opsOf (l ∷ ls) ≡ onto op (opsOf ls)
 unfolding opsOf onto
 ops-step l ls op e = rw (e, opsOf) (go (opsOf ls))
   where
-    go : (o : Option (List Operation)) → elim o [ none ↦ none | some ops ↦ some (op ∷ ops) ] ≡ onto op o
+    go : (o : Option (List Op)) → elim o [ none ↦ none | some ops ↦ some (op ∷ ops) ] ≡ onto op o
     go none = refl
     go (some ops) = refl
 
-pub text-back : (ops : List Operation) → AllWritable ops → allSelf ops ≡ true → textOps (textOf ops) ≡ some ops
+pub text-back : (ops : List Op) → AllWritable ops → allSelf ops ≡ true → textOps (textOf ops) ≡ some ops
 unfolding textOps textOf linesOf ended allSelf opsOf onto
 text-back [] h e = ap (λ (l : Fields). opsOf (ended l)) cut-none
 text-back (op ∷ ops) h e =
@@ -119,36 +121,36 @@ text-back (op ∷ ops) h e =
 
 -- ---- a text that reads
 
-pub record Text (s : List ℕ) (ops : List Operation) : Type 0 where
+pub record Text (s : List ℕ) (ops : List Op) : Type 0 where
   pub are : s ≡ textOf ops
   pub each : AllWritable ops
   pub own : allSelf ops ≡ true
 
-parts-only : (fs : Fields) (f : List ℕ) (ops : List Operation) → opsOf (ended (f ∷ fs)) ≡ some ops → Text (joined f fs) ops
+parts-only : (fs : Fields) (f : List ℕ) (ops : List Op) → opsOf (ended (f ∷ fs)) ≡ some ops → Text (joined f fs) ops
 unfolding ended opsOf joined textOf allSelf
-parts-only [] [] ops e = subst (λ (l : List Operation). Text [] l) (Option·some-injective [] ops e) (record { are = refl; each = tt; own = refl })
+parts-only [] [] ops e = subst (λ (l : List Op). Text [] l) (Option·some-injective [] ops e) (record { are = refl; each = tt; own = refl })
 parts-only [] (c ∷ s) ops e = absurd (Option·some-ne-none ops (sym e))
 parts-only (g ∷ gs) f ops e = go (opOfLine (lineOf f)) refl e (parts-only gs g)
   where
-    here : (op : Operation) → opOfLine (lineOf f) ≡ some op → (o : Option (List Operation)) → opsOf (ended (g ∷ gs)) ≡ o
+    here : (op : Op) → opOfLine (lineOf f) ≡ some op → (o : Option (List Op)) → opsOf (ended (g ∷ gs)) ≡ o
         → elim o [ none ↦ none | some l ↦ some (op ∷ l) ] ≡ some ops
-        → ((l : List Operation) → opsOf (ended (g ∷ gs)) ≡ some l → Text (joined g gs) l) → Text (f ++ (10 ∷ joined g gs)) ops
+        → ((l : List Op) → opsOf (ended (g ∷ gs)) ≡ some l → Text (joined g gs) l) → Text (f ++ (10 ∷ joined g gs)) ops
     here op p none q r i = absurd (Option·some-ne-none ops (sym r))
     here op p (some l) q r i =
         let a = line-only f op p in
         let b = i l q in
-        subst (λ (x : List Operation). Text (f ++ (10 ∷ joined g gs)) x) (Option·some-injective (op ∷ l) ops r) (record {
+        subst (λ (x : List Op). Text (f ++ (10 ∷ joined g gs)) x) (Option·some-injective (op ∷ l) ops r) (record {
           are = λ j. a .are j ++ (10 ∷ b .are j);
           each = (a .writable, b .each);
           own = joined-tests (self op) (allSelf l) (a .own) (b .own);
         })
 
-    go : (o : Option Operation) → opOfLine (lineOf f) ≡ o
+    go : (o : Option Op) → opOfLine (lineOf f) ≡ o
         → elim o [ none ↦ none | some op ↦ elim (opsOf (ended (g ∷ gs))) [ none ↦ none | some l ↦ some (op ∷ l) ] ] ≡ some ops
-        → ((l : List Operation) → opsOf (ended (g ∷ gs)) ≡ some l → Text (joined g gs) l) → Text (f ++ (10 ∷ joined g gs)) ops
+        → ((l : List Op) → opsOf (ended (g ∷ gs)) ≡ some l → Text (joined g gs) l) → Text (f ++ (10 ∷ joined g gs)) ops
     go none p q i = absurd (Option·some-ne-none ops (sym q))
     go (some op) p q i = here op p (opsOf (ended (g ∷ gs))) refl q i
 
-pub text-only : (s : List ℕ) (ops : List Operation) → textOps s ≡ some ops → Text s ops
+pub text-only : (s : List ℕ) (ops : List Op) → textOps s ≡ some ops → Text s ops
 unfolding textOps linesOf
 text-only s ops e = subst (λ (l : List ℕ). Text l ops) (joined-cut s) (parts-only (partsAfter 10 s) (upto 10 s) ops e)

@@ -10,9 +10,10 @@ use mir.Syntax.{w64}
 use mir.Val.{SFits}
 use borrow.Author.Tests.{leb-true, le-leb}
 use Rattle.ledger_spec.specs.Decimals.{decimal}
+use Rattle.ledger_spec.specs.Operations.{D, B, E, S, G, F, C, K}
 use Rattle.ledger_spec.specs.Grammar.{Fields}
 use Rattle.text_lines.specs.Texts.{spaced, letterOf, fieldsOf, Serials}
-use Rattle.record_spec.specs.Operations.{Member, Operation, D, B, E, S, G, F, C, K, serialOf, lineOfOp}
+use Rattle.record_spec.specs.Operations.{Member, Op, serialOf, lineOfOp}
 use Rattle.record_spec.specs.Records.{Pairs, Writable}
 use Rattle.record_spec.specs.Reader.{membersGood, serialsGood, good}
 
@@ -34,7 +35,7 @@ abbrev pub Words : List Member → Type 0
 Words [] = Unit {0}
 Words (m ∷ ms) = Word (m .serial) × Word (m .first) × Word (m .second) × Words ms
 
-abbrev pub Held : Operation → Type 0
+abbrev pub Held : Op → Type 0
 Held (D u v) = (u < 256) × Word v
 Held (B u ms) = (u < 256) × (length ms < 65536) × Words ms
 Held (E u k) = (u < 256) × Word k
@@ -60,7 +61,7 @@ words-held : (ms : List Member) → Serials (map serialOf ms) → Pairs ms → W
 words-held [] p q = tt
 words-held (m ∷ ms) p q = (omega (arith, p .0 .1), omega (arith, q .0 .1), omega (arith, q .1 .1), words-held ms (p .1) (q .2))
 
-pub writable-held : (op : Operation) → Writable op → Held op
+pub writable-held : (op : Op) → Writable op → Held op
 writable-held (D u v) w = (omega (arith, w .fit), omega (arith, w .fit))
 writable-held (B u ms) w = (omega (arith, w .fit .0), count-small u ms (w .short), words-held ms (w .fit .2) (w .pairs))
 writable-held (E u k) w = (omega (arith, w .fit), omega (arith, w .fit))
@@ -81,7 +82,7 @@ members-good (m ∷ ms) p q =
     (joined (leb 1 (m .first)) (leb 1 (m .second)) (le-leb 1 (m .first) (q .0 .0)) (le-leb 1 (m .second) (q .1 .0))))
     (members-good ms (p .1) (q .2))
 
-serials-good : (op : Operation) → Writable op → serialsGood op ≡ true
+serials-good : (op : Op) → Writable op → serialsGood op ≡ true
 unfolding serialsGood
 serials-good (D u v) w = refl
 serials-good (B u ms) w =
@@ -93,7 +94,7 @@ serials-good (F p l r) w = refl
 serials-good (C u) w = refl
 serials-good (K u) w = refl
 
-pub writable-good : (op : Operation) → Writable op → good op ≡ true
+pub writable-good : (op : Op) → Writable op → good op ≡ true
 unfolding good
 writable-good op w = joined (serialsGood op) (leb (length (lineOfOp op)) 1023) (serials-good op w) (le-leb (length (lineOfOp op)) 1023 (w .short))
 
@@ -112,7 +113,7 @@ members-fit (m ∷ ms) h e =
     )
 
 -- with a short line, and good serials
-held-fit : (op : Operation) → Held op → serialsGood op ≡ true → length (lineOfOp op) ≤ 1023 → Writable op
+held-fit : (op : Op) → Held op → serialsGood op ≡ true → length (lineOfOp op) ≤ 1023 → Writable op
 unfolding serialsGood
 held-fit (D u v) h e s = record { fit = (omega (arith, h .0), omega (arith, h .1)); pairs = tt; short = s }
 held-fit (B u ms) h e s =
@@ -126,7 +127,7 @@ held-fit (F p l r) h e s = record { fit = (omega (arith, h .0), omega (arith, h 
 held-fit (C u) h e s = record { fit = omega (arith, h); pairs = tt; short = s }
 held-fit (K u) h e s = record { fit = omega (arith, h); pairs = tt; short = s }
 
-pub good-writable : (op : Operation) → Held op → good op ≡ true → Writable op
+pub good-writable : (op : Op) → Held op → good op ≡ true → Writable op
 unfolding good
 good-writable op h e =
     let a = both (serialsGood op) (leb (length (lineOfOp op)) 1023) e in

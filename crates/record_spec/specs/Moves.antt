@@ -8,25 +8,25 @@ use lib.ListN.{length, drop}
 use Rattle.ledger_spec.specs.Numbers.{SMALL, SELF, FILE}
 use Rattle.ledger_spec.specs.Grammar.{Line}
 use Rattle.ledger_spec.specs.Program.{linesOf}
-use Rattle.record_spec.specs.Operations.{Operation, lineOfOp, opOfLine, self}
+use Rattle.record_spec.specs.Operations.{Op, lineOfOp, opOfLine, self}
 use Rattle.record_spec.specs.Files.{fileOf, fileOps, largest}
 
 -- ---- a text file and its operations
 
 -- the operations of lines, none of which is LINE
-unfoldable pub opsOf : List Line → Option (List Operation)
+unfoldable pub opsOf : List Line → Option (List Op)
 opsOf [] = some []
 opsOf (l ∷ ls) = elim (opOfLine l) [ none ↦ none | some op ↦ elim (opsOf ls) [ none ↦ none | some ops ↦ some (op ∷ ops) ] ]
 
-unfoldable pub textOps : List ℕ → Option (List Operation)
+unfoldable pub textOps : List ℕ → Option (List Op)
 textOps s = opsOf (linesOf s)
 
 -- each line with its newline
-unfoldable pub textOf : List Operation → List ℕ
+unfoldable pub textOf : List Op → List ℕ
 textOf [] = []
 textOf (op ∷ ops) = lineOfOp op ++ (10 ∷ textOf ops)
 
-unfoldable pub allSelf : List Operation → Bool
+unfoldable pub allSelf : List Op → Bool
 allSelf [] = true
 allSelf (op ∷ ops) = self op && allSelf ops
 

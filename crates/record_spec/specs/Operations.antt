@@ -1,12 +1,11 @@
--- What one record says: a line's call, with a pair of serials beside each member of a blossom. And its line in the text form. Assumes nothing.
+-- What one record says: a line's operation, with a pair of serials beside each member of a blossom. And its line in the text form. Assumes nothing.
 use Prim.Native.Nat.{ℕ}
 use mathlib.Core.Bool.{Bool, true, _&&_}
 use mathlib.Core.Option.{Option, none, some}
-use mathlib.Core.List.{List, [], _∷_, map}
+use mathlib.Core.List.{List, [], _∷_}
 use lib.Dec.{eqb}
-use lib.IntN.{ℤ}
-use Rattle.ledger_spec.specs.Bench.{State}
-use Rattle.ledger_spec.specs.Grammar.{Line, wrong, D as lineD, B as lineB, E as lineE, S as lineS, G as lineG, F as lineF, C as lineC, K as lineK}
+use Rattle.ledger_spec.specs.Operations.{Operation, D, B, E, S, G, F, C, K, writtenBy}
+use Rattle.ledger_spec.specs.Grammar.{Line}
 use Rattle.text_lines.specs.Texts.{lineText}
 
 pub record Member : Type 0 where
@@ -14,33 +13,20 @@ pub record Member : Type 0 where
   pub first : ℕ
   pub second : ℕ
 
-pub data Operation : Type 0 where
-  D : (unit vertex : ℕ) → Operation
-  B : (unit : ℕ) (members : List Member) → Operation
-  E : (unit serial : ℕ) → Operation
-  S : (unit serial : ℕ) (to : State) → Operation
-  G : (unit : ℕ) (by : ℤ) → Operation
-  F : (parent left right : ℕ) → Operation
-  C : (unit : ℕ) → Operation
-  K : (unit : ℕ) → Operation
+-- an operation as a record says it
+abbrev pub Op : Type 0
+Op = Operation Member
 
 -- ---- to the line, which has no pairs
 
 abbrev pub serialOf : Member → ℕ
 serialOf m = m .serial
 
-abbrev pub lineSaid : Operation → Line
-lineSaid (D u v) = lineD u v
-lineSaid (B u ms) = lineB u (map serialOf ms)
-lineSaid (E u k) = lineE u k
-lineSaid (S u k g) = lineS u k g
-lineSaid (G u l) = lineG u l
-lineSaid (F p l r) = lineF p l r
-lineSaid (C u) = lineC u
-lineSaid (K u) = lineK u
+abbrev pub lineSaid : Op → Line
+lineSaid op = some (writtenBy serialOf op)
 
 -- the line's bytes without the newline
-abbrev pub lineOfOp : Operation → List ℕ
+abbrev pub lineOfOp : Op → List ℕ
 lineOfOp op = lineText (lineSaid op)
 
 -- ---- and from it, every pair the member itself
@@ -48,23 +34,16 @@ lineOfOp op = lineText (lineSaid op)
 abbrev pub itself : ℕ → Member
 itself k = record { serial = k; first = k; second = k }
 
-abbrev pub opOfLine : Line → Option Operation
-opOfLine (lineD u v) = some (D u v)
-opOfLine (lineB u ks) = some (B u (map itself ks))
-opOfLine (lineE u k) = some (E u k)
-opOfLine (lineS u k g) = some (S u k g)
-opOfLine (lineG u l) = some (G u l)
-opOfLine (lineF p l r) = some (F p l r)
-opOfLine (lineC u) = some (C u)
-opOfLine (lineK u) = some (K u)
-opOfLine wrong = none
+abbrev pub opOfLine : Line → Option Op
+opOfLine none = none
+opOfLine (some op) = some (writtenBy itself op)
 
 -- is every pair the member itself
 unfoldable pub selves : List Member → Bool
 selves [] = true
 selves (m ∷ ms) = (eqb (m .first) (m .serial) && eqb (m .second) (m .serial)) && selves ms
 
-unfoldable pub self : Operation → Bool
+unfoldable pub self : Op → Bool
 self (D u v) = true
 self (B u ms) = selves ms
 self (E u k) = true

@@ -3,9 +3,10 @@ use Prim.Native.Nat.{ℕ, _≤_}
 use mathlib.Core.List.{List, [], _∷_, _++_}
 use lib.ListN.{length}
 use Rattle.ledger_spec.specs.Bench.{State, grows, stays, shrinks}
+use Rattle.ledger_spec.specs.Operations.{D, B, E, S, G, F, C, K}
 use Rattle.text_lines.specs.Texts.{letterOf, Serial32, Fit}
 use Rattle.record_spec.specs.Numbers.{bytes, complement}
-use Rattle.record_spec.specs.Operations.{Member, Operation, D, B, E, S, G, F, C, K, lineSaid, lineOfOp}
+use Rattle.record_spec.specs.Operations.{Member, Op, lineSaid, lineOfOp}
 
 -- ---- written
 
@@ -21,7 +22,7 @@ memberFields [] = []
 memberFields (m ∷ ms) = (4, m .serial) ∷ (4, m .first) ∷ (4, m .second) ∷ memberFields ms
 
 -- the fields after the letter: in how many bytes, and the number
-unfoldable pub fields : Operation → List (ℕ × ℕ)
+unfoldable pub fields : Op → List (ℕ × ℕ)
 fields (D u v) = (1, u) ∷ (4, v) ∷ []
 fields (B u ms) = (1, u) ∷ (2, length ms) ∷ memberFields ms
 fields (E u k) = (1, u) ∷ (4, k) ∷ []
@@ -35,7 +36,7 @@ unfoldable pub spelled : List (ℕ × ℕ) → List ℕ
 spelled [] = []
 spelled (f ∷ fs) = bytes (f .0) (f .1) ++ spelled fs
 
-unfoldable pub bytesOf : Operation → List ℕ
+unfoldable pub bytesOf : Op → List ℕ
 bytesOf op = letterOf (lineSaid op) ++ spelled (fields op)
 
 -- ---- which operations have a record: the line is not LINE, which every number in its range and at least one member say, and pairs are serials
@@ -44,7 +45,7 @@ abbrev pub Pairs : List Member → Type 0
 Pairs [] = Unit {0}
 Pairs (m ∷ ms) = Serial32 (m .first) × Serial32 (m .second) × Pairs ms
 
-abbrev pub PairsOf : Operation → Type 0
+abbrev pub PairsOf : Op → Type 0
 PairsOf (D u v) = Unit {0}
 PairsOf (B u ms) = Pairs ms
 PairsOf (E u k) = Unit {0}
@@ -54,7 +55,7 @@ PairsOf (F p l r) = Unit {0}
 PairsOf (C u) = Unit {0}
 PairsOf (K u) = Unit {0}
 
-pub record Writable (op : Operation) : Type 0 where
+pub record Writable (op : Op) : Type 0 where
   pub fit : Fit (lineSaid op)
   pub pairs : PairsOf op
   pub short : length (lineOfOp op) ≤ 1023

@@ -9,7 +9,7 @@ use lib.Seq.{sets}
 use Rattle.text_decimals.specs.Wrote.{Wrote}
 use Rattle.text_decimals.proofs.Writes.{sets-append}
 use Rattle.record_spec.specs.Numbers.{Bytes}
-use Rattle.record_spec.specs.Operations.{Operation, lineOfOp}
+use Rattle.record_spec.specs.Operations.{Op, lineOfOp}
 use Rattle.record_spec.specs.Records.{bytesOf}
 use Rattle.record_spec.specs.Reader.{recordIn}
 use Rattle.record_spec.specs.Files.{recordsIn}
@@ -31,19 +31,19 @@ fours-none (suc n) s p h = absurd (omega arith)
 
 -- the records from p on are these operations; their starts stand from `entry` on, and their text belongs at `from`
 pub record Filling (s t : List ℕ) (list count : ℕ) (out₀ : List ℕ) (entry left from : ℕ) (out : List ℕ) : Type 0 where
-  pub rest : List Operation
+  pub rest : List Op
   pub p : ℕ
   pub low : p ≤ length t
   pub records : recordsIn p (foursAt left s entry) (drop p t) ≡ some rest
   pub entries : entry + 4 * left ≡ list + 4 * count
   pub long : length out ≡ length out₀
   pub room : from + length (textOf rest) ≤ length out
-  pub stands : (ops : List Operation) → recordsIn 0 (foursAt count s list) t ≡ some ops → sets out from (textOf rest) ≡ sets out₀ 0 (textOf ops)
+  pub stands : (ops : List Op) → recordsIn 0 (foursAt count s list) t ≡ some ops → sets out from (textOf rest) ≡ sets out₀ 0 (textOf ops)
 
 pub filling : (s t : List ℕ) (list count : ℕ) (out : List ℕ) → Ready (recordsIn 0 (foursAt count s list) t) (length out) → Filling s t list count out list count 0 out
 filling s t list count out r = go (recordsIn 0 (foursAt count s list) t) refl r
   where
-    go : (o : Option (List Operation)) → recordsIn 0 (foursAt count s list) t ≡ o → Ready o (length out) → Filling s t list count out list count 0 out
+    go : (o : Option (List Op)) → recordsIn 0 (foursAt count s list) t ≡ o → Ready o (length out) → Filling s t list count out list count 0 out
     go none e x = absurd x
     go (some ops) e x = record {
       rest = ops;
@@ -53,7 +53,7 @@ filling s t list count out r = go (recordsIn 0 (foursAt count s list) t) refl r
       entries = refl;
       long = refl;
       room = omega (arith, x);
-      stands = λ ops′ e′. ap (λ (y : List Operation). sets out 0 (textOf y)) (Option·some-injective ops ops′ (sym e ∙ e′));
+      stands = λ ops′ e′. ap (λ (y : List Op). sets out 0 (textOf y)) (Option·some-injective ops ops′ (sym e ∙ e′));
     }
 
 module _ (s t : List ℕ) (list count : ℕ) (out₀ : List ℕ) (entry left from : ℕ) (out : List ℕ) (bytes : Bytes t) (g : Filling s t list count out₀ entry left from out) where
@@ -79,7 +79,7 @@ module _ (s t : List ℕ) (list count : ℕ) (out₀ : List ℕ) (entry left fro
 
       pub line-ready : LineReady (recordIn (drop q t)) from (length out)
       line-ready =
-          subst (λ (o : Option (Operation × List ℕ)). LineReady o from (length out)) (sym stands-there) (omega (arith, g .room, text-sizes))
+          subst (λ (o : Option (Op × List ℕ)). LineReady o from (length out)) (sym stands-there) (omega (arith, g .room, text-sizes))
 
       pub fill-on : (out′ : List ℕ) (r : ℕ) → length out′ ≡ length out → Wrote out from (lineIn (recordIn (drop q t))) out′ r → Filling s t list count out₀ (entry + 4) (left - 1) r out′
       fill-on out′ r l w =
@@ -105,11 +105,11 @@ module _ (s t : List ℕ) (list count : ℕ) (out₀ : List ℕ) (entry left fro
   unfolding textOf
   filled h = go (recordsIn 0 (foursAt count s list) t) refl
     where
-      no-more : (ops : List Operation) → length ops ≡ 0 → sets out from (textOf ops) ≡ out
+      no-more : (ops : List Op) → length ops ≡ 0 → sets out from (textOf ops) ≡ out
       no-more [] e = refl
       no-more (op ∷ ops) e = absurd (omega (arith, e))
 
-      go : (o : Option (List Operation)) → recordsIn 0 (foursAt count s list) t ≡ o → Filled o out₀ out
+      go : (o : Option (List Op)) → recordsIn 0 (foursAt count s list) t ≡ o → Filled o out₀ out
       go none e = tt
       go (some ops) e =
           let n = counts (foursAt left s entry) t (g .p) (g .rest) bytes (g .low) (g .records) in

@@ -5,12 +5,12 @@ use native.Mathlib.Decide.{decLt}
 use mathlib.Core.Path.{_≡_, refl, sym, _∙_, ap, subst}
 use mathlib.Core.Bool.{Bool, true, false, true≢false}
 use mathlib.Core.Option.{Option, none, some, Option·some-ne-none}
-use mathlib.Core.List.{List, [], _∷_, _++_}
-use lib.ListN.{length, take, drop}
+use mathlib.Core.List.{List}
+use lib.ListN.{length, take}
 use lib.Seq.{sets, length-take-le}
 use Rattle.ledger_spec.specs.Numbers.{SMALL, SELF, FILE}
 use Rattle.record_spec.specs.Numbers.{Bytes}
-use Rattle.record_spec.specs.Operations.{Operation}
+use Rattle.record_spec.specs.Operations.{Op}
 use Rattle.record_spec.specs.Files.{recordsOf, recordsIn, fitting, fileOps}
 use Rattle.record_spec.specs.Moves.{textOf, allSelf, refused, toText}
 use Rattle.record_spec.specs.Places.{at, foursAt}
@@ -19,7 +19,6 @@ use Rattle.record_spec.proofs.Places.{file-short, file-unfit, file-walk}
 use Rattle.record_spec.proofs.Moves.{accepted, room, no-room, text-none, text-self, text-some}
 use Rattle.record_files.specs.declared.Scanned.{Scanned}
 use Rattle.record_files.specs.Scans.{scannedOf}
-use Rattle.record_packs.specs.declared.Moved.{Moved}
 use Rattle.record_packs.specs.Packs.{MovedAs}
 use Rattle.record_packs.proofs.Stores.{sets-front}
 use Rattle.record_unpacks.specs.Unpacks.{Ready, Filled}
@@ -32,11 +31,11 @@ fours-many (suc n) s p = ap suc (fours-many n s (p + 4))
 
 -- ---- the list and the records stand where the scan says
 
-pub record Walked (s : List ℕ) (ops : List Operation) : Type 0 where
+pub record Walked (s : List ℕ) (ops : List Op) : Type 0 where
   pub inside : length (recordsOf ops) + 4 * length ops ≤ length s
   pub records : recordsIn 0 (foursAt (length ops) s (length (recordsOf ops))) (take (length (recordsOf ops)) s) ≡ some ops
 
-pub walked : (s : List ℕ) (ops : List Operation) → Bytes s → fileOps s ≡ some ops → Walked s ops
+pub walked : (s : List ℕ) (ops : List Op) → Bytes s → fileOps s ≡ some ops → Walked s ops
 walked s ops h e = go (decLt (length s) 16)
   where
     fits : (n : ℕ) → length s ≡ n + 16 → (b : Bool) → fitting (length s) (at 4 s n) (at 4 s (n + 4)) (at 4 s (n + 8)) (at 4 s (n + 12)) ≡ b → Walked s ops
@@ -62,7 +61,7 @@ walked s ops h e = go (decLt (length s) 16)
 -- ---- what was scanned
 
 pub record Holds (s : List ℕ) (w : Scanned) : Type 0 where
-  pub ops : List Operation
+  pub ops : List Op
   pub said : fileOps s ≡ some ops
   pub count : w .count ≡ length ops
   pub start : w .start ≡ length (recordsOf ops)
@@ -73,7 +72,7 @@ module _ (s : List ℕ) (w : Scanned) (is : w ≡ scannedOf (fileOps s)) where
   pub holds : w .whole ≡ true → Holds s w
   holds t = go (fileOps s) refl
     where
-      go : (o : Option (List Operation)) → fileOps s ≡ o → Holds s w
+      go : (o : Option (List Op)) → fileOps s ≡ o → Holds s w
       go none e = absurd (true≢false (sym t ∙ ap (λ (x : Scanned). x .whole) (is ∙ ap scannedOf e)))
       go (some ops) e =
           let q = is ∙ ap scannedOf e in
@@ -89,7 +88,7 @@ module _ (s : List ℕ) (w : Scanned) (is : w ≡ scannedOf (fileOps s)) where
   pub no-file : (out : List ℕ) → w .whole ≡ false → MovedAs (toText s out) out (record { number = FILE; size = 0 })
   no-file out t = subst (λ m. MovedAs m out (record { number = FILE; size = 0 })) (sym (go (fileOps s) refl)) (record { number = refl; size = refl; output = refl })
     where
-      go : (o : Option (List Operation)) → fileOps s ≡ o → toText s out ≡ refused FILE out
+      go : (o : Option (List Op)) → fileOps s ≡ o → toText s out ≡ refused FILE out
       go none e = text-none s out e
       go (some ops) e = absurd (true≢false (sym (ap (λ (x : Scanned). x .whole) (is ∙ ap scannedOf e)) ∙ t))
 
@@ -116,7 +115,7 @@ module _ (s : List ℕ) (w : Scanned) (m : Holds s w) where
       records-are = (λ i. recordsIn 0 (foursAt (m .count i) s (m .start i)) (take (m .start i) s)) ∙ walked s (m .ops) bytes (m .said) .records
 
       pub ready : (out : List ℕ) → w .text ≤ length out → Ready (recordsIn 0 (foursAt (w .count) s (w .start)) (take (w .start) s)) (length out)
-      ready out h = subst (λ (o : Option (List Operation)). Ready o (length out)) (sym records-are) (omega (arith, h, m .text))
+      ready out h = subst (λ (o : Option (List Op)). Ready o (length out)) (sym records-are) (omega (arith, h, m .text))
 
       pub moved : (out out′ : List ℕ) → w .text ≤ length out → Filled (recordsIn 0 (foursAt (w .count) s (w .start)) (take (w .start) s)) out out′
           → MovedAs (toText s out) out′ (record { number = 0; size = w .text })
@@ -124,5 +123,5 @@ module _ (s : List ℕ) (w : Scanned) (m : Holds s w) where
           let t = textOf (m .ops) in
           let l : length t ≤ length out = omega (arith, h, m .text) in
           let e : toText s out ≡ accepted t out = text-some s out (m .ops) (m .said) all-own ∙ room t out l in
-          let a : out′ ≡ sets out 0 t = subst (λ (o : Option (List Operation)). Filled o out out′) records-are f in
+          let a : out′ ≡ sets out 0 t = subst (λ (o : Option (List Op)). Filled o out out′) records-are f in
           rw e (record { number = refl; size = m .text; output = a ∙ sets-front t out l })

@@ -1,17 +1,17 @@
 -- Laws of the two moves' answers: any that meet the contracts. There is no second one; a refused move leaves the slice; what moved comes back as the same
 -- bytes, a file of records exactly if every pair is the member itself. Assumes nothing.
-use Prim.Native.Nat.{ℕ, _≤_, _<_}
+use Prim.Native.Nat.{ℕ, _≤_}
 use native.Mathlib.Omega.{arith}
 use native.Mathlib.Decide.{decLe}
 use mathlib.Core.Logic.{_↔_}
-use mathlib.Core.Path.{_≡_, refl, sym, _∙_, ap, subst}
+use mathlib.Core.Path.{_≡_, refl, sym, _∙_, ap}
 use mathlib.Core.Bool.{Bool, true, false, true≢false}
 use mathlib.Core.Option.{Option, none, some}
-use mathlib.Core.List.{List, _++_}
-use lib.ListN.{length, take, drop}
+use mathlib.Core.List.{List}
+use lib.ListN.{length, take}
 use Rattle.ledger_spec.specs.Numbers.{SELF, FILE, SMALL}
 use Rattle.record_spec.specs.Numbers.{Bytes}
-use Rattle.record_spec.specs.Operations.{Operation}
+use Rattle.record_spec.specs.Operations.{Op}
 use Rattle.record_spec.specs.Files.{fileOf, fileOps, largest}
 use Rattle.record_spec.specs.Moves.{Moved as Answer, textOps, textOf, allSelf, written, refused, toRecords, toText}
 use Rattle.record_spec.proofs.Moves.{accepted, wrote, wrote-accepted, room, no-room, records-none, records-large, records-some, text-none, text-self, text-some, there-and-back, back-and-there}
@@ -49,22 +49,22 @@ written-leaves result out m e h = go (decLe (length result) (length out))
 records-leave : (t out : List ℕ) → Untouched out (toRecords t out)
 records-leave t out = go (textOps t) refl
   where
-    sized : (ops : List Operation) → textOps t ≡ some ops → Dec (length (fileOf ops) ≤ largest) → Untouched out (toRecords t out)
+    sized : (ops : List Op) → textOps t ≡ some ops → Dec (length (fileOf ops) ≤ largest) → Untouched out (toRecords t out)
     sized ops e (yes l) = written-leaves (fileOf ops) out (toRecords t out) (records-some t out ops e l)
     sized ops e (no l) = refused-leaves FILE out (toRecords t out) (records-large t out ops e (omega arith))
 
-    go : (o : Option (List Operation)) → textOps t ≡ o → Untouched out (toRecords t out)
+    go : (o : Option (List Op)) → textOps t ≡ o → Untouched out (toRecords t out)
     go none e = refused-leaves FILE out (toRecords t out) (records-none t out e)
     go (some ops) e = sized ops e (decLe (length (fileOf ops)) largest)
 
 text-leaves : (f out : List ℕ) → Untouched out (toText f out)
 text-leaves f out = go (fileOps f) refl
   where
-    owned : (ops : List Operation) → fileOps f ≡ some ops → (b : Bool) → allSelf ops ≡ b → Untouched out (toText f out)
+    owned : (ops : List Op) → fileOps f ≡ some ops → (b : Bool) → allSelf ops ≡ b → Untouched out (toText f out)
     owned ops e true b = written-leaves (textOf ops) out (toText f out) (text-some f out ops e b)
     owned ops e false b = refused-leaves SELF out (toText f out) (text-self f out ops e b)
 
-    go : (o : Option (List Operation)) → fileOps f ≡ o → Untouched out (toText f out)
+    go : (o : Option (List Op)) → fileOps f ≡ o → Untouched out (toText f out)
     go none e = refused-leaves FILE out (toText f out) (text-none f out e)
     go (some ops) e = owned ops e (allSelf ops) refl
 
@@ -105,7 +105,7 @@ pub moves-exactly-own : (f out o : List ℕ) (r : Moved) (w : Scanned) → w ≡
     → (r .number ≡ 0) ↔ (w .own ≡ true)
 moves-exactly-own f out o r w e t l is = go (fileOps f) refl
   where
-    scanned : (ops : List Operation) → fileOps f ≡ some ops → (b : Bool) → allSelf ops ≡ b → (r .number ≡ 0) ↔ (w .own ≡ true)
+    scanned : (ops : List Op) → fileOps f ≡ some ops → (b : Bool) → allSelf ops ≡ b → (r .number ≡ 0) ↔ (w .own ≡ true)
     scanned ops q true b =
         let x = e ∙ ap scannedOf q in
         let y : toText f out ≡ accepted (textOf ops) out = text-some f out ops q b ∙ room (textOf ops) out (omega (arith, l, ap (λ (v : Scanned). v .text) x)) in
@@ -115,6 +115,6 @@ moves-exactly-own f out o r w e t l is = go (fileOps f) refl
         let y : r .number ≡ 22 = is .number ∙ ap (λ (v : Answer). v .number) (text-self f out ops q b) in
         ((λ z. absurd (omega (arith, y, z))), (λ z. absurd (true≢false (sym z ∙ x))))
 
-    go : (p : Option (List Operation)) → fileOps f ≡ p → (r .number ≡ 0) ↔ (w .own ≡ true)
+    go : (p : Option (List Op)) → fileOps f ≡ p → (r .number ≡ 0) ↔ (w .own ≡ true)
     go none q = absurd (true≢false (sym t ∙ ap (λ (v : Scanned). v .whole) (e ∙ ap scannedOf q)))
     go (some ops) q = scanned ops q (allSelf ops) refl

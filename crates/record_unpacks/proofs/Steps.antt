@@ -2,13 +2,13 @@
 use Prim.Native.Nat.{ℕ, zero, suc, _+_, _≤_, _<_}
 use native.Mathlib.Omega.{arith}
 use native.Mathlib.Decide.{decLt, ℕ-discrete}
-use mathlib.Core.Path.{_≡_, refl, sym, _∙_, ap, subst}
+use mathlib.Core.Path.{_≡_, refl, sym, _∙_, ap}
 use mathlib.Core.Option.{Option, none, some, Option·some-ne-none, Option·some-injective}
-use mathlib.Core.List.{List, [], _∷_, _++_}
+use mathlib.Core.List.{List, [], _∷_}
 use lib.ListN.{length, take, drop, length-append, length-drop}
 use lib.Seq.{drop-drop, drop-length}
 use Rattle.record_spec.specs.Numbers.{Bytes}
-use Rattle.record_spec.specs.Operations.{Operation}
+use Rattle.record_spec.specs.Operations.{Op}
 use Rattle.record_spec.specs.Records.{bytesOf}
 use Rattle.record_spec.specs.Reader.{recordIn}
 use Rattle.record_spec.specs.Files.{recordsOf, recordsIn}
@@ -29,25 +29,25 @@ drop-bytes (suc n) (b ∷ s) h = drop-bytes n s (h .1)
 
 -- ---- the first record
 
-pub record Step (t : List ℕ) (p a : ℕ) (places : List ℕ) (rest : List Operation) : Type 0 where
-  pub op : Operation
-  pub more : List Operation
+pub record Step (t : List ℕ) (p a : ℕ) (places : List ℕ) (rest : List Op) : Type 0 where
+  pub op : Op
+  pub more : List Op
   pub place : a ≡ p
   pub read : recordIn (drop p t) ≡ some (op, drop (p + length (bytesOf op)) t)
   pub fits : p + length (bytesOf op) ≤ length t
   pub first : rest ≡ op ∷ more
   pub after : recordsIn (p + length (bytesOf op)) places (drop (p + length (bytesOf op)) t) ≡ some more
 
-pub step : (t : List ℕ) (p a : ℕ) (places : List ℕ) (rest : List Operation) → Bytes t → p ≤ length t → recordsIn p (a ∷ places) (drop p t) ≡ some rest → Step t p a places rest
+pub step : (t : List ℕ) (p a : ℕ) (places : List ℕ) (rest : List Op) → Bytes t → p ≤ length t → recordsIn p (a ∷ places) (drop p t) ≡ some rest → Step t p a places rest
 unfolding onto
 step t p a places rest h l e = go (ℕ-discrete a p)
   where
-    here : (op : Operation) → a ≡ p → recordIn (drop p t) ≡ some (op, drop (p + length (bytesOf op)) t) → p + length (bytesOf op) ≤ length t
-        → (o : Option (List Operation)) → recordsIn (p + length (bytesOf op)) places (drop (p + length (bytesOf op)) t) ≡ o → onto op o ≡ some rest → Step t p a places rest
+    here : (op : Op) → a ≡ p → recordIn (drop p t) ≡ some (op, drop (p + length (bytesOf op)) t) → p + length (bytesOf op) ≤ length t
+        → (o : Option (List Op)) → recordsIn (p + length (bytesOf op)) places (drop (p + length (bytesOf op)) t) ≡ o → onto op o ≡ some rest → Step t p a places rest
     here op q r f none x y = absurd (Option·some-ne-none rest (sym y))
     here op q r f (some more) x y = record { op = op; more = more; place = q; read = r; fits = f; first = sym (Option·some-injective (op ∷ more) rest y); after = x }
 
-    found : a ≡ p → recordsIn p (p ∷ places) (drop p t) ≡ some rest → (o : Option (Operation × List ℕ)) → recordIn (drop p t) ≡ o → Step t p a places rest
+    found : a ≡ p → recordsIn p (p ∷ places) (drop p t) ≡ some rest → (o : Option (Op × List ℕ)) → recordIn (drop p t) ≡ o → Step t p a places rest
     found q r none x = absurd (Option·some-ne-none rest (sym r ∙ loop-bad t p places x))
     found q r (some z) x =
         let b = record-ends (drop p t) (z .0) (z .1) (drop-bytes p t h) x in
@@ -62,7 +62,7 @@ step t p a places rest h l e = go (ℕ-discrete a p)
 
 -- ---- all of them
 
-pub counts : (places : List ℕ) (t : List ℕ) (p : ℕ) (ops : List Operation) → Bytes t → p ≤ length t → recordsIn p places (drop p t) ≡ some ops
+pub counts : (places : List ℕ) (t : List ℕ) (p : ℕ) (ops : List Op) → Bytes t → p ≤ length t → recordsIn p places (drop p t) ≡ some ops
     → (length places ≡ length ops) × (p + length (recordsOf ops) ≡ length t)
 unfolding recordsOf
 counts [] t p ops h l e = go (decLt p (length t))
@@ -73,10 +73,10 @@ counts [] t p ops h l e = go (decLt p (length t))
         let q : p ≡ length t = omega arith in
         let d : drop p t ≡ [] = ap (λ (k : ℕ). drop k t) q ∙ drop-length t in
         let o : [] ≡ ops = Option·some-injective [] ops (sym (loop-end p) ∙ sym (ap (recordsIn p []) d) ∙ e) in
-        (ap length o, omega (arith, ap (λ (x : List Operation). length (recordsOf x)) o, q))
+        (ap length o, omega (arith, ap (λ (x : List Op). length (recordsOf x)) o, q))
 counts (a ∷ places) t p ops h l e =
     let x = step t p a places ops h l e in
     let y = counts places t (p + length (bytesOf (x .op))) (x .more) h (x .fits) (x .after) in (
       ap suc (y .0) ∙ sym (ap length (x .first)),
-      omega (arith, y .1, ap (λ (z : List Operation). length (recordsOf z)) (x .first), length-append (bytesOf (x .op)) (recordsOf (x .more))),
+      omega (arith, y .1, ap (λ (z : List Op). length (recordsOf z)) (x .first), length-append (bytesOf (x .op)) (recordsOf (x .more))),
     )

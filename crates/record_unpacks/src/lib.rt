@@ -2,7 +2,6 @@
 // member SELF; a slice that is too short SMALL, last. Refused, the slice is as it was. Assumes nothing.
 use kinds::numbers;
 use record_packs::Moved;
-ghost use mathlib.Core.Path.{_≡_};
 ghost use Prim.Native.Nat.{_+_, _*_, _≤_, _<_};
 ghost use lib.ListN.{length};
 ghost use Rattle.record_spec.specs.Files.{recordsIn};

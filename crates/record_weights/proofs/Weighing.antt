@@ -1,21 +1,22 @@
 -- The lines weighed one by one: what is weighed and what is left make the whole. Assumes nothing.
-use Prim.Native.Nat.{ℕ, suc, _+_, _-_, _*_, _≤_, _<_}
+use Prim.Native.Nat.{ℕ, _+_, _-_, _*_, _≤_, _<_}
 use native.Mathlib.Omega.{arith}
 use mathlib.Core.Path.{_≡_, refl, sym, _∙_, ap}
-use mathlib.Core.Bool.{true, false}
+use mathlib.Core.Bool.{true}
 use mathlib.Core.Option.{Option, none, some}
-use mathlib.Core.List.{List, [], _∷_, _++_}
+use mathlib.Core.List.{List}
 use lib.ListN.{length, take, drop, length-append}
 use borrow.Author.Tests.{le-leb, lt-leb}
 use Rattle.ledger_spec.specs.Grammar.{lineOf}
 use Rattle.ledger_spec.specs.Program.{linesOf}
-use Rattle.record_spec.specs.Operations.{Operation, opOfLine}
+use Rattle.text_fields.specs.Places.{Ends}
+use Rattle.record_spec.specs.Operations.{Op, opOfLine}
 use Rattle.record_spec.specs.Records.{bytesOf}
 use Rattle.record_spec.specs.Files.{recordsOf, largest}
 use Rattle.record_spec.specs.Moves.{opsOf, textOps}
 use Rattle.record_spec.proofs.Texts.{onto}
 use Rattle.record_weights.specs.declared.Weighed.{Weighed}
-use Rattle.record_weights.specs.Weights.{notText, toldBy, weighedOf, LineEnds}
+use Rattle.record_weights.specs.Weights.{notText, toldBy, weighedOf}
 use Rattle.record_weights.proofs.Newlines.{ops-line, ops-wrong, ops-unended, ops-none}
 
 pub told-fits : (count size : ℕ) → size + (4 * count + 16) ≤ largest → toldBy count size ≡ record { whole = true; count = count; size = size }
@@ -27,23 +28,23 @@ unfolding toldBy
 told-large count size h = rw (lt-leb (size + (4 * count + 16)) largest h, toldBy)
 
 -- so many records and bytes more
-abbrev more : ℕ → ℕ → Option (List Operation) → Weighed
+abbrev more : ℕ → ℕ → Option (List Op) → Weighed
 more c n none = notText
 more c n (some ops) = toldBy (c + length ops) (n + length (recordsOf ops))
 
 same-told : (c n c′ n′ : ℕ) → c ≡ c′ → n ≡ n′ → toldBy c n ≡ toldBy c′ n′
 same-told c n c′ n′ p q = λ i. toldBy (p i) (q i)
 
-more-none : (o : Option (List Operation)) → weighedOf o ≡ more 0 0 o
+more-none : (o : Option (List Op)) → weighedOf o ≡ more 0 0 o
 more-none none = refl
 more-none (some ops) = same-told _ _ _ _ (omega arith) (omega arith)
 
-more-onto : (c n : ℕ) (op : Operation) (o : Option (List Operation)) → more c n (onto op o) ≡ more (c + 1) (n + length (bytesOf op)) o
+more-onto : (c n : ℕ) (op : Op) (o : Option (List Op)) → more c n (onto op o) ≡ more (c + 1) (n + length (bytesOf op)) o
 unfolding onto recordsOf
 more-onto c n op none = refl
 more-onto c n op (some ops) = same-told _ _ _ _ (omega arith) (omega (arith, length-append (bytesOf op) (recordsOf ops)))
 
-more-large : (c n : ℕ) (o : Option (List Operation)) → largest < n + (4 * c + 16) → more c n o ≡ notText
+more-large : (c n : ℕ) (o : Option (List Op)) → largest < n + (4 * c + 16) → more c n o ≡ notText
 more-large c n none h = refl
 more-large c n (some ops) h = told-large (c + length ops) (n + length (recordsOf ops)) (omega arith)
 
@@ -58,7 +59,7 @@ unfolding textOps
 weighing s = record { low = omega arith; whole = more-none (opsOf (linesOf s)); small = omega arith }
 
 module _ (s : List ℕ) (a count size : ℕ) (w : Weighing s a count size) where
-  module _ (e : ℕ) (g : LineEnds s a e) where
+  module _ (e : ℕ) (g : Ends 10 s a e) where
     pub unended : a < length s → e ≡ length s → notText ≡ weighedOf (textOps s)
     unended l q = sym (w .whole ∙ ap (more count size) (ops-unended s a e g l q))
 
@@ -66,7 +67,7 @@ module _ (s : List ℕ) (a count size : ℕ) (w : Weighing s a count size) where
       pub bad-line : opOfLine (lineOf (take (e - a) (drop a s))) ≡ none → notText ≡ weighedOf (textOps s)
       bad-line q = sym (w .whole ∙ ap (more count size) (ops-wrong s a e g h q))
 
-      module _ (op : Operation) (said : opOfLine (lineOf (take (e - a) (drop a s))) ≡ some op) (n : ℕ) (is : n ≡ length (bytesOf op)) where
+      module _ (op : Op) (said : opOfLine (lineOf (take (e - a) (drop a s))) ≡ some op) (n : ℕ) (is : n ≡ length (bytesOf op)) where
         step : weighedOf (textOps s) ≡ more (count + 1) (size + n) (opsOf (linesOf (drop (e + 1) s)))
         step =
             w .whole ∙ ap (more count size) (ops-line s a e g h op said) ∙ more-onto count size op (opsOf (linesOf (drop (e + 1) s)))

@@ -1,20 +1,19 @@
 -- What the code answers of a text: how many records its lines are and how many bytes they take, if it moves. Assumes nothing.
-use Prim.Native.Nat.{ℕ, _+_, _-_, _*_, _≤_, _<_}
-use mathlib.Core.Path.{_≡_}
+use Prim.Native.Nat.{ℕ, _+_, _*_}
 use mathlib.Core.Bool.{true, false}
 use mathlib.Core.Option.{Option, none, some}
-use mathlib.Core.List.{List, [], _∷_}
+use mathlib.Core.List.{List, []}
 use lib.Dec.{leb}
-use lib.ListN.{length, take, drop, getD}
+use lib.ListN.{length}
 use Rattle.text_lines.specs.declared.Line.{Line}
 use Rattle.text_lines.specs.declared.Line.the-variants.{Defect, Blossom, Expand, SetState, Grow, Fuse, Clear, Check, Wrong}
-use Rattle.record_spec.specs.Operations.{Operation}
+use Rattle.record_spec.specs.Operations.{Op}
 use Rattle.record_spec.specs.Records.{bytesOf}
 use Rattle.record_spec.specs.Files.{recordsOf, largest}
 use Rattle.record_weights.specs.declared.Weighed.{Weighed}
 
 -- the bytes of a line's record, if it has one
-abbrev pub bytesSaid : Option Operation → List ℕ
+abbrev pub bytesSaid : Option Op → List ℕ
 bytesSaid none = []
 bytesSaid (some op) = bytesOf op
 
@@ -30,18 +29,6 @@ sizeBy (Clear u) = 2
 sizeBy (Check u) = 2
 sizeBy Wrong = 0
 
--- no byte is a newline
-abbrev pub Unbroken : List ℕ → Type 0
-Unbroken [] = Unit {0}
-Unbroken (c ∷ f) = (c ≡ 10 → ⊥) × Unbroken f
-
--- the line that starts at a ends at e
-pub record LineEnds (s : List ℕ) (a e : ℕ) : Type 0 where
-  pub low : a ≤ e
-  pub high : e ≤ length s
-  pub line : Unbroken (take (e - a) (drop a s))
-  pub newline : e < length s → getD s e 0 ≡ 10
-
 -- ---- a text
 
 abbrev pub notText : Weighed
@@ -51,6 +38,6 @@ notText = record { whole = false; count = 0; size = 0 }
 unfoldable pub toldBy : ℕ → ℕ → Weighed
 toldBy count size = elim (leb (size + (4 * count + 16)) largest) [ true ↦ record { whole = true; count = count; size = size } | false ↦ notText ]
 
-abbrev pub weighedOf : Option (List Operation) → Weighed
+abbrev pub weighedOf : Option (List Op) → Weighed
 weighedOf none = notText
 weighedOf (some ops) = toldBy (length ops) (length (recordsOf ops))

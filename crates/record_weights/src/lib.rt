@@ -2,10 +2,9 @@
 // The first of the two passes from text to records; it writes nothing. Assumes nothing.
 use text_lines::Line;
 ghost use mathlib.Core.Path.{_≡_};
-ghost use Prim.Native.Nat.{_≤_, _<_};
-ghost use lib.ListN.{length};
+ghost use Prim.Native.Nat.{_<_};
 ghost use Rattle.record_spec.specs.Moves.{textOps};
-ghost use Rattle.record_weights.specs.Weights.{sizeBy, notText as «not-text», weighedOf, LineEnds};
+ghost use Rattle.record_weights.specs.Weights.{sizeBy, notText as «not-text», weighedOf};
 
 // What a text holds: nothing that moves, if it is not whole.
 pub struct Weighed {
@@ -22,21 +21,6 @@ fn not_text() -> Weighed
         count: 0,
         size: 0,
     }
-}
-
-// Where the line that starts at a place ends: at its newline, or with the text.
-pub fn line_end(s: &[u8], start: usize) -> usize
-    requires { ⌜ start ≤ length (now s) ⌝ }
-    ensures { λ r. ⌜ LineEnds (now (s .entry)) start r ⌝ }
-{
-    let mut e = start;
-    while e < s.len() {
-        if s[e] == b'\n' {
-            return e;
-        }
-        e += 1;
-    }
-    e
 }
 
 // How many bytes a line's record takes; 0 for a line that is not of the grammar.
@@ -74,7 +58,7 @@ pub fn weigh(text: &[u8]) -> Weighed
     let mut count: usize = 0;
     let mut size: usize = 0;
     while start < text.len() {
-        let e = line_end(text, start);
+        let e = text_fields::part_end(text, start, b'\n');
         if e == text.len() {
             return not_text();
         }

@@ -5,9 +5,8 @@ use mathlib.Core.Bool.{Bool, true, false}
 use mathlib.Core.List.{List}
 use lib.IntN.{ℤ}
 use Rattle.bench_words.specs.Codec.{pick}
-use Rattle.bench_views.proofs.Unique.{words-same}
-use Rattle.bench_views.proofs.Fits.{fit-of}
 use Rattle.sound_bench.specs.Sound.{soundWords}
+use Rattle.outcomes.proofs.Outcomes.{sound-words-same}
 use Rattle.recorded_steps.specs.declared.Passed.{Passed}
 use Rattle.recorded_sound.specs.Answers.{RecordedAs}
 use Rattle.recorded_any.specs.Any.{NoBench, RecordedAny}
@@ -23,7 +22,7 @@ module _ (b : List ℕ) (u : ℕ) (l : ℤ) (ws out : List ℕ) (r q : Passed) (
   sound-once x y = record {
     number = x .number ∙ sym (y .number);
     taken = x .taken ∙ sym (y .taken);
-    bench = words-same b′ b″ (x .words .canon) (y .words .canon) (fit-of b′ (x .words) .within) (x .seen ∙ sym (y .seen));
+    bench = sound-words-same (x .words) (y .words) (x .seen ∙ sym (y .seen));
     slice = x .lengths ∙ sym (y .lengths);
   }
 

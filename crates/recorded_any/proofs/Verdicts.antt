@@ -11,7 +11,7 @@ use Rattle.sound_bench.proofs.Theorem.{sound-holds}
 use Rattle.sound_lent.specs.Verdict.{Verdict}
 use Rattle.recorded_steps.specs.declared.Passed.{Passed}
 use Rattle.recorded_sound.specs.Answers.{RecordedAs}
-use Rattle.recorded_any.specs.Any.{NoBench, RecordedAny}
+use Rattle.recorded_any.specs.Any.{RecordedAny}
 
 module _ (b : List ℕ) (u : ℕ) (l : ℤ) (ws out : List ℕ) where
   module _ {s : Bool} (v : Verdict b s) where

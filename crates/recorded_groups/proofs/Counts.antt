@@ -3,8 +3,8 @@ use Prim.Native.Nat.{ℕ, zero, suc, _+_, _-_, _*_, _≤_, _<_}
 use mathlib.Core.Path.{_≡_, subst}
 use mathlib.Core.List.{List, [], _∷_}
 use native.Mathlib.Omega.{arith}
-use lib.ListN.{length, take, drop, length-drop}
-use Rattle.recorded_groups.specs.Recording.{played, recordingIn, recordingOf}
+use lib.ListN.{length, drop, length-drop}
+use Rattle.recorded_groups.specs.Recording.{recordingIn, recordingOf}
 
 -- q groups cover n words, and fewer do not
 pub record Covers (n q : ℕ) : Type 0 where

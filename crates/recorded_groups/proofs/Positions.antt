@@ -1,24 +1,24 @@
 -- What the words of one position say, case by case. Assumes nothing.
 use Prim.Native.Nat.{ℕ, _-_, _<_, _≤_}
 use mathlib.Core.Path.{_≡_, refl, sym, _∙_, ap, ap₂}
-use mathlib.Core.Bool.{Bool, true, false, _&&_, not, cond}
+use mathlib.Core.Bool.{Bool, true, false, _&&_, not}
 use mathlib.Core.Option.{Option, none, some}
 use mathlib.Core.List.{List, [], _∷_}
 use native.Mathlib.Omega.{arith}
 use native.Mathlib.Decide.{ℕ-discrete}
 use lib.Dec.{eqb, leb, ltb}
-use borrow.Author.Tests.{eq-eqb, ne-eqb, le-leb, lt-leb, lt-ltb, le-ltb, leb-true, ltb-true, ltb-false}
+use borrow.Author.Tests.{eq-eqb, ne-eqb, le-leb, lt-leb, lt-ltb, le-ltb, ltb-true, ltb-false}
 use lib.ListN.{length, getD}
 use lib.IntN.{ℤ, pos, negsuc}
 use lib.Signed.{ltZ}
 use Rattle.bench_words.specs.Codec.{pick}
 use Rattle.ledger_spec.specs.Numbers.{NOTHING, STUCK}
 use Rattle.ledger_spec.specs.Tests.{first}
-use Rattle.ledger_spec.specs.Groups.{Group, growth, conflicts, largest, eqZ, smaller}
+use Rattle.ledger_spec.specs.Groups.{Group, growth, conflicts, largest, eqZ}
 use Rattle.group_lent.specs.Forms.{lengthOf}
 use Rattle.group_lent.specs.Place.{kindIn, listed, stopped, listIn, stopsIn, groupIn}
 use Rattle.group_lent_sound.specs.Test.{entriesFit, stopsFit, headFits, soundIn}
-use Rattle.recorded_spec.specs.Recorded.{groupTests, growthIn, stepBy}
+use Rattle.recorded_spec.specs.Recorded.{groupTests, growthIn}
 use Rattle.recorded_spec.proofs.Lengths.{group-grows, above}
 use Rattle.recorded_groups.specs.Recording.{growthPlayed, played}
 

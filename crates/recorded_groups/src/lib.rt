@@ -3,10 +3,9 @@
 use group_lent::GROUP;
 use kinds::numbers;
 ghost use mathlib.Core.Path.{_≡_};
-ghost use Prim.Native.Nat.{_≤_, _<_};
-ghost use lib.ListN.{length, getD};
+ghost use Prim.Native.Nat.{_<_};
+ghost use lib.ListN.{length};
 ghost use lib.IntN.{pos};
-ghost use lib.Signed.{ltZ};
 ghost use Rattle.ledger_spec.specs.Tests.{first};
 ghost use Rattle.recorded_spec.specs.Recorded.{groupTests, stepBy};
 ghost use Rattle.recorded_groups.specs.Recording.{growthPlayed, played, recordingOf};

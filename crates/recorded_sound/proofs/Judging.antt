@@ -1,8 +1,7 @@
 -- The verdict, case by case: refused with nothing taken, or accepted with the recording's own lengths. Assumes nothing.
-use Prim.Native.Nat.{ℕ, zero, suc, _-_, _≤_, _<_}
+use Prim.Native.Nat.{ℕ, _-_, _≤_, _<_}
 use mathlib.Core.Path.{_≡_, refl, sym, _∙_, ap, subst}
 use mathlib.Core.Bool.{true, false}
-use mathlib.Core.Option.{none}
 use mathlib.Core.List.{List, map}
 use native.Mathlib.Omega.{arith}
 use lib.ListN.{length, getD}
@@ -16,19 +15,20 @@ use Rattle.ledger_spec.specs.Bench as plain
 use Rattle.ledger_spec.specs.Look.{interface}
 use Rattle.ledger_spec.specs.Tests.{first}
 use Rattle.ledger_spec.specs.Refuse.{unitTests, growTests}
-use Rattle.ledger_spec.specs.Calls.{Reply, Grow, perform, growCall, settle, nobody}
+use Rattle.ledger_spec.specs.Calls.{Grow}
+use Rattle.ledger_spec.specs.Answers.{answer}
 use Rattle.ledger_spec.specs.Deeds.{growBy}
 use Rattle.ledger_spec.specs.Sound.{sound}
 use Rattle.ledger_spec.proofs.Holds.{holds}
 use Rattle.ledger_spec.proofs.Passed.{Open}
 use Rattle.ledger_spec.proofs.Accepted.{clear-passed}
+use Rattle.ledger_laws.proofs.Answered.{testsOf, deedOf, answer-number, zero-bench}
 use Rattle.bench_views.specs.View.{view}
-use Rattle.kinds.specs.declared.Handle.{Handle}
 use Rattle.bench_views.specs.Fit.{Fit, SoundWords}
-use Rattle.outcomes.specs.Answered.{Answered}
+use Rattle.outcomes.specs.Outcome.{Outcome}
 use Rattle.bench_views.proofs.Views.{interface-in}
 use Rattle.bench_floors.specs.Least.{Least}
-use Rattle.recorded_spec.specs.Recorded.{Steps, stopped, growRecorded}
+use Rattle.recorded_spec.specs.Recorded.{Steps, stopped}
 use Rattle.recorded_spec.specs.Sums.{Sums, sums}
 use Rattle.recorded_spec.proofs.Tests.{sums-few}
 use Rattle.recorded_spec.proofs.Answers.{refused-unit, refused-back, refused-step, refused-small, accepted-all}
@@ -36,7 +36,7 @@ use Rattle.recorded_groups.specs.Recording.{recordingOf}
 use Rattle.recorded_steps.specs.declared.Passed.{Passed}
 use Rattle.recorded_steps.specs.Passes.{limitNo, PassedAs, stepsOf, Ready}
 use Rattle.recorded_steps.proofs.Limits.{limits}
-use Rattle.recorded_sound.specs.Answers.{recordedOn, Went, JudgedAs, RecordedAs}
+use Rattle.recorded_sound.specs.Answers.{recordedOn, JudgedAs, RecordedAs}
 
 module _ (b : List ℕ) (F : Fit b) (u : ℕ) (l : ℤ) (ws : List ℕ) (room : ℕ) where
   abbrev whole : Steps
@@ -101,7 +101,7 @@ module _ (b : List ℕ) (F : Fit b) (u : ℕ) (l : ℤ) (ws : List ℕ) (room : 
       by-room h r = refused-small (view b) sounds u l (recordingOf ws) room open-tests ahead test same (sym (Q .number) ∙ h) r
 
       pub by-all : p .number ≡ 0 → length (recordingOf ws) ≤ room → JudgedAs b u l ws room p
-      unfolding tested perform growCall settle
+      unfolding tested testsOf deedOf
       by-all h r = record {
         number = h ∙ ap (λ (s : Steps). s .number) (sym (all .0));
         taken = Q .taken h ∙ ap (λ (s : Steps). length (s .lengths)) (sym (all .0));
@@ -110,14 +110,17 @@ module _ (b : List ℕ) (F : Fit b) (u : ℕ) (l : ℤ) (ws : List ℕ) (room : 
           ready = ap (λ (s : Sums). s .number) steps ∙ sym (Q .number) ∙ h;
           lengths = ap (λ (s : Steps). s .lengths) (all .0) ∙ ap (λ (s : Sums). s .lengths) (sym steps);
           fits = omega (arith, sums-few (λ t. 0) (recordingOf ws) (pos 0) (pos (natAbs l)));
-          accepted = ap (λ (k : ℕ). settle k (view b) (growBy (view b) u l) nobody .number) (all .1);
-          bench = ap (λ (s : Steps). s .bench) (all .0) ∙ sym (ap (λ (k : ℕ). settle k (view b) (growBy (view b) u l) nobody .bench) (all .1));
+          accepted = taken-whole;
+          bench = ap (λ (s : Steps). s .bench) (all .0) ∙ sym (zero-bench (view b) (Grow u l) taken-whole);
         };
         stays = λ q. absurd (q h);
       }
         where
           all : (whole ≡ record { number = 0; lengths = tested .lengths; bench = growBy (view b) u l }) × (first (growTests (view b) u l) ≡ 0) × (sums (λ t. 0) (pos 0) l (recordingOf ws) ≡ tested)
           all = accepted-all (view b) sounds u l (recordingOf ws) room open-tests ahead test same (sym (Q .number) ∙ h) r
+
+          taken-whole : answer (view b) (Grow u l) .number ≡ 0
+          taken-whole = answer-number (view b) (Grow u l) sounds ∙ all .1
 
           size : x ≡ natAbs l
           size = ap natAbs (sym is)
@@ -144,12 +147,14 @@ module _ (b : List ℕ) (u : ℕ) (l : ℤ) (ws out : List ℕ) (r : Passed) (J 
     pub ready : Ready ws (natAbs l) out
     ready = record { accepted = J .went z .ready; room = J .went z .fits }
 
-    pub all-done : (n : ℕ) (h : Handle) (b′ out′ : List ℕ) → Answered b (Grow u l) n h b′ → out′ ≡ sets out 0 (map natAbs (stepsOf ws (natAbs l) .lengths)) → RecordedAs b u l ws out r b′ out′
-    all-done n h b′ out′ A e = record {
-      number = J .number;
-      taken = J .taken;
-      lengths = e ∙ ap (λ (x : List ℤ). sets out 0 (map natAbs x)) (sym (J .went z .lengths));
-      words = A .words;
-      seen = A .seen ∙ sym (J .went z .bench);
-      refused = λ q. absurd (q z);
-    }
+    pub all-done : (n : ℕ) (b′ out′ : List ℕ) → Outcome true b (Grow u l) n b′ → out′ ≡ sets out 0 (map natAbs (stepsOf ws (natAbs l) .lengths)) → RecordedAs b u l ws out r b′ out′
+    all-done n b′ out′ O e =
+        let k : n ≡ 0 = O .number ∙ J .went z .accepted in
+        record {
+          number = J .number;
+          taken = J .taken;
+          lengths = e ∙ ap (λ (x : List ℤ). sets out 0 (map natAbs x)) (sym (J .went z .lengths));
+          words = O .words k;
+          seen = O .seen k ∙ sym (J .went z .bench);
+          refused = λ q. absurd (q z);
+        }

@@ -6,7 +6,8 @@ use mathlib.Core.List.{List, map}
 use lib.ListN.{length}
 use lib.Seq.{sets}
 use lib.IntN.{ℤ, pos, natAbs}
-use Rattle.ledger_spec.specs.Calls.{Grow, perform}
+use Rattle.ledger_spec.specs.Calls.{Grow}
+use Rattle.ledger_spec.specs.Answers.{answer}
 use Rattle.bench_views.specs.View.{view}
 use Rattle.bench_views.specs.Fit.{SoundWords}
 use Rattle.recorded_spec.specs.Recorded.{Steps, stopped, growRecorded}
@@ -24,8 +25,8 @@ pub record Went (b : List ℕ) (u : ℕ) (l : ℤ) (ws : List ℕ) (room : ℕ) 
   pub ready : stepsOf ws (natAbs l) .number ≡ 0
   pub lengths : recordedOn b u l ws room .lengths ≡ stepsOf ws (natAbs l) .lengths
   pub fits : length (stepsOf ws (natAbs l) .lengths) ≤ room
-  pub accepted : perform (view b) (Grow u l) .number ≡ 0
-  pub bench : recordedOn b u l ws room .bench ≡ perform (view b) (Grow u l) .bench
+  pub accepted : answer (view b) (Grow u l) .number ≡ 0
+  pub bench : recordedOn b u l ws room .bench ≡ answer (view b) (Grow u l) .bench
 
 -- the tests' verdict, before anything grows
 pub record JudgedAs (b : List ℕ) (u : ℕ) (l : ℤ) (ws : List ℕ) (room : ℕ) (r : Passed) : Type 0 where

@@ -1,9 +1,9 @@
 -- The call's answer, case by case, as code finds it that tests first and grows once. Assumes nothing.
 use Prim.Native.Nat.{ℕ, zero, suc, _≤_, _<_}
-use mathlib.Core.Path.{_≡_, refl, sym, _∙_, ap, ap₂}
+use mathlib.Core.Path.{_≡_, refl, _∙_, ap, ap₂}
 use mathlib.Core.Bool.{Bool, true, false}
 use mathlib.Core.Option.{Option}
-use mathlib.Core.List.{List, [], _∷_, _++_}
+use mathlib.Core.List.{List, [], _∷_}
 use native.Mathlib.Omega.{arith}
 use lib.Dec.{ltb, leb}
 use borrow.Author.Tests.{lt-ltb, le-ltb}
@@ -24,7 +24,6 @@ use Rattle.ledger_spec.proofs.Accepted.{clear-passed}
 use Rattle.recorded_spec.specs.Recorded.{Steps, stopped, orElse, steps, recordedTests, recordedNo, allOrNone, growRecorded}
 use Rattle.recorded_spec.specs.Sums.{Sums, sums}
 use Rattle.recorded_spec.proofs.Stepping.{inAll, Same, steps-are}
-use Rattle.recorded_spec.proofs.Totals.{first-zero}
 use Rattle.recorded_spec.proofs.Tests.{sums-ext, sums-any}
 use Rattle.recorded_spec.proofs.Whole.{Accepted, accepted, one-bench, one-passes}
 

@@ -1,5 +1,5 @@
 -- A recording that is longer than needed answers the same as its taken part; and its steps, one by one by `grow`, leave the same bench. Assumes nothing.
-use Prim.Native.Nat.{ℕ, zero, suc, _≤_}
+use Prim.Native.Nat.{ℕ, zero, suc}
 use mathlib.Core.Path.{_≡_, refl, sym, _∙_, ap, ap₂, subst}
 use mathlib.Core.Bool.{Bool, true, false}
 use mathlib.Core.Option.{Option}
@@ -8,7 +8,7 @@ use native.Mathlib.Omega.{arith}
 use lib.Dec.{ltb}
 use borrow.Author.Tests.{ltb-false, le-ltb}
 use lib.ListN.{length, take, length-take}
-use lib.IntN.{ℤ, pos, _+ℤ_, _-ℤ_}
+use lib.IntN.{ℤ, pos, _-ℤ_}
 use lib.Signed.{ltZ}
 use Rattle.ledger_spec.specs.Numbers.{BROKEN, SMALL, SHORT}
 use Rattle.ledger_spec.specs.Bench.{Bench}

@@ -11,7 +11,7 @@ use lib.Signed.{ltZ}
 use Rattle.ledger_spec.specs.Numbers.{progressLimit, UNIT, CHILD, LENGTH, BELOW, NOTHING, STUCK}
 use Rattle.ledger_spec.specs.Bench.{Bench}
 use Rattle.ledger_spec.specs.Look.{interface}
-use Rattle.ledger_spec.specs.Tests.{first, outside, child, isSome}
+use Rattle.ledger_spec.specs.Tests.{first, outside, isSome}
 use Rattle.ledger_spec.specs.Refuse.{growTests}
 use Rattle.ledger_spec.specs.Deeds.{growBy}
 use Rattle.ledger_spec.specs.Frame.{Frame}

@@ -1,16 +1,16 @@
 -- Growing against a recording that is accepted is one growth by the whole length, and the same as its steps one by one. Assumes nothing.
-use Prim.Native.Nat.{ℕ, zero, suc, _<_, _≤_}
-use mathlib.Core.Path.{_≡_, refl, sym, _∙_, ap, ap₂, subst}
+use Prim.Native.Nat.{ℕ, zero, suc}
+use mathlib.Core.Path.{_≡_, refl, sym, _∙_, ap}
 use mathlib.Core.Bool.{Bool, true, false, _&&_, true≢false}
 use mathlib.Core.Option.{Option, none, some}
-use mathlib.Core.List.{List, [], _∷_, _++_}
+use mathlib.Core.List.{List, [], _∷_}
 use native.Mathlib.Omega.{arith}
-use lib.ListN.{length, take}
-use lib.IntN.{ℤ, pos, negsuc, _+ℤ_, _-ℤ_, +ℤ-idl, +ℤ-idr, natAbs}
+use lib.ListN.{length}
+use lib.IntN.{ℤ, pos, negsuc, _+ℤ_, +ℤ-idl, +ℤ-idr, natAbs}
 use lib.Signed.{ltZ, leZ}
 use lib.Dec.{ltb}
 use borrow.Author.Tests.{le-ltb}
-use Rattle.ledger_spec.specs.Numbers.{progressLimit, SMALL, LENGTH}
+use Rattle.ledger_spec.specs.Numbers.{progressLimit, SMALL}
 use Rattle.ledger_spec.specs.Bench.{State, grows, stays, shrinks, Node, Bench}
 use Rattle.ledger_spec.specs.Look.{interface, slotOf}
 use Rattle.ledger_spec.specs.Tests.{first, isShrink, sinks, floored}
@@ -23,17 +23,13 @@ use Rattle.ledger_spec.specs.Facts.{Sound}
 use Rattle.ledger_spec.specs.Account.{total}
 use Rattle.ledger_spec.specs.Groups.{Group}
 use Rattle.ledger_spec.proofs.Says.{says}
-use Rattle.ledger_spec.proofs.Holds.{holds}
 use Rattle.ledger_spec.proofs.Passed.{Open, passed, open-of}
-use Rattle.ledger_spec.proofs.Accepted.{GrowPassed, grow-passed}
+use Rattle.ledger_spec.proofs.Accepted.{grow-passed}
 use Rattle.ledger_laws.proofs.Floors.{level-top}
 use Rattle.ledger_laws.proofs.GrowCalls.{grow-tests}
 use Rattle.ledger_laws.proofs.Demand.{grew, grows-now}
-use Rattle.ledger_laws.proofs.SoundCalls.{grow-sound}
-use Rattle.recorded_spec.specs.Recorded.{Steps, stopped, onward, groupTests, stepBy, orElse, steps, recordedTests, recordedNo, allOrNone, growRecorded}
-use Rattle.recorded_spec.specs.Sums.{Sums, sums}
-use Rattle.recorded_spec.specs.Grown.{OneByOne, none-left, grown-by}
-use Rattle.recorded_spec.proofs.Tested.{group-first}
+use Rattle.recorded_spec.specs.Recorded.{Steps, stopped, onward, stepBy, orElse, steps, recordedTests, recordedNo, allOrNone, growRecorded}
+use Rattle.recorded_spec.specs.Sums.{sums}
 use Rattle.recorded_spec.proofs.Stepping.{inAll, Same, steps-are}
 use Rattle.recorded_spec.proofs.Totals.{first-zero, nothing-left, Through, through}
 

@@ -2,7 +2,7 @@
 use Prim.Native.Nat.{ℕ, _+_, _-_, _≤_, _<_}
 use mathlib.Core.Path.{_≡_, refl, sym, _∙_, ap, ap₂}
 use mathlib.Core.Bool.{Bool, true, false, _||_}
-use mathlib.Core.List.{List, [], _∷_}
+use mathlib.Core.List.{[], _∷_}
 use native.Mathlib.Omega.{arith}
 use native.Mathlib.Decide.{decLt}
 use lib.Dec.{ltb}
@@ -12,7 +12,7 @@ use lib.Signed.{ltZ}
 use Rattle.ledger_spec.specs.Numbers.{UNIT, CHILD, LENGTH, BELOW}
 use Rattle.ledger_spec.specs.Bench.{Bench}
 use Rattle.ledger_spec.specs.Look.{interface}
-use Rattle.ledger_spec.specs.Tests.{first, isSome, child, outside, below}
+use Rattle.ledger_spec.specs.Tests.{first, isSome, below}
 use Rattle.ledger_spec.specs.Refuse.{growTests}
 use Rattle.ledger_spec.proofs.Passed.{Open}
 use Rattle.recorded_steps.specs.Passes.{limitNo}

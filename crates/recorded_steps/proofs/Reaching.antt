@@ -1,7 +1,7 @@
 -- What holds whenever a pass is about to take the next group. Assumes nothing.
 use Prim.Native.Nat.{ℕ, zero, suc, _+_, _-_, _≤_, _<_}
 use mathlib.Core.Path.{_≡_, refl, sym, _∙_, ap, subst}
-use mathlib.Core.List.{List, [], _∷_, map}
+use mathlib.Core.List.{List, _∷_, map}
 use native.Mathlib.Omega.{arith}
 use native.Mathlib.Numerals.{add-one}
 use lib.ListN.{length, set, length-set}
@@ -9,9 +9,8 @@ use lib.Seq.{sets}
 use lib.IntN.{ℤ, pos, natAbs}
 use Rattle.recorded_spec.specs.Sums.{Sums, refused, sums}
 use Rattle.recorded_groups.specs.Recording.{recordingOf}
-use Rattle.recorded_steps.specs.declared.Passed.{Passed}
 use Rattle.recorded_steps.specs.declared.Step.{Step}
-use Rattle.recorded_steps.specs.Passes.{PassedAs, StepAs, stepsOf, Ready}
+use Rattle.recorded_steps.specs.Passes.{StepAs, stepsOf, Ready}
 use Rattle.recorded_steps.proofs.Passing.{rest, rest-start, rest-end, rest-stop, rest-step, by-low, further-no, further-yes}
 
 module _ (f : ℤ → ℕ) (ws : List ℕ) (L : ℕ) where

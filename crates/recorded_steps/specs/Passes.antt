@@ -1,7 +1,6 @@
 -- What the pass over a recording answers: the number that stops it, or how many groups it takes. Assumes nothing.
 use Prim.Native.Nat.{ℕ, _+_, _≤_}
 use mathlib.Core.Path.{_≡_}
-use mathlib.Core.Bool.{Bool}
 use mathlib.Core.List.{List, [], _∷_}
 use lib.ListN.{length, take, drop}
 use lib.IntN.{ℤ, pos}

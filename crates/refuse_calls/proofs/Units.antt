@@ -5,11 +5,11 @@ use mathlib.Core.Logic.{_≢_}
 use mathlib.Core.Bool.{Bool, true, false, _||_}
 use mathlib.Core.List.{List, [], _∷_}
 use native.Mathlib.Omega.{arith}
-use lib.Dec.{leb, ltb}
+use lib.Dec.{ltb}
 use lib.IntN.{ℤ, pos, _+ℤ_}
 use lib.ListN.{length, getD}
 use lib.Signed.{ltZ}
-use borrow.Author.Tests.{le-leb, lt-leb, lt-ltb, le-ltb}
+use borrow.Author.Tests.{lt-ltb, le-ltb}
 use Rattle.bench_words.specs.Store.{nodeAt, interfaceAt}
 use Rattle.bench_words.specs.declared.Interface.{Interface}
 use Rattle.ledger_spec.specs.Bench as plain
@@ -19,7 +19,7 @@ use Rattle.ledger_spec.specs.Refuse.{unitTests, defectTests, markTests}
 use Rattle.ledger_spec.proofs.Passed.{Failed, passed}
 use Rattle.ledger_spec.proofs.Accepted.{clear-passed}
 use Rattle.bench_views.specs.View.{view}
-use Rattle.bench_views.proofs.Views.{interface-in, view-count, view-next}
+use Rattle.bench_views.proofs.Views.{interface-in}
 use Rattle.read_sound.proofs.Numbers.{first-yes, first-no, first-none}
 use Rattle.refuse_calls.specs.Length.{lengthTests}
 use Rattle.refuse_calls.specs.Room.{roomTests}

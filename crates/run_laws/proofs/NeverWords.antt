@@ -1,7 +1,7 @@
 -- A serial is never used again, of the stored words: in any run of public calls on words that hold a sound bench, as set-up's do, the next serial never
 -- falls, the handles that calls answered as made are all different, and one that names no node any more never names one again. Assumes nothing.
 use Prim.Native.Nat.{ℕ, _≤_, _<_}
-use mathlib.Core.Path.{_≡_, refl, sym, _∙_, ap, ap₂, subst}
+use mathlib.Core.Path.{_≡_, refl, sym, _∙_, ap, subst}
 use mathlib.Core.Option.{none, some}
 use mathlib.Core.List.{List, [], _∷_, _++_}
 use native.Mathlib.Omega.{arith}
@@ -10,7 +10,7 @@ use Rattle.ledger_spec.specs.Bench.{Handle, Node, Bench}
 use Rattle.ledger_spec.specs.Look.{slotOf, nodeNamed}
 use Rattle.ledger_spec.specs.Calls.{Call}
 use Rattle.ledger_spec.specs.Answers.{answer}
-use Rattle.ledger_spec.specs.Book.{Book, turn, turns}
+use Rattle.ledger_spec.specs.Book.{Book, turn}
 use Rattle.ledger_spec.specs.Named.{handleNamed}
 use Rattle.ledger_spec.specs.Knit.{Has}
 use Rattle.ledger_spec.proofs.Says.{says}

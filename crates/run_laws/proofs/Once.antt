@@ -9,16 +9,16 @@ use Rattle.ledger_spec.specs.Calls.{Call, Defect, Blossom, Expand, SetState, Gr
 use Rattle.sound_bench.specs.Sound.{soundWords}
 use Rattle.call_set_up.specs.Opened.{Opened, OpenedBy, OpenedInBy}
 use Rattle.call_set_up.proofs.Opening.{one-opened, one-set-up, one-set-up-in}
+use Rattle.outcomes.proofs.Outcomes.{once-with}
 use Rattle.call_told.specs.declared.Answer.{Answer}
 use Rattle.call_told.specs.Told.{Called}
-use Rattle.call_told.proofs.Calling.{one-answer, one-bench}
 
 -- every two results of call c on words b are one
 abbrev pub Once : List ℕ → Call → Type 0
 Once b c = (r q : Answer) (b′ b″ : List ℕ) → Called (soundWords b) b c r b′ → Called (soundWords b) b c q b″ → (r ≡ q) × (b′ ≡ b″)
 
 pub once : (b : List ℕ) (c : Call) → Once b c
-once b c r q b′ b″ x y = (one-answer x y, one-bench x y)
+once b c r q b′ b″ x y = once-with x y .1
 
 module _ (b : List ℕ) (u : ℕ) where
   pub create-defect-node : (v : ℕ) → Once b (Defect u v)

@@ -2,11 +2,10 @@
 -- growing in two steps leaves the words that one step leaves. Assumes nothing.
 use Prim.Native.Nat.{ℕ, _<_}
 use mathlib.Core.Path.{_≡_, refl, sym, _∙_, ap, ap₂, subst}
-use mathlib.Core.Logic.{_≢_, by-cases}
+use mathlib.Core.Logic.{_≢_}
 use mathlib.Core.Bool.{true≢false}
 use mathlib.Core.Option.{none}
 use mathlib.Core.List.{List, [], _∷_}
-use native.Mathlib.Decide.{ℕ-discrete}
 use lib.ListN.{getD}
 use lib.IntN.{ℤ, _+ℤ_}
 use Rattle.bench_words.specs.Codec.{sumOffset, speedOffset}
@@ -16,47 +15,40 @@ use Rattle.ledger_spec.specs.Bench.{Bench}
 use Rattle.ledger_spec.specs.Bench as plain
 use Rattle.ledger_spec.specs.Look.{interface, top}
 use Rattle.ledger_spec.specs.Calls.{Call, Grow}
-use Rattle.ledger_spec.specs.Answers.{Answer as Plain, answer}
+use Rattle.ledger_spec.specs.Answers.{answer}
 use Rattle.ledger_spec.specs.Book.{Book, turn, turns, newBook}
 use Rattle.ledger_spec.specs.Account.{treeSum, valuesAt, ratesAt, Right}
-use Rattle.ledger_laws.proofs.Answered.{refused-bench}
 use Rattle.ledger_laws.proofs.Always.{broken-only}
 use Rattle.ledger_laws.proofs.Turns.{right}
 use Rattle.ledger_laws.proofs.Demand.{grow-called}
 use Rattle.bench_views.specs.View.{view, off, upSeen}
 use Rattle.bench_views.specs.Fit.{SoundWords}
 use Rattle.bench_views.proofs.Views.{interface-in, view-parent}
-use Rattle.bench_views.proofs.Fits.{fit-of}
-use Rattle.bench_views.proofs.Unique.{words-same}
 use Rattle.sound_bench.specs.Sound.{soundWords}
 use Rattle.sound_bench.proofs.Theorem.{sound-holds}
 use Rattle.call_set_up.specs.Opened.{Opened}
+use Rattle.outcomes.proofs.Outcomes.{sound-words-same, sound-after, seen-after, judged-with}
 use Rattle.call_told.specs.declared.Answer.{Answer}
 use Rattle.call_told.specs.Shown.{shown}
-use Rattle.call_told.specs.Told.{Called, answerOn}
+use Rattle.call_told.specs.Told.{Told, Called}
 use Rattle.run_laws.specs.Ran.{Ran, stop, next, plainly}
 
 -- ---- one call on sound words
 module _ {b : List ℕ} (W : SoundWords b) {c : Call} {r : Answer} {b′ : List ℕ} (x : Called (soundWords b) b c r b′) where
-  on-sound : answerOn (soundWords b) b c ≡ answer (view b) c
-  unfolding answerOn
-  on-sound = rw (sound-holds b W, answerOn)
+  on-sound : Told b c r b′
+  on-sound = judged-with shown (sound-holds b W) x
 
   pub says : r ≡ shown (answer (view b) c)
-  says = x .reply ∙ ap shown on-sound
+  says = on-sound .1
 
   pub number-is : answer (view b) c .number ≡ r .number
-  number-is = sym (ap (λ (a : Answer). a .number) says)
+  number-is = sym (on-sound .0 .number)
 
   pub shows : view b′ ≡ answer (view b) c .bench
-  shows = by-cases (ℕ-discrete (r .number) 0)
-      (λ (z : r .number ≡ 0). x .seen z ∙ ap (λ (a : Plain). a .bench) on-sound)
-      (λ (q : r .number ≡ 0 → ⊥). ap view (x .refused q) ∙ sym (refused-bench (view b) c (λ z. q (sym number-is ∙ z))))
+  shows = seen-after (on-sound .0)
 
   pub stays-sound : SoundWords b′
-  stays-sound = by-cases (ℕ-discrete (r .number) 0)
-      (λ (z : r .number ≡ 0). x .words z)
-      (λ (q : r .number ≡ 0 → ⊥). subst SoundWords (sym (x .refused q)) W)
+  stays-sound = sound-after W (x .0)
 
   pub not-broken : r .number ≢ 2
   not-broken e = true≢false (sym (W .sound) ∙ broken-only (view b) c (number-is ∙ e))
@@ -120,5 +112,5 @@ module _ {b : List ℕ} (W : SoundWords b) {u : ℕ} {a c : ℤ} {r q p : Answer
       let h : answer (answer (view b) (Grow u a) .bench) (Grow u c) .number ≡ 0 = subst (λ (d : Bench). answer d (Grow u c) .number ≡ 0) (shows W x) (number-is W₁ y ∙ f) in
       let G = grow-called (view b) u a c g h in (
         sym (number-is W z) ∙ G .0,
-        words-same b₂ b₃ (W₂ .canon) (W₃ .canon) (fit-of b₂ W₂ .within) (shows W₁ y ∙ ap (λ (d : Bench). answer d (Grow u c) .bench) (shows W x) ∙ G .1 ∙ sym (shows W z)),
+        sound-words-same W₂ W₃ (shows W₁ y ∙ ap (λ (d : Bench). answer d (Grow u c) .bench) (shows W x) ∙ G .1 ∙ sym (shows W z)),
       )

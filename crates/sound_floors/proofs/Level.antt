@@ -1,15 +1,15 @@
 -- The test of floors and the ledger's own rule, either from the other. Assumes nothing.
 use Prim.Native.Nat.{ℕ, suc, _+_, _-_, _*_, _<_, _≤_}
 use mathlib.Core.Path.{_≡_, refl, sym, _∙_, ap, subst}
-use mathlib.Core.Bool.{Bool, true, false, not, _&&_, _||_, true≢false}
-use mathlib.Core.Option.{Option, none, some}
+use mathlib.Core.Bool.{Bool, true, false, not, _||_, true≢false}
+use mathlib.Core.Option.{some}
 use mathlib.Core.List.{List}
 use native.Mathlib.Decide.{decLt}
 use native.Mathlib.Omega.{arith}
 use lib.Dec.{leb, ltb}
-use lib.IntN.{ℤ, pos, negsuc}
+use lib.IntN.{pos}
 use lib.Signed.{leZ}
-use lib.ListN.{length, getD, List·getD-eq-default}
+use lib.ListN.{getD, List·getD-eq-default}
 use borrow.Author.Tests.{le-leb, lt-leb, ltb-true, ltb-false}
 use Rattle.kinds.specs.declared.Class.{Class}
 use Rattle.kinds.specs.declared.Class.the-variants.{Absent, Blossom, Defect}
@@ -21,17 +21,16 @@ use Rattle.bench_words.proofs.Laws.{GoodUp, good-interface}
 use Rattle.ledger_spec.specs.Bench.{Member, fresh}
 use Rattle.ledger_spec.specs.Bench as plain
 use Rattle.ledger_spec.specs.Look.{interface, slotOf}
-use Rattle.ledger_spec.specs.Tests.{floored, same}
+use Rattle.ledger_spec.specs.Tests.{floored}
 use Rattle.ledger_spec.specs.Sound.{afloat}
 use Rattle.ledger_spec.specs.Facts.{Floors}
 use Rattle.ledger_spec.proofs.Lists.{and-true, both-true, same-eq, eq-same}
 use Rattle.ledger_spec.proofs.Knit.{none-some}
 use Rattle.bench_views.specs.View.{off, upSeen, valueBy, sumUp, circleOf, slotSeen, view}
-use Rattle.bench_views.specs.Records.{Steady}
-use Rattle.bench_views.proofs.Views.{interface-in, view-slot, view-past, view-out, view-parent, view-eight}
+use Rattle.bench_views.proofs.Views.{interface-in, view-slot, view-past, view-parent, view-eight}
 use Rattle.sound_trees.specs.Below.{allTo}
 use Rattle.sound_trees.proofs.Belows.{all-each, all-of}
-use Rattle.sound_floors.specs.Floors.{highTest, afloatTest, levelTest, slotAfloat, floorTest}
+use Rattle.sound_floors.specs.Floors.{afloatTest, levelTest, slotAfloat, floorTest}
 
 -- ---- a value that stands higher than it is
 off-high : (c x : ℕ) → leZ (pos 0) (off (suc c) x) ≡ leb (suc c) x

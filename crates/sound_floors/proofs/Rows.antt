@@ -1,5 +1,5 @@
 -- The code's tests are the definition's: no sum in them wraps, and each way out is a part of the test. Assumes nothing.
-use Prim.Native.Nat.{ℕ, _+_, _-_, _*_, _<_, _≤_}
+use Prim.Native.Nat.{ℕ, _+_, _-_, _<_, _≤_}
 use mathlib.Core.Path.{_≡_, refl, sym, _∙_, ap}
 use mathlib.Core.Bool.{Bool, true, false, not, _&&_, _||_}
 use mathlib.Core.List.{List}
@@ -9,18 +9,17 @@ use native.Mathlib.Omega.{arith}
 use lib.Dec.{leb}
 use borrow.Author.Tests.{le-leb, lt-leb, not-true, not-false}
 use Rattle.kinds.specs.declared.GrowState.{GrowState}
-use Rattle.kinds.specs.declared.GrowState.the-variants.{Grow, Stay, Shrink}
-use Rattle.kinds.specs.declared.Class.{Class}
+use Rattle.kinds.specs.declared.GrowState.the-variants.{Grow, Shrink}
 use Rattle.kinds.specs.declared.Class.the-variants.{Absent, Blossom, Defect}
 use Rattle.kinds.specs.declared.Vertex.{Vertex}
-use Rattle.bench_words.specs.Store.{nodeAt, interfaceAt}
+use Rattle.bench_words.specs.Store.{interfaceAt}
 use Rattle.bench_words.specs.declared.Node.{Node}
 use Rattle.bench_words.specs.declared.Interface.{Interface}
 use Rattle.bench_words.specs.declared.Up.{Up}
-use Rattle.bench_words.specs.declared.Up.the-variants.{Top, Under}
+use Rattle.bench_words.specs.declared.Up.the-variants.{Under}
 use Rattle.bench_words.proofs.Laws.{GoodUp, good-interface}
 use Rattle.ledger_spec.specs.Tests.{same}
-use Rattle.bench_views.specs.View.{sumUp, valueBy}
+use Rattle.bench_views.specs.View.{sumUp}
 use Rattle.bench_views.specs.Records.{Steady}
 use Rattle.bench_trees.specs.Climb.{Climbs}
 use Rattle.sound_trees.specs.Below.{allTo}

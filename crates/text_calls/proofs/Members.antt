@@ -5,12 +5,13 @@ use mathlib.Core.Logic.{by-cases}
 use mathlib.Core.List.{List, [], map}
 use native.Mathlib.Decide.{decLt}
 use native.Mathlib.Omega.{arith}
+use mathlib.Core.Option.{some}
 use lib.ListN.{length, take}
 use lib.Seq.{take-all}
 use Rattle.kinds.specs.declared.Handle.{Handle}
 use Rattle.ledger_spec.specs.Bench.{Bench}
 use Rattle.ledger_spec.specs.Calls.{Blossom}
-use Rattle.ledger_spec.specs.Grammar.{B}
+use Rattle.ledger_spec.specs.Operations.{B}
 use Rattle.ledger_spec.specs.Lines.{named, says, shown}
 use Rattle.bench_views.specs.View.{view}
 use Rattle.bench_views.specs.Fit.{SoundWords}
@@ -24,10 +25,10 @@ use Rattle.text_numbers.specs.Numbers.{numbersOf}
 use Rattle.text_calls.specs.Turned.{Few, TurnedBlossom}
 use Rattle.text_calls.proofs.Turning.{turned}
 
-front-says : (b : Bench) (u : ℕ) (ks : List ℕ) (n : ℕ) → Few (length ks) n → says b (B u ks) ≡ says b (B u (take n ks))
+front-says : (b : Bench) (u : ℕ) (ks : List ℕ) (n : ℕ) → Few (length ks) n → says b (some (B u ks)) ≡ says b (some (B u (take n ks)))
 front-says b u ks n f = by-cases (decLt 64 (length ks))
-    (λ (l : 64 < length ks). first-65 b u ks l ∙ ap (λ (m : ℕ). says b (B u (take m ks))) (sym (f .many l)))
-    (λ (l : 64 < length ks → ⊥). ap (λ (js : List ℕ). says b (B u js)) (sym (take-all n ks (omega (arith, f .all (omega arith))))))
+    (λ (l : 64 < length ks). first-65 b u ks l ∙ ap (λ (m : ℕ). says b (some (B u (take m ks)))) (sym (f .many l)))
+    (λ (l : 64 < length ks → ⊥). ap (λ (js : List ℕ). says b (some (B u js))) (sym (take-all n ks (omega (arith, f .all (omega arith))))))
 
 pub few-low : (count n : ℕ) → Few count n → n ≤ count
 few-low count n f = by-cases (decLt 64 count) (λ (l : 64 < count). omega (arith, f .many l)) (λ (l : 64 < count → ⊥). omega (arith, f .all (omega arith)))
@@ -43,8 +44,8 @@ pub turned-blossom : (b : List ℕ) → SoundWords b → (u : ℕ) (stored : Lis
 unfolding says
 turned-blossom b W u stored count long n f ws a m h b′ A r t ks c front =
     let e : take n stored ≡ take n ks = front n (f .most) (few-low count n f) in
-    turned b W (B u ks) u (Blossom u (map (named (view b)) (take n stored)) [])
-    (front-says (view b) u ks n (rw c f) ∙ ap (λ (js : List ℕ). says (view b) (B u js)) (sym e))
+    turned b W (some (B u ks)) u (Blossom u (map (named (view b)) (take n stored)) [])
+    (front-says (view b) u ks n (rw c f) ∙ ap (λ (js : List ℕ). says (view b) (some (B u js))) (sym e))
     (Blossom u (handsGiven (take n ws)) (pairsGiven []))
     (rw no-pairs (same-blossom (view b) u n stored ws (omega (arith, f .most)) a))
     m h b′ A r t

@@ -1,9 +1,11 @@
 -- What a line does on sound words: the ledger's own account of it. Assumes nothing.
 use Prim.Native.Nat.{ℕ, _≤_, _<_}
 use mathlib.Core.Path.{_≡_}
+use mathlib.Core.Option.{some}
 use mathlib.Core.List.{List}
 use lib.ListN.{length, take}
-use Rattle.ledger_spec.specs.Grammar.{Line, B}
+use Rattle.ledger_spec.specs.Operations.{B}
+use Rattle.ledger_spec.specs.Grammar.{Line}
 use Rattle.ledger_spec.specs.Lines.{LineAnswer, says}
 use Rattle.bench_views.specs.View.{view}
 use Rattle.bench_views.specs.Fit.{SoundWords}
@@ -29,4 +31,4 @@ pub record Few (count n : ℕ) : Type 0 where
 -- a blossom of the serials ks, of which the front stands in a slice
 abbrev pub TurnedBlossom : List ℕ → ℕ → List ℕ → ℕ → Reply → List ℕ → Type 0
 TurnedBlossom b u stored count r b′ =
-    (ks : List ℕ) → length ks ≡ count → ((n : ℕ) → n ≤ 65 → n ≤ count → take n stored ≡ take n ks) → Turned b (B u ks) r b′
+    (ks : List ℕ) → length ks ≡ count → ((n : ℕ) → n ≤ 65 → n ≤ count → take n stored ≡ take n ks) → Turned b (some (B u ks)) r b′

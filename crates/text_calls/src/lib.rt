@@ -5,14 +5,17 @@ use bench_words::WORDS;
 use kinds::GrowState;
 use kinds::Serial;
 use kinds::Vertex;
+use kinds::numbers;
 use outcomes::Made;
 use text_lines::Line;
 use text_numbers::Reply;
 ghost use mathlib.Core.Path.{_≡_};
+ghost use mathlib.Core.Option.{some};
 ghost use mathlib.Core.List.{List};
 ghost use Prim.Native.Nat.{ℕ, _≤_};
 ghost use lib.ListN.{length};
-ghost use Rattle.ledger_spec.specs.Grammar.{Line as Said, D, E, S, G, F, C, K};
+ghost use Rattle.ledger_spec.specs.Operations.{D, E, S, G, F, C, K};
+ghost use Rattle.ledger_spec.specs.Grammar.{Line as Said};
 ghost use Rattle.ledger_spec.specs.Lines.{shown};
 ghost use Rattle.ledger_spec.specs.Named.{stateNamed};
 ghost use Rattle.text_lines.specs.Shown.{ReadAs};
@@ -46,7 +49,7 @@ pub fn keep(made: Made, hints: &mut [u16; HINTS]) {
 
 fn defect(b: &mut [u64; WORDS], unit: u8, vertex: Vertex, hints: &mut [u16; HINTS]) -> Reply
     requires { ⌜ SoundWords (now b) ⌝ }
-    ensures { λ r. ⌜ Turned (now (b .entry)) (D unit (vertex .0)) r (now (b .exit)) ⌝ }
+    ensures { λ r. ⌜ Turned (now (b .entry)) (some (D unit (vertex .0))) r (now (b .exit)) ⌝ }
 {
     let made = call_sound::create_defect_node(b, unit, vertex);
     keep(made, hints);
@@ -82,7 +85,7 @@ fn blossom(
 
 fn expand(b: &mut [u64; WORDS], unit: u8, serial: Serial, hints: &mut [u16; HINTS]) -> Reply
     requires { ⌜ SoundWords (now b) ⌝ }
-    ensures { λ r. ⌜ Turned (now (b .entry)) (E unit (serial .0)) r (now (b .exit)) ⌝ }
+    ensures { λ r. ⌜ Turned (now (b .entry)) (some (E unit (serial .0))) r (now (b .exit)) ⌝ }
 {
     let node = bench_serials::named(b, serial, hints);
     let made = call_sound::expand_blossom(b, unit, node);
@@ -97,7 +100,7 @@ fn set_state(
     hints: &mut [u16; HINTS],
 ) -> Reply
     requires { ⌜ SoundWords (now b) ⌝ }
-    ensures { λ r. ⌜ Turned (now (b .entry)) (S unit (serial .0) (stateNamed state)) r (now (b .exit)) ⌝ }
+    ensures { λ r. ⌜ Turned (now (b .entry)) (some (S unit (serial .0) (stateNamed state))) r (now (b .exit)) ⌝ }
 {
     let node = bench_serials::named(b, serial, hints);
     let made = call_sound::set_grow_state(b, unit, node, state);
@@ -106,7 +109,7 @@ fn set_state(
 
 fn grow(b: &mut [u64; WORDS], unit: u8, length: i64) -> Reply
     requires { ⌜ SoundWords (now b) ⌝ }
-    ensures { λ r. ⌜ Turned (now (b .entry)) (G unit length) r (now (b .exit)) ⌝ }
+    ensures { λ r. ⌜ Turned (now (b .entry)) (some (G unit length)) r (now (b .exit)) ⌝ }
 {
     let made = call_sound::grow(b, unit, length);
     tell(b, unit, made)
@@ -114,7 +117,7 @@ fn grow(b: &mut [u64; WORDS], unit: u8, length: i64) -> Reply
 
 fn fuse(b: &mut [u64; WORDS], parent: u8, left: u8, right: u8) -> Reply
     requires { ⌜ SoundWords (now b) ⌝ }
-    ensures { λ r. ⌜ Turned (now (b .entry)) (F parent left right) r (now (b .exit)) ⌝ }
+    ensures { λ r. ⌜ Turned (now (b .entry)) (some (F parent left right)) r (now (b .exit)) ⌝ }
 {
     let made = call_sound::fuse(b, parent, left, right);
     tell(b, parent, made)
@@ -122,7 +125,7 @@ fn fuse(b: &mut [u64; WORDS], parent: u8, left: u8, right: u8) -> Reply
 
 fn clear(b: &mut [u64; WORDS], unit: u8) -> Reply
     requires { ⌜ SoundWords (now b) ⌝ }
-    ensures { λ r. ⌜ Turned (now (b .entry)) (C unit) r (now (b .exit)) ⌝ }
+    ensures { λ r. ⌜ Turned (now (b .entry)) (some (C unit)) r (now (b .exit)) ⌝ }
 {
     let made = call_sound::clear(b, unit);
     tell(b, unit, made)
@@ -130,7 +133,7 @@ fn clear(b: &mut [u64; WORDS], unit: u8) -> Reply
 
 fn check(b: &mut [u64; WORDS], unit: u8) -> Reply
     requires { ⌜ SoundWords (now b) ⌝ }
-    ensures { λ r. ⌜ Turned (now (b .entry)) (K unit) r (now (b .exit)) ⌝ }
+    ensures { λ r. ⌜ Turned (now (b .entry)) (some (K unit)) r (now (b .exit)) ⌝ }
 {
     let checked = check_sound::sanity_check(b, unit);
     text_numbers::show(b, unit, checked.number, checked.verdict as u32)
@@ -163,6 +166,6 @@ pub fn turn(
         } => fuse(b, parent, left, right),
         Line::Clear { unit } => clear(b, unit),
         Line::Check { unit } => check(b, unit),
-        Line::Wrong => text_numbers::silent(1, 0),
+        Line::Wrong => text_numbers::silent(numbers::LINE, 0),
     }
 }

@@ -4,6 +4,7 @@ use Prim.Native.Nat.{ℕ, _<_}
 use native.Mathlib.Omega.{arith}
 use mathlib.Core.Bool.{Bool, true, false, _||_}
 use mathlib.Core.Path.{_≡_, refl, sym, _∙_, ap}
+use mathlib.Core.Option.{some}
 use mathlib.Core.List.{List, [], _∷_, map}
 use lib.Dec.{ltb}
 use lib.ListN.{length, take, length-map}
@@ -17,7 +18,7 @@ use Rattle.ledger_spec.specs.Calls.{Reply, nobody, settle, Blossom, blossomCall
 use Rattle.ledger_spec.specs.Notices.{Notice, tells}
 use Rattle.ledger_spec.specs.Answers.{Answer, told, whole, broken, answer}
 use Rattle.ledger_spec.specs.Sound.{sound}
-use Rattle.ledger_spec.specs.Grammar.{B}
+use Rattle.ledger_spec.specs.Operations.{B}
 use Rattle.ledger_spec.specs.Lines.{named, shown, calls, says}
 
 -- UNIT, CHILD or CIRCLE
@@ -72,12 +73,12 @@ module _ (b : Bench) (u : ℕ) (hs : List Handle) (h : 64 < length hs) where
   unfolding answer large
   answered = ap (λ (x : Answer). elim (sound b) as (λ (s : Bool). Answer) [ true ↦ x | false ↦ broken b ]) (replied (tells b (Blossom u hs [])))
 
-pub large-circle : (b : Bench) (u : ℕ) (ks js : List ℕ) → 64 < length ks → 64 < length js → says b (B u ks) ≡ says b (B u js)
+pub large-circle : (b : Bench) (u : ℕ) (ks js : List ℕ) → 64 < length ks → 64 < length js → says b (some (B u ks)) ≡ says b (some (B u js))
 unfolding says calls
 large-circle b u ks js h k =
     let e = answered b u (map (named b) ks) (rw length-map h) ∙ sym (answered b u (map (named b) js) (rw length-map k)) in
     ap (λ (a : Answer). record { numbers = shown (a .number) (a .node .serial) (a .bench) u; bench = a .bench }) e
 
 -- 65 of them are enough
-pub first-65 : (b : Bench) (u : ℕ) (ks : List ℕ) → 64 < length ks → says b (B u ks) ≡ says b (B u (take 65 ks))
+pub first-65 : (b : Bench) (u : ℕ) (ks : List ℕ) → 64 < length ks → says b (some (B u ks)) ≡ says b (some (B u (take 65 ks)))
 first-65 b u ks h = large-circle b u ks (take 65 ks) h (omega (arith, length-take-le 65 ks h))

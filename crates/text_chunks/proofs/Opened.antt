@@ -3,7 +3,7 @@ use Prim.Native.Nat.{ℕ, _≤_}
 use native.Mathlib.Omega.{arith}
 use mathlib.Core.Bool.{true, false}
 use mathlib.Core.Path.{_≡_, refl, sym, _∙_, ap}
-use mathlib.Core.Option.{Option, none, some}
+use mathlib.Core.Option.{Option}
 use mathlib.Core.List.{List, [], _∷_, _++_}
 use borrow.Author.Tests.{ne-eqb}
 use lib.IntN.{ℤ}
@@ -14,7 +14,7 @@ use Rattle.ledger_spec.specs.Bench.{Bench, setUp}
 use Rattle.ledger_spec.specs.Decimals.{decimal, signed}
 use Rattle.ledger_spec.specs.Opening.{opening}
 use Rattle.ledger_spec.specs.Program.{answers, afterLines, textOf, texts}
-use Rattle.text_chunks.specs.Chunks.{lines, left, firstLine, Feeds}
+use Rattle.text_chunks.specs.Chunks.{lines, Feeds}
 use Rattle.text_chunks.specs.Answering.{ChunkAnswered}
 use Rattle.text_chunks.specs.Opening.{openSaid, openBench, isNone, FirstAnswered, OpeningAnswered}
 use Rattle.text_chunks.proofs.Answering.{texts-none, texts-more}

@@ -3,16 +3,14 @@
 use Prim.Native.Nat.{ℕ, _≤_, _<_}
 use native.Mathlib.Omega.{arith}
 use native.Mathlib.Decide.{ℕ-discrete, decLe}
-use mathlib.Core.Bool.{Bool}
 use mathlib.Core.Path.{_≡_, refl, sym, _∙_, ap}
-use mathlib.Core.Option.{Option, none, some}
+use mathlib.Core.Option.{none, some}
 use mathlib.Core.List.{List, [], _∷_, _++_, append-assoc, append-nil}
-use lib.IntN.{ℤ}
 use lib.ListN.{length, take}
 use lib.Seq.{take-all, length-take-le}
 use Rattle.ledger_spec.specs.Bench.{Bench, setUp}
 use Rattle.ledger_spec.specs.Fields.{upto, partsAfter}
-use Rattle.ledger_spec.specs.Grammar.{Line, lineOf}
+use Rattle.ledger_spec.specs.Grammar.{Line}
 use Rattle.ledger_spec.specs.Lines.{LineAnswer, says}
 use Rattle.ledger_spec.specs.Opening.{chosen, opening}
 use Rattle.ledger_spec.specs.Program.{ended, linesOf, answers, afterLines, textOf, texts, openAnswers, openAfter, program, programLeaves}
@@ -20,7 +18,7 @@ use Rattle.ledger_spec.proofs.Openings.{opening-none}
 use Rattle.text_fields.proofs.Cuts.{upto-none, upto-here, upto-on, after-none, after-here, after-on}
 use Rattle.text_chunks.specs.Chunks.{lines, left, firstLine, last, joined}
 use Rattle.text_chunks.specs.Answering.{replies}
-use Rattle.text_chunks.specs.Opening.{openSaid, openBench, openOn, openReplies}
+use Rattle.text_chunks.specs.Opening.{openBench, openOn, openReplies}
 use Rattle.text_chunks.proofs.Chunks.{left-none, left-end, left-on, first-none, first-end, first-on, line-kept, keep-more, last-ended, whole}
 use Rattle.text_chunks.proofs.Answering.{after-append, texts-more, replies-lines}
 

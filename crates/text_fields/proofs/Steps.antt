@@ -33,14 +33,14 @@ step-empty r = refl
 
 -- ---- the next field
 
-pub field-next : (s : List ℕ) (e z : ℕ) → e < length s → Ends s (e + 1) z → FieldIs s e (At (e + 1) z)
+pub field-next : (s : List ℕ) (e z : ℕ) → e < length s → Ends 32 s (e + 1) z → FieldIs s e (At (e + 1) z)
 field-next s e z h g = record {
-  fields = sym (from-more s e h ∙ ap (λ (k : ℕ). cut 32 (drop k s)) (sym (add-one e)) ∙ (λ i. g .field i ∷ g .others i));
+  fields = sym (from-more 32 s e h ∙ ap (λ (k : ℕ). cut 32 (drop k s)) (sym (add-one e)) ∙ (λ i. g .part i ∷ g .others i));
   inside = (omega arith, g .low, g .high);
 }
 
 pub field-none : (s : List ℕ) (e : ℕ) → length s ≤ e → FieldIs s e NoField
-field-none s e h = record { fields = sym (from-none s e h); inside = tt }
+field-none s e h = record { fields = sym (from-none 32 s e h); inside = tt }
 
 module _ (s : List ℕ) (e : ℕ) (f : NextField) (q : FieldIs s e f) where
   pub inside-at : (a z : ℕ) → f ≡ At a z → (e < a) × (a ≤ z) × (z ≤ length s)

@@ -22,16 +22,20 @@ use Rattle.text_fields.specs.declared.NextLength.the-variants.{Length, N
 use Rattle.text_fields.specs.declared.NextState.{NextState}
 use Rattle.text_fields.specs.declared.NextState.the-variants.{To, NoState}
 
--- the fields after a place
-unfoldable pub from : List ℕ → ℕ → Fields
-from s e = elim (ltb e (length s)) [ true ↦ cut 32 (drop (suc e) s) | false ↦ [] ]
+-- the parts after a place, where a mark ends each
+unfoldable pub partsFrom : ℕ → List ℕ → ℕ → List (List ℕ)
+partsFrom mark s e = elim (ltb e (length s)) [ true ↦ cut mark (drop (suc e) s) | false ↦ [] ]
 
--- the field that starts at a ends at e
-pub record Ends (s : List ℕ) (a e : ℕ) : Type 0 where
+-- the fields after a place
+abbrev pub from : List ℕ → ℕ → Fields
+from = partsFrom 32
+
+-- the part that starts at a ends at e
+pub record Ends (mark : ℕ) (s : List ℕ) (a e : ℕ) : Type 0 where
   pub low : a ≤ e
   pub high : e ≤ length s
-  pub field : upto 32 (drop a s) ≡ take (e - a) (drop a s)
-  pub others : partsAfter 32 (drop a s) ≡ from s e
+  pub part : upto mark (drop a s) ≡ take (e - a) (drop a s)
+  pub others : partsAfter mark (drop a s) ≡ partsFrom mark s e
 
 -- the next field, and where it stands: after the place e, and in the line
 abbrev pub fieldsOf : List ℕ → NextField → Fields

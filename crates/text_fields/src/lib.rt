@@ -32,14 +32,14 @@ pub enum NextState {
     NoState,
 }
 
-// The end of the field that starts at an index.
-pub fn field_end(s: &[u8], start: usize) -> usize
+// The end of the part that starts at an index: the next mark, or the end of the bytes. A space ends a field, a newline a line.
+pub fn part_end(s: &[u8], start: usize, mark: u8) -> usize
     requires { ⌜ start ≤ length (now s) ⌝ }
-    ensures { λ r. ⌜ Ends (now (s .entry)) start r ⌝ }
+    ensures { λ r. ⌜ Ends mark (now (s .entry)) start r ⌝ }
 {
     let mut e = start;
     while e < s.len() {
-        if s[e] == b' ' {
+        if s[e] == mark {
             return e;
         }
         e += 1;
@@ -53,7 +53,7 @@ pub fn next_field(s: &[u8], place: usize) -> NextField
 {
     if place < s.len() {
         let a = place + 1;
-        let e = field_end(s, a);
+        let e = part_end(s, a, b' ');
         return NextField::At(a, e);
     }
     NextField::NoField

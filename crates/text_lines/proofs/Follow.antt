@@ -55,10 +55,10 @@ module _ (s : List ℕ) (p : ℕ) (r : NextState) (is : stateOf s r ≡ step aSt
 -- ---- the line's end
 
 pub ended : (s : List ℕ) (e : ℕ) (l : Said) → length s ≤ e → noMore l (from s e) ≡ l
-ended s e l h = ap (noMore l) (from-none s e h)
+ended s e l h = ap (noMore l) (from-none 32 s e h)
 
 pub goes-on : (s : List ℕ) (e : ℕ) (l : Said) → e < length s → noMore l (from s e) ≡ wrong
-goes-on s e l h = ap (noMore l) (from-more s e h)
+goes-on s e l h = ap (noMore l) (from-more 32 s e h)
 
 -- ---- a state shown as the code's is the code's
 

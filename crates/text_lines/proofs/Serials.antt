@@ -73,14 +73,14 @@ serials-stop f fs e = go (aSerial f) refl
 -- ---- from a place of the line
 
 at-end : (s : List ℕ) (e : ℕ) → length s ≤ e → allSerials (from s e) ≡ some []
-at-end s e h = ap allSerials (from-none s e h) ∙ serials-none
+at-end s e h = ap allSerials (from-none 32 s e h) ∙ serials-none
 
 module _ (s : List ℕ) (e : ℕ) (r : NextNumber) (is : NumberIs s e 1 4294967295 r) where
   at-got : (v z : ℕ) → r ≡ Got v z → allSerials (from s e) ≡ before v (allSerials (from s z))
   at-got v z h = serials-step (from s e) (from s z) v (sym (ap (nextOf s) h) ∙ is .read)
 
   at-missed : e < length s → r ≡ Missed → allSerials (from s e) ≡ none
-  at-missed l h = rw (from-more s e l) (serials-stop _ _ (rw (from-more s e l) at (sym (ap (nextOf s) h) ∙ is .read)))
+  at-missed l h = rw (from-more 32 s e l) (serials-stop _ _ (rw (from-more 32 s e l) at (sym (ap (nextOf s) h) ∙ is .read)))
 
 -- ---- counting
 
@@ -162,7 +162,7 @@ pub read-wrong : (l : Said) (out : List ℕ) → l ≡ wrong → ReadAs l out ou
 read-wrong l out e = read-as wrong l out out Wrong e (record { line = refl; stored = refl })
 
 some-more : (s : List ℕ) (u e : ℕ) → e < length s → some-serials u (from s e) ≡ gathered u (allSerials (from s e))
-some-more s u e h = rw (from-more s e h)
+some-more s u e h = rw (from-more 32 s e h)
 
 counted-none : (o : Option (List ℕ)) → NotAll ≡ counted o → o ≡ none
 counted-none none h = refl
@@ -173,7 +173,7 @@ counted-all none k h = absurd (let z : _≡_ {A = ℕ} 0 1 = cc in omega arith)
 counted-all (some ns) k h = (ns, refl, cc)
 
 pub blossom-end : (s out : List ℕ) (u e : ℕ) → length s ≤ e → ReadAs (some-serials u (from s e)) out out Wrong
-blossom-end s out u e l = read-wrong (some-serials u (from s e)) out (ap (some-serials u) (from-none s e l))
+blossom-end s out u e l = read-wrong (some-serials u (from s e)) out (ap (some-serials u) (from-none 32 s e l))
 
 module _ (s out : List ℕ) (u e : ℕ) (k : Count) (l : e < length s) (q : k ≡ counted (allSerials (from s e))) where
   pub blossom-bad : k ≡ NotAll → ReadAs (some-serials u (from s e)) out out Wrong

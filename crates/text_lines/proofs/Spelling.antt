@@ -13,7 +13,8 @@ use Rattle.text_decimals.proofs.Back.{only-number, only-signed, integer-fits}
 use Rattle.ledger_spec.specs.Bench.{State, grows, stays, shrinks, rate}
 use Rattle.ledger_spec.specs.Decimals.{decimal, natural, numberWithin, integer}
 use Rattle.ledger_spec.specs.Fields.{upto, partsAfter, cut}
-use Rattle.ledger_spec.specs.Grammar.{Line, D, E, S, G, F, C, K, wrong, Fields, aUnit, aVertex, aSerial, anAmount, aState, stateIn, letter, follow, then, noMore, allSerials, gathered, some-serials, rest, lineOf}
+use Rattle.ledger_spec.specs.Operations.{D, E, S, G, F, C, K}
+use Rattle.ledger_spec.specs.Grammar.{Line, wrong, Fields, aUnit, aVertex, aSerial, anAmount, aState, stateIn, letter, follow, then, noMore, allSerials, gathered, some-serials, rest, lineOf}
 use Rattle.text_fields.proofs.Steps.{step-some, step-none, step-empty}
 use Rattle.text_lines.specs.Texts.{spaced, letterOf, fieldsOf, lineText, Serials, Fit}
 use Rattle.text_lines.proofs.Serials.{serials-none, serials-cons, serials-bad, before-some}
@@ -81,11 +82,11 @@ record Spelt (c u : ℕ) (fs : Fields) (l : Line) : Type 0 where
   fits : u ≤ 255 → Fit l
 
 module _ (c u : ℕ) (fs : Fields) (l : Line) (command : l ≡ wrong → ⊥) where
-  spelt-D : c ≡ 68 → then aVertex (λ v. noMore (D u v)) fs ≡ l → Spelt c u fs l
+  spelt-D : c ≡ 68 → then aVertex (λ v. noMore (some (D u v))) fs ≡ l → Spelt c u fs l
   unfolding letterOf fieldsOf
   spelt-D p e =
-      let t = taken aVertex (λ v. noMore (D u v)) fs l command e in
-      let x = ends (D u (t .value)) (t .others) l command (t .goes) in
+      let t = taken aVertex (λ v. noMore (some (D u v))) fs l command e in
+      let x = ends (some (D u (t .value))) (t .others) l command (t .goes) in
       let w = number-from 0 4294967295 (t .field) (t .value) (t .read) in
       subst (λ (m : Line). Spelt c u fs m) (x .1) (record {
         letters = ap (λ (d : ℕ). d ∷ []) (sym p);
@@ -111,11 +112,11 @@ module _ (c u : ℕ) (fs : Fields) (l : Line) (command : l ≡ wrong → ⊥) wh
       some-go [] q = absurd (command (sym e ∙ ap (some-serials u) q))
       some-go (f ∷ gs) q = from-serials (f ∷ gs) q (omega arith) (allSerials (f ∷ gs)) refl (ap (some-serials u) (sym q) ∙ e)
 
-  spelt-E : c ≡ 69 → then aSerial (λ n. noMore (E u n)) fs ≡ l → Spelt c u fs l
+  spelt-E : c ≡ 69 → then aSerial (λ n. noMore (some (E u n))) fs ≡ l → Spelt c u fs l
   unfolding letterOf fieldsOf
   spelt-E p e =
-      let t = taken aSerial (λ n. noMore (E u n)) fs l command e in
-      let x = ends (E u (t .value)) (t .others) l command (t .goes) in
+      let t = taken aSerial (λ n. noMore (some (E u n))) fs l command e in
+      let x = ends (some (E u (t .value))) (t .others) l command (t .goes) in
       let w = number-from 1 4294967295 (t .field) (t .value) (t .read) in
       subst (λ (m : Line). Spelt c u fs m) (x .1) (record {
         letters = ap (λ (d : ℕ). d ∷ []) (sym p);
@@ -123,12 +124,12 @@ module _ (c u : ℕ) (fs : Fields) (l : Line) (command : l ≡ wrong → ⊥) wh
         fits = λ h. (h, (w .1, w .2));
       })
 
-  spelt-S : c ≡ 83 → then aSerial (λ n. then aState (λ g. noMore (S u n g))) fs ≡ l → Spelt c u fs l
+  spelt-S : c ≡ 83 → then aSerial (λ n. then aState (λ g. noMore (some (S u n g)))) fs ≡ l → Spelt c u fs l
   unfolding letterOf fieldsOf
   spelt-S p e =
-      let t = taken aSerial (λ n. then aState (λ g. noMore (S u n g))) fs l command e in
-      let v = taken aState (λ g. noMore (S u (t .value) g)) (t .others) l command (t .goes) in
-      let x = ends (S u (t .value) (v .value)) (v .others) l command (v .goes) in
+      let t = taken aSerial (λ n. then aState (λ g. noMore (some (S u n g)))) fs l command e in
+      let v = taken aState (λ g. noMore (some (S u (t .value) g))) (t .others) l command (t .goes) in
+      let x = ends (some (S u (t .value) (v .value))) (v .others) l command (v .goes) in
       let w = number-from 1 4294967295 (t .field) (t .value) (t .read) in
       let y = only-signed (v .field) (rate (v .value)) (state-from (integer (v .field)) (v .value) (v .read)) in
       subst (λ (m : Line). Spelt c u fs m) (x .1) (record {
@@ -137,11 +138,11 @@ module _ (c u : ℕ) (fs : Fields) (l : Line) (command : l ≡ wrong → ⊥) wh
         fits = λ h. (h, (w .1, w .2));
       })
 
-  spelt-G : c ≡ 71 → then anAmount (λ n. noMore (G u n)) fs ≡ l → Spelt c u fs l
+  spelt-G : c ≡ 71 → then anAmount (λ n. noMore (some (G u n))) fs ≡ l → Spelt c u fs l
   unfolding letterOf fieldsOf
   spelt-G p e =
-      let t = taken anAmount (λ n. noMore (G u n)) fs l command e in
-      let x = ends (G u (t .value)) (t .others) l command (t .goes) in
+      let t = taken anAmount (λ n. noMore (some (G u n))) fs l command e in
+      let x = ends (some (G u (t .value))) (t .others) l command (t .goes) in
       let w = only-signed (t .field) (t .value) (t .read) in
       subst (λ (m : Line). Spelt c u fs m) (x .1) (record {
         letters = ap (λ (d : ℕ). d ∷ []) (sym p);
@@ -149,12 +150,12 @@ module _ (c u : ℕ) (fs : Fields) (l : Line) (command : l ≡ wrong → ⊥) wh
         fits = λ h. (h, integer-fits (t .field) (t .value) (t .read));
       })
 
-  spelt-F : c ≡ 70 → then aUnit (λ a. then aUnit (λ b. noMore (F u a b))) fs ≡ l → Spelt c u fs l
+  spelt-F : c ≡ 70 → then aUnit (λ a. then aUnit (λ b. noMore (some (F u a b)))) fs ≡ l → Spelt c u fs l
   unfolding letterOf fieldsOf
   spelt-F p e =
-      let t = taken aUnit (λ a. then aUnit (λ b. noMore (F u a b))) fs l command e in
-      let v = taken aUnit (λ b. noMore (F u (t .value) b)) (t .others) l command (t .goes) in
-      let x = ends (F u (t .value) (v .value)) (v .others) l command (v .goes) in
+      let t = taken aUnit (λ a. then aUnit (λ b. noMore (some (F u a b)))) fs l command e in
+      let v = taken aUnit (λ b. noMore (some (F u (t .value) b))) (t .others) l command (t .goes) in
+      let x = ends (some (F u (t .value) (v .value))) (v .others) l command (v .goes) in
       let w = number-from 0 255 (t .field) (t .value) (t .read) in
       let y = number-from 0 255 (v .field) (v .value) (v .read) in
       subst (λ (m : Line). Spelt c u fs m) (x .1) (record {
@@ -163,20 +164,20 @@ module _ (c u : ℕ) (fs : Fields) (l : Line) (command : l ≡ wrong → ⊥) wh
         fits = λ h. (h, w .2, y .2);
       })
 
-  spelt-C : c ≡ 67 → noMore (C u) fs ≡ l → Spelt c u fs l
+  spelt-C : c ≡ 67 → noMore (some (C u)) fs ≡ l → Spelt c u fs l
   unfolding letterOf fieldsOf
   spelt-C p e =
-      let x = ends (C u) fs l command e in
+      let x = ends (some (C u)) fs l command e in
       subst (λ (m : Line). Spelt c u fs m) (x .1) (record {
         letters = ap (λ (d : ℕ). d ∷ []) (sym p);
         fields = ap (λ (r : Fields). decimal u ∷ r) (sym (x .0));
         fits = λ h. h;
       })
 
-  spelt-K : c ≡ 75 → noMore (K u) fs ≡ l → Spelt c u fs l
+  spelt-K : c ≡ 75 → noMore (some (K u)) fs ≡ l → Spelt c u fs l
   unfolding letterOf fieldsOf
   spelt-K p e =
-      let x = ends (K u) fs l command e in
+      let x = ends (some (K u)) fs l command e in
       subst (λ (m : Line). Spelt c u fs m) (x .1) (record {
         letters = ap (λ (d : ℕ). d ∷ []) (sym p);
         fields = ap (λ (r : Fields). decimal u ∷ r) (sym (x .0));

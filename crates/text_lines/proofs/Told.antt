@@ -3,13 +3,15 @@
 use Prim.Native.Nat.{ℕ, suc, _+_, _≤_}
 use native.Mathlib.Omega.{arith}
 use mathlib.Core.Path.{_≡_, refl, sym, _∙_, ap}
+use mathlib.Core.Option.{none, some}
 use mathlib.Core.List.{List, [], _∷_, _++_}
 use lib.ListN.{length, take, drop, set, take-append-drop}
 use lib.Seq.{sets, sets-eq, take-all, take-at, length-take-le, take-set-le}
 use Rattle.text_decimals.proofs.Writes.{sets-append}
 use Rattle.ledger_spec.specs.Bench.{State, grows, stays, shrinks}
 use Rattle.ledger_spec.specs.Named.{stateNamed}
-use Rattle.ledger_spec.specs.Grammar.{Line as Said, D, B, E, S, G, F, C, K, wrong}
+use Rattle.ledger_spec.specs.Operations.{D, B, E, S, G, F, C, K}
+use Rattle.ledger_spec.specs.Grammar.{Line as Said}
 use Rattle.text_lines.specs.declared.Line.{Line}
 use Rattle.text_lines.specs.declared.Line.the-variants.{Defect, Blossom, Expand, SetState, Grow, Fuse, Clear, Check, Wrong}
 use Rattle.text_lines.specs.Shown.{stateShown, lineShown, serialsIn, saidBy, ReadAs}
@@ -20,15 +22,15 @@ named-shown stays = refl
 named-shown shrinks = refl
 
 shown-back : (l : Said) → saidBy (lineShown l) (serialsIn l) ≡ l
-shown-back (D u v) = refl
-shown-back (B u ns) = refl
-shown-back (E u n) = refl
-shown-back (S u n g) = ap (S u n) (named-shown g)
-shown-back (G u l) = refl
-shown-back (F p l r) = refl
-shown-back (C u) = refl
-shown-back (K u) = refl
-shown-back wrong = refl
+shown-back (some (D u v)) = refl
+shown-back (some (B u ns)) = refl
+shown-back (some (E u n)) = refl
+shown-back (some (S u n g)) = ap (λ (x : State). some (S u n x)) (named-shown g)
+shown-back (some (G u l)) = refl
+shown-back (some (F p l r)) = refl
+shown-back (some (C u)) = refl
+shown-back (some (K u)) = refl
+shown-back none = refl
 
 -- how many serials an answer says there are
 abbrev pub countIn : Line → ℕ
@@ -43,15 +45,15 @@ countIn (Check u) = 0
 countIn Wrong = 0
 
 count-shown : (l : Said) → countIn (lineShown l) ≡ length (serialsIn l)
-count-shown (D u v) = refl
-count-shown (B u ns) = refl
-count-shown (E u n) = refl
-count-shown (S u n g) = refl
-count-shown (G u l) = refl
-count-shown (F p l r) = refl
-count-shown (C u) = refl
-count-shown (K u) = refl
-count-shown wrong = refl
+count-shown (some (D u v)) = refl
+count-shown (some (B u ns)) = refl
+count-shown (some (E u n)) = refl
+count-shown (some (S u n g)) = refl
+count-shown (some (G u l)) = refl
+count-shown (some (F p l r)) = refl
+count-shown (some (C u)) = refl
+count-shown (some (K u)) = refl
+count-shown none = refl
 
 -- ---- the front of a slice that was stored to
 

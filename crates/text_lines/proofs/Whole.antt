@@ -9,7 +9,8 @@ use lib.ListN.{length, getD, take}
 use lib.Seq.{sets, length-take-le}
 use borrow.Author.Tests.{lt-ltb, le-ltb, ne-eqb}
 use Rattle.ledger_spec.specs.Fields.{cut}
-use Rattle.ledger_spec.specs.Grammar.{Line as Said, D, E, S, G, F, C, K, wrong, Fields, aUnit, aVertex, aSerial, anAmount, aState, letter, step, follow, then, noMore, some-serials, rest, lineOf}
+use Rattle.ledger_spec.specs.Operations.{D, E, S, G, F, C, K}
+use Rattle.ledger_spec.specs.Grammar.{Line as Said, wrong, Fields, aUnit, aVertex, aSerial, anAmount, aState, letter, step, follow, then, noMore, some-serials, rest, lineOf}
 use Rattle.text_fields.specs.Places.{from, Ends}
 use Rattle.text_fields.proofs.Steps.{step-some, step-none}
 use Rattle.text_lines.specs.declared.Line.{Line}
@@ -36,11 +37,11 @@ unfolding lineOf
 line-short s h = rw (le-ltb 1023 (length s) h)
 
 -- the first field ends at z
-module _ (s : List ℕ) (z : ℕ) (short : length s ≤ 1023) (g : Ends s 0 z) where
+module _ (s : List ℕ) (z : ℕ) (short : length s ≤ 1023) (g : Ends 32 s 0 z) where
   opened : lineOf s ≡ follow (step letter (take z s ∷ from s z)) (λ c. then aUnit (rest c))
   opened =
       line-short s short
-      ∙ ap (λ (fs : Fields). follow (step letter fs) (λ c. then aUnit (rest c))) (λ i. (g .field ∙ ap (λ (k : ℕ). take k s) (sub-zero z)) i ∷ g .others i)
+      ∙ ap (λ (fs : Fields). follow (step letter fs) (λ c. then aUnit (rest c))) (λ i. (g .part ∙ ap (λ (k : ℕ). take k s) (sub-zero z)) i ∷ g .others i)
 
   pub line-bad : (z ≡ 1 → ⊥) → lineOf s ≡ wrong
   line-bad n =
@@ -71,7 +72,7 @@ quiet l out r e p = record { line = p; stored = sym (ap (sets out 0) e) }
 -- ---- after letter and first number
 
 module _ (l u : ℕ) (fs : Fields) (out : List ℕ) (r : Line) where
-  pub rest-D : l ≡ 68 → r ≡ lineShown (then aVertex (λ v. noMore (D u v)) fs) → ReadAs (rest l u fs) out out r
+  pub rest-D : l ≡ 68 → r ≡ lineShown (then aVertex (λ v. noMore (some (D u v))) fs) → ReadAs (rest l u fs) out out r
   unfolding rest
   rest-D e p = rw e (quiet _ out r (quiet-then aVertex _ (λ a gs. quiet-end _ refl gs) fs) p)
 
@@ -79,29 +80,29 @@ module _ (l u : ℕ) (fs : Fields) (out : List ℕ) (r : Line) where
   unfolding rest
   rest-B e out' p = rw e p
 
-  pub rest-E : l ≡ 69 → r ≡ lineShown (then aSerial (λ n. noMore (E u n)) fs) → ReadAs (rest l u fs) out out r
+  pub rest-E : l ≡ 69 → r ≡ lineShown (then aSerial (λ n. noMore (some (E u n))) fs) → ReadAs (rest l u fs) out out r
   unfolding rest
   rest-E e p = rw e (quiet _ out r (quiet-then aSerial _ (λ a gs. quiet-end _ refl gs) fs) p)
 
-  pub rest-S : l ≡ 83 → r ≡ lineShown (then aSerial (λ n. then aState (λ g. noMore (S u n g))) fs) → ReadAs (rest l u fs) out out r
+  pub rest-S : l ≡ 83 → r ≡ lineShown (then aSerial (λ n. then aState (λ g. noMore (some (S u n g)))) fs) → ReadAs (rest l u fs) out out r
   unfolding rest
   rest-S e p = rw e (quiet _ out r (quiet-then aSerial _ (λ a gs. quiet-then aState _ (λ b hs. quiet-end _ refl hs) gs) fs) p)
 
-  pub rest-G : l ≡ 71 → r ≡ lineShown (then anAmount (λ n. noMore (G u n)) fs) → ReadAs (rest l u fs) out out r
+  pub rest-G : l ≡ 71 → r ≡ lineShown (then anAmount (λ n. noMore (some (G u n))) fs) → ReadAs (rest l u fs) out out r
   unfolding rest
   rest-G e p = rw e (quiet _ out r (quiet-then anAmount _ (λ a gs. quiet-end _ refl gs) fs) p)
 
-  pub rest-F : l ≡ 70 → r ≡ lineShown (then aUnit (λ n. then aUnit (λ m. noMore (F u n m))) fs) → ReadAs (rest l u fs) out out r
+  pub rest-F : l ≡ 70 → r ≡ lineShown (then aUnit (λ n. then aUnit (λ m. noMore (some (F u n m)))) fs) → ReadAs (rest l u fs) out out r
   unfolding rest
   rest-F e p = rw e (quiet _ out r (quiet-then aUnit _ (λ a gs. quiet-then aUnit _ (λ b hs. quiet-end _ refl hs) gs) fs) p)
 
-  pub rest-C : l ≡ 67 → r ≡ lineShown (noMore (C u) fs) → ReadAs (rest l u fs) out out r
+  pub rest-C : l ≡ 67 → r ≡ lineShown (noMore (some (C u)) fs) → ReadAs (rest l u fs) out out r
   unfolding rest
-  rest-C e p = rw e (quiet _ out r (quiet-end (C u) refl fs) p)
+  rest-C e p = rw e (quiet _ out r (quiet-end (some (C u)) refl fs) p)
 
-  pub rest-K : l ≡ 75 → r ≡ lineShown (noMore (K u) fs) → ReadAs (rest l u fs) out out r
+  pub rest-K : l ≡ 75 → r ≡ lineShown (noMore (some (K u)) fs) → ReadAs (rest l u fs) out out r
   unfolding rest
-  rest-K e p = rw e (quiet _ out r (quiet-end (K u) refl fs) p)
+  rest-K e p = rw e (quiet _ out r (quiet-end (some (K u)) refl fs) p)
 
 pub rest-else : (l u : ℕ) (fs : Fields) (out : List ℕ) → (l ≡ 68 → ⊥) → (l ≡ 66 → ⊥) → (l ≡ 69 → ⊥) → (l ≡ 83 → ⊥) → (l ≡ 71 → ⊥) → (l ≡ 70 → ⊥) → (l ≡ 67 → ⊥) → (l ≡ 75 → ⊥)
     → ReadAs (rest l u fs) out out Wrong

@@ -1,12 +1,14 @@
 -- The text of a line: its fields, with one space between. Assumes nothing.
 use Prim.Native.Nat.{ℕ, _≤_}
+use mathlib.Core.Option.{none, some}
 use mathlib.Core.List.{List, [], _∷_, _++_, map}
 use lib.ListN.{length}
 use mir.Syntax.{w64}
 use mir.Val.{SFits}
 use Rattle.ledger_spec.specs.Bench.{rate}
 use Rattle.ledger_spec.specs.Decimals.{decimal, signed}
-use Rattle.ledger_spec.specs.Grammar.{Line, D, B, E, S, G, F, C, K, wrong, Fields}
+use Rattle.ledger_spec.specs.Operations.{D, B, E, S, G, F, C, K}
+use Rattle.ledger_spec.specs.Grammar.{Line, Fields}
 
 unfoldable pub spaced : List ℕ → Fields → List ℕ
 spaced f [] = f
@@ -14,26 +16,26 @@ spaced f (g ∷ fs) = f ++ (32 ∷ spaced g fs)
 
 -- the fields after the letter
 unfoldable pub fieldsOf : Line → Fields
-fieldsOf (D u v) = decimal u ∷ decimal v ∷ []
-fieldsOf (B u ns) = decimal u ∷ map decimal ns
-fieldsOf (E u n) = decimal u ∷ decimal n ∷ []
-fieldsOf (S u n g) = decimal u ∷ decimal n ∷ signed (rate g) ∷ []
-fieldsOf (G u l) = decimal u ∷ signed l ∷ []
-fieldsOf (F p l r) = decimal p ∷ decimal l ∷ decimal r ∷ []
-fieldsOf (C u) = decimal u ∷ []
-fieldsOf (K u) = decimal u ∷ []
-fieldsOf wrong = []
+fieldsOf (some (D u v)) = decimal u ∷ decimal v ∷ []
+fieldsOf (some (B u ns)) = decimal u ∷ map decimal ns
+fieldsOf (some (E u n)) = decimal u ∷ decimal n ∷ []
+fieldsOf (some (S u n g)) = decimal u ∷ decimal n ∷ signed (rate g) ∷ []
+fieldsOf (some (G u l)) = decimal u ∷ signed l ∷ []
+fieldsOf (some (F p l r)) = decimal p ∷ decimal l ∷ decimal r ∷ []
+fieldsOf (some (C u)) = decimal u ∷ []
+fieldsOf (some (K u)) = decimal u ∷ []
+fieldsOf none = []
 
 unfoldable pub letterOf : Line → List ℕ
-letterOf (D u v) = 68 ∷ []
-letterOf (B u ns) = 66 ∷ []
-letterOf (E u n) = 69 ∷ []
-letterOf (S u n g) = 83 ∷ []
-letterOf (G u l) = 71 ∷ []
-letterOf (F p l r) = 70 ∷ []
-letterOf (C u) = 67 ∷ []
-letterOf (K u) = 75 ∷ []
-letterOf wrong = []
+letterOf (some (D u v)) = 68 ∷ []
+letterOf (some (B u ns)) = 66 ∷ []
+letterOf (some (E u n)) = 69 ∷ []
+letterOf (some (S u n g)) = 83 ∷ []
+letterOf (some (G u l)) = 71 ∷ []
+letterOf (some (F p l r)) = 70 ∷ []
+letterOf (some (C u)) = 67 ∷ []
+letterOf (some (K u)) = 75 ∷ []
+letterOf none = []
 
 abbrev pub lineText : Line → List ℕ
 lineText l = spaced (letterOf l) (fieldsOf l)
@@ -51,12 +53,12 @@ Serials [] = Unit {0}
 Serials (n ∷ ns) = Serial32 n × Serials ns
 
 abbrev pub Fit : Line → Type 0
-Fit (D u v) = Unit8 u × (v ≤ 4294967295)
-Fit (B u ns) = Unit8 u × (1 ≤ length ns) × Serials ns
-Fit (E u n) = Unit8 u × Serial32 n
-Fit (S u n g) = Unit8 u × Serial32 n
-Fit (G u l) = Unit8 u × SFits w64 l
-Fit (F p l r) = Unit8 p × Unit8 l × Unit8 r
-Fit (C u) = Unit8 u
-Fit (K u) = Unit8 u
-Fit wrong = ⊥
+Fit (some (D u v)) = Unit8 u × (v ≤ 4294967295)
+Fit (some (B u ns)) = Unit8 u × (1 ≤ length ns) × Serials ns
+Fit (some (E u n)) = Unit8 u × Serial32 n
+Fit (some (S u n g)) = Unit8 u × Serial32 n
+Fit (some (G u l)) = Unit8 u × SFits w64 l
+Fit (some (F p l r)) = Unit8 p × Unit8 l × Unit8 r
+Fit (some (C u)) = Unit8 u
+Fit (some (K u)) = Unit8 u
+Fit none = ⊥

@@ -6,12 +6,14 @@ use text_fields::NextLength;
 use text_fields::NextNumber;
 use text_fields::NextState;
 ghost use mathlib.Core.Path.{_≡_};
-ghost use Rattle.ledger_spec.specs.Grammar.{aUnit as «a-unit», aVertex as «a-vertex», aSerial as «a-serial», anAmount, aState as «a-state», then, noMore, D, E, S, G, F, C, K};
+ghost use mathlib.Core.Option.{some};
+ghost use Rattle.ledger_spec.specs.Operations.{D, E, S, G, F, C, K};
+ghost use Rattle.ledger_spec.specs.Grammar.{aUnit as «a-unit», aVertex as «a-vertex», aSerial as «a-serial», anAmount, aState as «a-state», then, noMore};
 ghost use Rattle.text_fields.specs.Places.{from};
 ghost use Rattle.text_lines.specs.Shown.{lineShown};
 
 pub fn defect(s: &[u8], unit: u8, place: usize) -> Line
-    ensures { λ r. ⌜ r ≡ lineShown (then «a-vertex» (λ v. noMore (D unit v)) (from (now (s .entry)) place)) ⌝ }
+    ensures { λ r. ⌜ r ≡ lineShown (then «a-vertex» (λ v. noMore (some (D unit v))) (from (now (s .entry)) place)) ⌝ }
 {
     let NextNumber::Got(v, e) = text_fields::next_number(s, place, 0, 4294967295) else {
         return Line::Wrong;
@@ -26,7 +28,7 @@ pub fn defect(s: &[u8], unit: u8, place: usize) -> Line
 }
 
 pub fn expand(s: &[u8], unit: u8, place: usize) -> Line
-    ensures { λ r. ⌜ r ≡ lineShown (then «a-serial» (λ n. noMore (E unit n)) (from (now (s .entry)) place)) ⌝ }
+    ensures { λ r. ⌜ r ≡ lineShown (then «a-serial» (λ n. noMore (some (E unit n))) (from (now (s .entry)) place)) ⌝ }
 {
     let NextNumber::Got(n, e) = text_fields::next_number(s, place, 1, 4294967295) else {
         return Line::Wrong;
@@ -41,7 +43,7 @@ pub fn expand(s: &[u8], unit: u8, place: usize) -> Line
 }
 
 pub fn set_state(s: &[u8], unit: u8, place: usize) -> Line
-    ensures { λ r. ⌜ r ≡ lineShown (then «a-serial» (λ n. then «a-state» (λ g. noMore (S unit n g))) (from (now (s .entry)) place)) ⌝ }
+    ensures { λ r. ⌜ r ≡ lineShown (then «a-serial» (λ n. then «a-state» (λ g. noMore (some (S unit n g)))) (from (now (s .entry)) place)) ⌝ }
 {
     let NextNumber::Got(n, e) = text_fields::next_number(s, place, 1, 4294967295) else {
         return Line::Wrong;
@@ -60,7 +62,7 @@ pub fn set_state(s: &[u8], unit: u8, place: usize) -> Line
 }
 
 pub fn grow(s: &[u8], unit: u8, place: usize) -> Line
-    ensures { λ r. ⌜ r ≡ lineShown (then anAmount (λ l. noMore (G unit l)) (from (now (s .entry)) place)) ⌝ }
+    ensures { λ r. ⌜ r ≡ lineShown (then anAmount (λ l. noMore (some (G unit l))) (from (now (s .entry)) place)) ⌝ }
 {
     let NextLength::Length(l, e) = text_fields::next_length(s, place) else {
         return Line::Wrong;
@@ -72,7 +74,7 @@ pub fn grow(s: &[u8], unit: u8, place: usize) -> Line
 }
 
 pub fn fuse(s: &[u8], parent: u8, place: usize) -> Line
-    ensures { λ r. ⌜ r ≡ lineShown (then «a-unit» (λ l. then «a-unit» (λ m. noMore (F parent l m))) (from (now (s .entry)) place)) ⌝ }
+    ensures { λ r. ⌜ r ≡ lineShown (then «a-unit» (λ l. then «a-unit» (λ m. noMore (some (F parent l m)))) (from (now (s .entry)) place)) ⌝ }
 {
     let NextNumber::Got(l, e) = text_fields::next_number(s, place, 0, 255) else {
         return Line::Wrong;
@@ -91,7 +93,7 @@ pub fn fuse(s: &[u8], parent: u8, place: usize) -> Line
 }
 
 pub fn clear(s: &[u8], unit: u8, place: usize) -> Line
-    ensures { λ r. ⌜ r ≡ lineShown (noMore (C unit) (from (now (s .entry)) place)) ⌝ }
+    ensures { λ r. ⌜ r ≡ lineShown (noMore (some (C unit)) (from (now (s .entry)) place)) ⌝ }
 {
     if place < s.len() {
         return Line::Wrong;
@@ -100,7 +102,7 @@ pub fn clear(s: &[u8], unit: u8, place: usize) -> Line
 }
 
 pub fn check(s: &[u8], unit: u8, place: usize) -> Line
-    ensures { λ r. ⌜ r ≡ lineShown (noMore (K unit) (from (now (s .entry)) place)) ⌝ }
+    ensures { λ r. ⌜ r ≡ lineShown (noMore (some (K unit)) (from (now (s .entry)) place)) ⌝ }
 {
     if place < s.len() {
         return Line::Wrong;

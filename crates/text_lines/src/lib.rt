@@ -76,7 +76,7 @@ pub fn read_line(s: &[u8], serials: &mut [u64]) -> Line
     if Line::MOST < s.len() {
         return Line::Wrong;
     }
-    if text_fields::field_end(s, 0) == 1 {
+    if text_fields::part_end(s, 0, b' ') == 1 {
         let letter = s[0];
         let NextNumber::Got(n, place) = text_fields::next_number(s, 1, 0, 255) else {
             return Line::Wrong;

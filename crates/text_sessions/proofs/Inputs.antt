@@ -1,12 +1,11 @@
 -- A whole input is one chunk and its end. Assumes nothing.
 use Prim.Native.Nat.{ℕ}
-use mathlib.Core.Path.{_≡_, refl, sym, _∙_, ap}
+use mathlib.Core.Path.{_≡_, refl, _∙_, ap}
 use mathlib.Core.Option.{Option, none, some}
 use mathlib.Core.List.{List, [], _∷_, _++_, append-nil}
 use native.Mathlib.Omega.{arith}
 use lib.ListN.{length, take}
 use lib.Seq.{length-take-le}
-use Rattle.text_decimals.specs.Wrote.{Wrote}
 use Rattle.text_decimals.proofs.Writes.{chain, same-text}
 use Rattle.ledger_spec.specs.Program.{answers, texts, program}
 use Rattle.text_chunks.specs.Chunks.{left, firstLine, last, joined}

@@ -2,7 +2,6 @@
 use Prim.Native.Nat.{ℕ, _*_, _≤_}
 use mathlib.Core.Bool.{Bool, true, false, not, true≢false}
 use mathlib.Core.Path.{_≡_, refl, sym, _∙_, ap, subst}
-use mathlib.Core.Option.{none, some}
 use mathlib.Core.List.{List}
 use native.Mathlib.Omega.{arith}
 use borrow.Author.Tests.{not-true, not-false}
@@ -14,7 +13,7 @@ use mir.Val.{SFits}
 use Rattle.text_decimals.specs.Wrote.{Wrote}
 use Rattle.text_decimals.proofs.Writes.{same-text}
 use Rattle.text_answers.proofs.Answers.{answer-short}
-use Rattle.ledger_spec.specs.Bench.{Bench, setUp, setUpIn}
+use Rattle.ledger_spec.specs.Bench.{Bench, setUpIn}
 use Rattle.ledger_spec.specs.Sound.{sound}
 use Rattle.ledger_spec.specs.Grammar.{lineOf}
 use Rattle.ledger_spec.specs.Lines.{LineAnswer, says}
@@ -24,13 +23,11 @@ use Rattle.ledger_spec.specs.Program.{textOf}
 use Rattle.ledger_spec.proofs.Openings.{opening-none, opening-some}
 use Rattle.text_chunks.specs.Chunks.{Feeds}
 use Rattle.text_chunks.specs.Choices.{choiceOf}
-use Rattle.text_chunks.specs.Answering.{LineAnswered, ChunkAnswered}
-use Rattle.text_chunks.specs.Opening.{FirstAnswered, OpeningAnswered}
 use Rattle.text_chunks.specs.declared.Choice.{Choice}
 use Rattle.text_chunks.specs.declared.Choice.the-variants.{NoEngine, Engine}
 use Rattle.text_chunks.proofs.Opened.{opened-part, opened-line}
 use Rattle.bench_views.specs.View.{view}
-use Rattle.bench_views.specs.Fit.{SoundWords, Done}
+use Rattle.bench_views.specs.Fit.{Done}
 use Rattle.text_sessions.specs.Session.{Started, LineDone, FirstDone, RestDone, ChunkDone, OpeningDone, NextDone}
 
 -- ---- the first line

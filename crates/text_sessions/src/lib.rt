@@ -2,10 +2,11 @@
 // However the input is cut, what is written is ledger_spec's `program` of the whole (proofs/Inputs). Assumes nothing.
 use bench_serials::HINTS;
 use bench_words::WORDS;
+use kinds::numbers;
 use text_chunks::Choice;
 ghost use mathlib.Core.Path.{_≡_};
 ghost use Prim.Native.Nat.{_+_, _*_, _≤_};
-ghost use lib.ListN.{length, take, drop};
+ghost use lib.ListN.{length, take};
 ghost use Rattle.bench_views.specs.Fit.{SoundWords};
 ghost use Rattle.text_sessions.specs.Session.{Started, FirstDone, LineDone, RestDone, ChunkDone, OpeningDone, NextDone, Finished, AllDone};
 
@@ -161,7 +162,7 @@ pub fn finish(held: usize, out: &mut [u8], at: usize) -> usize
     if held == 0 {
         return at;
     }
-    text_answers::write_answer(out, at, 1, 0, 0, 0)
+    text_answers::write_answer(out, at, numbers::LINE, 0, 0, 0)
 }
 
 // A whole input at once, from any words: its answers, byte for byte, and the bench after it.

@@ -51,18 +51,21 @@ loop-less c = omega (arith, c .before .before .loop-test .taken)
 
 loop-again : tie.Need-loop-again Inv-loop μ-loop
 loop-again c =
+    let at-order-of = c .before .before .before .before in
+    let at-if1 = at-order-of .before in
+    let at-load-interface = at-if1 .before .before .before in
     let s = c .before .before .before .before .before .before .before .before .before in
-    let o = c .before .before .before .before .order-of in
     let i = c .before .before .before .loop in
-    leasting-on (s .args .b .now) (s .pre .0) (s .args .unit) (s .pre .1 .0) (s .pre .1 .1) (c .before .before .before .before .before .before .before .before .load-interface .result) (c .before .before .before .before .before .before .before .before .load-interface .ensures) (not-false (c .before .before .before .before .before .before .before .before .load-interface .result .marks .floored) (c .before .before .before .before .before .if1 .left)) (o .result) (o .ensures) (i .i) (i .low) (i .inv)
-    (c .before .before .loop-test .taken) (getD (o .result .units) (i .i) 0) refl (c .lower-in .result) (c .lower-in .ensures)
+    leasting-on (s .args .b .now) (s .pre .0) (s .args .unit) (s .pre .1 .0) (s .pre .1 .1) (at-load-interface .load-interface .result) (at-load-interface .load-interface .ensures) (not-false (at-load-interface .load-interface .result .marks .floored) (at-if1 .if1 .left)) (at-order-of .order-of .result) (at-order-of .order-of .ensures) (i .i) (i .low) (i .inv)
+    (c .before .before .loop-test .taken) (getD (at-order-of .order-of .result .units) (i .i) 0) refl (c .lower-in .result) (c .lower-in .ensures)
 
 returns-2 : tie.Need-returns-2 Inv-loop μ-loop
 returns-2 c =
+    let at-load-interface = c .before .before .before .before .before .before in
     let s = c .before .before .before .before .before .before .before in
     let o = c .before .before .order-of in
     let i = c .before .loop in
-    leasting-ends (s .args .b .now) (s .pre .0) (s .args .unit) (s .pre .1 .0) (s .pre .1 .1) (c .before .before .before .before .before .before .load-interface .result) (c .before .before .before .before .before .before .load-interface .ensures) (not-false (c .before .before .before .before .before .before .load-interface .result .marks .floored) (c .before .before .before .if1 .left)) (o .result) (o .ensures) (i .i) (i .low) (i .inv) (c .loop-test .left)
+    leasting-ends (s .args .b .now) (s .pre .0) (s .args .unit) (s .pre .1 .0) (s .pre .1 .1) (at-load-interface .load-interface .result) (at-load-interface .load-interface .ensures) (not-false (at-load-interface .load-interface .result .marks .floored) (c .before .before .before .if1 .left)) (o .result) (o .ensures) (i .i) (i .low) (i .inv) (c .loop-test .left)
 
 pub lowest-spec : {M : Type 1} → statement M
 lowest-spec =

@@ -33,18 +33,28 @@ is-absent-requires c κs = search needs
 
 returns-3 : tie.Need-returns-3
 returns-3 c =
-    let a = c .before .before .before .before .before .before .before .before .before .args in
-    gone (a .b .now) (c .before .before .before .before .before .before .before .before .before .pre) (handleNamed (a .h)) (c .before .before .load-node .result) (c .before .before .load-node .ensures) (c .before .before .before .before .before .before .before .if1 .left) (c .before .before .before .before .before .if2 .left) (c .before .is-absent .ensures) (c .if3 .taken)
+    let at-if2 = c .before .before .before .before .before in
+    let at-if1 = at-if2 .before .before in
+    let start = at-if1 .before .before in
+    gone (start .args .b .now) (start .pre) (handleNamed (start .args .h)) (c .before .before .load-node .result) (c .before .before .load-node .ensures) (at-if1 .if1 .left) (at-if2 .if2 .left) (c .before .is-absent .ensures) (c .if3 .taken)
 
 returns-4 : tie.Need-returns-4
 returns-4 c =
-    let a = c .before .before .before .before .before .before .before .before .before .before .before .before .args in
-    renamed (a .b .now) (c .before .before .before .before .before .before .before .before .before .before .before .before .pre) (handleNamed (a .h)) (c .before .before .before .before .before .load-node .result) (c .before .before .before .before .before .load-node .ensures) (c .before .before .before .before .before .before .before .before .before .before .if1 .left) (c .before .before .before .before .before .before .before .before .if2 .left) (c .before .before .before .before .is-absent .ensures) (c .before .before .before .if3 .left) (c .if4 .taken)
+    let at-is-absent = c .before .before .before .before in
+    let at-load-node = at-is-absent .before in
+    let at-if2 = at-load-node .before .before .before in
+    let at-if1 = at-if2 .before .before in
+    let start = at-if1 .before .before in
+    renamed (start .args .b .now) (start .pre) (handleNamed (start .args .h)) (at-load-node .load-node .result) (at-load-node .load-node .ensures) (at-if1 .if1 .left) (at-if2 .if2 .left) (at-is-absent .is-absent .ensures) (c .before .before .before .if3 .left) (c .if4 .taken)
 
 returns-5 : tie.Need-returns-5
 returns-5 c =
-    let a = c .before .before .before .before .before .before .before .before .before .before .before .before .args in
-    found (a .b .now) (c .before .before .before .before .before .before .before .before .before .before .before .before .pre) (handleNamed (a .h)) (c .before .before .before .before .before .load-node .result) (c .before .before .before .before .before .load-node .ensures) (c .before .before .before .before .before .before .before .before .before .before .if1 .left) (c .before .before .before .before .before .before .before .before .if2 .left) (c .before .before .before .before .is-absent .ensures) (c .before .before .before .if3 .left) (c .if4 .left) (a .h .unit * 64 + a .h .slot) refl
+    let at-is-absent = c .before .before .before .before in
+    let at-load-node = at-is-absent .before in
+    let at-if2 = at-load-node .before .before .before in
+    let at-if1 = at-if2 .before .before in
+    let start = at-if1 .before .before in
+    found (start .args .b .now) (start .pre) (handleNamed (start .args .h)) (at-load-node .load-node .result) (at-load-node .load-node .ensures) (at-if1 .if1 .left) (at-if2 .if2 .left) (at-is-absent .is-absent .ensures) (c .before .before .before .if3 .left) (c .if4 .left) (start .args .h .unit * 64 + start .args .h .slot) refl
 
 pub find-spec : {M : Type 1} → statement M
 find-spec =

@@ -36,9 +36,12 @@ lowered-requires c κs =
     (omega (arith, c .valued .ensures), omega arith)
 
 returns : tie.Need-returns
-returns c = toZ-ofZ (record { sfits = c .lowered .ok }) ∙ c .lowered .ensures
+returns c =
+    let at-climb = c .before .before .before .before in
+    let start = at-climb .before .before in
+    toZ-ofZ (record { sfits = c .lowered .ok }) ∙ c .lowered .ensures
     ∙ ap (off 1152921504606846976) (c .before .valued .ensures)
-    ∙ value-seen (c .before .before .before .before .before .before .args .b .now) (handleNamed (c .before .before .before .before .before .before .args .h)) (c .before .before .before .before .before .before .pre .1) (c .before .before .load-node .result) (c .before .before .load-node .ensures) (c .before .before .before .before .climb .result .total) (c .before .before .before .before .climb .ensures .total)
+    ∙ value-seen (start .args .b .now) (handleNamed (start .args .h)) (start .pre .1) (c .before .before .load-node .result) (c .before .before .load-node .ensures) (at-climb .climb .result .total) (at-climb .climb .ensures .total)
 
 pub value-spec : {M : Type 1} → statement M
 value-spec =

@@ -34,10 +34,20 @@ cast-t15 : tie.Need-cast-t15 Inv-loop μ-loop
 cast-t15 c = search needs
 
 add-t16 : tie.Need-add-t16 Inv-loop μ-loop
-add-t16 c = omega (arith, c .before .before .before .before .before .loop .inv .small, c .before .before .before .before .loop-test .taken, c .before .before .before .before .before .before .order-of .ensures .few, c .before .before .before .before .before .before .before .pre .1 .1 .1 .low)
+add-t16 c =
+    let at-loop-test = c .before .before .before .before in
+    let at-loop = at-loop-test .before in
+    let at-order-of = at-loop .before in
+    let start = at-order-of .before in
+    omega (arith, at-loop .loop .inv .small, at-loop-test .loop-test .taken, at-order-of .order-of .ensures .few, start .pre .1 .1 .1 .low)
 
 cast-t17 : tie.Need-cast-t17 Inv-loop μ-loop
-cast-t17 c = record { fits = omega (arith, c .before .before .before .before .before .loop .inv .small, c .before .before .before .before .loop-test .taken, c .before .before .before .before .before .before .order-of .ensures .few, c .before .before .before .before .before .before .before .pre .1 .1 .1 .low) }
+cast-t17 c =
+    let at-loop-test = c .before .before .before .before in
+    let at-loop = at-loop-test .before in
+    let at-order-of = at-loop .before in
+    let start = at-order-of .before in
+    record { fits = omega (arith, at-loop .loop .inv .small, at-loop-test .loop-test .taken, at-order-of .order-of .ensures .few, start .pre .1 .1 .1 .low) }
 
 returns : tie.Need-returns Inv-loop μ-loop
 returns c =
@@ -56,25 +66,32 @@ load-interface-requires c κs =
 
 add-passed : tie.Need-add-passed Inv-loop μ-loop
 add-passed c =
+    let at-loop-test = c .before .before .before .before .before in
+    let at-loop = at-loop-test .before in
+    let at-order-of = at-loop .before in
     let s = c .before .before .before .before .before .before .before .before in
-    let o = c .before .before .before .before .before .before .before .order-of in
-    let i = c .before .before .before .before .before .before .loop .i in
-    let u = used-small (s .args .b .now) (s .pre .0) (s .args .unit) (s .pre .1 .0) (o .result) (o .ensures) i (getD (o .result .units) i 0) (c .before .before .before .before .before .loop-test .taken) refl (c .before .load-interface .result) (c .before .load-interface .ensures) in
-    omega (arith, u, c .before .before .before .before .before .before .loop .inv .small, c .before .before .before .before .before .loop-test .taken, o .ensures .few)
+    let i = at-loop .loop .i in
+    let u = used-small (s .args .b .now) (s .pre .0) (s .args .unit) (s .pre .1 .0) (at-order-of .order-of .result) (at-order-of .order-of .ensures) i (getD (at-order-of .order-of .result .units) i 0) (at-loop-test .loop-test .taken) refl (c .before .load-interface .result) (c .before .load-interface .ensures) in
+    omega (arith, u, at-loop .loop .inv .small, at-loop-test .loop-test .taken, at-order-of .order-of .ensures .few)
 
 add-i : tie.Need-add-i Inv-loop μ-loop
-add-i c = omega (arith, c .before .before .before .before .before .loop-test .taken, c .before .before .before .before .before .before .before .order-of .ensures .few)
+add-i c =
+    let at-loop-test = c .before .before .before .before .before in
+    let at-order-of = at-loop-test .before .before in
+    omega (arith, at-loop-test .loop-test .taken, at-order-of .order-of .ensures .few)
 
 loop-less : tie.Need-loop-less Inv-loop μ-loop
 loop-less c = omega (arith, c .before .before .before .before .before .loop-test .taken)
 
 loop-again : tie.Need-loop-again Inv-loop μ-loop
 loop-again c =
+    let at-loop-test = c .before .before .before .before .before in
+    let at-loop = at-loop-test .before in
+    let at-order-of = at-loop .before in
     let s = c .before .before .before .before .before .before .before .before in
-    let o = c .before .before .before .before .before .before .before .order-of in
-    let i = c .before .before .before .before .before .before .loop .i in
-    pass-on (s .args .b .now) (s .pre .0) (s .args .unit) (s .pre .1 .0) (o .result) (o .ensures) i (getD (o .result .units) i 0) (c .before .before .before .before .before .loop-test .taken) refl (c .before .load-interface .result) (c .before .load-interface .ensures)
-    (c .before .before .before .before .before .before .loop .passed) (handleNamed (s .args .h)) (c .before .before .before .before .before .before .loop .inv) (c .before .before .if1 .left)
+    let i = at-loop .loop .i in
+    pass-on (s .args .b .now) (s .pre .0) (s .args .unit) (s .pre .1 .0) (at-order-of .order-of .result) (at-order-of .order-of .ensures) i (getD (at-order-of .order-of .result .units) i 0) (at-loop-test .loop-test .taken) refl (c .before .load-interface .result) (c .before .load-interface .ensures)
+    (at-loop .loop .passed) (handleNamed (s .args .h)) (at-loop .loop .inv) (c .before .before .if1 .left)
 
 returns-2 : tie.Need-returns-2 Inv-loop μ-loop
 returns-2 c =

@@ -59,17 +59,22 @@ returns c =
     (s .args .index) (c .before .before .before .before .before .loop .rest) (getD (o .result .units) i 0 * 64 + c .before .before .before .before .before .loop .rest) (c .before .before .before .before .before .loop .inv) (c .if1 .taken) refl
 
 add-i : tie.Need-add-i Inv-loop μ-loop
-add-i c = omega (arith, c .before .before .before .before .before .loop-test .taken, c .before .before .before .before .before .before .before .order-of .ensures .few)
+add-i c =
+    let at-loop-test = c .before .before .before .before .before in
+    let at-order-of = at-loop-test .before .before in
+    omega (arith, at-loop-test .loop-test .taken, at-order-of .order-of .ensures .few)
 
 loop-less : tie.Need-loop-less Inv-loop μ-loop
 loop-less c = omega (arith, c .before .before .before .before .before .loop-test .taken)
 
 loop-again : tie.Need-loop-again Inv-loop μ-loop
 loop-again c =
+    let at-loop-test = c .before .before .before .before .before in
+    let at-loop = at-loop-test .before in
+    let at-order-of = at-loop .before in
     let s = c .before .before .before .before .before .before .before .before in
-    let o = c .before .before .before .before .before .before .before .order-of in
-    let i = c .before .before .before .before .before .before .loop .i in
-    seek-on (s .args .b .now) (s .pre .0) (s .args .unit) (s .pre .1 .0) (o .result) (o .ensures) i (getD (o .result .units) i 0) (c .before .before .before .before .before .loop-test .taken) refl (c .before .before .before .load-interface .result) (c .before .before .before .load-interface .ensures) (s .args .index) (c .before .before .before .before .before .before .loop .rest) (c .before .before .before .before .before .before .loop .inv) (c .before .if1 .left)
+    let i = at-loop .loop .i in
+    seek-on (s .args .b .now) (s .pre .0) (s .args .unit) (s .pre .1 .0) (at-order-of .order-of .result) (at-order-of .order-of .ensures) i (getD (at-order-of .order-of .result .units) i 0) (at-loop-test .loop-test .taken) refl (c .before .before .before .load-interface .result) (c .before .before .before .load-interface .ensures) (s .args .index) (at-loop .loop .rest) (at-loop .loop .inv) (c .before .if1 .left)
 
 returns-2 : tie.Need-returns-2 Inv-loop μ-loop
 returns-2 c =

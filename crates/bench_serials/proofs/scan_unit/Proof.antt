@@ -50,7 +50,10 @@ enum-told : tie.Need-enum-told Inv-loop μ-loop
 enum-told c = search needs
 
 add-s : tie.Need-add-s Inv-loop μ-loop
-add-s c = omega (arith, c .before .before .before .if1 .taken, c .before .before .before .before .before .before .before .pre .0 .steady .slots (c .before .before .before .before .before .before .before .args .unit) (c .before .before .before .before .before .before .before .pre .1), ap (λ (x : Interface). x .used) (c .before .before .before .before .before .before .load-interface .ensures))
+add-s c =
+    let at-load-interface = c .before .before .before .before .before .before in
+    let start = at-load-interface .before in
+    omega (arith, c .before .before .before .if1 .taken, start .pre .0 .steady .slots (start .args .unit) (start .pre .1), ap (λ (x : Interface). x .used) (at-load-interface .load-interface .ensures))
 
 loop-less : tie.Need-loop-less Inv-loop μ-loop
 loop-less c = omega (arith, c .before .before .before .if1 .taken)

@@ -1,5 +1,4 @@
 -- By the mode: the used count, or what the map's lowest clear bit says. Assumes nothing.
-use mathlib.Core.Path.{sym}
 use native.Mathlib.Omega.{arith}
 use Rattle.bench_slots.proofs.Free.{used-small, next-slot, lowest-slot, no-slot}
 use borrow.Author.Needs.{needs}

@@ -87,7 +87,10 @@ element-copy-out-t39 c = search needs
 
 returns : tie.Need-returns
 unfolding interfaceAt
-returns c = simp (c .before .before .before .before .before .before .before .before .up-of .ensures, c .before .before .before .before .before .before .marks-of .ensures)
+returns c =
+    let at-marks-of = c .before .before .before .before .before .before in
+    let at-up-of = at-marks-of .before .before in
+    simp (at-up-of .up-of .ensures, at-marks-of .marks-of .ensures)
 
 pub load-interface-spec : {M : Type 1} → statement M
 load-interface-spec =

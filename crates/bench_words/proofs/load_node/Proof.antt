@@ -138,7 +138,13 @@ element-copy-out-t56 c = search needs
 
 returns : tie.Need-returns
 unfolding nodeAt
-returns c = simp (c .before .before .before .before .before .before .before .before .before .before .before .before .before .before .before .class-of .ensures, c .before .before .before .before .before .before .before .before .before .before .before .before .before .state-of .ensures, c .before .before .before .before .before .before .before .before .before .before .before .parent-of .ensures, c .before .before .before .before .before .before .before .before .before .handle-of .ensures, c .before .before .before .before .before .before .before .handle-of2 .ensures)
+returns c =
+    let at-handle-of2 = c .before .before .before .before .before .before .before in
+    let at-handle-of = at-handle-of2 .before .before in
+    let at-parent-of = at-handle-of .before .before in
+    let at-state-of = at-parent-of .before .before in
+    let at-class-of = at-state-of .before .before in
+    simp (at-class-of .class-of .ensures, at-state-of .state-of .ensures, at-parent-of .parent-of .ensures, at-handle-of .handle-of .ensures, at-handle-of2 .handle-of2 .ensures)
 
 pub load-node-spec : {M : Type 1} → statement M
 load-node-spec =

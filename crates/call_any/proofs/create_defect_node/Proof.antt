@@ -1,7 +1,6 @@
 -- BROKEN on words that hold no sound bench; else the call on sound words. Assumes nothing.
 use borrow.Author.Needs.{needs}
 use mathlib.Core.Path.{refl}
-use Rattle.ledger_spec.specs.Calls.{Defect}
 use Rattle.call_any.proofs.Public.{no-bench, sound-bench, answers}
 use Rattle.call_any.proofs.create_defect_node.Statement.{statement}
 use Rattle.call_any.proofs.create_defect_node.Tie as tie
@@ -13,13 +12,13 @@ refused-requires : tie.Need-refused-requires
 refused-requires c κs = search needs
 
 returns : tie.Need-returns
-returns c = no-bench (c .before .before .before .before .args .b .now) (c .before .before .is-bench .result) (c .before .before .is-bench .ensures) (Defect (c .before .before .before .before .args .unit) (c .before .before .before .before .args .vertex .0)) (c .before .if1 .taken) (c .refused .result) _ (c .refused .ensures) refl
+returns c = no-bench (c .before .before .is-bench .ensures) (c .before .if1 .taken) (c .refused .ensures) refl
 
 create-defect-node-requires : tie.Need-create-defect-node-requires
-create-defect-node-requires c κs = sound-bench (c .before .before .before .before .args .b .now) (c .before .before .is-bench .result) (c .before .before .is-bench .ensures) (c .before .if1 .left)
+create-defect-node-requires c κs = sound-bench (c .before .before .is-bench .ensures) (c .before .if1 .left)
 
 returns-2 : tie.Need-returns-2
-returns-2 c = answers (c .before .before .before .before .before .args .b .now) (c .before .before .before .is-bench .result) (c .before .before .before .is-bench .ensures) (c .before .before .if1 .left) (Defect (c .before .before .before .before .before .args .unit) (c .before .before .before .before .before .args .vertex .0)) (c .create-defect-node .result) _ (c .create-defect-node .ensures)
+returns-2 c = answers (c .before .before .before .is-bench .ensures) (c .before .before .if1 .left) (c .create-defect-node .ensures)
 
 pub create-defect-node-spec : {M : Type 1} → statement M
 create-defect-node-spec =

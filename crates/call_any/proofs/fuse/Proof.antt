@@ -1,7 +1,6 @@
 -- BROKEN on words that hold no sound bench; else the call on sound words. Assumes nothing.
 use borrow.Author.Needs.{needs}
 use mathlib.Core.Path.{refl}
-use Rattle.ledger_spec.specs.Calls.{Fuse}
 use Rattle.call_any.proofs.Public.{no-bench, sound-bench, answers}
 use Rattle.call_any.proofs.fuse.Statement.{statement}
 use Rattle.call_any.proofs.fuse.Tie as tie
@@ -13,13 +12,13 @@ refused-requires : tie.Need-refused-requires
 refused-requires c κs = search needs
 
 returns : tie.Need-returns
-returns c = no-bench (c .before .before .before .before .args .b .now) (c .before .before .is-bench .result) (c .before .before .is-bench .ensures) (Fuse (c .before .before .before .before .args .parent) (c .before .before .before .before .args .left) (c .before .before .before .before .args .right)) (c .before .if1 .taken) (c .refused .result) _ (c .refused .ensures) refl
+returns c = no-bench (c .before .before .is-bench .ensures) (c .before .if1 .taken) (c .refused .ensures) refl
 
 fuse-requires : tie.Need-fuse-requires
-fuse-requires c κs = sound-bench (c .before .before .before .before .args .b .now) (c .before .before .is-bench .result) (c .before .before .is-bench .ensures) (c .before .if1 .left)
+fuse-requires c κs = sound-bench (c .before .before .is-bench .ensures) (c .before .if1 .left)
 
 returns-2 : tie.Need-returns-2
-returns-2 c = answers (c .before .before .before .before .before .args .b .now) (c .before .before .before .is-bench .result) (c .before .before .before .is-bench .ensures) (c .before .before .if1 .left) (Fuse (c .before .before .before .before .before .args .parent) (c .before .before .before .before .before .args .left) (c .before .before .before .before .before .args .right)) (c .fuse .result) _ (c .fuse .ensures)
+returns-2 c = answers (c .before .before .before .is-bench .ensures) (c .before .before .if1 .left) (c .fuse .ensures)
 
 pub fuse-spec : {M : Type 1} → statement M
 fuse-spec = tie.close (tie.spec is-bench-requires refused-requires returns fuse-requires returns-2)

@@ -1,8 +1,8 @@
 -- BROKEN on words that hold no sound bench; else the call on sound words. Assumes nothing.
 use borrow.Author.Needs.{needs}
 use mathlib.Core.Path.{refl}
-use Rattle.ledger_spec.specs.Calls.{Grow}
-use Rattle.call_any.proofs.Public.{no-bench, sound-bench, answers, grow-told}
+use Rattle.call_told.proofs.Telling.{grow-told}
+use Rattle.call_any.proofs.Public.{no-bench, sound-bench, answers}
 use Rattle.call_any.proofs.grow.Statement.{statement}
 use Rattle.call_any.proofs.grow.Tie as tie
 
@@ -13,13 +13,13 @@ refused-requires : tie.Need-refused-requires
 refused-requires c κs = search needs
 
 returns : tie.Need-returns
-returns c = no-bench (c .before .before .before .before .args .b .now) (c .before .before .is-bench .result) (c .before .before .is-bench .ensures) (Grow (c .before .before .before .before .args .unit) (c .before .before .before .before .args .length)) (c .before .if1 .taken) (c .refused .result) _ (c .refused .ensures) refl
+returns c = no-bench (c .before .before .is-bench .ensures) (c .before .if1 .taken) (c .refused .ensures) refl
 
 grow-requires : tie.Need-grow-requires
-grow-requires c κs = sound-bench (c .before .before .before .before .args .b .now) (c .before .before .is-bench .result) (c .before .before .is-bench .ensures) (c .before .if1 .left)
+grow-requires c κs = sound-bench (c .before .before .is-bench .ensures) (c .before .if1 .left)
 
 returns-2 : tie.Need-returns-2
-returns-2 c = answers (c .before .before .before .before .before .args .b .now) (c .before .before .before .is-bench .result) (c .before .before .before .is-bench .ensures) (c .before .before .if1 .left) (Grow (c .before .before .before .before .before .args .unit) (c .before .before .before .before .before .args .length)) (c .grow .result) _ (grow-told (c .before .before .before .before .before .args .b .now) (c .before .before .before .before .before .args .unit) (c .before .before .before .before .before .fits .length) (c .grow .ensures))
+returns-2 c = answers (c .before .before .before .is-bench .ensures) (c .before .before .if1 .left) (grow-told (c .before .before .before .before .before .fits .length) (c .grow .ensures))
 
 pub grow-spec : {M : Type 1} → statement M
 grow-spec = tie.close (tie.spec is-bench-requires refused-requires returns grow-requires returns-2)

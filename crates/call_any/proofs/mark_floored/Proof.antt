@@ -1,8 +1,6 @@
 -- BROKEN on words that hold no sound bench; else the call on sound words. Assumes nothing.
 use borrow.Author.Needs.{needs}
 use mathlib.Core.Path.{refl}
-use Rattle.ledger_spec.specs.Bench.{floor}
-use Rattle.ledger_spec.specs.Calls.{Mark}
 use Rattle.call_any.proofs.Public.{no-bench, sound-bench, answers}
 use Rattle.call_any.proofs.mark_floored.Statement.{statement}
 use Rattle.call_any.proofs.mark_floored.Tie as tie
@@ -14,13 +12,13 @@ refused-requires : tie.Need-refused-requires
 refused-requires c κs = search needs
 
 returns : tie.Need-returns
-returns c = no-bench (c .before .before .before .before .args .b .now) (c .before .before .is-bench .result) (c .before .before .is-bench .ensures) (Mark (c .before .before .before .before .args .unit) floor) (c .before .if1 .taken) (c .refused .result) _ (c .refused .ensures) refl
+returns c = no-bench (c .before .before .is-bench .ensures) (c .before .if1 .taken) (c .refused .ensures) refl
 
 mark-floored-requires : tie.Need-mark-floored-requires
-mark-floored-requires c κs = sound-bench (c .before .before .before .before .args .b .now) (c .before .before .is-bench .result) (c .before .before .is-bench .ensures) (c .before .if1 .left)
+mark-floored-requires c κs = sound-bench (c .before .before .is-bench .ensures) (c .before .if1 .left)
 
 returns-2 : tie.Need-returns-2
-returns-2 c = answers (c .before .before .before .before .before .args .b .now) (c .before .before .before .is-bench .result) (c .before .before .before .is-bench .ensures) (c .before .before .if1 .left) (Mark (c .before .before .before .before .before .args .unit) floor) (c .mark-floored .result) _ (c .mark-floored .ensures)
+returns-2 c = answers (c .before .before .before .is-bench .ensures) (c .before .before .if1 .left) (c .mark-floored .ensures)
 
 pub mark-floored-spec : {M : Type 1} → statement M
 mark-floored-spec =

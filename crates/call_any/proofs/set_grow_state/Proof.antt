@@ -1,8 +1,6 @@
 -- BROKEN on words that hold no sound bench; else the call on sound words. Assumes nothing.
 use borrow.Author.Needs.{needs}
 use mathlib.Core.Path.{refl}
-use Rattle.ledger_spec.specs.Calls.{SetState}
-use Rattle.ledger_spec.specs.Named.{handleNamed, stateNamed}
 use Rattle.call_any.proofs.Public.{no-bench, sound-bench, answers}
 use Rattle.call_any.proofs.set_grow_state.Statement.{statement}
 use Rattle.call_any.proofs.set_grow_state.Tie as tie
@@ -14,13 +12,13 @@ refused-requires : tie.Need-refused-requires
 refused-requires c κs = search needs
 
 returns : tie.Need-returns
-returns c = no-bench (c .before .before .before .before .args .b .now) (c .before .before .is-bench .result) (c .before .before .is-bench .ensures) (SetState (c .before .before .before .before .args .unit) (handleNamed (c .before .before .before .before .args .node)) (stateNamed (c .before .before .before .before .args .state))) (c .before .if1 .taken) (c .refused .result) _ (c .refused .ensures) refl
+returns c = no-bench (c .before .before .is-bench .ensures) (c .before .if1 .taken) (c .refused .ensures) refl
 
 set-grow-state-requires : tie.Need-set-grow-state-requires
-set-grow-state-requires c κs = sound-bench (c .before .before .before .before .args .b .now) (c .before .before .is-bench .result) (c .before .before .is-bench .ensures) (c .before .if1 .left)
+set-grow-state-requires c κs = sound-bench (c .before .before .is-bench .ensures) (c .before .if1 .left)
 
 returns-2 : tie.Need-returns-2
-returns-2 c = answers (c .before .before .before .before .before .args .b .now) (c .before .before .before .is-bench .result) (c .before .before .before .is-bench .ensures) (c .before .before .if1 .left) (SetState (c .before .before .before .before .before .args .unit) (handleNamed (c .before .before .before .before .before .args .node)) (stateNamed (c .before .before .before .before .before .args .state))) (c .set-grow-state .result) _ (c .set-grow-state .ensures)
+returns-2 c = answers (c .before .before .before .is-bench .ensures) (c .before .before .if1 .left) (c .set-grow-state .ensures)
 
 pub set-grow-state-spec : {M : Type 1} → statement M
 set-grow-state-spec =

@@ -28,7 +28,10 @@ refused-requires-2 c κs = search needs
 
 returns-2 : tie.Need-returns-2
 unfolding testsOf deedOf nodeOf
-returns-2 c = goes-bare (c .before .before .before .before .before .before .args .b .now) (c .before .before .before .before .before .before .pre) (Clear (c .before .before .before .before .before .before .args .unit)) (c .before .before .before .before .unit-number .result) (c .before .before .before .before .unit-number .ensures) _ (c .before .before .before .if1 .left) (c .before .wipe .ensures) refl (c .refused2 .result) (c .refused2 .ensures)
+returns-2 c =
+    let at-unit-number = c .before .before .before .before in
+    let start = at-unit-number .before .before in
+    goes-bare (start .args .b .now) (start .pre) (Clear (start .args .unit)) (at-unit-number .unit-number .result) (at-unit-number .unit-number .ensures) _ (c .before .before .before .if1 .left) (c .before .wipe .ensures) refl (c .refused2 .result) (c .refused2 .ensures)
 
 pub clear-spec : {M : Type 1} → statement M
 clear-spec =

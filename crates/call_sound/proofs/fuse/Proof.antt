@@ -28,7 +28,10 @@ refused-requires-2 c κs = search needs
 
 returns-2 : tie.Need-returns-2
 unfolding testsOf deedOf nodeOf
-returns-2 c = goes-bare (c .before .before .before .before .before .before .args .b .now) (c .before .before .before .before .before .before .pre) (Fuse (c .before .before .before .before .before .before .args .parent) (c .before .before .before .before .before .before .args .left) (c .before .before .before .before .before .before .args .right)) (c .before .before .before .before .fuse-number .result) (c .before .before .before .before .fuse-number .ensures) _ (c .before .before .before .if1 .left) (c .before .join .ensures) refl (c .refused2 .result) (c .refused2 .ensures)
+returns-2 c =
+    let at-fuse-number = c .before .before .before .before in
+    let start = at-fuse-number .before .before in
+    goes-bare (start .args .b .now) (start .pre) (Fuse (start .args .parent) (start .args .left) (start .args .right)) (at-fuse-number .fuse-number .result) (at-fuse-number .fuse-number .ensures) _ (c .before .before .before .if1 .left) (c .before .join .ensures) refl (c .refused2 .result) (c .refused2 .ensures)
 
 pub fuse-spec : {M : Type 1} → statement M
 fuse-spec =

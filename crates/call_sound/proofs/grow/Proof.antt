@@ -29,7 +29,10 @@ refused-requires-2 c κs = search needs
 
 returns-2 : tie.Need-returns-2
 unfolding testsOf deedOf nodeOf
-returns-2 c = goes-bare (c .before .before .before .before .before .before .args .b .now) (c .before .before .before .before .before .before .pre) (Grow (c .before .before .before .before .before .before .args .unit) (c .before .before .before .before .before .before .args .length)) (c .before .before .before .before .grow-number .result) (grow-said (c .before .before .before .before .before .before .args .b .now) (c .before .before .before .before .before .before .args .unit) (c .before .before .before .before .before .before .fits .length) (c .before .before .before .before .grow-number .ensures)) _ (c .before .before .before .if1 .left) (grows-done (c .before .before .before .before .before .before .args .b .now) (c .before .before .before .before .before .before .pre) (c .before .before .before .before .before .before .args .unit) (c .before .before .before .before .before .before .args .length) (c .before .before .before .before .before .before .fits .length) (c .before .before .before .before .grow-number .result) (grow-said (c .before .before .before .before .before .before .args .b .now) (c .before .before .before .before .before .before .args .unit) (c .before .before .before .before .before .before .fits .length) (c .before .before .before .before .grow-number .ensures)) (c .before .before .before .if1 .left) _ (c .before .grow-by .ensures)) refl (c .refused2 .result) (c .refused2 .ensures)
+returns-2 c =
+    let at-grow-number = c .before .before .before .before in
+    let start = at-grow-number .before .before in
+    goes-bare (start .args .b .now) (start .pre) (Grow (start .args .unit) (start .args .length)) (at-grow-number .grow-number .result) (grow-said (start .args .b .now) (start .args .unit) (start .fits .length) (at-grow-number .grow-number .ensures)) _ (c .before .before .before .if1 .left) (grows-done (start .args .b .now) (start .pre) (start .args .unit) (start .args .length) (start .fits .length) (at-grow-number .grow-number .result) (grow-said (start .args .b .now) (start .args .unit) (start .fits .length) (at-grow-number .grow-number .ensures)) (c .before .before .before .if1 .left) _ (c .before .grow-by .ensures)) refl (c .refused2 .result) (c .refused2 .ensures)
 
 pub grow-spec : {M : Type 1} → statement M
 grow-spec =

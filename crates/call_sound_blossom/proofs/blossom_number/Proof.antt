@@ -23,8 +23,9 @@ returns-2 c = let a = c .before .before .before .before .before .before .args in
     (c .before .shape-number .result) (c .before .shape-number .ensures) (c .if2 .taken)
 
 nodes-number-requires : tie.Need-nodes-number-requires
-nodes-number-requires c κs = let a = c .before .before .before .before .before .before .args in
-    (c .before .before .before .before .before .before .pre, named (view (a .b .now)) (a .unit) (handsGiven (a .members .now)) (pairsGiven (a .touching .now)) (c .before .before .before .unit-number .result) (c .before .before .before .unit-number .ensures) (c .before .before .if1 .left) .free)
+nodes-number-requires c κs =
+    let start = c .before .before .before .before .before .before in
+    (start .pre, named (view (start .args .b .now)) (start .args .unit) (handsGiven (start .args .members .now)) (pairsGiven (start .args .touching .now)) (c .before .before .before .unit-number .result) (c .before .before .before .unit-number .ensures) (c .before .before .if1 .left) .free)
 
 returns-3 : tie.Need-returns-3
 returns-3 c = let a = c .before .before .before .before .before .before .before .before .args in
@@ -32,24 +33,39 @@ returns-3 c = let a = c .before .before .before .before .before .before .before 
     (c .before .before .before .shape-number .result) (c .before .before .before .shape-number .ensures) (c .before .before .if2 .left) (c .before .nodes-number .result) (c .before .nodes-number .ensures) (c .if3 .taken)
 
 given-twice-requires : tie.Need-given-twice-requires
-given-twice-requires c κs = let a = c .before .before .before .before .before .before .before .before .args in
-    placed (a .b .now) (c .before .before .before .before .before .before .before .before .pre) (a .members .now) (a .unit) (pairsGiven (a .touching .now)) (c .before .nodes-number .result) (c .before .nodes-number .ensures) (c .if3 .left)
+given-twice-requires c κs =
+    let start = c .before .before .before .before .before .before .before .before in
+    placed (start .args .b .now) (start .pre) (start .args .members .now) (start .args .unit) (pairsGiven (start .args .touching .now)) (c .before .nodes-number .result) (c .before .nodes-number .ensures) (c .if3 .left)
 
 returns-4 : tie.Need-returns-4
-returns-4 c = let a = c .before .before .before .before .before .before .before .before .before .before .args in
-    by-twice (view (a .b .now)) (a .unit) (handsGiven (a .members .now)) (pairsGiven (a .touching .now)) (c .before .before .before .before .before .before .before .unit-number .result) (c .before .before .before .before .before .before .before .unit-number .ensures) (c .before .before .before .before .before .before .if1 .left)
-    (c .before .before .before .before .before .shape-number .result) (c .before .before .before .before .before .shape-number .ensures) (c .before .before .before .before .if2 .left) (c .before .before .before .nodes-number .result) (c .before .before .before .nodes-number .ensures) (c .before .before .if3 .left)
+returns-4 c =
+    let at-if2 = c .before .before .before .before in
+    let at-shape-number = at-if2 .before in
+    let at-if1 = at-shape-number .before in
+    let at-unit-number = at-if1 .before in
+    let start = at-unit-number .before .before .before in
+    by-twice (view (start .args .b .now)) (start .args .unit) (handsGiven (start .args .members .now)) (pairsGiven (start .args .touching .now)) (at-unit-number .unit-number .result) (at-unit-number .unit-number .ensures) (at-if1 .if1 .left)
+    (at-shape-number .shape-number .result) (at-shape-number .shape-number .ensures) (at-if2 .if2 .left) (c .before .before .before .nodes-number .result) (c .before .before .before .nodes-number .ensures) (c .before .before .if3 .left)
     (c .before .given-twice .result) (c .before .given-twice .ensures) (c .if4 .taken)
 
 room-number-requires : tie.Need-room-number-requires
-room-number-requires c κs = let s = c .before .before .before .before .before .before .before .before .before .before in
+room-number-requires c κs =
+    let at-if1 = c .before .before .before .before .before .before in
+    let at-unit-number = at-if1 .before in
+    let s = c .before .before .before .before .before .before .before .before .before .before in
     let a = s .args in
-    (s .pre, named (view (a .b .now)) (a .unit) (handsGiven (a .members .now)) (pairsGiven (a .touching .now)) (c .before .before .before .before .before .before .before .unit-number .result) (c .before .before .before .before .before .before .before .unit-number .ensures) (c .before .before .before .before .before .before .if1 .left) .low)
+    (s .pre, named (view (a .b .now)) (a .unit) (handsGiven (a .members .now)) (pairsGiven (a .touching .now)) (at-unit-number .unit-number .result) (at-unit-number .unit-number .ensures) (at-if1 .if1 .left) .low)
 
 returns-5 : tie.Need-returns-5
-returns-5 c = let a = c .before .before .before .before .before .before .before .before .before .before .before .args in
-    by-room (view (a .b .now)) (a .unit) (handsGiven (a .members .now)) (pairsGiven (a .touching .now)) (c .before .before .before .before .before .before .before .before .unit-number .result) (c .before .before .before .before .before .before .before .before .unit-number .ensures) (c .before .before .before .before .before .before .before .if1 .left)
-    (c .before .before .before .before .before .before .shape-number .result) (c .before .before .before .before .before .before .shape-number .ensures) (c .before .before .before .before .before .if2 .left) (c .before .before .before .before .nodes-number .result) (c .before .before .before .before .nodes-number .ensures) (c .before .before .before .if3 .left)
+returns-5 c =
+    let at-nodes-number = c .before .before .before .before in
+    let at-if2 = at-nodes-number .before in
+    let at-shape-number = at-if2 .before in
+    let at-if1 = at-shape-number .before in
+    let at-unit-number = at-if1 .before in
+    let start = at-unit-number .before .before .before in
+    by-room (view (start .args .b .now)) (start .args .unit) (handsGiven (start .args .members .now)) (pairsGiven (start .args .touching .now)) (at-unit-number .unit-number .result) (at-unit-number .unit-number .ensures) (at-if1 .if1 .left)
+    (at-shape-number .shape-number .result) (at-shape-number .shape-number .ensures) (at-if2 .if2 .left) (at-nodes-number .nodes-number .result) (at-nodes-number .nodes-number .ensures) (c .before .before .before .if3 .left)
     (c .before .before .given-twice .result) (c .before .before .given-twice .ensures) (c .before .if4 .left) (c .room-number .result) (c .room-number .ensures)
 
 pub blossom-number-spec : {M : Type 1} → statement M

@@ -1,7 +1,6 @@
 -- No node and no notices, accepted or refused. Assumes nothing.
 use borrow.Author.Needs.{needs}
 use mathlib.Core.Path.{refl}
-use Rattle.ledger_spec.specs.Calls.{Clear}
 use Rattle.ledger_spec.specs.Notices.{tells}
 use Rattle.ledger_laws.proofs.Answered.{nodeOf}
 use Rattle.call_told.proofs.Telling.{bare}
@@ -16,7 +15,7 @@ refused-requires c κs = search needs
 
 returns : tie.Need-returns
 unfolding tells nodeOf
-returns c = bare (c .before .before .before .args .b .now) (c .before .before .before .pre) (Clear (c .before .before .before .args .unit)) (c .before .clear .result .number) (c .before .clear .result .node) _ (c .before .clear .ensures) refl refl (c .refused .result) (c .refused .ensures)
+returns c = bare (c .before .clear .ensures .0) refl refl (c .refused .ensures)
 
 pub clear-spec : {M : Type 1} → statement M
 clear-spec = tie.close (tie.spec clear-requires refused-requires returns)

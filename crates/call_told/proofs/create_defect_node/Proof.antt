@@ -1,9 +1,13 @@
 -- A refusal tells nothing; a defect tells of its node. Assumes nothing.
 use borrow.Author.Needs.{needs}
-use mathlib.Core.Path.{refl, _∙_}
-use Rattle.ledger_spec.specs.Calls.{Defect}
+use mathlib.Core.Path.{refl, _∙_, ap}
 use Rattle.ledger_spec.specs.Named.{handleNamed}
-use Rattle.call_told.proofs.Telling.{stops, goes, node-made, told-defect}
+use Rattle.ledger_laws.proofs.Answered.{nodeOf}
+use Rattle.bench_views.specs.View.{view}
+use Rattle.outcomes.proofs.Outcomes.{node-made}
+use Rattle.outcome_notices.specs.Laid.{laid}
+use Rattle.outcome_notices.proofs.Tells.{tells-defect}
+use Rattle.call_told.proofs.Telling.{stops, goes}
 use Rattle.call_told.proofs.create_defect_node.Statement.{statement}
 use Rattle.call_told.proofs.create_defect_node.Tie as tie
 
@@ -14,13 +18,19 @@ refused-requires : tie.Need-refused-requires
 refused-requires c κs = search needs
 
 returns : tie.Need-returns
-returns c = stops (c .before .before .before .before .before .args .b .now) (c .before .before .before .before .before .pre) (Defect (c .before .before .before .before .before .args .unit) (c .before .before .before .before .before .args .vertex .0)) (c .before .before .before .create-defect-node .result .number) (c .before .before .before .create-defect-node .result .node) _ (c .before .before .before .create-defect-node .ensures) (c .before .if1 .taken) (c .refused .result) (c .refused .ensures)
+returns c = stops (c .before .before .before .create-defect-node .ensures .0) (c .before .if1 .taken) (c .refused .ensures)
 
 defect-requires : tie.Need-defect-requires
 defect-requires c κs = search needs
 
 returns-2 : tie.Need-returns-2
-returns-2 c = goes (c .before .before .before .before .before .before .args .b .now) (c .before .before .before .before .before .before .pre) (Defect (c .before .before .before .before .before .before .args .unit) (c .before .before .before .before .before .before .args .vertex .0)) (c .before .before .before .before .create-defect-node .result .number) (c .before .before .before .before .create-defect-node .result .node) _ (c .before .before .before .before .create-defect-node .ensures) (c .before .before .if1 .left) 0 refl (c .defect .result) (c .defect .ensures ∙ told-defect (c .before .before .before .before .before .before .args .b .now) (c .before .before .before .before .before .before .args .unit) (c .before .before .before .before .before .before .args .vertex .0) (handleNamed (c .before .before .before .before .create-defect-node .result .node)) (node-made (c .before .before .before .before .before .before .args .b .now) (c .before .before .before .before .before .before .pre) (Defect (c .before .before .before .before .before .before .args .unit) (c .before .before .before .before .before .before .args .vertex .0)) (c .before .before .before .before .create-defect-node .result .number) (c .before .before .before .before .create-defect-node .result .node) _ (c .before .before .before .before .create-defect-node .ensures) (c .before .before .if1 .left)))
+unfolding nodeOf
+returns-2 c =
+    let a = c .before .before .before .before .before .before .args in
+    let m = c .before .before .before .before .create-defect-node in
+    let z = c .before .before .if1 .left in
+    goes (m .ensures .0) z (m .ensures .1) refl
+    (c .defect .ensures ∙ ap laid (tells-defect (view (a .b .now)) (a .unit) (a .vertex .0) (handleNamed (m .result .node)) (node-made (m .ensures .0) z (m .ensures .1))))
 
 pub create-defect-node-spec : {M : Type 1} → statement M
 create-defect-node-spec =

@@ -1,6 +1,5 @@
 -- A refusal tells nothing; else what the circle tells was made before the work. Assumes nothing.
 use borrow.Author.Needs.{needs}
-use mathlib.Core.Path.{refl}
 use Rattle.ledger_spec.specs.Calls.{Expand}
 use Rattle.ledger_spec.specs.Named.{handleNamed}
 use Rattle.ledger_spec.specs.Notices.{tells}
@@ -17,10 +16,14 @@ refused-requires c κs = search needs
 
 returns : tie.Need-returns
 unfolding testsOf
-returns c = stops-early (c .before .before .before .before .args .b .now) (c .before .before .before .before .pre) (Expand (c .before .before .before .before .args .unit) (handleNamed (c .before .before .before .before .args .node))) (c .before .before .expand-number .result) (c .before .before .expand-number .ensures) (c .before .if1 .taken) _ refl (c .refused .result) (c .refused .ensures)
+returns c =
+    let s = c .before .before .before .before in
+    stops-early (s .pre) (Expand (s .args .unit) (handleNamed (s .args .node))) (c .before .before .expand-number .ensures) (c .before .if1 .taken) (c .refused .ensures)
 
 expand-requires : tie.Need-expand-requires
-expand-requires c κs = ring-of (c .before .before .before .before .args .b .now) (c .before .before .before .before .pre) (c .before .before .before .before .args .unit) (handleNamed (c .before .before .before .before .args .node)) (c .before .before .expand-number .result) (c .before .before .expand-number .ensures) (c .before .if1 .left)
+expand-requires c κs =
+    let s = c .before .before .before .before in
+    ring-of (s .args .b .now) (s .pre) (s .args .unit) (handleNamed (s .args .node)) (c .before .before .expand-number .result) (c .before .before .expand-number .ensures) (c .before .if1 .left)
 
 expand-blossom-requires : tie.Need-expand-blossom-requires
 expand-blossom-requires c κs = search needs
@@ -28,8 +31,11 @@ expand-blossom-requires c κs = search needs
 returns-2 : tie.Need-returns-2
 unfolding testsOf tells
 returns-2 c =
-    let z = zero-again (c .before .before .before .before .before .before .before .before .args .b .now) (c .before .before .before .before .before .before .before .before .pre) (Expand (c .before .before .before .before .before .before .before .before .args .unit) (handleNamed (c .before .before .before .before .before .before .before .before .args .node))) (c .before .before .before .before .before .before .expand-number .result) (c .before .before .before .before .before .before .expand-number .ensures) (c .before .before .before .before .before .if1 .left) (c .before .expand-blossom .result .number) (c .before .expand-blossom .result .node) _ (c .before .expand-blossom .ensures) in
-    goes (c .before .before .before .before .before .before .before .before .args .b .now) (c .before .before .before .before .before .before .before .before .pre) (Expand (c .before .before .before .before .before .before .before .before .args .unit) (handleNamed (c .before .before .before .before .before .before .before .before .args .node))) (c .before .expand-blossom .result .number) (c .before .expand-blossom .result .node) _ (c .before .expand-blossom .ensures) z (c .before .expand-blossom .result .number) z (c .before .before .before .expand .result) (c .before .before .before .expand .ensures)
+    let s = c .before .before .before .before .before .before .before .before in
+    let n = c .before .before .before .before .before .before .expand-number in
+    let m = c .before .expand-blossom in
+    let z = zero-again (s .pre) (Expand (s .args .unit) (handleNamed (s .args .node))) (n .ensures) (c .before .before .before .before .before .if1 .left) (m .ensures .0) in
+    goes (m .ensures .0) z (m .ensures .1) z (c .before .before .before .expand .ensures)
 
 pub expand-blossom-spec : {M : Type 1} → statement M
 expand-blossom-spec =

@@ -1,7 +1,6 @@
 -- No node and no notices, accepted or refused. Assumes nothing.
 use borrow.Author.Needs.{needs}
 use mathlib.Core.Path.{refl}
-use Rattle.ledger_spec.specs.Calls.{Fuse}
 use Rattle.ledger_spec.specs.Notices.{tells}
 use Rattle.ledger_laws.proofs.Answered.{nodeOf}
 use Rattle.call_told.proofs.Telling.{bare}
@@ -16,7 +15,7 @@ refused-requires c κs = search needs
 
 returns : tie.Need-returns
 unfolding tells nodeOf
-returns c = bare (c .before .before .before .args .b .now) (c .before .before .before .pre) (Fuse (c .before .before .before .args .parent) (c .before .before .before .args .left) (c .before .before .before .args .right)) (c .before .fuse .result .number) (c .before .fuse .result .node) _ (c .before .fuse .ensures) refl refl (c .refused .result) (c .refused .ensures)
+returns c = bare (c .before .fuse .ensures .0) refl refl (c .refused .ensures)
 
 pub fuse-spec : {M : Type 1} → statement M
 fuse-spec = tie.close (tie.spec fuse-requires refused-requires returns)

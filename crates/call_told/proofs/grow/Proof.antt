@@ -1,10 +1,8 @@
 -- A refusal tells nothing; else the length is told. Assumes nothing.
 use borrow.Author.Needs.{needs}
-use mathlib.Core.Path.{refl, _∙_}
-use mir.Facts.{toZ-ofZ}
-use Rattle.ledger_spec.specs.Calls.{Grow}
-use Rattle.refuse_calls.proofs.Lengths.{again}
-use Rattle.call_told.proofs.Telling.{stops, goes, told-grown, grow-said}
+use mathlib.Core.Path.{refl}
+use Rattle.ledger_spec.specs.Notices.{tells}
+use Rattle.call_told.proofs.Telling.{stops, goes, grow-told}
 use Rattle.call_told.proofs.grow.Statement.{statement}
 use Rattle.call_told.proofs.grow.Tie as tie
 
@@ -15,13 +13,17 @@ refused-requires : tie.Need-refused-requires
 refused-requires c κs = search needs
 
 returns : tie.Need-returns
-returns c = stops (c .before .before .before .before .before .args .b .now) (c .before .before .before .before .before .pre) (Grow (c .before .before .before .before .before .args .unit) (c .before .before .before .before .before .args .length)) (c .before .before .before .grow .result .number) (c .before .before .before .grow .result .node) _ (grow-said (c .before .before .before .before .before .args .b .now) (c .before .before .before .before .before .args .unit) (c .before .before .before .before .before .fits .length) (c .before .before .before .grow .ensures)) (c .before .if1 .taken) (c .refused .result) (c .refused .ensures)
+returns c = grow-told (c .before .before .before .before .before .fits .length) (stops (c .before .before .before .grow .ensures .0) (c .before .if1 .taken) (c .refused .ensures))
 
 grown-requires : tie.Need-grown-requires
 grown-requires c κs = search needs
 
 returns-2 : tie.Need-returns-2
-returns-2 c = goes (c .before .before .before .before .before .before .args .b .now) (c .before .before .before .before .before .before .pre) (Grow (c .before .before .before .before .before .before .args .unit) (c .before .before .before .before .before .before .args .length)) (c .before .before .before .before .grow .result .number) (c .before .before .before .before .grow .result .node) _ (grow-said (c .before .before .before .before .before .before .args .b .now) (c .before .before .before .before .before .before .args .unit) (c .before .before .before .before .before .before .fits .length) (c .before .before .before .before .grow .ensures)) (c .before .before .if1 .left) 0 refl (c .before .grown .result) (c .before .grown .ensures ∙ told-grown (c .before .before .before .before .before .before .args .b .now) (c .before .before .before .before .before .before .args .unit) (c .before .before .before .before .before .before .args .length) (again (c .before .before .before .before .before .before .args .length)) (toZ-ofZ (c .before .before .before .before .before .before .fits .length)))
+unfolding tells
+returns-2 c =
+    let s = c .before .before .before .before .before .before in
+    let m = c .before .before .before .before .grow in
+    grow-told (s .fits .length) (goes (m .ensures .0) (c .before .before .if1 .left) (m .ensures .1) refl (c .before .grown .ensures))
 
 pub grow-spec : {M : Type 1} → statement M
 grow-spec = tie.close (tie.spec grow-requires refused-requires returns grown-requires returns-2)

@@ -1,8 +1,6 @@
 -- A refusal tells nothing; else the state is told. Assumes nothing.
 use borrow.Author.Needs.{needs}
 use mathlib.Core.Path.{refl}
-use Rattle.ledger_spec.specs.Calls.{SetState}
-use Rattle.ledger_spec.specs.Named.{handleNamed, stateNamed}
 use Rattle.ledger_spec.specs.Notices.{tells}
 use Rattle.call_told.proofs.Telling.{stops, goes}
 use Rattle.call_told.proofs.set_grow_state.Statement.{statement}
@@ -15,14 +13,14 @@ refused-requires : tie.Need-refused-requires
 refused-requires c κs = search needs
 
 returns : tie.Need-returns
-returns c = stops (c .before .before .before .before .before .args .b .now) (c .before .before .before .before .before .pre) (SetState (c .before .before .before .before .before .args .unit) (handleNamed (c .before .before .before .before .before .args .node)) (stateNamed (c .before .before .before .before .before .args .state))) (c .before .before .before .set-grow-state .result .number) (c .before .before .before .set-grow-state .result .node) _ (c .before .before .before .set-grow-state .ensures) (c .before .if1 .taken) (c .refused .result) (c .refused .ensures)
+returns c = stops (c .before .before .before .set-grow-state .ensures .0) (c .before .if1 .taken) (c .refused .ensures)
 
 state-requires : tie.Need-state-requires
 state-requires c κs = search needs
 
 returns-2 : tie.Need-returns-2
 unfolding tells
-returns-2 c = goes (c .before .before .before .before .before .before .args .b .now) (c .before .before .before .before .before .before .pre) (SetState (c .before .before .before .before .before .before .args .unit) (handleNamed (c .before .before .before .before .before .before .args .node)) (stateNamed (c .before .before .before .before .before .before .args .state))) (c .before .before .before .before .set-grow-state .result .number) (c .before .before .before .before .set-grow-state .result .node) _ (c .before .before .before .before .set-grow-state .ensures) (c .before .before .if1 .left) 0 refl (c .before .state .result) (c .before .state .ensures)
+returns-2 c = let m = c .before .before .before .before .set-grow-state in goes (m .ensures .0) (c .before .before .if1 .left) (m .ensures .1) refl (c .before .state .ensures)
 
 pub set-grow-state-spec : {M : Type 1} → statement M
 set-grow-state-spec =

@@ -88,11 +88,12 @@ returns-3 c =
 
 returns-4 : tie.Need-returns-4
 returns-4 c =
+    let at-handle-at = c .before .before .before .before .before .before .before .before .before in
     let s = c .before .before .before .before .before .before .before .before .before .before in
     let b = s .args .b .now in
     let h = handleNamed (s .args .h) in
     let m = handleAt (nodeAt b) (s .args .k) in
-    c .rise .ensures ∙ ap (λ (x : Handle). underVerdict (view b) x h) (c .before .before .before .before .before .before .before .before .before .handle-at .ensures)
+    c .rise .ensures ∙ ap (λ (x : Handle). underVerdict (view b) x h) (at-handle-at .handle-at .ensures)
 
 pub under-verdict-spec : {M : Type 1} → statement M
 under-verdict-spec =

@@ -1,6 +1,5 @@
 -- Every step stays among the slots, and the links left to 512 fall. Assumes nothing.
 use Prim.Native.Nat.{_-_, _<_}
-use native.Mathlib.Omega.{arith}
 use borrow.Author.Needs.{needs}
 use Rattle.check_nests.proofs.after.Statement.{statement}
 use Rattle.check_nests.proofs.after.Tie as tie

@@ -52,16 +52,20 @@ sub-if4-3 : tie.Need-sub-if4-3
 sub-if4-3 c = search needs
 
 returns-4 : tie.Need-returns-4
-returns-4 c = λ e.
+returns-4 c =
+    let at-load-node2 = c .before .before .before .before in
+    let at-load-node = at-load-node2 .before in
+    let at-if3 = at-load-node .before in
+    let at-if2 = at-if3 .before in
+    let at-if1 = at-if2 .before in
+    λ e.
     let s = c .before .before .before .before .before .before .before .before .before .before .before in
-    let above = c .before .before .before .before .before .load-node in
-    let below = c .before .before .before .before .load-node2 in
     within (s .args .b .now) (s .pre .0) (s .args .t .now) (s .pre .1 .1 .1) (s .args .m) (s .args .k) (s .pre .1 .0 .low) (s .pre .1 .1 .0 .low)
-    (omega (arith, c .before .before .before .before .before .before .before .before .if1 .left))
-    (omega (arith, c .before .before .before .before .before .before .before .if2 .left))
-    (omega (arith, c .before .before .before .before .before .before .if3 .left))
-    (omega (arith, c .before .before .if4 .taken, ap (λ (n : Node). n .size) (above .ensures)))
-    (omega (arith, leb-true (below .result .serial .0) (above .result .serial .0) e, ap (λ (n : Node). n .serial .0) (above .ensures), ap (λ (n : Node). n .serial .0) (below .ensures)))
+    (omega (arith, at-if1 .if1 .left))
+    (omega (arith, at-if2 .if2 .left))
+    (omega (arith, at-if3 .if3 .left))
+    (omega (arith, c .before .before .if4 .taken, ap (λ (n : Node). n .size) (at-load-node .load-node .ensures)))
+    (omega (arith, leb-true (at-load-node2 .load-node2 .result .serial .0) (at-load-node .load-node .result .serial .0) e, ap (λ (n : Node). n .serial .0) (at-load-node .load-node .ensures), ap (λ (n : Node). n .serial .0) (at-load-node2 .load-node2 .ensures)))
 
 returns-5 : tie.Need-returns-5
 returns-5 c = λ e. absurd (true≢false (sym e))

@@ -53,7 +53,10 @@ fill-requires c κs =
     )
 
 add-i : tie.Need-add-i Inv-loop μ-loop
-add-i c = omega (arith, c .before .before .before .before .loop-test .taken, c .before .before .before .before .before .before .order-of .ensures .few)
+add-i c =
+    let at-loop-test = c .before .before .before .before in
+    let at-order-of = at-loop-test .before .before in
+    omega (arith, at-loop-test .loop-test .taken, at-order-of .order-of .ensures .few)
 
 loop-less : tie.Need-loop-less Inv-loop μ-loop
 loop-less c = omega (arith, c .before .before .before .before .loop-test .taken)

@@ -66,10 +66,16 @@ element-copy-out-p-2 : tie.Need-element-copy-out-p-2 Inv-loop μ-loop
 element-copy-out-p-2 c = omega (arith, look-few (c .before .before .before .before .before .args .t .now) (c .before .before .before .before .before .args .n) (c .before .before .before .before .before .args .v) (c .before .before .before .before .before .pre .0) (c .before .before .before .loop .cell) (c .before .before .before .loop .rest) (c .before .before .before .loop .p) (c .before .before .before .loop .inv) (c .before .before .loop-test .taken), c .before .before .before .before .before .pre .1)
 
 loop-less : tie.Need-loop-less Inv-loop μ-loop
-loop-less c = omega (arith, look-falls (c .before .before .before .before .before .before .args .t .now) (c .before .before .before .before .before .before .args .n) (c .before .before .before .before .before .before .args .v) (c .before .before .before .before .before .before .pre .0) (c .before .before .before .before .loop .cell) (c .before .before .before .before .loop .rest) (c .before .before .before .before .loop .p) (c .before .before .before .before .loop .inv) (c .before .before .before .loop-test .taken), c .before .before .before .before .loop .inv .low, c .before .before .before .before .before .before .pre .1)
+loop-less c =
+    let at-loop = c .before .before .before .before in
+    let start = at-loop .before .before in
+    omega (arith, look-falls (start .args .t .now) (start .args .n) (start .args .v) (start .pre .0) (at-loop .loop .cell) (at-loop .loop .rest) (at-loop .loop .p) (at-loop .loop .inv) (c .before .before .before .loop-test .taken), at-loop .loop .inv .low, start .pre .1)
 
 loop-again : tie.Need-loop-again Inv-loop μ-loop
-loop-again c = look-on (c .before .before .before .before .before .before .args .t .now) (c .before .before .before .before .before .before .args .n) (c .before .before .before .before .before .before .args .v) (c .before .before .before .before .before .before .pre .0) (c .before .before .before .before .loop .cell) (c .before .before .before .before .loop .rest) (c .before .before .before .before .loop .p) (c .before .before .before .before .loop .inv) (c .before .before .before .loop-test .taken) (c .before .if1 .left)
+loop-again c =
+    let at-loop = c .before .before .before .before in
+    let start = at-loop .before .before in
+    look-on (start .args .t .now) (start .args .n) (start .args .v) (start .pre .0) (at-loop .loop .cell) (at-loop .loop .rest) (at-loop .loop .p) (at-loop .loop .inv) (c .before .before .before .loop-test .taken) (c .before .if1 .left)
 
 add-t : tie.Need-add-t Inv-loop μ-loop
 add-t c = search needs

@@ -42,7 +42,9 @@ add-requires c κs =
     (s .pre .0, (P .low, (P .used, (c .progress .ensures, (omega (arith, A .least, i, f), omega (arith, A .most, i, f))))))
 
 add-i : tie.Need-add-i Inv-loop μ-loop
-add-i c = omega (arith, c .before .before .before .loop-test .taken, c .before .before .before .before .before .before .pre .1 .1 .few)
+add-i c =
+    let start = c .before .before .before .before .before .before in
+    omega (arith, c .before .before .before .loop-test .taken, start .pre .1 .1 .few)
 
 loop-less : tie.Need-loop-less Inv-loop μ-loop
 loop-less c = omega (arith, c .before .before .before .loop-test .taken)

@@ -50,12 +50,14 @@ told-requires-3 c κs = search needs
 
 returns-2 : tie.Need-returns-2
 returns-2 c =
+    let at-if1 = c .before .before .before .before in
+    let at-class = at-if1 .before .before in
+    let at-load-node = at-class .before .before in
     let s = c .before .before .before .before .before .before .before .before .before in
-    let x = c .before .before .before .before .before .before .before .before .load-node in
-    let v = c .before .before .before .before .before .before .class .given .0 .0 in
-    let q : x .result .class ≡ Defect v = vertex-there (c .before .before .before .before .before .before) in
+    let v = at-class .class .given .0 .0 in
+    let q : at-load-node .load-node .result .class ≡ Defect v = vertex-there (c .before .before .before .before .before .before) in
     let m = c .before .before .meet in
-    (rw (c .told3 .ensures) (look-again (s .args .b .now) (s .args .unit) (s .args .k) (s .args .p) (s .pre .1 .1 .1 .0) (x .result) (x .ensures) (s .args .strict) (s .args .met .now) (s .args .n) (s .pre .1 .1 .1 .1 .1 .0) v q (c .before .before .before .before .if1 .left) (m .last .0) (m .result) (m .ensures) (c .before .if2 .taken)), s .pre .1 .1 .1 .1 .1 .1)
+    (rw (c .told3 .ensures) (look-again (s .args .b .now) (s .args .unit) (s .args .k) (s .args .p) (s .pre .1 .1 .1 .0) (at-load-node .load-node .result) (at-load-node .load-node .ensures) (s .args .strict) (s .args .met .now) (s .args .n) (s .pre .1 .1 .1 .1 .1 .0) v q (at-if1 .if1 .left) (m .last .0) (m .result) (m .ensures) (c .before .if2 .taken)), s .pre .1 .1 .1 .1 .1 .1)
 
 add-told : tie.Need-add-told
 add-told c = search needs
@@ -85,12 +87,14 @@ returns-3 c =
 
 returns-4 : tie.Need-returns-4
 returns-4 c =
+    let at-if1 = c .before .before .before .before in
+    let at-class = at-if1 .before .before in
+    let at-load-node = at-class .before .before in
     let s = c .before .before .before .before .before .before .before .before .before in
-    let x = c .before .before .before .before .before .before .before .before .load-node in
-    let v = c .before .before .before .before .before .before .class .given .0 .0 in
-    let q : x .result .class ≡ Defect v = vertex-there (c .before .before .before .before .before .before) in
+    let v = at-class .class .given .0 .0 in
+    let q : at-load-node .load-node .result .class ≡ Defect v = vertex-there (c .before .before .before .before .before .before) in
     let m = c .before .before .meet in
-    (rw (c .told4 .ensures) (look-new (s .args .b .now) (s .args .unit) (s .args .k) (s .args .p) (s .pre .1 .1 .1 .0) (x .result) (x .ensures) (s .args .strict) (s .args .met .now) (s .args .n) (s .pre .1 .1 .1 .1 .1 .0) v q (c .before .before .before .before .if1 .left) (m .last .0) (m .result) (m .ensures) (c .before .if2 .left)), s .pre .1 .1 .1 .1 .1 .1)
+    (rw (c .told4 .ensures) (look-new (s .args .b .now) (s .args .unit) (s .args .k) (s .args .p) (s .pre .1 .1 .1 .0) (at-load-node .load-node .result) (at-load-node .load-node .ensures) (s .args .strict) (s .args .met .now) (s .args .n) (s .pre .1 .1 .1 .1 .1 .0) v q (at-if1 .if1 .left) (m .last .0) (m .result) (m .ensures) (c .before .if2 .left)), s .pre .1 .1 .1 .1 .1 .1)
 
 returns-5 : tie.Need-returns-5
 returns-5 c =

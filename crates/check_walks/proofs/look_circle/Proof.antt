@@ -22,8 +22,9 @@ index-of-requires c κs =
 
 returns-2 : tie.Need-returns-2
 returns-2 c =
-    let f = c .before .before .before .before .circle-verdict in
-    (record { finding = f .result; circled = f .ensures; verdict = refl; index = λ z. c .index-of .ensures }, c .before .before .before .before .before .before .note .ensures)
+    let at-circle-verdict = c .before .before .before .before in
+    let at-note = at-circle-verdict .before .before in
+    (record { finding = at-circle-verdict .circle-verdict .result; circled = at-circle-verdict .circle-verdict .ensures; verdict = refl; index = λ z. c .index-of .ensures }, at-note .note .ensures)
 
 pub look-circle-spec : {M : Type 1} → statement M
 look-circle-spec =

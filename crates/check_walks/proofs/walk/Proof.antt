@@ -32,24 +32,31 @@ look-requires c κs =
 
 returns : tie.Need-returns Inv-loop μ-loop
 returns c =
+    let at-loop-test = c .before .before .before .before .before .before .before in
+    let at-loop = at-loop-test .before in
     let s = c .before .before .before .before .before .before .before .before .before in
-    let l = c .before .before .before .before .before .before .before .before .loop in
     let r = c .before .before .before .look in
-    (walking-found (s .args .b .now) (s .args .unit) (s .args .strict) (s .args .places .now) (s .args .count) (s .pre .1 .1 .1 .0) (l .k) (l .n) (l .met) (l .inv .1 .0) (c .before .before .before .before .before .before .before .loop-test .taken) (r .last .1 .1 .1 .1 .0) (r .result) (r .ensures .0) (c .before .if1 .taken), r .ensures .1)
+    (walking-found (s .args .b .now) (s .args .unit) (s .args .strict) (s .args .places .now) (s .args .count) (s .pre .1 .1 .1 .0) (at-loop .loop .k) (at-loop .loop .n) (at-loop .loop .met) (at-loop .loop .inv .1 .0) (at-loop-test .loop-test .taken) (r .last .1 .1 .1 .1 .0) (r .result) (r .ensures .0) (c .before .if1 .taken), r .ensures .1)
 
 add-k : tie.Need-add-k Inv-loop μ-loop
-add-k c = omega (arith, c .before .before .before .before .before .before .loop-test .taken, c .before .before .before .before .before .before .before .before .pre .1 .1 .1 .0 .few)
+add-k c =
+    let at-loop-test = c .before .before .before .before .before .before in
+    let start = at-loop-test .before .before in
+    omega (arith, at-loop-test .loop-test .taken, start .pre .1 .1 .1 .0 .few)
 
 loop-less : tie.Need-loop-less Inv-loop μ-loop
-loop-less c = omega (arith, c .before .before .before .before .before .before .loop-test .taken)
+loop-less c =
+    let at-loop-test = c .before .before .before .before .before .before in
+    omega (arith, at-loop-test .loop-test .taken)
 
 loop-again : tie.Need-loop-again Inv-loop μ-loop
 loop-again c =
+    let at-loop-test = c .before .before .before .before .before .before in
+    let at-loop = at-loop-test .before in
     let s = c .before .before .before .before .before .before .before .before in
-    let l = c .before .before .before .before .before .before .before .loop in
     let r = c .before .before .look in
-    let t = c .before .before .before .before .before .before .loop-test .taken in
-    (omega (arith, t), (walking-on (s .args .b .now) (s .args .unit) (s .args .strict) (s .args .places .now) (s .args .count) (s .pre .1 .1 .1 .0) (l .k) (l .n) (l .met) (l .inv .1 .0) t (r .last .1 .1 .1 .1 .0) (r .result) (r .ensures .0) (c .if1 .left), r .ensures .1))
+    let t = at-loop-test .loop-test .taken in
+    (omega (arith, t), (walking-on (s .args .b .now) (s .args .unit) (s .args .strict) (s .args .places .now) (s .args .count) (s .pre .1 .1 .1 .0) (at-loop .loop .k) (at-loop .loop .n) (at-loop .loop .met) (at-loop .loop .inv .1 .0) t (r .last .1 .1 .1 .1 .0) (r .result) (r .ensures .0) (c .if1 .left), r .ensures .1))
 
 returns-2 : tie.Need-returns-2 Inv-loop μ-loop
 returns-2 c =

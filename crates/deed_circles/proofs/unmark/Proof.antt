@@ -1,8 +1,5 @@
 -- The bit is taken out of the word that is loaded. Assumes nothing.
-use mathlib.Core.Path.{ap, _∙_}
-use mathlib.Core.Bool.{false}
 use borrow.Author.Needs.{needs}
-use Rattle.slot_map.specs.Slots.{put}
 use Rattle.deed_circles.proofs.unmark.Statement.{statement}
 use Rattle.deed_circles.proofs.unmark.Tie as tie
 

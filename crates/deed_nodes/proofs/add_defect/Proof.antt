@@ -24,32 +24,62 @@ load-next-requires : tie.Need-load-next-requires
 load-next-requires c κs = search needs
 
 cast-t14 : tie.Need-cast-t14
-cast-t14 c = let z = c .before .before .before .before .before .before .before .before in let a = z .args in let s = defect-space (a .b .now) (a .unit) (a .vertex) (z .pre .0) (z .pre .1) in omega (arith, s .next, c .load-next .ensures)
-
-nobody-requires : tie.Need-nobody-requires
-nobody-requires c κs = search needs
+cast-t14 c =
+    let lagged = c .before .before .before .before in
+    let z = lagged .before .before .before .before in
+    let a = z .args in
+    let s = defect-space (a .b .now) (a .unit) (a .vertex) (z .pre .0) (z .pre .1) in
+    omega (arith, s .next, c .load-next .ensures)
 
 cast-t14-2 : tie.Need-cast-t14-2
 cast-t14-2 c = search needs
 
-sub-t21 : tie.Need-sub-t21
-sub-t21 c = let z = c .before .before .before .before .before .before .before .before .before .before in let a = z .args in let s = defect-space (a .b .now) (a .unit) (a .vertex) (z .pre .0) (z .pre .1) in omega (arith, s .short, c .before .before .before .before .before .before .lag .ensures, ap (λ (x : Interface). lagOf x) (c .before .before .before .before .before .before .before .load-interface .ensures))
+new-node-requires : tie.Need-new-node-requires
+new-node-requires c κs =
+    let lagged = c .before .before .before .before in
+    let z = lagged .before .before .before .before in
+    let a = z .args in
+    let s = defect-space (a .b .now) (a .unit) (a .vertex) (z .pre .0) (z .pre .1) in
+    omega (arith, s .short, lagged .lag .ensures, ap (λ (x : Interface). lagOf x) (lagged .before .load-interface .ensures))
 
 add-push : tie.Need-add-push
-add-push c = let z = c .before .before .before .before .before .before .before .before .before .before .before in let a = z .args in let s = defect-space (a .b .now) (a .unit) (a .vertex) (z .pre .0) (z .pre .1) in omega (arith, s .fast, ap (λ (x : Interface). x .speed) (c .before .before .before .before .before .before .before .before .load-interface .ensures))
+add-push c =
+    let free = c .before .before .before .before .before in
+    let loaded = free .before .before .before in
+    let z = loaded .before .before .before in
+    let a = z .args in
+    let s = defect-space (a .b .now) (a .unit) (a .vertex) (z .pre .0) (z .pre .1) in
+    omega (arith, s .fast, ap (λ (x : Interface). x .speed) (loaded .load-interface .ensures))
 
 push-requires : tie.Need-push-requires
-push-requires c κs = let z = c .before .before .before .before .before .before .before .before .before .before .before in let a = z .args in let s = defect-space (a .b .now) (a .unit) (a .vertex) (z .pre .0) (z .pre .1) in (s .top, omega (arith, s .room, c .before .before .before .before .before .free-slot .ensures), s .next)
+push-requires c κs =
+    let free = c .before .before .before .before .before in
+    let loaded = free .before .before .before in
+    let z = loaded .before .before .before in
+    let a = z .args in
+    let s = defect-space (a .b .now) (a .unit) (a .vertex) (z .pre .0) (z .pre .1) in
+    (s .top, omega (arith, s .room, free .free-slot .ensures), s .next)
 
-cast-t24 : tie.Need-cast-t24
-cast-t24 c = let z = c .before .before .before .before .before .before .before .before .before .before .before .before in let a = z .args in let s = defect-space (a .b .now) (a .unit) (a .vertex) (z .pre .0) (z .pre .1) in omega (arith, s .top)
+cast-t20 : tie.Need-cast-t20
+cast-t20 c =
+    let made = c .before .before .before in
+    let free = made .before .before .before in
+    let loaded = free .before .before .before in
+    let z = loaded .before .before .before in
+    let a = z .args in
+    let s = defect-space (a .b .now) (a .unit) (a .vertex) (z .pre .0) (z .pre .1) in
+    omega (arith, s .top)
 
 returns : tie.Need-returns
 returns c =
-    let z = c .before .before .before .before .before .before .before .before .before .before .before .before in
+    let made = c .before .before .before in
+    let next = made .before in
+    let free = next .before .before in
+    let loaded = free .before .before .before in
+    let z = loaded .before .before .before in
     let a = z .args in
-    let f = c .before .before .before .before .before .before .before .before .before .load-interface in
-    defect-by (a .b .now) (a .unit) (a .vertex) (z .pre .0) (z .pre .1) (f .result) (omega arith) (f .ensures) (c .before .before .before .before .before .before .free-slot .ensures) (c .before .before .before .before .load-next .ensures) (c .before .before .before .nobody .ensures) (c .before .before .before .before .before .before .before .before .lag .ensures) (c .push .ensures)
+    let f = loaded .load-interface in
+    defect-by (a .b .now) (a .unit) (a .vertex) (z .pre .0) (z .pre .1) (f .result) (omega (arith, loaded .before .before .struct-known .given)) (f .ensures) (free .free-slot .ensures) (next .load-next .ensures) (free .before .before .lag .ensures) (made .new-node .ensures) (c .push .ensures)
 
 pub add-defect-spec : {M : Type 1} → statement M
 add-defect-spec =
@@ -61,10 +91,9 @@ add-defect-spec =
     free-slot-requires
     load-next-requires
     cast-t14
-    nobody-requires
     cast-t14-2
-    sub-t21
+    new-node-requires
     add-push
     push-requires
-    cast-t24
+    cast-t20
     returns)

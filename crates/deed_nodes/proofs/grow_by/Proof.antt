@@ -1,7 +1,7 @@
 -- By the engine. Assumes nothing.
 use Prim.Native.Nat.{ℕ}
-use mathlib.Core.Path.{_≡_, ap, sym, _∙_}
-use mathlib.Core.Bool.{Bool, true, false}
+use mathlib.Core.Path.{_≡_}
+use mathlib.Core.Bool.{Bool}
 use Rattle.bench_words.specs.declared.Interface.{Interface}
 use Rattle.deed_nodes.specs.Steps.{Room}
 use Rattle.deed_nodes.proofs.Growing.{growth-low, growth-room, growth-done}

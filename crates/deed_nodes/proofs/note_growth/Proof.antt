@@ -15,39 +15,41 @@ of-loaded e r = rw e r
 load-interface-requires : tie.Need-load-interface-requires
 load-interface-requires c κs = c .before .pre .0
 
-add-t10 : tie.Need-add-t10
-add-t10 c = let r = of-loaded (c .before .before .before .load-interface .ensures) (c .before .before .before .before .before .pre .1) in omega (arith, r .progress, r .product, r .low, r .high)
+-- the interface that is loaded has the room
+add-f : tie.Need-add-f
+add-f c = let r = of-loaded (c .before .load-interface .ensures) (c .before .before .before .pre .1) in omega (arith, r .progress)
 
-mul-t11 : tie.Need-mul-t11
-mul-t11 c = let r = of-loaded (c .before .before .before .before .load-interface .ensures) (c .before .before .before .before .before .before .pre .1) in omega (arith, r .progress, r .product, r .low, r .high)
+mul-f : tie.Need-mul-f
+mul-f c = let loaded = c .before .before in let r = of-loaded (loaded .load-interface .ensures) (loaded .before .before .pre .1) in omega (arith, r .product)
 
-add-t12 : tie.Need-add-t12
-add-t12 c = let r = of-loaded (c .before .before .before .before .before .load-interface .ensures) (c .before .before .before .before .before .before .before .pre .1) in omega (arith, r .progress, r .product, r .low, r .high)
+add-f-2 : tie.Need-add-f-2
+add-f-2 c = let loaded = c .before .before .before in let r = of-loaded (loaded .load-interface .ensures) (loaded .before .before .pre .1) in omega (arith, r .product, r .high)
 
-mul-t13 : tie.Need-mul-t13
-mul-t13 c = let r = of-loaded (c .before .before .before .before .before .load-interface .ensures) (c .before .before .before .before .before .before .before .pre .1) in omega (arith, r .progress, r .product, r .low, r .high)
+mul-f-2 : tie.Need-mul-f-2
+mul-f-2 c = let loaded = c .before .before .before in let r = of-loaded (loaded .load-interface .ensures) (loaded .before .before .pre .1) in omega (arith, r .progress)
 
-sub-t14 : tie.Need-sub-t14
-sub-t14 c = let r = of-loaded (c .before .before .before .before .before .load-interface .ensures) (c .before .before .before .before .before .before .before .pre .1) in omega (arith, r .progress, r .product, r .low, r .high)
+sub-f : tie.Need-sub-f
+sub-f c = let loaded = c .before .before .before in let r = of-loaded (loaded .load-interface .ensures) (loaded .before .before .pre .1) in omega (arith, r .progress, r .product, r .low, r .high)
 
 store-interface-requires : tie.Need-store-interface-requires
-store-interface-requires c κs = c .before .before .before .before .before .before .before .pre .0
+store-interface-requires c κs = let loaded = c .before .before .before .before in loaded .before .before .pre .0
 
 returns : tie.Need-returns
 unfolding noted
 returns c =
-    let a = c .before .before .before .before .before .before .before .before .args in
-    c .store-interface .ensures ∙ ap (λ (f : Interface). storeInterface (a .b .now) (a .unit) (withGrowth f (f .progress + a .length) (f .sum + a .length * f .speed - a .length * 1024))) (c .before .before .before .before .before .before .load-interface .ensures)
+    let loaded = c .before .before .before .before .before in
+    let a = loaded .before .before .args in
+    c .store-interface .ensures ∙ ap (λ (f : Interface). storeInterface (a .b .now) (a .unit) (withGrowth f (f .progress + a .length) (f .sum + a .length * f .speed - a .length * 1024))) (loaded .load-interface .ensures)
 
 pub note-growth-spec : {M : Type 1} → statement M
 note-growth-spec =
     tie.close
     (tie.spec
     load-interface-requires
-    add-t10
-    mul-t11
-    add-t12
-    mul-t13
-    sub-t14
+    add-f
+    mul-f
+    add-f-2
+    mul-f-2
+    sub-f
     store-interface-requires
     returns)

@@ -11,7 +11,10 @@ store-interface-requires : tie.Need-store-interface-requires
 store-interface-requires c κs = search needs
 
 returns : tie.Need-returns
-returns c = let a = c .before .before .before .before .before .args in pace-by (a .b .now) (a .unit) (a .speed) (c .before .before .before .load-interface .result) (c .before .before .before .load-interface .ensures) (c .store-interface .ensures)
+returns c =
+    let loaded = c .before .before in
+    let a = loaded .before .before .args in
+    pace-by (a .b .now) (a .unit) (a .speed) (loaded .load-interface .result) (loaded .load-interface .ensures) (c .store-interface .ensures)
 
 pub pace-spec : {M : Type 1} → statement M
 pace-spec = tie.close (tie.spec load-interface-requires store-interface-requires returns)

@@ -7,14 +7,14 @@ use Rattle.deed_nodes.proofs.push.Tie as tie
 load-interface-requires : tie.Need-load-interface-requires
 load-interface-requires c κs = search needs
 
+used-with-requires : tie.Need-used-with-requires
+used-with-requires c κs = search needs
+
 load-next-requires : tie.Need-load-next-requires
 load-next-requires c κs = search needs
 
 load-map-requires : tie.Need-load-map-requires
 load-map-requires c κs = search needs
-
-used-with-requires : tie.Need-used-with-requires
-used-with-requires c κs = search needs
 
 mul-store-node : tie.Need-mul-store-node
 mul-store-node c = search needs
@@ -42,19 +42,22 @@ store-next-requires c κs = search needs
 
 returns : tie.Need-returns
 returns c =
-    let a = c .before .before .before .before .before .before .before .before .before .before .before .before .before .before .before .before .before .args in
-    let old = c .before .before .before .before .before .before .before .before .before .before .before .before .before .before .before .load-interface in
-    push-by (a .b .now) (a .unit) (a .slot) (a .n) (a .speed) (old .result) (old .ensures) (c .before .before .before .before .before .before .before .before .before .before .before .before .before .load-next .ensures) (c .before .before .before .before .before .before .before .before .before .before .before .load-map .ensures) (c .before .before .before .before .before .before .before .before .before .before .used-with .ensures)
-    (c .before .before .before .before .before .before .before .store-node .ensures) (c .before .before .before .before .before .store-interface .ensures) (c .before .before .before .with .ensures) (c .before .before .store-map .ensures) (c .store-next .ensures)
+    let mapped = c .before .before in
+    let stored = mapped .before .before .before .before .before in
+    let loads = stored .before .before in
+    let first = loads .before .before .before .before .before in
+    let a = first .before .before .args in
+    push-by (a .b .now) (a .unit) (a .slot) (a .n) (a .speed) (first .load-interface .result) (first .load-interface .ensures) (loads .before .before .load-next .ensures) (loads .load-map .ensures) (loads .before .before .before .before .used-with .ensures)
+    (stored .store-node .ensures) (mapped .before .before .before .store-interface .ensures) (mapped .before .with .ensures) (mapped .store-map .ensures) (c .store-next .ensures)
 
 pub push-spec : {M : Type 1} → statement M
 push-spec =
     tie.close
     (tie.spec
     load-interface-requires
+    used-with-requires
     load-next-requires
     load-map-requires
-    used-with-requires
     mul-store-node
     add-store-node
     store-node-requires

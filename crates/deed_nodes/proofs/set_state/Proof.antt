@@ -26,19 +26,24 @@ load-node-requires : tie.Need-load-node-requires
 load-node-requires c κs = let a = c .before .before .before .before .before .args in let r = set-reach (a .b .now) (a .unit) (a .h) (a .state) (c .before .before .before .before .before .pre .0) (c .before .before .before .before .before .pre .1) in omega (arith, r .home, r .slot)
 
 load-interface-requires : tie.Need-load-interface-requires
-load-interface-requires c κs = let a = c .before .before .before .before .before .before .before .args in set-reach (a .b .now) (a .unit) (a .h) (a .state) (c .before .before .before .before .before .before .before .pre .0) (c .before .before .before .before .before .before .before .pre .1) .top
+load-interface-requires c κs =
+    let start = c .before .before .before .before .before .before .before in
+    set-reach (start .args .b .now) (start .args .unit) (start .args .h) (start .args .state) (start .pre .0) (start .pre .1) .top
 
 no-seat-requires : tie.Need-no-seat-requires
 no-seat-requires c κs = search needs
 
 remark-requires : tie.Need-remark-requires
 remark-requires c κs =
-    let a = c .before .before .before .before .before .before .before .before .before .args in
-    let r = set-reach (a .b .now) (a .unit) (a .h) (a .state) (c .before .before .before .before .before .before .before .before .before .pre .0) (c .before .before .before .before .before .before .before .before .before .pre .1) in
-    (ranged-of (c .before .before .before .load-node .ensures) (r .ranged), c .before .before .before .before .before .climb .ensures .small)
+    let at-climb = c .before .before .before .before .before in
+    let start = at-climb .before .before .before .before in
+    let r = set-reach (start .args .b .now) (start .args .unit) (start .args .h) (start .args .state) (start .pre .0) (start .pre .1) in
+    (ranged-of (c .before .before .before .load-node .ensures) (r .ranged), at-climb .climb .ensures .small)
 
 store-node-requires : tie.Need-store-node-requires
-store-node-requires c κs = let a = c .before .before .before .before .before .before .before .before .before .before .before .args in let r = set-reach (a .b .now) (a .unit) (a .h) (a .state) (c .before .before .before .before .before .before .before .before .before .before .before .pre .0) (c .before .before .before .before .before .before .before .before .before .before .before .pre .1) in omega (arith, r .home, r .slot)
+store-node-requires c κs =
+    let start = c .before .before .before .before .before .before .before .before .before .before .before in
+    let r = set-reach (start .args .b .now) (start .args .unit) (start .args .h) (start .args .state) (start .pre .0) (start .pre .1) in omega (arith, r .home, r .slot)
 
 rate-of-requires : tie.Need-rate-of-requires
 rate-of-requires c κs = search needs
@@ -48,24 +53,35 @@ rate-of-requires-2 c κs = search needs
 
 add-pace : tie.Need-add-pace
 add-pace c =
-    let a = c .before .before .before .before .before .before .before .before .before .before .before .before .before .before .before .before .args in
-    let r = set-reach (a .b .now) (a .unit) (a .h) (a .state) (c .before .before .before .before .before .before .before .before .before .before .before .before .before .before .before .before .pre .0) (c .before .before .before .before .before .before .before .before .before .before .before .before .before .before .before .before .pre .1) in
-    omega (arith, r .fast, ap (λ (x : Interface). x .speed) (c .before .before .before .before .before .before .before .before .load-interface .ensures), c .before .before .before .rate-of .ensures .1)
+    let at-load-interface = c .before .before .before .before .before .before .before .before in
+    let start = at-load-interface .before .before .before .before .before .before .before .before in
+    let r = set-reach (start .args .b .now) (start .args .unit) (start .args .h) (start .args .state) (start .pre .0) (start .pre .1) in
+    omega (arith, r .fast, ap (λ (x : Interface). x .speed) (at-load-interface .load-interface .ensures), c .before .before .before .rate-of .ensures .1)
 
 sub-pace : tie.Need-sub-pace
 sub-pace c =
-    let a = c .before .before .before .before .before .before .before .before .before .before .before .before .before .before .before .before .args in
-    let r = set-reach (a .b .now) (a .unit) (a .h) (a .state) (c .before .before .before .before .before .before .before .before .before .before .before .before .before .before .before .before .pre .0) (c .before .before .before .before .before .before .before .before .before .before .before .before .before .before .before .before .pre .1) in
-    omega (arith, r .slow, ap (λ (x : Interface). x .speed) (c .before .before .before .before .before .before .before .before .load-interface .ensures), c .before .before .rate-of2 .ensures .1)
+    let at-load-interface = c .before .before .before .before .before .before .before .before in
+    let start = at-load-interface .before .before .before .before .before .before .before .before in
+    let r = set-reach (start .args .b .now) (start .args .unit) (start .args .h) (start .args .state) (start .pre .0) (start .pre .1) in
+    omega (arith, r .slow, ap (λ (x : Interface). x .speed) (at-load-interface .load-interface .ensures), c .before .before .rate-of2 .ensures .1)
 
 pace-requires : tie.Need-pace-requires
-pace-requires c κs = let a = c .before .before .before .before .before .before .before .before .before .before .before .before .before .before .before .before .args in set-reach (a .b .now) (a .unit) (a .h) (a .state) (c .before .before .before .before .before .before .before .before .before .before .before .before .before .before .before .before .pre .0) (c .before .before .before .before .before .before .before .before .before .before .before .before .before .before .before .before .pre .1) .top
+pace-requires c κs =
+    let start = c .before .before .before .before .before .before .before .before .before .before .before .before .before .before .before .before in
+    set-reach (start .args .b .now) (start .args .unit) (start .args .h) (start .args .state) (start .pre .0) (start .pre .1) .top
 
 returns : tie.Need-returns
 returns c =
-    let a = c .before .before .before .before .before .before .before .before .before .before .before .before .before .before .before .before .before .args in
-    set-by (a .b .now) (a .unit) (a .h) (a .state) (c .before .before .before .before .before .before .before .before .before .before .before .before .before .before .before .before .before .pre .0) (c .before .before .before .before .before .before .before .before .before .before .before .before .before .before .before .before .before .pre .1) (c .before .before .before .before .before .before .before .before .before .before .before .load-node .result) (c .before .before .before .before .before .before .before .before .before .load-interface .result) (c .before .before .before .before .before .before .before .remark .result)
-    (c .before .before .before .before .before .before .before .before .before .before .before .before .before .climb .ensures) (c .before .before .before .before .before .before .before .before .before .before .before .load-node .ensures) (c .before .before .before .before .before .before .before .before .before .load-interface .ensures) (c .before .before .before .before .before .before .before .before .no-seat .ensures) (c .before .before .before .before .before .before .before .remark .ensures) (c .before .before .before .before .before .store-node .ensures) (c .before .before .before .before .rate-of .ensures .0) (c .before .before .before .rate-of2 .ensures .0) (c .pace .ensures)
+    let at-rate-of = c .before .before .before .before in
+    let at-store-node = at-rate-of .before in
+    let at-remark = at-store-node .before .before in
+    let at-no-seat = at-remark .before in
+    let at-load-interface = at-no-seat .before in
+    let at-load-node = at-load-interface .before .before in
+    let at-climb = at-load-node .before .before in
+    let start = at-climb .before .before .before .before in
+    set-by (start .args .b .now) (start .args .unit) (start .args .h) (start .args .state) (start .pre .0) (start .pre .1) (at-load-node .load-node .result) (at-load-interface .load-interface .result) (at-remark .remark .result)
+    (at-climb .climb .ensures) (at-load-node .load-node .ensures) (at-load-interface .load-interface .ensures) (at-no-seat .no-seat .ensures) (at-remark .remark .ensures) (at-store-node .store-node .ensures) (at-rate-of .rate-of .ensures .0) (c .before .before .before .rate-of2 .ensures .0) (c .pace .ensures)
 
 pub set-state-spec : {M : Type 1} → statement M
 set-state-spec =

@@ -1,7 +1,6 @@
 -- By the test of the top. Assumes nothing.
-use mathlib.Core.Path.{_≡_, refl, sym, _∙_}
+use mathlib.Core.Path.{refl, sym, _∙_}
 use native.Mathlib.Omega.{arith}
-use borrow.Author.Needs.{needs}
 use Rattle.deed_raises.proofs.raise_under.Statement.{statement}
 use Rattle.deed_raises.proofs.raise_under.Tie as tie
 

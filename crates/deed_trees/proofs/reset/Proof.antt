@@ -26,9 +26,10 @@ store-interface-requires c κs = search needs
 
 returns : tie.Need-returns
 returns c =
-    let a = c .before .before .before .before .before .before .before .before .before .args in
-    let f = c .before .before .before .before .before .before .before .load-interface in
-    reset-by (a .b .now) (a .unit) (f .result) (c .before .before .before .before .before .before .before .before .before .pre .0) (f .ensures) (c .before .before .before .before .before .empty-slots .ensures) (c .before .before .before .store-map .ensures) (c .before .no-interface .ensures) (c .store-interface .ensures)
+    let at-empty-slots = c .before .before .before .before .before in
+    let at-load-interface = at-empty-slots .before .before in
+    let start = at-load-interface .before .before in
+    reset-by (start .args .b .now) (start .args .unit) (at-load-interface .load-interface .result) (start .pre .0) (at-load-interface .load-interface .ensures) (at-empty-slots .empty-slots .ensures) (c .before .before .before .store-map .ensures) (c .before .no-interface .ensures) (c .store-interface .ensures)
 
 pub reset-spec : {M : Type 1} → statement M
 reset-spec =

@@ -40,7 +40,9 @@ store-next-requires : tie.Need-store-next-requires Inv-loop μ-loop
 store-next-requires c κs = search needs
 
 returns : tie.Need-returns Inv-loop μ-loop
-returns c = let l = c .before .before .before .loop in filled _ (l .b) (c .store-next .last .0) (l .u) (c .before .before .before .before .before .before .before .before .args .first) (l .inv) (omega arith) (c .store-next .ensures)
+returns c =
+    let start = c .before .before .before .before .before .before .before .before in
+    let l = c .before .before .before .loop in filled _ (l .b) (c .store-next .last .0) (l .u) (start .args .first) (l .inv) (omega arith) (c .store-next .ensures)
 
 pub set-up-in-spec : {M : Type 1} → statement M
 set-up-in-spec =

@@ -59,18 +59,19 @@ extend-conflicts-requires c κs =
 
 returns : tie.Need-returns
 returns c =
+    let at-other = c .before .before .before .before in
+    let at-known-told = at-other .before .before in
+    let at-kind = at-known-told .before in
     let s = c .before .before .before .before .before .before .before .before .before in
-    let k = c .before .before .before .before .before .before .before .kind in
-    let o = c .before .before .before .before .other in
     let p = c .before .before .smaller-pair in
-    let a = c .before .before .before .before .before .before .before .kind .given .0 .0 in
-    let f = c .before .before .before .before .before .before .before .kind .given .0 .1 .0 in
-    let b = c .before .before .before .before .other .given .0 .0 in
-    let i = c .before .before .before .before .other .given .0 .1 .0 in
-    let fa : SFits w64 (c .before .before .before .before .before .before .before .kind .given .0 .0) = search (needs, c .before .before .before .before .before .before .known-told .given) in
-    let fb : SFits w64 (c .before .before .before .before .other .given .0 .0) = search (needs, c .before .before .before .known-told2 .given) in
+    let a = at-kind .kind .given .0 .0 in
+    let f = at-kind .kind .given .0 .1 .0 in
+    let b = at-other .other .given .0 .0 in
+    let i = at-other .other .given .0 .1 .0 in
+    let fa : SFits w64 (at-kind .kind .given .0 .0) = search (needs, at-known-told .known-told .given) in
+    let fb : SFits w64 (at-other .other .given .0 .0) = search (needs, c .before .before .before .known-told2 .given) in
     let fr : SFits w64 (c .before .before .smaller-pair .result .length) = search (needs, c .before .struct-told .given) in
-    two-growths (s .args .g) (s .args .h) a f b i (k .given .1) (o .given .1) _ (p .result .flag) (c .grown .result)
+    two-growths (s .args .g) (s .args .h) a f b i (at-kind .kind .given .1) (at-other .other .given .1) _ (p .result .flag) (c .grown .result)
     (ap (λ (z : ℤ). growth z (p .result .flag)) (toZ-ofZ fr) ∙ p .ensures ∙ ap₂ (λ (x y : ℤ). leastOf x f y i) (toZ-ofZ fa) (toZ-ofZ fb)) (c .grown .ensures)
 
 returns-2 : tie.Need-returns-2

@@ -35,24 +35,28 @@ entries-laid-requires c κs =
 
 add-merged : tie.Need-add-merged
 add-merged c =
+    let at-if1 = c .before .before .before .before .before .before in
     let s = c .before .before .before .before .before .before .before .before .before in
-    omega (arith, s .pre .0 .0, s .pre .1 .0, c .before .before .before .before .before .before .if1 .left)
+    omega (arith, s .pre .0 .0, s .pre .1 .0, at-if1 .if1 .left)
 
 merged-requires : tie.Need-merged-requires
 merged-requires c κs =
+    let at-if1 = c .before .before .before .before .before .before in
     let s = c .before .before .before .before .before .before .before .before .before in
     let l = long s in
     let l′ = long′ s in
     let w′ = wide′ s in
-    (s .pre .0 .1, ((omega (arith, s .pre .0 .0, c .before .before .before .before .before .before .if1 .left), past-both (s .args .g) (s .args .h) (omega (arith, l, s .pre .0 .0)) (omega (arith, l′, s .pre .1 .0)) (c .before .before .before .entries-laid .result) (c .before .before .before .entries-laid .ensures)), (s .pre .1 .1 .0, sym (ap (risingFrom 0) (stops-is (s .args .h) (omega (arith, w′, s .pre .1 .1 .0)))) ∙ s .pre .1 .1 .1)))
+    (s .pre .0 .1, ((omega (arith, s .pre .0 .0, at-if1 .if1 .left), past-both (s .args .g) (s .args .h) (omega (arith, l, s .pre .0 .0)) (omega (arith, l′, s .pre .1 .0)) (c .before .before .before .entries-laid .result) (c .before .before .before .entries-laid .ensures)), (s .pre .1 .1 .0, sym (ap (risingFrom 0) (stops-is (s .args .h) (omega (arith, w′, s .pre .1 .1 .0)))) ∙ s .pre .1 .1 .1)))
 
 returns-2 : tie.Need-returns-2
 returns-2 c =
+    let at-entries-laid = c .before .before .before .before in
+    let at-if1 = at-entries-laid .before .before .before in
     let s = c .before .before .before .before .before .before .before .before .before .before in
     let l = long s in
     let l′ = long′ s in
     let w′ = wide′ s in
-    goes-on (s .args .g) (s .args .h) (omega (arith, l, s .pre .0 .0)) (omega (arith, l′, s .pre .1 .0)) (c .before .before .before .before .entries-laid .result) (c .merged .result) (c .before .before .before .before .entries-laid .ensures) (omega (arith, s .pre .0 .0, c .before .before .before .before .before .before .before .if1 .left)) (s .pre .0 .1) (omega (arith, w′, s .pre .1 .1 .0)) (c .merged .ensures)
+    goes-on (s .args .g) (s .args .h) (omega (arith, l, s .pre .0 .0)) (omega (arith, l′, s .pre .1 .0)) (at-entries-laid .entries-laid .result) (c .merged .result) (at-entries-laid .entries-laid .ensures) (omega (arith, s .pre .0 .0, at-if1 .if1 .left)) (s .pre .0 .1) (omega (arith, w′, s .pre .1 .1 .0)) (c .merged .ensures)
 
 pub extend-conflicts-spec : {M : Type 1} → statement M
 extend-conflicts-spec =

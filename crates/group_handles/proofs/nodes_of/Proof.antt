@@ -50,7 +50,9 @@ returns-5 c = sym (ap handlesOf (c .before .before .before .o4 .given .1) ∙ ap
 
 returns-6 : tie.Need-returns-6
 unfolding handlesOf
-returns-6 c = sym (ap handlesOf (c .before .before .before .before .before .before .o4 .given .1) ∙ ap (λ (m : MaybePair). c .before .before .before .before .before .before .o4 .given .0 .0 ∷ pairHandles m) (c .before .before .before .pair .given .1))
+returns-6 c =
+    let at-o4 = c .before .before .before .before .before .before in
+    sym (ap handlesOf (at-o4 .o4 .given .1) ∙ ap (λ (m : MaybePair). at-o4 .o4 .given .0 .0 ∷ pairHandles m) (c .before .before .before .pair .given .1))
 
 pub nodes-of-spec : {M : Type 1} → statement M
 nodes-of-spec =

@@ -1,26 +1,19 @@
 -- BROKEN, or the call on sound words. Assumes nothing.
 use mathlib.Core.Path.{refl, sym, _∙_}
-use mathlib.Core.Bool.{_&&_}
 use borrow.Author.Needs.{needs}
-use Rattle.sound_bench.specs.Sound.{soundWords}
-use Rattle.group_lent.specs.Forms.{isForm, fiveAt}
-use Rattle.group_lent_sound.specs.Test.{soundIn}
 use borrow.Author.Tests.{not-true, not-false}
-use Rattle.group_lent_any.proofs.Judging.{picks, skips, first-fails, second-fails, third-fails, all-pass, is-not, is-yes, says-sound}
+use Rattle.group_lent.specs.Forms.{isForm, fiveAt}
+use Rattle.group_lent_any.proofs.Judging.{not-ready, not-fit, all-fit}
 use Rattle.group_lent_any.proofs.add.Statement.{statement}
 use Rattle.group_lent_any.proofs.add.Tie as tie
 
-is-bench-requires : tie.Need-is-bench-requires
-is-bench-requires c κs = search needs
+is-ready-requires : tie.Need-is-ready-requires
+is-ready-requires c κs = search needs
 
 returns : tie.Need-returns
-returns c = let s = c .before .before in skips (soundWords (s .args .b .now) && (soundIn (s .args .w .now) && (isForm (fiveAt (s .args .o .now) 0)))) _ _ (first-fails (soundWords (s .args .b .now)) (soundIn (s .args .w .now)) (isForm (fiveAt (s .args .o .now) 0)) (sym (c .before .is-bench .ensures .is) ∙ not-true _ (c .if1 .taken))) (refl, refl)
-
-is-group-requires : tie.Need-is-group-requires
-is-group-requires c κs = search needs
-
-returns-2 : tie.Need-returns-2
-returns-2 c = let s = c .before .before .before .before .before in skips _ _ _ (second-fails _ _ _ (sym (c .before .before .before .before .is-bench .ensures .is) ∙ not-false _ (c .before .before .before .if1 .left)) (is-not (s .args .w .now) _ (c .before .is-group .ensures) (c .if2 .taken))) (refl, refl)
+returns c =
+    let a = c .before .before .before .args in
+    not-ready (a .b .now) (a .w .now) _ (c .before .is-ready .ensures) (isForm (fiveAt (a .o .now) 0)) _ _ (c .if1 .taken) (refl, refl)
 
 five-in-requires : tie.Need-five-in-requires
 five-in-requires c κs = search needs
@@ -28,25 +21,28 @@ five-in-requires c κs = search needs
 is-form-requires : tie.Need-is-form-requires
 is-form-requires c κs = search needs
 
-returns-3 : tie.Need-returns-3
-returns-3 c = let s = c .before .before .before .before .before .before .before .before in skips _ _ _ (third-fails _ _ _ (sym (c .before .before .before .before .before .before .before .is-bench .ensures .is) ∙ not-false _ (c .before .before .before .before .before .before .if1 .left)) (is-yes (s .args .w .now) _ (c .before .before .before .before .is-group .ensures) (c .before .before .before .if2 .left)) (sym (rw (c .before .before .five-in .ensures) at (c .before .is-form .ensures)) ∙ not-true _ (c .if3 .taken))) (refl, refl)
+returns-2 : tie.Need-returns-2
+returns-2 c =
+    let two = c .before in
+    let one = two .before .before in
+    let a = one .before .before .before .args in
+    not-fit (a .b .now) (a .w .now) _ (one .before .is-ready .ensures) (isForm (fiveAt (a .o .now) 0)) _ _ (one .if1 .left)
+    (sym (rw (two .before .five-in .ensures) at (two .is-form .ensures)) ∙ not-true _ (c .if2 .taken)) (refl, refl)
 
 add-requires : tie.Need-add-requires
-add-requires c κs = let s = c .before .before .before .before .before .before .before .before .before in ((c .before .before .before .before .before .before .before .before .is-bench .ensures .says (not-false _ (c .before .before .before .before .before .before .before .if1 .left)), says-sound (s .args .w .now) _ (c .before .before .before .before .before .is-group .ensures) (c .before .before .before .before .if2 .left)), sym (rw (c .before .before .before .five-in .ensures) at (c .before .before .is-form .ensures)) ∙ not-false _ (c .before .if3 .left))
+add-requires c κs =
+    let two = c .before .before in
+    let one = two .before .before in
+    (one .before .is-ready .ensures .says (not-false _ (one .if1 .left)), sym (rw (two .before .five-in .ensures) at (two .is-form .ensures)) ∙ not-false _ (c .before .if2 .left))
 
-returns-4 : tie.Need-returns-4
-returns-4 c = let s = c .before .before .before .before .before .before .before .before .before .before in picks _ _ _ (all-pass _ _ _ (sym (c .before .before .before .before .before .before .before .before .before .is-bench .ensures .is) ∙ not-false _ (c .before .before .before .before .before .before .before .before .if1 .left)) (is-yes (s .args .w .now) _ (c .before .before .before .before .before .before .is-group .ensures) (c .before .before .before .before .before .if2 .left)) (sym (rw (c .before .before .before .before .five-in .ensures) at (c .before .before .before .is-form .ensures)) ∙ not-false _ (c .before .before .if3 .left))) (c .add .ensures)
+returns-3 : tie.Need-returns-3
+returns-3 c =
+    let two = c .before .before .before in
+    let one = two .before .before in
+    let a = one .before .before .before .args in
+    all-fit (a .b .now) (a .w .now) _ (one .before .is-ready .ensures) (isForm (fiveAt (a .o .now) 0)) _ _ (one .if1 .left)
+    (sym (rw (two .before .five-in .ensures) at (two .is-form .ensures)) ∙ not-false _ (c .before .before .if2 .left)) (c .add .ensures)
 
 pub add-spec : {M : Type 1} → statement M
 add-spec =
-    tie.close
-    (tie.spec
-    is-bench-requires
-    returns
-    is-group-requires
-    returns-2
-    five-in-requires
-    is-form-requires
-    returns-3
-    add-requires
-    returns-4)
+    tie.close (tie.spec is-ready-requires returns five-in-requires is-form-requires returns-2 add-requires returns-3)

@@ -1,47 +1,46 @@
 -- BROKEN, or the call on sound words. Assumes nothing.
-use mathlib.Core.Path.{refl, sym, _∙_}
-use mathlib.Core.Bool.{_&&_}
+use mathlib.Core.Path.{refl}
 use borrow.Author.Needs.{needs}
-use Rattle.sound_bench.specs.Sound.{soundWords}
+use borrow.Author.Tests.{not-false}
 use Rattle.group_lent_sound.specs.Test.{soundIn}
-use borrow.Author.Tests.{not-true, not-false}
-use Rattle.group_lent_any.proofs.Judging.{picks, skips, first-fails, second-fails, third-fails, all-pass, is-not, is-yes, says-sound}
+use Rattle.group_lent_any.proofs.Judging.{not-ready, not-fit, all-fit, is-not, is-yes, says-sound}
 use Rattle.group_lent_any.proofs.extend.Statement.{statement}
 use Rattle.group_lent_any.proofs.extend.Tie as tie
 
-is-bench-requires : tie.Need-is-bench-requires
-is-bench-requires c κs = search needs
+is-ready-requires : tie.Need-is-ready-requires
+is-ready-requires c κs = search needs
 
 returns : tie.Need-returns
-returns c = let s = c .before .before in skips (soundWords (s .args .b .now) && (soundIn (s .args .w .now) && (soundIn (s .args .other .now)))) _ _ (first-fails (soundWords (s .args .b .now)) (soundIn (s .args .w .now)) (soundIn (s .args .other .now)) (sym (c .before .is-bench .ensures .is) ∙ not-true _ (c .if1 .taken))) (refl, refl)
+returns c =
+    let a = c .before .before .before .args in
+    not-ready (a .b .now) (a .w .now) _ (c .before .is-ready .ensures) (soundIn (a .other .now)) _ _ (c .if1 .taken) (refl, refl)
 
 is-group-requires : tie.Need-is-group-requires
 is-group-requires c κs = search needs
 
 returns-2 : tie.Need-returns-2
-returns-2 c = let s = c .before .before .before .before .before in skips _ _ _ (second-fails _ _ _ (sym (c .before .before .before .before .is-bench .ensures .is) ∙ not-false _ (c .before .before .before .if1 .left)) (is-not (s .args .w .now) _ (c .before .is-group .ensures) (c .if2 .taken))) (refl, refl)
-
-is-group-requires-2 : tie.Need-is-group-requires-2
-is-group-requires-2 c κs = search needs
-
-returns-3 : tie.Need-returns-3
-returns-3 c = let s = c .before .before .before .before .before .before .before in skips _ _ _ (third-fails _ _ _ (sym (c .before .before .before .before .before .before .is-bench .ensures .is) ∙ not-false _ (c .before .before .before .before .before .if1 .left)) (is-yes (s .args .w .now) _ (c .before .before .before .is-group .ensures) (c .before .before .if2 .left)) (is-not (s .args .other .now) _ (c .before .is-group2 .ensures) (c .if3 .taken))) (refl, refl)
+returns-2 c =
+    let one = c .before .before in
+    let a = one .before .before .before .args in
+    not-fit (a .b .now) (a .w .now) _ (one .before .is-ready .ensures) (soundIn (a .other .now)) _ _ (one .if1 .left)
+    (is-not (a .other .now) _ (c .before .is-group .ensures) (c .if2 .taken)) (refl, refl)
 
 extend-requires : tie.Need-extend-requires
-extend-requires c κs = let s = c .before .before .before .before .before .before .before .before in (c .before .before .before .before .before .before .before .is-bench .ensures .says (not-false _ (c .before .before .before .before .before .before .if1 .left)), (says-sound (s .args .w .now) _ (c .before .before .before .before .is-group .ensures) (c .before .before .before .if2 .left), says-sound (s .args .other .now) _ (c .before .before .is-group2 .ensures) (c .before .if3 .left)))
+extend-requires c κs =
+    let two = c .before in
+    let one = two .before .before in
+    let s = one .before .before .before in
+    let sound = one .before .is-ready .ensures .says (not-false _ (one .if1 .left)) in
+    (sound .0, (sound .1, says-sound (s .args .other .now) _ (two .before .is-group .ensures) (two .if2 .left)))
 
-returns-4 : tie.Need-returns-4
-returns-4 c = let s = c .before .before .before .before .before .before .before .before .before in picks _ _ _ (all-pass _ _ _ (sym (c .before .before .before .before .before .before .before .before .is-bench .ensures .is) ∙ not-false _ (c .before .before .before .before .before .before .before .if1 .left)) (is-yes (s .args .w .now) _ (c .before .before .before .before .before .is-group .ensures) (c .before .before .before .before .if2 .left)) (is-yes (s .args .other .now) _ (c .before .before .before .is-group2 .ensures) (c .before .before .if3 .left))) (c .extend .ensures)
+returns-3 : tie.Need-returns-3
+returns-3 c =
+    let two = c .before .before in
+    let one = two .before .before in
+    let a = one .before .before .before .args in
+    all-fit (a .b .now) (a .w .now) _ (one .before .is-ready .ensures) (soundIn (a .other .now)) _ _ (one .if1 .left)
+    (is-yes (a .other .now) _ (two .before .is-group .ensures) (two .if2 .left)) (c .extend .ensures)
 
 pub extend-spec : {M : Type 1} → statement M
 extend-spec =
-    tie.close
-    (tie.spec
-    is-bench-requires
-    returns
-    is-group-requires
-    returns-2
-    is-group-requires-2
-    returns-3
-    extend-requires
-    returns-4)
+    tie.close (tie.spec is-ready-requires returns is-group-requires returns-2 extend-requires returns-3)

@@ -37,13 +37,25 @@ returns-4 : tie.Need-returns-4
 returns-4 c = let s = c .before .before .before .before .before .before .before in by-room (s .args .w .now) (s .args .other .now) (s .pre .0) (s .pre .1) (c .before .before .before .before .before .if1 .left) (c .before .before .before .if3 .left) _ (c .before .has-room .ensures) (not-true _ (c .if4 .taken))
 
 append-requires : tie.Need-append-requires
-append-requires c κs = let s = c .before .before .before .before .before .before .before .before in ((s .pre .0 .long, s .pre .1 .long), fits (s .args .w .now) (s .args .other .now) (s .pre .0) (s .pre .1) (c .before .before .before .before .before .before .if1 .left) (c .before .before .before .before .if3 .left) _ (c .before .before .has-room .ensures) (not-false _ (c .before .if4 .left)))
+append-requires c κs =
+    let at-if3 = c .before .before .before .before in
+    let at-if1 = at-if3 .before .before in
+    let s = c .before .before .before .before .before .before .before .before in ((s .pre .0 .long, s .pre .1 .long), fits (s .args .w .now) (s .args .other .now) (s .pre .0) (s .pre .1) (at-if1 .if1 .left) (at-if3 .if3 .left) _ (c .before .before .has-room .ensures) (not-false _ (c .before .if4 .left)))
 
 add-stops-requires : tie.Need-add-stops-requires
-add-stops-requires c κs = let s = c .before .before .before .before .before .before .before .before .before .before in (by-roomy (s .args .w .now) (s .args .other .now) (s .pre .0) (s .pre .1) (c .before .before .before .before .before .before .before .before .if1 .left) (c .before .before .before .before .before .before .if3 .left) _ (c .before .before .before .before .has-room .ensures) (not-false _ (c .before .before .before .if4 .left)) _ (c .before .append .ensures), is-listing (s .args .other .now) (s .pre .1) (c .before .before .before .before .before .before .before .before .if1 .left))
+add-stops-requires c κs =
+    let at-has-room = c .before .before .before .before in
+    let at-if3 = at-has-room .before .before in
+    let at-if1 = at-if3 .before .before in
+    let s = c .before .before .before .before .before .before .before .before .before .before in (by-roomy (s .args .w .now) (s .args .other .now) (s .pre .0) (s .pre .1) (at-if1 .if1 .left) (at-if3 .if3 .left) _ (at-has-room .has-room .ensures) (not-false _ (c .before .before .before .if4 .left)) _ (c .before .append .ensures), is-listing (s .args .other .now) (s .pre .1) (at-if1 .if1 .left))
 
 returns-5 : tie.Need-returns-5
-returns-5 c = let s = c .before .before .before .before .before .before .before .before .before .before .before in by-adding (s .args .w .now) (s .args .other .now) (s .pre .0) (s .pre .1) (c .before .before .before .before .before .before .before .before .before .if1 .left) (c .before .before .before .before .before .before .before .if3 .left) _ (c .before .before .before .before .before .has-room .ensures) (not-false _ (c .before .before .before .before .if4 .left)) _ _ (c .before .before .append .ensures) (c .add-stops .ensures)
+returns-5 c =
+    let at-if4 = c .before .before .before .before in
+    let at-has-room = at-if4 .before in
+    let at-if3 = at-has-room .before .before in
+    let at-if1 = at-if3 .before .before in
+    let s = c .before .before .before .before .before .before .before .before .before .before .before in by-adding (s .args .w .now) (s .args .other .now) (s .pre .0) (s .pre .1) (at-if1 .if1 .left) (at-if3 .if3 .left) _ (at-has-room .has-room .ensures) (not-false _ (at-if4 .if4 .left)) _ _ (c .before .before .append .ensures) (c .add-stops .ensures)
 
 pub extend-spec : {M : Type 1} → statement M
 extend-spec =

@@ -29,11 +29,19 @@ returns-3 c = rw (ne-eqb _ _ (c .before .before .before .before .if1 .left), les
 
 returns-4 : tie.Need-returns-4
 unfolding flagAfter
-returns-4 c = rw (ne-eqb _ _ (c .before .before .before .before .before .if1 .left), less-is (c .before .before .before .before .before .before .args .a) (c .before .before .before .before .before .before .args .b) _ _ (toZ-ofZ (record { sfits = c .before .before .before .before .length-of .ok }) ∙ c .before .before .before .before .length-of .ensures) (toZ-ofZ (record { sfits = c .before .before .before .length-of2 .ok }) ∙ c .before .before .before .length-of2 .ensures) false (c .before .before .if2 .left), more-is (c .before .before .before .before .before .before .args .a) (c .before .before .before .before .before .before .args .b) _ _ (toZ-ofZ (record { sfits = c .before .before .before .before .length-of .ok }) ∙ c .before .before .before .before .length-of .ensures) (toZ-ofZ (record { sfits = c .before .before .before .length-of2 .ok }) ∙ c .before .before .before .length-of2 .ensures) false (c .before .if3 .left), eq-eqb _ _ (c .if4 .taken))
+returns-4 c =
+    let at-length-of = c .before .before .before .before in
+    let at-if1 = at-length-of .before in
+    let start = at-if1 .before in
+    rw (ne-eqb _ _ (at-if1 .if1 .left), less-is (start .args .a) (start .args .b) _ _ (toZ-ofZ (record { sfits = at-length-of .length-of .ok }) ∙ at-length-of .length-of .ensures) (toZ-ofZ (record { sfits = c .before .before .before .length-of2 .ok }) ∙ c .before .before .before .length-of2 .ensures) false (c .before .before .if2 .left), more-is (start .args .a) (start .args .b) _ _ (toZ-ofZ (record { sfits = at-length-of .length-of .ok }) ∙ at-length-of .length-of .ensures) (toZ-ofZ (record { sfits = c .before .before .before .length-of2 .ok }) ∙ c .before .before .before .length-of2 .ensures) false (c .before .if3 .left), eq-eqb _ _ (c .if4 .taken))
 
 returns-5 : tie.Need-returns-5
 unfolding flagAfter
-returns-5 c = rw (ne-eqb _ _ (c .before .before .before .before .before .if1 .left), less-is (c .before .before .before .before .before .before .args .a) (c .before .before .before .before .before .before .args .b) _ _ (toZ-ofZ (record { sfits = c .before .before .before .before .length-of .ok }) ∙ c .before .before .before .before .length-of .ensures) (toZ-ofZ (record { sfits = c .before .before .before .length-of2 .ok }) ∙ c .before .before .before .length-of2 .ensures) false (c .before .before .if2 .left), more-is (c .before .before .before .before .before .before .args .a) (c .before .before .before .before .before .before .args .b) _ _ (toZ-ofZ (record { sfits = c .before .before .before .before .length-of .ok }) ∙ c .before .before .before .before .length-of .ensures) (toZ-ofZ (record { sfits = c .before .before .before .length-of2 .ok }) ∙ c .before .before .before .length-of2 .ensures) false (c .before .if3 .left), ne-eqb _ _ (c .if4 .left))
+returns-5 c =
+    let at-length-of = c .before .before .before .before in
+    let at-if1 = at-length-of .before in
+    let start = at-if1 .before in
+    rw (ne-eqb _ _ (at-if1 .if1 .left), less-is (start .args .a) (start .args .b) _ _ (toZ-ofZ (record { sfits = at-length-of .length-of .ok }) ∙ at-length-of .length-of .ensures) (toZ-ofZ (record { sfits = c .before .before .before .length-of2 .ok }) ∙ c .before .before .before .length-of2 .ensures) false (c .before .before .if2 .left), more-is (start .args .a) (start .args .b) _ _ (toZ-ofZ (record { sfits = at-length-of .length-of .ok }) ∙ at-length-of .length-of .ensures) (toZ-ofZ (record { sfits = c .before .before .before .length-of2 .ok }) ∙ c .before .before .before .length-of2 .ensures) false (c .before .if3 .left), ne-eqb _ _ (c .if4 .left))
 
 pub flag-after-spec : {M : Type 1} → statement M
 flag-after-spec =

@@ -48,7 +48,10 @@ is-gone-requires-2 : tie.Need-is-gone-requires-2
 is-gone-requires-2 c κs = search needs
 
 returns-7 : tie.Need-returns-7
-returns-7 c = let s = c .before .before .before .before .before .before .before .before .before in one-has (staleCode (view (s .args .b .now))) _ _ _ (names-one (s .args .f) (s .pre .1) (c .before .before .before .before .before .before .before .if1 .left) (c .before .before .before .before .before .if2 .left) (c .before .before .before .if4 .left) (c .before .if5 .left)) (c .is-gone2 .ensures)
+returns-7 c =
+    let at-if2 = c .before .before .before .before .before in
+    let at-if1 = at-if2 .before .before in
+    let s = c .before .before .before .before .before .before .before .before .before in one-has (staleCode (view (s .args .b .now))) _ _ _ (names-one (s .args .f) (s .pre .1) (at-if1 .if1 .left) (at-if2 .if2 .left) (c .before .before .before .if4 .left) (c .before .if5 .left)) (c .is-gone2 .ensures)
 
 pub names-gone-spec : {M : Type 1} → statement M
 names-gone-spec =

@@ -34,25 +34,51 @@ element-copy-out-if3 : tie.Need-element-copy-out-if3
 element-copy-out-if3 c = let s = c .before .before .before .before .before in omega (arith, is-within (s .args .w .now) (s .args .f) (s .args .v) _ (c .before .before .before .before .place-of .ensures) _ (c .before .before .before .is-held .ensures) (not-false _ (c .before .before .if1 .left)), s .pre .fewer)
 
 returns-3 : tie.Need-returns-3
-returns-3 c = let s = c .before .before .before .before .before .before .before in goes-first (s .args .w .now) (s .args .f) (s .args .v) _ (c .before .before .before .before .before .before .place-of .ensures) _ (c .before .before .before .before .before .is-held .ensures) (not-false _ (c .before .before .before .before .if1 .left)) (c .before .before .if2 .left) (c .if3 .taken)
+returns-3 c =
+    let at-if1 = c .before .before .before .before in
+    let at-is-held = at-if1 .before in
+    let at-place-of = at-is-held .before in
+    let s = c .before .before .before .before .before .before .before in goes-first (s .args .w .now) (s .args .f) (s .args .v) _ (at-place-of .place-of .ensures) _ (at-is-held .is-held .ensures) (not-false _ (at-if1 .if1 .left)) (c .before .before .if2 .left) (c .if3 .taken)
 
 add-same-node : tie.Need-add-same-node
-add-same-node c = let s = c .before .before .before .before .before .before .before in omega (arith, is-within (s .args .w .now) (s .args .f) (s .args .v) _ (c .before .before .before .before .before .before .place-of .ensures) _ (c .before .before .before .before .before .is-held .ensures) (not-false _ (c .before .before .before .before .if1 .left)), s .pre .fewer)
+add-same-node c =
+    let at-if1 = c .before .before .before .before in
+    let at-is-held = at-if1 .before in
+    let at-place-of = at-is-held .before in
+    let s = c .before .before .before .before .before .before .before in omega (arith, is-within (s .args .w .now) (s .args .f) (s .args .v) _ (at-place-of .place-of .ensures) _ (at-is-held .is-held .ensures) (not-false _ (at-if1 .if1 .left)), s .pre .fewer)
 
 mul-same-node : tie.Need-mul-same-node
-mul-same-node c = let s = c .before .before .before .before .before .before .before in omega (arith, is-within (s .args .w .now) (s .args .f) (s .args .v) _ (c .before .before .before .before .before .before .place-of .ensures) _ (c .before .before .before .before .before .is-held .ensures) (not-false _ (c .before .before .before .before .if1 .left)), s .pre .fewer)
+mul-same-node c =
+    let at-if1 = c .before .before .before .before in
+    let at-is-held = at-if1 .before in
+    let at-place-of = at-is-held .before in
+    let s = c .before .before .before .before .before .before .before in omega (arith, is-within (s .args .w .now) (s .args .f) (s .args .v) _ (at-place-of .place-of .ensures) _ (at-is-held .is-held .ensures) (not-false _ (at-if1 .if1 .left)), s .pre .fewer)
 
 element-copy-out-same-node : tie.Need-element-copy-out-same-node
-element-copy-out-same-node c = let s = c .before .before .before .before .before .before .before in omega (arith, is-within (s .args .w .now) (s .args .f) (s .args .v) _ (c .before .before .before .before .before .before .place-of .ensures) _ (c .before .before .before .before .before .is-held .ensures) (not-false _ (c .before .before .before .before .if1 .left)), s .pre .fewer)
+element-copy-out-same-node c =
+    let at-if1 = c .before .before .before .before in
+    let at-is-held = at-if1 .before in
+    let at-place-of = at-is-held .before in
+    let s = c .before .before .before .before .before .before .before in omega (arith, is-within (s .args .w .now) (s .args .f) (s .args .v) _ (at-place-of .place-of .ensures) _ (at-is-held .is-held .ensures) (not-false _ (at-if1 .if1 .left)), s .pre .fewer)
 
 same-node-requires : tie.Need-same-node-requires
 same-node-requires c κs = search needs
 
 returns-4 : tie.Need-returns-4
-returns-4 c = let s = c .before .before .before .before .before .before .before .before .before .before in goes-same (s .args .w .now) (s .args .f) (s .args .v) _ (c .before .before .before .before .before .before .before .before .before .place-of .ensures) _ (c .before .before .before .before .before .before .before .before .is-held .ensures) (not-false _ (c .before .before .before .before .before .before .before .if1 .left)) (c .before .before .before .before .before .if2 .left) (c .before .before .before .if3 .left) _ (c .before .same-node .ensures) (c .if4 .taken)
+returns-4 c =
+    let at-if2 = c .before .before .before .before .before in
+    let at-if1 = at-if2 .before .before in
+    let at-is-held = at-if1 .before in
+    let at-place-of = at-is-held .before in
+    let s = c .before .before .before .before .before .before .before .before .before .before in goes-same (s .args .w .now) (s .args .f) (s .args .v) _ (at-place-of .place-of .ensures) _ (at-is-held .is-held .ensures) (not-false _ (at-if1 .if1 .left)) (at-if2 .if2 .left) (c .before .before .before .if3 .left) _ (c .before .same-node .ensures) (c .if4 .taken)
 
 returns-5 : tie.Need-returns-5
-returns-5 c = let s = c .before .before .before .before .before .before .before .before .before .before in goes-join (s .args .w .now) (s .args .f) (s .args .v) _ (c .before .before .before .before .before .before .before .before .before .place-of .ensures) _ (c .before .before .before .before .before .before .before .before .is-held .ensures) (not-false _ (c .before .before .before .before .before .before .before .if1 .left)) (c .before .before .before .before .before .if2 .left) (c .before .before .before .if3 .left) _ (c .before .same-node .ensures) (c .if4 .left)
+returns-5 c =
+    let at-if2 = c .before .before .before .before .before in
+    let at-if1 = at-if2 .before .before in
+    let at-is-held = at-if1 .before in
+    let at-place-of = at-is-held .before in
+    let s = c .before .before .before .before .before .before .before .before .before .before in goes-join (s .args .w .now) (s .args .f) (s .args .v) _ (at-place-of .place-of .ensures) _ (at-is-held .is-held .ensures) (not-false _ (at-if1 .if1 .left)) (at-if2 .if2 .left) (c .before .before .before .if3 .left) _ (c .before .same-node .ensures) (c .if4 .left)
 
 pub coming-spec : {M : Type 1} → statement M
 coming-spec =

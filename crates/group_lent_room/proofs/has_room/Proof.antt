@@ -63,7 +63,9 @@ five-at-requires : tie.Need-five-at-requires Inv-loop μ-loop
 five-at-requires c κs = let s = c .before .before .before .before .before .before .before .before in omega (arith, s .pre .1 .fewer)
 
 coming-requires : tie.Need-coming-requires Inv-loop μ-loop
-coming-requires c κs = c .before .before .before .before .before .before .before .before .before .pre .0
+coming-requires c κs =
+    let start = c .before .before .before .before .before .before .before .before .before in
+    start .pre .0
 
 listed-by-requires : tie.Need-listed-by-requires Inv-loop μ-loop
 listed-by-requires c κs = c .before .before .before .before .loop .inv .1 .0
@@ -73,15 +75,20 @@ stopped-by-requires c κs = c .before .before .before .before .before .loop .inv
 
 returns-2 : tie.Need-returns-2 Inv-loop μ-loop
 returns-2 c =
+    let at-five-at = c .before .before .before .before in
+    let at-loop-test = at-five-at .before .before in
     let s = c .before .before .before .before .before .before .before .before .before .before .before .before .before in
     let at = c .before .before .before .before .before .before .before in
-    list-full (s .args .w .now) (s .args .other .now) (s .pre .0) (s .pre .1) _ (at .loop .l) (at .loop .s) (at .loop .j) (at .loop .inv .1 .1 .1) (c .before .before .before .before .before .before .loop-test .taken) _ (rw (c .before .before .before .before .five-at .ensures) at (c .before .before .before .coming .ensures)) _ _ (c .before .before .listed-by .ensures) (c .before .stopped-by .ensures) (c .if2 .taken)
+    list-full (s .args .w .now) (s .args .other .now) (s .pre .0) (s .pre .1) _ (at .loop .l) (at .loop .s) (at .loop .j) (at .loop .inv .1 .1 .1) (at-loop-test .loop-test .taken) _ (rw (at-five-at .five-at .ensures) at (c .before .before .before .coming .ensures)) _ _ (c .before .before .listed-by .ensures) (c .before .stopped-by .ensures) (c .if2 .taken)
 
 returns-3 : tie.Need-returns-3 Inv-loop μ-loop
 returns-3 c =
+    let at-coming = c .before .before .before .before in
+    let at-five-at = at-coming .before in
+    let at-loop-test = at-five-at .before .before in
     let s = c .before .before .before .before .before .before .before .before .before .before .before .before .before .before in
     let at = c .before .before .before .before .before .before .before .before in
-    stops-full (s .args .w .now) (s .args .other .now) (s .pre .0) (s .pre .1) _ (at .loop .l) (at .loop .s) (at .loop .j) (at .loop .inv .1 .1 .1) (c .before .before .before .before .before .before .before .loop-test .taken) _ (rw (c .before .before .before .before .before .five-at .ensures) at (c .before .before .before .before .coming .ensures)) _ _ (c .before .before .before .listed-by .ensures) (c .before .before .stopped-by .ensures) (c .if3 .taken)
+    stops-full (s .args .w .now) (s .args .other .now) (s .pre .0) (s .pre .1) _ (at .loop .l) (at .loop .s) (at .loop .j) (at .loop .inv .1 .1 .1) (at-loop-test .loop-test .taken) _ (rw (at-five-at .five-at .ensures) at (at-coming .coming .ensures)) _ _ (c .before .before .before .listed-by .ensures) (c .before .before .stopped-by .ensures) (c .if3 .taken)
 
 add-j : tie.Need-add-j Inv-loop μ-loop
 add-j c = omega arith
@@ -90,18 +97,21 @@ loop-less : tie.Need-loop-less Inv-loop μ-loop
 loop-less c = omega arith
 
 loop-again : tie.Need-loop-again Inv-loop μ-loop
-loop-again c = (
-  omega arith,
-  (
-    c .before .if2 .left,
-    (
-      c .if3 .left,
-      let s = c .before .before .before .before .before .before .before .before .before .before .before .before .before .before in
-          let at = c .before .before .before .before .before .before .before .before in
-          count-turn (s .args .w .now) (s .args .other .now) (s .pre .0) (s .pre .1) _ (at .loop .l) (at .loop .s) (at .loop .j) (at .loop .inv .1 .1 .1) (c .before .before .before .before .before .before .before .loop-test .taken) _ (rw (c .before .before .before .before .before .five-at .ensures) at (c .before .before .before .before .coming .ensures)) _ _ (c .before .before .before .listed-by .ensures) (c .before .before .stopped-by .ensures) (c .before .if2 .left) (c .if3 .left),
-    ),
-  ),
-)
+loop-again c =
+    let at-coming = c .before .before .before .before in
+    let at-five-at = at-coming .before in
+    let at-loop-test = at-five-at .before .before in (
+      omega arith,
+      (
+        c .before .if2 .left,
+        (
+          c .if3 .left,
+          let s = c .before .before .before .before .before .before .before .before .before .before .before .before .before .before in
+              let at = c .before .before .before .before .before .before .before .before in
+              count-turn (s .args .w .now) (s .args .other .now) (s .pre .0) (s .pre .1) _ (at .loop .l) (at .loop .s) (at .loop .j) (at .loop .inv .1 .1 .1) (at-loop-test .loop-test .taken) _ (rw (at-five-at .five-at .ensures) at (at-coming .coming .ensures)) _ _ (c .before .before .before .listed-by .ensures) (c .before .before .stopped-by .ensures) (c .before .if2 .left) (c .if3 .left),
+        ),
+      ),
+    )
 
 returns-4 : tie.Need-returns-4 Inv-loop μ-loop
 returns-4 c = let s = c .before .before .before .before .before .before .before in let at = c .before in count-end (s .args .w .now) (s .args .other .now) (s .pre .0) (s .pre .1) _ (at .loop .l) (at .loop .s) (at .loop .j) (at .loop .inv .1 .1 .1) (c .loop-test .left)

@@ -38,8 +38,11 @@ stops-fit-requires c κs = (omega arith, let s = c .before .before .before .befo
 
 returns-4 : tie.Need-returns-4
 returns-4 c =
+    let at-if2 = c .before .before .before .before .before in
+    let at-head-fits = at-if2 .before in
+    let at-if1 = at-head-fits .before in
     let s = c .before .before .before .before .before .before .before .before .before in
-    stops-test (s .before .args .w .now) (c .before .before .before .before .before .before .before .if1 .left) _ (c .before .before .before .before .before .before .head-fits .ensures) (not-false _ (c .before .before .before .before .before .if2 .left)) _ (c .before .before .before .entries-fit .ensures) (not-false _ (c .before .before .if3 .left)) _ (c .stops-fit .ensures)
+    stops-test (s .before .args .w .now) (at-if1 .if1 .left) _ (at-head-fits .head-fits .ensures) (not-false _ (at-if2 .if2 .left)) _ (c .before .before .before .entries-fit .ensures) (not-false _ (c .before .before .if3 .left)) _ (c .stops-fit .ensures)
 
 pub is-sound-spec : {M : Type 1} → statement M
 is-sound-spec =

@@ -28,34 +28,44 @@ is-held-requires c κs = let s = c .before .before .before .before .before in is
 
 meet-requires : tie.Need-meet-requires
 meet-requires c κs =
+    let at-if1 = c .before .before .before .before .before .before in
     let s = c .before .before .before .before .before .before .before .before in
-    (s .pre .0 .long, (held-within (s .args .w .now) (s .args .v) _ _ (c .before .before .is-held .ensures) (c .before .if2 .taken), is-listing (s .args .w .now) (s .pre .0) (c .before .before .before .before .before .before .if1 .left) .fewer))
+    (s .pre .0 .long, (held-within (s .args .w .now) (s .args .v) _ _ (c .before .before .is-held .ensures) (c .before .if2 .taken), is-listing (s .args .w .now) (s .pre .0) (at-if1 .if1 .left) .fewer))
 
 returns-2 : tie.Need-returns-2
 returns-2 c =
+    let at-place-of = c .before .before .before .before .before in
+    let at-if1 = at-place-of .before .before in
     let s = c .before .before .before .before .before .before .before .before .before in
     stop-made (s .args .w .now) (s .args .f) (s .args .v) (s .pre .0) (s .pre .1 .0) (s .pre .1 .1 .0) (s .pre .1 .1 .1) _ _
-    (out-meet (s .args .w .now) (s .args .f) (s .args .v) (c .before .before .before .before .before .before .before .if1 .left) _ (c .before .before .before .before .before .place-of .ensures) _ (c .before .before .before .is-held .ensures) (c .before .before .if2 .taken) _ (c .meet .ensures))
+    (out-meet (s .args .w .now) (s .args .f) (s .args .v) (at-if1 .if1 .left) _ (at-place-of .place-of .ensures) _ (c .before .before .before .is-held .ensures) (c .before .before .if2 .taken) _ (c .meet .ensures))
 
 element-copy-out-if3 : tie.Need-element-copy-out-if3
 element-copy-out-if3 c = search needs
 
 returns-3 : tie.Need-returns-3
 returns-3 c =
+    let at-place-of = c .before .before .before .before .before in
+    let at-if1 = at-place-of .before .before in
     let s = c .before .before .before .before .before .before .before .before .before in
     stop-made (s .args .w .now) (s .args .f) (s .args .v) (s .pre .0) (s .pre .1 .0) (s .pre .1 .1 .0) (s .pre .1 .1 .1) _ _
-    (out-full (s .args .w .now) (s .args .f) (s .args .v) (c .before .before .before .before .before .before .before .if1 .left) _ (c .before .before .before .before .before .place-of .ensures) _ (c .before .before .before .is-held .ensures) (c .before .before .if2 .left) (c .if3 .taken))
+    (out-full (s .args .w .now) (s .args .f) (s .args .v) (at-if1 .if1 .left) _ (at-place-of .place-of .ensures) _ (c .before .before .before .is-held .ensures) (c .before .before .if2 .left) (c .if3 .taken))
 
 insert-requires : tie.Need-insert-requires
 insert-requires c κs =
+    let at-place-of = c .before .before .before .before .before .before in
     let s = c .before .before .before .before .before .before .before .before .before .before in
-    (s .pre .0 .long, (place-within (s .args .w .now) (s .args .v) _ (c .before .before .before .before .before .before .place-of .ensures), c .before .if3 .left))
+    (s .pre .0 .long, (place-within (s .args .w .now) (s .args .v) _ (at-place-of .place-of .ensures), c .before .if3 .left))
 
 returns-4 : tie.Need-returns-4
 returns-4 c =
+    let at-if2 = c .before .before .before .before in
+    let at-is-held = at-if2 .before in
+    let at-place-of = at-is-held .before .before in
+    let at-if1 = at-place-of .before .before in
     let s = c .before .before .before .before .before .before .before .before .before .before .before in
     stop-made (s .args .w .now) (s .args .f) (s .args .v) (s .pre .0) (s .pre .1 .0) (s .pre .1 .1 .0) (s .pre .1 .1 .1) _ _
-    (out-insert (s .args .w .now) (s .args .f) (s .args .v) (c .before .before .before .before .before .before .before .before .before .if1 .left) _ (c .before .before .before .before .before .before .before .place-of .ensures) _ (c .before .before .before .before .before .is-held .ensures) (c .before .before .before .before .if2 .left) (c .before .before .if3 .left) _ (c .insert .ensures))
+    (out-insert (s .args .w .now) (s .args .f) (s .args .v) (at-if1 .if1 .left) _ (at-place-of .place-of .ensures) _ (at-is-held .is-held .ensures) (at-if2 .if2 .left) (c .before .before .if3 .left) _ (c .insert .ensures))
 
 pub add-stop-spec : {M : Type 1} → statement M
 add-stop-spec =

@@ -47,13 +47,21 @@ element-copy-out-if4 : tie.Need-element-copy-out-if4
 element-copy-out-if4 c = search needs
 
 returns-4 : tie.Need-returns-4
-returns-4 c = let s = c .before .before .before .before .before .before .before .before .before in met-full (s .args .w .now) (s .args .f) (s .args .v) (s .args .p) (c .before .before .before .before .before .before .before .if1 .left) (c .before .before .before .before .before .if2 .left) _ (c .before .before .before .same-node .ensures) (c .before .before .if3 .left) (c .if4 .taken)
+returns-4 c =
+    let at-if2 = c .before .before .before .before .before in
+    let at-if1 = at-if2 .before .before in
+    let s = c .before .before .before .before .before .before .before .before .before in met-full (s .args .w .now) (s .args .f) (s .args .v) (s .args .p) (at-if1 .if1 .left) (at-if2 .if2 .left) _ (c .before .before .before .same-node .ensures) (c .before .before .if3 .left) (c .if4 .taken)
 
 join-requires : tie.Need-join-requires
 join-requires c κs = search needs
 
 returns-5 : tie.Need-returns-5
-returns-5 c = let s = c .before .before .before .before .before .before .before .before .before .before .before in met-join (s .args .w .now) (s .args .f) (s .args .v) (s .args .p) (c .before .before .before .before .before .before .before .before .before .if1 .left) (c .before .before .before .before .before .before .before .if2 .left) _ (c .before .before .before .before .before .same-node .ensures) (c .before .before .before .before .if3 .left) (c .before .before .if4 .left) _ (c .join .ensures)
+returns-5 c =
+    let at-if3 = c .before .before .before .before in
+    let at-same-node = at-if3 .before in
+    let at-if2 = at-same-node .before .before in
+    let at-if1 = at-if2 .before .before in
+    let s = c .before .before .before .before .before .before .before .before .before .before .before in met-join (s .args .w .now) (s .args .f) (s .args .v) (s .args .p) (at-if1 .if1 .left) (at-if2 .if2 .left) _ (at-same-node .same-node .ensures) (at-if3 .if3 .left) (c .before .before .if4 .left) _ (c .join .ensures)
 
 pub meet-spec : {M : Type 1} → statement M
 meet-spec =

@@ -6,14 +6,14 @@ use borrow.Author.Needs.{needs}
 use Rattle.group_lent_takes.proofs.pop.Statement.{statement}
 use Rattle.group_lent_takes.proofs.pop.Tie as tie
 
-top-of-requires : tie.Need-top-of-requires
-top-of-requires c κs = search needs
+peek-requires : tie.Need-peek-requires
+peek-requires c κs = search needs
 
 element-copy-out-if1 : tie.Need-element-copy-out-if1
 element-copy-out-if1 c = search needs
 
 returns : tie.Need-returns
-returns c = let s = c .before .before .before .before in pop-refused (s .args .w .now) (s .pre) _ (c .before .before .top-of .ensures) (c .if1 .taken)
+returns c = let t = c .before .before in let s = t .before .before in pop-refused (s .args .w .now) (s .pre) (t .peek .result) (t .peek .ensures .0) (t .peek .ensures .1) (c .if1 .taken)
 
 element-copy-out-less : tie.Need-element-copy-out-less
 element-copy-out-less c = search needs
@@ -47,16 +47,18 @@ element-write-w-2 c = search needs
 
 returns-2 : tie.Need-returns-2
 returns-2 c =
-    let i = c .before .before .before .before .before .before in
+    let m = c .before .before in
+    let n = m .before .before in
+    let i = n .before .before in
     let t = i .before .before in
     let s = t .before .before in
-    pop-left (s .args .w .now) (s .pre) (t .top-of .result) (t .top-of .ensures) (i .if1 .left) _ _ _ (c .before .before .before .before .less .ensures) (c .before .before .less2 .ensures) (c .slide .ensures)
+    pop-left (s .args .w .now) (s .pre) (t .peek .result) (t .peek .ensures .0) (t .peek .ensures .1) (i .if1 .left) _ _ _ (n .less .ensures) (m .less2 .ensures) (c .slide .ensures)
 
 pub pop-spec : {M : Type 1} → statement M
 pop-spec =
     tie.close
     (tie.spec
-    top-of-requires
+    peek-requires
     element-copy-out-if1
     returns
     element-copy-out-less

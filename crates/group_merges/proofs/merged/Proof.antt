@@ -1,16 +1,16 @@
 -- `merged` makes one turn of the pass a turn of its loop; what the pass comes to by a turn is `After` it. Assumes nothing.
 use Prim.Native.Nat.{_+_, _-_, _≤_, _<_}
 use mathlib.Core.Logic.{⊎-elim}
-use mathlib.Core.Path.{_≡_, refl, sym, _∙_, subst}
+use mathlib.Core.Path.{_≡_, sym, _∙_, subst}
 use mathlib.Core.Option.{Option}
-use mathlib.Core.List.{List, _++_}
+use mathlib.Core.List.{_++_}
 use native.Mathlib.Omega.{arith}
 use borrow.Author.Needs.{needs}
 use lib.ListN.{length, take, drop, length-map}
 use Rattle.ledger_spec.specs.Groups.{Lists, addStops}
 use Rattle.groups.specs.View.{noStop}
 use Rattle.group_merges.specs.declared.Turn.{Turn}
-use Rattle.group_merges.specs.declared.Turn.the-variants.{Put, Enter, Full}
+use Rattle.group_merges.specs.declared.Turn.the-variants.{Put, Enter}
 use Rattle.group_merges.proofs.Passes.{Merging, After, starts, last-turn, turn, ended, closes}
 use Rattle.group_merges.proofs.Answers.{no-room-left, all-merged}
 use Rattle.group_merges.proofs.merged.Statement.{statement}

@@ -38,7 +38,10 @@ returns-2 : tie.Need-returns-2
 returns-2 c = meets-keep _ _ (sym (c .before .before .before .pair .ensures) ∙ c .enum-told .given .1)
 
 returns-3 : tie.Need-returns-3
-returns-3 c = meets-replace _ _ _ (sym (c .before .before .before .before .before .before .pair .ensures) ∙ c .before .before .before .mine .given .1) (sym (c .before .before .before .before .before .pair2 .ensures) ∙ c .enum-told2 .given .1)
+returns-3 c =
+    let at-pair2 = c .before .before .before .before .before in
+    let at-pair = at-pair2 .before in
+    meets-replace _ _ _ (sym (at-pair .pair .ensures) ∙ c .before .before .before .mine .given .1) (sym (at-pair2 .pair2 .ensures) ∙ c .enum-told2 .given .1)
 
 returns-4 : tie.Need-returns-4
 returns-4 c =

@@ -51,7 +51,9 @@ add-least : tie.Need-add-least Inv-loop μ-loop
 add-least c = search needs
 
 add-i : tie.Need-add-i Inv-loop μ-loop
-add-i c = omega (arith, c .before .before .before .before .before .before .before .pre)
+add-i c =
+    let start = c .before .before .before .before .before .before .before in
+    omega (arith, start .pre)
 
 loop-less : tie.Need-loop-less Inv-loop μ-loop
 loop-less c = omega arith

@@ -7,23 +7,37 @@ use Rattle.link_text.proofs.chunk_on_any.Tie as tie
 is-bench-requires : tie.Need-is-bench-requires
 is-bench-requires c κs = search needs
 
+refused-requires : tie.Need-refused-requires
+refused-requires c κs = search needs
+
 returns : tie.Need-returns
-returns c = chunk-broken (c .before .before .before .before .before .args .b .now) (c .before .is-bench .result) (c .before .is-bench .ensures) (c .before .before .before .before .before .args .chunk .now) (c .before .before .before .before .before .args .buf .now) (c .before .before .before .before .before .args .held) (c .before .before .before .before .before .args .out .now) (c .if1 .taken)
+returns c =
+    let s = c .before .before in
+    let a = s .before .before .before .before .args in
+    chunk-broken (a .b .now) (s .is-bench .result) (s .is-bench .ensures) (a .chunk .now) (a .buf .now) (a .held) (a .out .now) (c .before .if1 .taken) (c .refused .result) (c .refused .ensures)
 
 chunk-on-sound-requires : tie.Need-chunk-on-sound-requires
-chunk-on-sound-requires c κs = sound-bench (c .before .before .before .before .before .before .before .before .before .args .b .now) (c .before .before .before .before .before .is-bench .result) (c .before .before .before .before .before .is-bench .ensures) (c .before .before .before .before .if1 .left)
+chunk-on-sound-requires c κs =
+    let t = c .before .before .before .before .before in
+    let s = t .before .before .before .before in
+    sound-bench (s .args .b .now) (t .is-bench .result) (t .is-bench .ensures) (c .before .before .before .before .if1 .left)
 
 same-length : tie.Need-same-length
 same-length c = search needs
 
 returns-2 : tie.Need-returns-2
-returns-2 c = chunk-sound (c .before .before .before .before .before .before .before .before .before .before .before .before .args .b .now) (c .before .before .before .before .before .before .before .before .is-bench .result) (c .before .before .before .before .before .before .before .before .is-bench .ensures) (c .before .before .before .before .before .before .before .before .before .before .before .before .args .chunk .now) (c .before .before .before .before .before .before .before .before .before .before .before .before .args .buf .now) (c .before .before .before .before .before .before .before .before .before .before .before .before .args .held) (c .before .before .before .before .before .before .before .before .before .before .before .before .args .out .now) (c .before .before .before .before .before .before .before .if1 .left) (c .before .before .chunk-on-sound .ensures)
+returns-2 c =
+    let t = c .before .before .before .before in
+    let s = t .before .before .before .before in
+    let a = s .before .before .before .before .args in
+    chunk-sound (a .b .now) (s .is-bench .result) (s .is-bench .ensures) (a .chunk .now) (a .buf .now) (a .held) (a .out .now) (t .before .before .before .if1 .left) (c .before .before .chunk-on-sound .ensures)
 
 pub chunk-on-any-spec : {M : Type 1} → statement M
 chunk-on-any-spec =
     tie.close
     (tie.spec
     is-bench-requires
+    refused-requires
     returns
     chunk-on-sound-requires
     same-length

@@ -14,10 +14,15 @@ returns : tie.Need-returns
 returns c = line-broken (c .before .before .before .before .before .args .b .now) (c .before .before .is-bench .result) (c .before .before .is-bench .ensures) (c .before .before .before .before .before .args .line .now) (c .silent .result) (c .before .if1 .taken) (c .silent .ensures)
 
 line-on-sound-requires : tie.Need-line-on-sound-requires
-line-on-sound-requires c κs = sound-bench (c .before .before .before .before .before .before .args .b .now) (c .before .before .before .is-bench .result) (c .before .before .before .is-bench .ensures) (c .before .before .if1 .left)
+line-on-sound-requires c κs =
+    let start = c .before .before .before .before .before .before in
+    sound-bench (start .args .b .now) (c .before .before .before .is-bench .result) (c .before .before .before .is-bench .ensures) (c .before .before .if1 .left)
 
 returns-2 : tie.Need-returns-2
-returns-2 c = line-sound (c .before .before .before .before .before .before .before .args .b .now) (c .before .before .before .before .is-bench .result) (c .before .before .before .before .is-bench .ensures) (c .before .before .before .before .before .before .before .args .line .now) (c .line-on-sound .result) _ (c .before .before .before .if1 .left) (c .line-on-sound .ensures)
+returns-2 c =
+    let at-is-bench = c .before .before .before .before in
+    let start = at-is-bench .before .before .before in
+    line-sound (start .args .b .now) (at-is-bench .is-bench .result) (at-is-bench .is-bench .ensures) (start .args .line .now) (c .line-on-sound .result) _ (c .before .before .before .if1 .left) (c .line-on-sound .ensures)
 
 pub line-on-any-spec : {M : Type 1} → statement M
 line-on-any-spec =

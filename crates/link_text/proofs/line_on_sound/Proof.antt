@@ -18,7 +18,10 @@ turn-requires : tie.Need-turn-requires
 turn-requires c κs = search needs
 
 returns : tie.Need-returns
-returns c = c .before .turn .ensures (lineOf (c .before .before .before .before .before .before .before .before .before .args .line .now)) _ (sym (c .before .before .before .before .before .before .read-line .kept .1 .0)) (c .before .before .before .before .before .before .read-line .ensures)
+returns c =
+    let at-read-line = c .before .before .before .before .before .before in
+    let start = at-read-line .before .before .before in
+    c .before .turn .ensures (lineOf (start .args .line .now)) _ (sym (at-read-line .read-line .kept .1 .0)) (at-read-line .read-line .ensures)
 
 pub line-on-sound-spec : {M : Type 1} → statement M
 line-on-sound-spec =

@@ -1,35 +1,56 @@
 -- The lengths decide: refused, or the bench set up and the chunk's answers. Assumes nothing.
 use native.Mathlib.Omega.{arith}
+use mathlib.Core.Path.{sym, _∙_}
+use lib.ListN.{length}
 use borrow.Author.Needs.{needs}
-use Rattle.link_text.proofs.Lending.{opening-held, opening-small, opening-done}
+use Rattle.link_text.proofs.Lending.{fits, opening-refused, opening-done}
 use Rattle.link_text.proofs.opening.Statement.{statement}
 use Rattle.link_text.proofs.opening.Tie as tie
 
-returns : tie.Need-returns
-returns c = opening-held (c .before .before .before .args .b .now) (c .before .before .before .args .chunk .now) (c .before .before .before .args .buf .now) (c .before .before .before .args .held) (c .before .before .before .args .out .now) (c .if1 .taken)
+chunk-no-requires : tie.Need-chunk-no-requires
+chunk-no-requires c κs = search needs
 
-returns-2 : tie.Need-returns-2
-returns-2 c = opening-small (c .before .before .before .before .args .b .now) (c .before .before .before .before .args .chunk .now) (c .before .before .before .before .args .buf .now) (c .before .before .before .before .args .held) (c .before .before .before .before .args .out .now) (omega (arith, c .before .if1 .left)) (c .if2 .taken)
+refused-requires : tie.Need-refused-requires
+refused-requires c κs = search needs
+
+returns : tie.Need-returns
+returns c =
+    let n = c .before .before .chunk-no in
+    let a = c .before .before .before .before .before .args in
+    opening-refused (a .b .now) (a .chunk .now) (a .buf .now) (a .held) (a .out .now) (n .result) (n .ensures) (c .before .if1 .taken) (c .refused .result) (c .refused .ensures)
 
 slice-aggregate-answer-opening : tie.Need-slice-aggregate-answer-opening
 slice-aggregate-answer-opening c = search needs
 
 answer-opening-requires : tie.Need-answer-opening-requires
-answer-opening-requires c κs = search needs
+answer-opening-requires c κs =
+    let t = c .before .before .before .before .before in
+    let n = t .before .chunk-no in
+    let s = t .before .before .before .before in
+    let a = s .args in
+    let f = fits (a .held) (length (a .chunk .now)) (length (a .out .now)) (sym (n .ensures) ∙ t .if1 .left) in
+    (search needs, search needs, f .0, omega (arith, f .1))
 
 same-length : tie.Need-same-length
 same-length c = search needs
 
-returns-3 : tie.Need-returns-3
-returns-3 c = opening-done (c .before .before .before .before .before .before .before .before .before .before .before .before .before .args .b .now) (c .before .before .before .before .before .before .before .before .before .before .before .before .before .args .chunk .now) (c .before .before .before .before .before .before .before .before .before .before .before .before .before .args .buf .now) (c .before .before .before .before .before .before .before .before .before .before .before .before .before .args .held) (c .before .before .before .before .before .before .before .before .before .before .before .before .before .args .out .now) (omega (arith, c .before .before .before .before .before .before .before .before .before .before .if1 .left)) (omega (arith, c .before .before .before .before .before .before .before .before .before .if2 .left)) (c .before .before .before .answer-opening .ensures)
+returns-2 : tie.Need-returns-2
+returns-2 c =
+    let d = c .before .before .before in
+    let e = d .before .before .before in
+    let t = e .before .before .before in
+    let n = t .before .chunk-no in
+    let a = t .before .before .before .before .args in
+    opening-done (a .b .now) (a .chunk .now) (a .buf .now) (a .held) (a .out .now) (n .result) (n .ensures) (t .if1 .left) (d .answer-opening .ensures)
 
 pub opening-spec : {M : Type 1} → statement M
 opening-spec =
     tie.close
     (tie.spec
+    chunk-no-requires
+    refused-requires
     returns
-    returns-2
     slice-aggregate-answer-opening
     answer-opening-requires
     same-length
-    returns-3)
+    returns-2)

@@ -31,8 +31,11 @@ put-circle-requires c κs = search needs
 
 returns : tie.Need-returns
 returns c =
+    let at-put-stays = c .before .before .before .before in
+    let at-put-heads = at-put-stays .before .before in
+    let at-node-word = at-put-heads .before .before in
     let s = c .before .before .before .before .before .before .before .before .before .before in
-    made-steps (s .args .members .now) (s .args .out .now) (handleNamed (s .args .q)) (c .before .before .before .before .before .before .before .before .node-word .ensures) (c .before .before .before .before .before .before .put-heads .ensures) (c .before .before .before .before .put-stays .ensures) (c .before .before .put-added .ensures) (c .put-circle .ensures)
+    made-steps (s .args .members .now) (s .args .out .now) (handleNamed (s .args .q)) (at-node-word .node-word .ensures) (at-put-heads .put-heads .ensures) (at-put-stays .put-stays .ensures) (c .before .before .put-added .ensures) (c .put-circle .ensures)
 
 pub blossom-spec : {M : Type 1} → statement M
 blossom-spec =

@@ -30,28 +30,39 @@ put-comma-requires c κs = search needs
 
 put-member-requires : tie.Need-put-member-requires Inv-loop μ-loop
 put-member-requires c κs =
+    let at-loop-test = c .before .before .before .before .before in
+    let at-loop = at-loop-test .before in
+    let at-put = at-loop .before .before .before in
     let s = c .before .before .before .before .before .before .before .before .before .before .before .before .before .before in
-    let l = c .before .before .before .before .before .before .loop in
-    (s .pre .1 .0, next-placed (s .args .b .now) (s .args .unit) (s .args .k) (s .args .touching) (c .before .before .before .before .before .before .before .before .before .put .last .0) (c .before .before .before .before .before .before .before .before .before .put .result) (l .out) (l .r) (l .p) (l .m) (l .i) (l .inv) (s .pre .0) (s .pre .1 .1 .0) (s .pre .1 .1 .1) (c .before .before .before .before .before .loop-test .taken) .low)
+    (s .pre .1 .0, next-placed (s .args .b .now) (s .args .unit) (s .args .k) (s .args .touching) (at-put .put .last .0) (at-put .put .result) (at-loop .loop .out) (at-loop .loop .r) (at-loop .loop .p) (at-loop .loop .m) (at-loop .loop .i) (at-loop .loop .inv) (s .pre .0) (s .pre .1 .1 .0) (s .pre .1 .1 .1) (at-loop-test .loop-test .taken) .low)
 
 load-node-requires-2 : tie.Need-load-node-requires-2 Inv-loop μ-loop
 load-node-requires-2 c κs =
+    let at-loop-test = c .before .before .before .before .before .before .before .before in
+    let at-loop = at-loop-test .before in
+    let at-put = at-loop .before .before .before in
     let s = c .before .before .before .before .before .before .before .before .before .before .before .before .before .before .before .before .before in
-    let l = c .before .before .before .before .before .before .before .before .before .loop in
-    next-placed (s .args .b .now) (s .args .unit) (s .args .k) (s .args .touching) (c .before .before .before .before .before .before .before .before .before .before .before .before .put .last .0) (c .before .before .before .before .before .before .before .before .before .before .before .before .put .result) (l .out) (l .r) (l .p) (l .m) (l .i) (l .inv) (s .pre .0) (s .pre .1 .1 .0) (s .pre .1 .1 .1) (c .before .before .before .before .before .before .before .before .loop-test .taken) .low
+    next-placed (s .args .b .now) (s .args .unit) (s .args .k) (s .args .touching) (at-put .put .last .0) (at-put .put .result) (at-loop .loop .out) (at-loop .loop .r) (at-loop .loop .p) (at-loop .loop .m) (at-loop .loop .i) (at-loop .loop .inv) (s .pre .0) (s .pre .1 .1 .0) (s .pre .1 .1 .1) (at-loop-test .loop-test .taken) .low
 
 sub-m : tie.Need-sub-m Inv-loop μ-loop
-sub-m c = omega (arith, c .before .before .before .before .before .before .before .before .before .loop-test .taken)
+sub-m c =
+    let at-loop-test = c .before .before .before .before .before .before .before .before .before in
+    omega (arith, at-loop-test .loop-test .taken)
 
 loop-less : tie.Need-loop-less Inv-loop μ-loop
-loop-less c = omega (arith, c .before .before .before .before .before .before .before .before .before .loop-test .taken)
+loop-less c =
+    let at-loop-test = c .before .before .before .before .before .before .before .before .before in
+    omega (arith, at-loop-test .loop-test .taken)
 
 loop-again : tie.Need-loop-again Inv-loop μ-loop
 loop-again c =
+    let at-put-comma = c .before .before .before .before .before .before .before in
+    let at-loop-test = at-put-comma .before .before in
+    let at-loop = at-loop-test .before in
+    let at-put = at-loop .before .before .before in
     let s = c .before .before .before .before .before .before .before .before .before .before .before .before .before .before .before .before .before .before in
-    let l = c .before .before .before .before .before .before .before .before .before .before .loop in
-    going-on (s .args .b .now) (s .args .unit) (s .args .k) (s .args .touching) (c .before .before .before .before .before .before .before .before .before .before .before .before .before .put .last .0) (c .before .before .before .before .before .before .before .before .before .before .before .before .before .put .result) (l .out) (l .r) (l .p) (l .m) (l .i) (l .inv) (c .before .before .before .before .before .before .before .before .before .loop-test .taken) (c .before .before .before .before .before .before .before .put-comma .last .0) (c .before .before .before .before .before .before .before .put-comma .result) (c .before .before .before .put-member .last .1 .1 .1 .0) (c .before .before .before .put-member .result)
-    (c .before .before .before .before .before .before .before .put-comma .ensures) (c .before .before .before .put-member .ensures) (c .load-node2 .result .next) (ap (λ (x : Node). x .next) (c .load-node2 .ensures))
+    going-on (s .args .b .now) (s .args .unit) (s .args .k) (s .args .touching) (at-put .put .last .0) (at-put .put .result) (at-loop .loop .out) (at-loop .loop .r) (at-loop .loop .p) (at-loop .loop .m) (at-loop .loop .i) (at-loop .loop .inv) (at-loop-test .loop-test .taken) (at-put-comma .put-comma .last .0) (at-put-comma .put-comma .result) (c .before .before .before .put-member .last .1 .1 .1 .0) (c .before .before .before .put-member .result)
+    (at-put-comma .put-comma .ensures) (c .before .before .before .put-member .ensures) (c .load-node2 .result .next) (ap (λ (x : Node). x .next) (c .load-node2 .ensures))
 
 slice-aggregate-put-2 : tie.Need-slice-aggregate-put-2 Inv-loop μ-loop
 slice-aggregate-put-2 c = search needs
@@ -60,13 +71,18 @@ put-requires-2 : tie.Need-put-requires-2 Inv-loop μ-loop
 put-requires-2 c κs = search needs
 
 same-length : tie.Need-same-length Inv-loop μ-loop
-same-length c = c .before .before .put2 .ensures .long ∙ (c .before .before .before .before .before .before .loop .inv .text .drawn .long ∙ c .before .before .before .before .before .before .before .before .before .put .ensures .long)
+same-length c =
+    let at-loop = c .before .before .before .before .before .before in
+    let at-put = at-loop .before .before .before in
+    c .before .before .put2 .ensures .long ∙ (at-loop .loop .inv .text .drawn .long ∙ at-put .put .ensures .long)
 
 returns : tie.Need-returns Inv-loop μ-loop
 returns c =
+    let at-loop-test = c .before .before .before .before .before in
+    let at-loop = at-loop-test .before in
+    let at-put = at-loop .before .before .before in
     let s = c .before .before .before .before .before .before .before .before .before .before .before .before .before .before in
-    let l = c .before .before .before .before .before .before .loop in
-    going-ends (s .args .b .now) (s .args .unit) (s .args .k) (s .args .touching) (c .before .before .before .before .before .before .before .before .before .put .last .0) (c .before .before .before .before .before .before .before .before .before .put .result) (l .out) (l .r) (l .p) (l .m) (l .i) (l .inv) (omega (arith, c .before .before .before .before .before .loop-test .left)) (s .args .out .now) (s .args .at) (c .before .before .before .before .before .before .before .before .before .put .ensures) (c .before .before .put2 .last .0) (c .before .before .put2 .result) (c .before .before .put2 .ensures)
+    going-ends (s .args .b .now) (s .args .unit) (s .args .k) (s .args .touching) (at-put .put .last .0) (at-put .put .result) (at-loop .loop .out) (at-loop .loop .r) (at-loop .loop .p) (at-loop .loop .m) (at-loop .loop .i) (at-loop .loop .inv) (omega (arith, at-loop-test .loop-test .left)) (s .args .out .now) (s .args .at) (at-put .put .ensures) (c .before .before .put2 .last .0) (c .before .before .put2 .result) (c .before .before .put2 .ensures)
 
 pub put-circle-spec : {M : Type 1} → statement M
 put-circle-spec =

@@ -61,12 +61,17 @@ same-length-2 c = search needs
 
 returns-2 : tie.Need-returns-2
 returns-2 c =
+    let at-put-number3 = c .before .before .before .before .before .before .before in
+    let at-put2 = at-put-number3 .before .before .before .before in
+    let at-put-number2 = at-put2 .before .before .before .before .before in
+    let at-put = at-put-number2 .before .before .before .before in
+    let at-index-of2 = at-put .before .before .before in
+    let at-index-of = at-index-of2 .before in
+    let at-load-node = at-index-of .before .before .before in
+    let at-if1 = at-load-node .before in
     let s = c .before .before .before .before .before .before .before .before .before .before .before .before .before .before .before .before .before .before .before .before .before .before .before .before .before .before .before .before .before .before in
-    let n = c .before .before .before .before .before .before .before .before .before .before .before .before .before .before .before .before .before .before .before .before .before .before .before .before .before .before .before .load-node in
-    let i = c .before .before .before .before .before .before .before .before .before .before .before .before .before .before .before .before .before .before .before .before .before .before .before .before .index-of in
-    let j = c .before .before .before .before .before .before .before .before .before .before .before .before .before .before .before .before .before .before .before .before .before .before .before .index-of2 in
-    same-text (touch-item (s .args .b .now) (s .args .unit) (s .args .index .now) (s .pre .0) (s .args .q) (s .pre .1) (s .args .touching) (not-false (s .args .touching) (c .before .before .before .before .before .before .before .before .before .before .before .before .before .before .before .before .before .before .before .before .before .before .before .before .before .before .before .before .if1 .left)) (n .result) (n .ensures) (i .result) (j .result) (i .ensures) (j .ensures))
-    (chain (c .before .before .before .before .before .before .before .before .before .before .before .before .before .before .before .before .before .before .before .before .put .ensures) (chain (c .before .before .before .before .before .before .before .before .before .before .before .before .before .before .before .before .put-number2 .ensures) (chain (c .before .before .before .before .before .before .before .before .before .before .before .put2 .ensures) (chain (c .before .before .before .before .before .before .before .put-number3 .ensures) (c .before .before .put3 .ensures)))))
+    same-text (touch-item (s .args .b .now) (s .args .unit) (s .args .index .now) (s .pre .0) (s .args .q) (s .pre .1) (s .args .touching) (not-false (s .args .touching) (at-if1 .if1 .left)) (at-load-node .load-node .result) (at-load-node .load-node .ensures) (at-index-of .index-of .result) (at-index-of2 .index-of2 .result) (at-index-of .index-of .ensures) (at-index-of2 .index-of2 .ensures))
+    (chain (at-put .put .ensures) (chain (at-put-number2 .put-number2 .ensures) (chain (at-put2 .put2 .ensures) (chain (at-put-number3 .put-number3 .ensures) (c .before .before .put3 .ensures)))))
 
 pub put-member-spec : {M : Type 1} → statement M
 put-member-spec =

@@ -1,5 +1,5 @@
 -- At each turn the slots from k on have their indices. Assumes nothing.
-use Prim.Native.Nat.{ℕ, _-_, _≤_, _<_}
+use Prim.Native.Nat.{ℕ, _-_, _≤_}
 use mathlib.Core.Path.{_≡_, subst}
 use native.Mathlib.Omega.{arith}
 use Rattle.picture_indices.proofs.Listing.{Listing, listing-starts, back-low, listing-back, listing-ends}

@@ -26,25 +26,38 @@ mul-p : tie.Need-mul-p Inv-loop μ-loop
 mul-p c = search needs
 
 element-copy-out-p : tie.Need-element-copy-out-p Inv-loop μ-loop
-element-copy-out-p c = omega (arith, c .loop-test .taken, c .before .before .before .before .before .before .before .before .pre .1 .0 .few)
+element-copy-out-p c =
+    let start = c .before .before .before .before .before .before .before .before in
+    omega (arith, c .loop-test .taken, start .pre .1 .0 .few)
 
 put-comma-requires : tie.Need-put-comma-requires Inv-loop μ-loop
 put-comma-requires c κs = search needs
 
 put-slot-requires : tie.Need-put-slot-requires Inv-loop μ-loop
-put-slot-requires c κs = let s = c .before .before .before .before .before .before .before .before .before .before .before .before .before .before in (s .pre .0, (s .pre .1 .1, s .pre .1 .0 .at (c .before .before .before .before .before .before .before .loop .k) (c .before .before .before .before .before .before .loop-test .taken)))
+put-slot-requires c κs =
+    let at-loop-test = c .before .before .before .before .before .before in
+    let at-loop = at-loop-test .before in
+    let s = c .before .before .before .before .before .before .before .before .before .before .before .before .before .before in (s .pre .0, (s .pre .1 .1, s .pre .1 .0 .at (at-loop .loop .k) (at-loop-test .loop-test .taken)))
 
 add-k : tie.Need-add-k Inv-loop μ-loop
-add-k c = record { fits = omega (arith, c .before .before .before .before .before .before .before .before .before .loop-test .taken, c .before .before .before .before .before .before .before .before .before .before .before .before .before .before .before .before .before .pre .1 .0 .few) }
+add-k c =
+    let at-loop-test = c .before .before .before .before .before .before .before .before .before in
+    let start = at-loop-test .before .before .before .before .before .before .before .before in
+    record { fits = omega (arith, at-loop-test .loop-test .taken, start .pre .1 .0 .few) }
 
 loop-less : tie.Need-loop-less Inv-loop μ-loop
-loop-less c = omega (arith, c .before .before .before .before .before .before .before .before .before .loop-test .taken)
+loop-less c =
+    let at-loop-test = c .before .before .before .before .before .before .before .before .before in
+    omega (arith, at-loop-test .loop-test .taken)
 
 loop-again : tie.Need-loop-again Inv-loop μ-loop
 loop-again c =
+    let at-put-comma = c .before .before .before .before .before .before in
+    let at-loop-test = at-put-comma .before .before .before in
+    let at-loop = at-loop-test .before in
+    let at-put = at-loop .before .before .before in
     let s = c .before .before .before .before .before .before .before .before .before .before .before .before .before .before .before .before .before in
-    let l = c .before .before .before .before .before .before .before .before .before .before .loop in
-    (omega (arith, c .before .before .before .before .before .before .before .before .before .loop-test .taken), along-on (s .args .b .now) (s .args .unit) (s .args .places .now) (s .args .count) (s .pre .1 .0) (s .args .short) (c .before .before .before .before .before .before .before .before .before .before .before .before .before .put .last .0) (c .before .before .before .before .before .before .before .before .before .before .before .before .before .put .result) (l .out) (l .r) (l .k) (l .i) (l .inv .1) (c .before .before .before .before .before .before .before .before .before .loop-test .taken) (c .before .before .before .before .before .before .put-comma .last .0) (c .before .before .before .before .before .before .put-comma .result) (c .before .before .put-slot .last .1 .1 .1 .0) (c .before .before .put-slot .result) (c .before .before .before .before .before .before .put-comma .ensures) (c .before .before .put-slot .ensures))
+    (omega (arith, at-loop-test .loop-test .taken), along-on (s .args .b .now) (s .args .unit) (s .args .places .now) (s .args .count) (s .pre .1 .0) (s .args .short) (at-put .put .last .0) (at-put .put .result) (at-loop .loop .out) (at-loop .loop .r) (at-loop .loop .k) (at-loop .loop .i) (at-loop .loop .inv .1) (at-loop-test .loop-test .taken) (at-put-comma .put-comma .last .0) (at-put-comma .put-comma .result) (c .before .before .put-slot .last .1 .1 .1 .0) (c .before .before .put-slot .result) (at-put-comma .put-comma .ensures) (c .before .before .put-slot .ensures))
 
 slice-aggregate-put-2 : tie.Need-slice-aggregate-put-2 Inv-loop μ-loop
 slice-aggregate-put-2 c = search needs
@@ -53,13 +66,18 @@ put-requires-2 : tie.Need-put-requires-2 Inv-loop μ-loop
 put-requires-2 c κs = search needs
 
 same-length : tie.Need-same-length Inv-loop μ-loop
-same-length c = c .before .before .put2 .ensures .long ∙ (c .before .before .before .before .before .before .loop .inv .1 .text .drawn .long ∙ c .before .before .before .before .before .before .before .before .before .put .ensures .long)
+same-length c =
+    let at-loop = c .before .before .before .before .before .before in
+    let at-put = at-loop .before .before .before in
+    c .before .before .put2 .ensures .long ∙ (at-loop .loop .inv .1 .text .drawn .long ∙ at-put .put .ensures .long)
 
 returns : tie.Need-returns Inv-loop μ-loop
 returns c =
+    let at-loop-test = c .before .before .before .before .before in
+    let at-loop = at-loop-test .before in
+    let at-put = at-loop .before .before .before in
     let s = c .before .before .before .before .before .before .before .before .before .before .before .before .before in
-    let l = c .before .before .before .before .before .before .loop in
-    along-ends (s .args .b .now) (s .args .unit) (s .args .places .now) (s .args .count) (s .pre .1 .0) (s .args .short) (c .before .before .before .before .before .before .before .before .before .put .last .0) (c .before .before .before .before .before .before .before .before .before .put .result) (l .out) (l .r) (l .k) (l .i) (l .inv .1) (c .before .before .before .before .before .loop-test .left) (s .args .out .now) (s .args .at) (c .before .before .before .before .before .before .before .before .before .put .ensures) (c .before .before .put2 .last .0) (c .before .before .put2 .result) (c .before .before .put2 .ensures)
+    along-ends (s .args .b .now) (s .args .unit) (s .args .places .now) (s .args .count) (s .pre .1 .0) (s .args .short) (at-put .put .last .0) (at-put .put .result) (at-loop .loop .out) (at-loop .loop .r) (at-loop .loop .k) (at-loop .loop .i) (at-loop .loop .inv .1) (at-loop-test .loop-test .left) (s .args .out .now) (s .args .at) (at-put .put .ensures) (c .before .before .put2 .last .0) (c .before .before .put2 .result) (c .before .before .put2 .ensures)
 
 pub put-slots-spec : {M : Type 1} → statement M
 put-slots-spec =

@@ -1,6 +1,6 @@
 -- A number's digits are one more than those of its tenth, and at most 20. Assumes nothing.
 use native.Mathlib.Omega.{arith}
-use mathlib.Core.Path.{_≡_, sym, _∙_}
+use mathlib.Core.Path.{sym}
 use Rattle.text_decimals.proofs.Writes.{one-digit, room}
 use Rattle.text_decimals.proofs.Widths.{width}
 use Prim.Native.Nat.{ℕ, _/_, _<_}

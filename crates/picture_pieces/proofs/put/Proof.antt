@@ -1,6 +1,6 @@
 -- Either the piece is past everything, or there is no room and it is counted, or it is copied byte by byte. Assumes nothing.
 use Prim.Native.Nat.{_-_, _+_, _≤_}
-use mathlib.Core.Path.{_≡_, refl}
+use mathlib.Core.Path.{refl}
 use native.Mathlib.Omega.{arith}
 use lib.ListN.{length}
 use Rattle.picture_pieces.proofs.Drawing.{drawn-past, drawn-counted, Copied, copied-none, copied-long, copied-more, copied-all}

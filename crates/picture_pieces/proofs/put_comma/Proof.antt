@@ -17,7 +17,10 @@ same-length : tie.Need-same-length
 same-length c = search needs
 
 returns-2 : tie.Need-returns-2
-returns-2 c = same-text (comma-other (c .before .before .before .before .before .before .before .args .i) (c .before .before .before .before .before .if1 .left)) (c .before .before .put .ensures)
+returns-2 c =
+    let at-if1 = c .before .before .before .before .before in
+    let start = at-if1 .before .before in
+    same-text (comma-other (start .args .i) (at-if1 .if1 .left)) (c .before .before .put .ensures)
 
 pub put-comma-spec : {M : Type 1} → statement M
 put-comma-spec =

@@ -1,5 +1,4 @@
 -- By the flag. Assumes nothing.
-use mathlib.Core.Path.{sym}
 use Rattle.picture_pieces.proofs.Drawing.{same-text, either-one, either-other}
 use borrow.Author.Needs.{needs}
 use Rattle.picture_pieces.proofs.put_either.Statement.{statement}

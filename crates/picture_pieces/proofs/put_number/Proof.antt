@@ -31,7 +31,10 @@ same-length : tie.Need-same-length
 same-length c = search needs
 
 returns-3 : tie.Need-returns-3
-returns-3 c = drawn-wrote (omega (arith, c .before .before .before .before .before .before .digits .ensures, c .before .before .before .before .before .if1 .left)) (c .before .before .put-number .ensures)
+returns-3 c =
+    let at-if1 = c .before .before .before .before .before in
+    let at-digits = at-if1 .before in
+    drawn-wrote (omega (arith, at-digits .digits .ensures, at-if1 .if1 .left)) (c .before .before .put-number .ensures)
 
 pub put-number-spec : {M : Type 1} → statement M
 put-number-spec =

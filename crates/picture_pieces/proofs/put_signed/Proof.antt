@@ -13,13 +13,22 @@ put-requires : tie.Need-put-requires
 put-requires c κs = search needs
 
 sub-put-number : tie.Need-sub-put-number
-sub-put-number c = turned (c .before .before .before .before .before .before .before .before .args .z) (c .before .before .before .before .before .before .before .before .fits .z) (c .before .before .before .before .before .before .if1 .taken) .fits
+sub-put-number c =
+    let at-if1 = c .before .before .before .before .before .before in
+    let start = at-if1 .before .before in
+    turned (start .args .z) (start .fits .z) (at-if1 .if1 .taken) .fits
 
 cast-put-number : tie.Need-cast-put-number
-cast-put-number c = turned (c .before .before .before .before .before .before .before .before .args .z) (c .before .before .before .before .before .before .before .before .fits .z) (c .before .before .before .before .before .before .if1 .taken) .whole
+cast-put-number c =
+    let at-if1 = c .before .before .before .before .before .before in
+    let start = at-if1 .before .before in
+    turned (start .args .z) (start .fits .z) (at-if1 .if1 .taken) .whole
 
 add-put-number : tie.Need-add-put-number
-add-put-number c = turned (c .before .before .before .before .before .before .before .before .args .z) (c .before .before .before .before .before .before .before .before .fits .z) (c .before .before .before .before .before .before .if1 .taken) .more
+add-put-number c =
+    let at-if1 = c .before .before .before .before .before .before in
+    let start = at-if1 .before .before in
+    turned (start .args .z) (start .fits .z) (at-if1 .if1 .taken) .more
 
 put-number-requires : tie.Need-put-number-requires
 put-number-requires c κs = search needs
@@ -28,7 +37,11 @@ same-length : tie.Need-same-length
 same-length c = search needs
 
 returns : tie.Need-returns
-returns c = same-text (sym (turned (c .before .before .before .before .before .before .before .before .before .before .before .args .z) (c .before .before .before .before .before .before .before .before .before .before .before .fits .z) (c .before .before .before .before .before .before .before .before .before .if1 .taken) .text)) (chain (c .before .before .before .before .before .before .put .ensures) (c .before .before .put-number .ensures))
+returns c =
+    let at-put = c .before .before .before .before .before .before in
+    let at-if1 = at-put .before .before .before in
+    let start = at-if1 .before .before in
+    same-text (sym (turned (start .args .z) (start .fits .z) (at-if1 .if1 .taken) .text)) (chain (at-put .put .ensures) (c .before .before .put-number .ensures))
 
 cast-put-number-2 : tie.Need-cast-put-number-2
 cast-put-number-2 c = plain (c .before .before .before .args .z) (c .before .before .before .fits .z) (c .before .if1 .left) .whole
@@ -40,7 +53,10 @@ same-length-2 : tie.Need-same-length-2
 same-length-2 c = search needs
 
 returns-2 : tie.Need-returns-2
-returns-2 c = same-text (sym (plain (c .before .before .before .before .before .before .args .z) (c .before .before .before .before .before .before .fits .z) (c .before .before .before .before .if1 .left) .text)) (c .before .before .put-number2 .ensures)
+returns-2 c =
+    let at-if1 = c .before .before .before .before in
+    let start = at-if1 .before .before in
+    same-text (sym (plain (start .args .z) (start .fits .z) (at-if1 .if1 .left) .text)) (c .before .before .put-number2 .ensures)
 
 pub put-signed-spec : {M : Type 1} → statement M
 put-signed-spec =

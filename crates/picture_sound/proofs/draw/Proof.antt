@@ -55,13 +55,28 @@ put-requires-2 : tie.Need-put-requires-2
 put-requires-2 c κs = search needs
 
 same-length : tie.Need-same-length
-same-length c = let w = (chain (c .before .before .before .before .before .before .before .before .before .before .before .before .before .before .before .before .before .before .before .before .before .before .before .before .before .before .before .before .before .before .put-either .ensures) (chain (c .before .before .before .before .before .before .before .before .before .before .before .before .before .before .before .before .before .before .before .before .before .before .before .before .before .before .put-signed .ensures) (chain (c .before .before .before .before .before .before .before .before .before .before .before .before .before .before .before .before .before .before .before .before .put-either2 .ensures) (chain (c .before .before .before .before .before .before .before .before .before .before .before .before .before .before .before .before .put-signed2 .ensures) (chain (c .before .before .before .before .before .before .before .before .before .before .before .put .ensures) (chain (c .before .before .before .before .before .before .before .put-slots .ensures) (c .before .before .put2 .ensures))))))) in w .long
+same-length c =
+    let at-put-slots = c .before .before .before .before .before .before .before in
+    let at-put = at-put-slots .before .before .before .before in
+    let at-put-signed2 = at-put .before .before .before .before .before in
+    let at-put-either2 = at-put-signed2 .before .before .before .before in
+    let at-put-signed = at-put-either2 .before .before .before .before .before .before in
+    let at-put-either = at-put-signed .before .before .before .before in
+    let w = (chain (at-put-either .put-either .ensures) (chain (at-put-signed .put-signed .ensures) (chain (at-put-either2 .put-either2 .ensures) (chain (at-put-signed2 .put-signed2 .ensures) (chain (at-put .put .ensures) (chain (at-put-slots .put-slots .ensures) (c .before .before .put2 .ensures))))))) in w .long
 
 returns : tie.Need-returns
 returns c =
+    let at-put-slots = c .before .before .before .before .before .before .before in
+    let at-put = at-put-slots .before .before .before .before in
+    let at-put-signed2 = at-put .before .before .before .before .before in
+    let at-put-either2 = at-put-signed2 .before .before .before .before in
+    let at-put-signed = at-put-either2 .before .before .before .before .before .before in
+    let at-put-either = at-put-signed .before .before .before .before in
+    let at-sum = at-put-either .before .before .before .before in
+    let at-speed = at-sum .before in
     let s = c .before .before .before .before .before .before .before .before .before .before .before .before .before .before .before .before .before .before .before .before .before .before .before .before .before .before .before .before .before .before .before .before .before .before .before .before .before in
-    same-text (picture-text (view (s .args .b .now)) (s .args .unit) (s .args .short) (again (c .before .before .before .before .before .before .before .before .before .before .before .before .before .before .before .before .before .before .before .before .before .before .before .before .before .before .before .before .before .before .before .before .before .before .before .speed .result)) (again (c .before .before .before .before .before .before .before .before .before .before .before .before .before .before .before .before .before .before .before .before .before .before .before .before .before .before .before .before .before .before .before .before .before .before .sum .result)) (toZ-ofZ (record { sfits = c .before .before .before .before .before .before .before .before .before .before .before .before .before .before .before .before .before .before .before .before .before .before .before .before .before .before .before .before .before .before .before .before .before .before .before .speed .ok }) ∙ c .before .before .before .before .before .before .before .before .before .before .before .before .before .before .before .before .before .before .before .before .before .before .before .before .before .before .before .before .before .before .before .before .before .before .before .speed .ensures) (toZ-ofZ (record { sfits = c .before .before .before .before .before .before .before .before .before .before .before .before .before .before .before .before .before .before .before .before .before .before .before .before .before .before .before .before .before .before .before .before .before .before .sum .ok }) ∙ c .before .before .before .before .before .before .before .before .before .before .before .before .before .before .before .before .before .before .before .before .before .before .before .before .before .before .before .before .before .before .before .before .before .before .sum .ensures))
-    (chain (c .before .before .before .before .before .before .before .before .before .before .before .before .before .before .before .before .before .before .before .before .before .before .before .before .before .before .before .before .before .before .put-either .ensures) (chain (c .before .before .before .before .before .before .before .before .before .before .before .before .before .before .before .before .before .before .before .before .before .before .before .before .before .before .put-signed .ensures) (chain (c .before .before .before .before .before .before .before .before .before .before .before .before .before .before .before .before .before .before .before .before .put-either2 .ensures) (chain (c .before .before .before .before .before .before .before .before .before .before .before .before .before .before .before .before .put-signed2 .ensures) (chain (c .before .before .before .before .before .before .before .before .before .before .before .put .ensures) (chain (c .before .before .before .before .before .before .before .put-slots .ensures) (c .before .before .put2 .ensures)))))))
+    same-text (picture-text (view (s .args .b .now)) (s .args .unit) (s .args .short) (again (at-speed .speed .result)) (again (at-sum .sum .result)) (toZ-ofZ (record { sfits = at-speed .speed .ok }) ∙ at-speed .speed .ensures) (toZ-ofZ (record { sfits = at-sum .sum .ok }) ∙ at-sum .sum .ensures))
+    (chain (at-put-either .put-either .ensures) (chain (at-put-signed .put-signed .ensures) (chain (at-put-either2 .put-either2 .ensures) (chain (at-put-signed2 .put-signed2 .ensures) (chain (at-put .put .ensures) (chain (at-put-slots .put-slots .ensures) (c .before .before .put2 .ensures)))))))
 
 pub draw-spec : {M : Type 1} → statement M
 draw-spec =

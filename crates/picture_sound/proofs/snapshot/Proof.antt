@@ -34,10 +34,14 @@ same-length c = search needs
 
 returns-3 : tie.Need-returns-3
 returns-3 c =
+    let at-if2 = c .before .before .before .before in
+    let at-sanity-check = at-if2 .before .before in
+    let at-if1 = at-sanity-check .before in
+    let at-unit-number = at-if1 .before in
     let s = c .before .before .before .before .before .before .before .before .before .before in
-    let p = sym (c .before .before .before .before .before .before .before .before .unit-number .ensures) ∙ c .before .before .before .before .before .before .before .if1 .left in
+    let p = sym (at-unit-number .unit-number .ensures) ∙ at-if1 .if1 .left in
     into-written (view (s .args .b .now)) (s .args .unit) (s .args .short) (s .args .out .now) p
-    (sym (verdict-said (view (s .args .b .now)) (s .args .unit) (c .before .before .before .before .before .before .sanity-check .result) (c .before .before .before .before .before .before .sanity-check .ensures) p) ∙ c .before .before .before .before .if2 .left) _ (c .before .before .write .ensures)
+    (sym (verdict-said (view (s .args .b .now)) (s .args .unit) (at-sanity-check .sanity-check .result) (at-sanity-check .sanity-check .ensures) p) ∙ at-if2 .if2 .left) _ (c .before .before .write .ensures)
 
 pub snapshot-spec : {M : Type 1} → statement M
 snapshot-spec =

@@ -23,17 +23,23 @@ returns : tie.Need-returns
 returns c = let s = c .before .before .before .before .before .before .before .before .before .before .before in measured-small (picture (view (s .args .b .now)) (s .args .unit) (s .args .short)) (s .args .out .now) _ _ _ (c .before .before .draw .ensures) (c .if1 .taken)
 
 draw-requires-2 : tie.Need-draw-requires-2
-draw-requires-2 c κs = let s = c .before .before .before .before .before .before .before .before .before .before .before .before .before .before in (s .pre .0, (s .pre .1 .0, (s .pre .1 .1, (c .before .before .before .before .before .before .before .before .before .before .before .list .ensures, c .before .before .before .before .before .before .before .before .before .indices .ensures))))
+draw-requires-2 c κs =
+    let at-indices = c .before .before .before .before .before .before .before .before .before in
+    let at-list = at-indices .before .before in
+    let s = c .before .before .before .before .before .before .before .before .before .before .before .before .before .before in (s .pre .0, (s .pre .1 .0, (s .pre .1 .1, (at-list .list .ensures, at-indices .indices .ensures))))
 
 same-length : tie.Need-same-length
 same-length c = search needs
 
 returns-2 : tie.Need-returns-2
 returns-2 c =
+    let at-if1 = c .before .before .before .before .before .before in
+    let at-draw = at-if1 .before .before in
+    let at-slice-known = at-draw .before .before .before .before .before .before .before .before in
     let s = c .before .before .before .before .before .before .before .before .before .before .before .before .before .before .before .before .before in
     let t = picture (view (s .args .b .now)) (s .args .unit) (s .args .short) in
-    let g = c .before .before .before .before .before .before .before .before .before .before .before .before .before .before .before .before .slice-known .given in
-    written t (s .args .out .now) (omega arith) (measured-fits t (s .args .out .now) _ _ _ (c .before .before .before .before .before .before .before .before .draw .ensures) (omega arith) (c .before .before .before .before .before .before .if1 .left)) (c .before .before .draw2 .last .1 .1 .1 .1 .1 .0) (c .before .before .draw2 .result) (c .before .before .draw2 .ensures)
+    let g = at-slice-known .slice-known .given in
+    written t (s .args .out .now) (omega arith) (measured-fits t (s .args .out .now) _ _ _ (at-draw .draw .ensures) (omega arith) (at-if1 .if1 .left)) (c .before .before .draw2 .last .1 .1 .1 .1 .1 .0) (c .before .before .draw2 .result) (c .before .before .draw2 .ensures)
 
 pub write-spec : {M : Type 1} → statement M
 write-spec =

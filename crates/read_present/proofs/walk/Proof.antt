@@ -73,24 +73,32 @@ enum-told c = search needs
 
 load-interface-requires : tie.Need-load-interface-requires Inv-loop μ-loop
 load-interface-requires c κs =
+    let at-loop-test = c .before .before .before .before .before in
+    let at-loop = at-loop-test .before in
+    let at-order-of = at-loop .before in
     let s = c .before .before .before .before .before .before .before .before in
-    let o = c .before .before .before .before .before .before .before .order-of in
-    let i = c .before .before .before .before .before .before .loop .i in
-    unit-low (s .args .b .now) (s .pre .0) (s .args .unit) (s .pre .1 .0) (o .result) (o .ensures) i (getD (o .result .units) i 0) (c .before .before .before .before .before .loop-test .taken) refl
+    let i = at-loop .loop .i in
+    unit-low (s .args .b .now) (s .pre .0) (s .args .unit) (s .pre .1 .0) (at-order-of .order-of .result) (at-order-of .order-of .ensures) i (getD (at-order-of .order-of .result .units) i 0) (at-loop-test .loop-test .taken) refl
 
 add-passed : tie.Need-add-passed Inv-loop μ-loop
 add-passed c =
+    let at-loop-test = c .before .before .before .before .before .before .before in
+    let at-loop = at-loop-test .before in
+    let at-order-of = at-loop .before in
     let s = c .before .before .before .before .before .before .before .before .before .before in
-    let o = c .before .before .before .before .before .before .before .before .before .order-of in
-    let l = c .before .before .before .before .before .before .before .before .loop in
-    let n = used-small (s .args .b .now) (s .pre .0) (s .args .unit) (s .pre .1 .0) (o .result) (o .ensures) (l .i) (getD (o .result .units) (l .i) 0) (c .before .before .before .before .before .before .before .loop-test .taken) refl (c .before .load-interface .result) (c .before .load-interface .ensures) in
-    omega (arith, n, l .inv .small, c .before .before .before .before .before .before .before .loop-test .taken, o .ensures .few)
+    let n = used-small (s .args .b .now) (s .pre .0) (s .args .unit) (s .pre .1 .0) (at-order-of .order-of .result) (at-order-of .order-of .ensures) (at-loop .loop .i) (getD (at-order-of .order-of .result .units) (at-loop .loop .i) 0) (at-loop-test .loop-test .taken) refl (c .before .load-interface .result) (c .before .load-interface .ensures) in
+    omega (arith, n, at-loop .loop .inv .small, at-loop-test .loop-test .taken, at-order-of .order-of .ensures .few)
 
 add-i : tie.Need-add-i Inv-loop μ-loop
-add-i c = omega (arith, c .before .before .before .before .before .before .before .loop-test .taken, c .before .before .before .before .before .before .before .before .before .order-of .ensures .few)
+add-i c =
+    let at-loop-test = c .before .before .before .before .before .before .before in
+    let at-order-of = at-loop-test .before .before in
+    omega (arith, at-loop-test .loop-test .taken, at-order-of .order-of .ensures .few)
 
 loop-less : tie.Need-loop-less Inv-loop μ-loop
-loop-less c = omega (arith, c .before .before .before .before .before .before .before .loop-test .taken)
+loop-less c =
+    let at-loop-test = c .before .before .before .before .before .before .before in
+    omega (arith, at-loop-test .loop-test .taken)
 
 loop-again : tie.Need-loop-again Inv-loop μ-loop
 loop-again c =

@@ -2,6 +2,7 @@
 use native.Mathlib.Omega.{arith}
 use mathlib.Core.Path.{sym, _∙_}
 use lib.Seq.{length-take-le}
+use Rattle.outcomes.proofs.Outcomes.{sound-after}
 use Rattle.text_calls.proofs.Members.{few-low}
 use Rattle.record_reads.proofs.Reading.{count-B, room-B}
 use Rattle.record_calls.proofs.Doing.{done-blossom}
@@ -46,16 +47,34 @@ name-requires-2 : tie.Need-name-requires-2
 name-requires-2 c κs = search needs
 
 slice-reshare-prefix-create-blossom : tie.Need-slice-reshare-prefix-create-blossom
-slice-reshare-prefix-create-blossom c = omega (arith, c .before .before .before .before .before .before .before .before .before .before .before .before .before .before .before .before .before .before .before .before .few .ensures .most, c .before .before .before .before .before .before .before .before .before .before .before .before .before .before .before .before .before .lay .ensures .long, c .before .before .before .before .before .before .before .before .before .name .ensures .long, c .before .before .before .before .before .before .before .before .before .before .before .before .before .before .before .before .before .before .before .before .before .before .before .before .before .before .pre .1 .1 .1 .0)
+slice-reshare-prefix-create-blossom c =
+    let f = c .before .before .before .before .before .before .before .before .before .before .before .before .before .before .before .before .before .before .before .before .few in
+    let l = c .before .before .before .before .before .before .before .before .before .before .before .before .before .before .before .before .before .lay in
+    let n = c .before .before .before .before .before .before .before .before .before .name in
+    let z = c .before .before .before .before .before .before .before .before .before .before .before .before .before .before .before .before .before .before .before .before .before .before .before .before .before .before in
+    omega (arith, f .ensures .most, l .ensures .long, n .ensures .long, z .pre .1 .1 .1 .0)
 
 slice-aggregate-create-blossom : tie.Need-slice-aggregate-create-blossom
-slice-aggregate-create-blossom c = sym (length-take-le _ _ (omega (arith, c .before .before .before .before .before .before .before .before .before .before .before .before .before .before .before .before .before .before .before .before .before .few .ensures .most, c .before .before .before .before .before .before .before .before .before .before .before .before .before .before .before .before .before .before .lay .ensures .long, c .before .before .before .before .before .before .before .before .before .before .name .ensures .long, c .before .before .before .before .before .before .before .before .before .before .before .before .before .before .before .before .before .before .before .before .before .before .before .before .before .before .before .pre .1 .1 .1 .0)))
+slice-aggregate-create-blossom c =
+    let f = c .before .before .before .before .before .before .before .before .before .before .before .before .before .before .before .before .before .before .before .before .before .few in
+    let l = c .before .before .before .before .before .before .before .before .before .before .before .before .before .before .before .before .before .before .lay in
+    let n = c .before .before .before .before .before .before .before .before .before .before .name in
+    let z = c .before .before .before .before .before .before .before .before .before .before .before .before .before .before .before .before .before .before .before .before .before .before .before .before .before .before .before in
+    sym (length-take-le _ _ (omega (arith, f .ensures .most, l .ensures .long, n .ensures .long, z .pre .1 .1 .1 .0)))
 
 slice-reshare-prefix-create-blossom-2 : tie.Need-slice-reshare-prefix-create-blossom-2
-slice-reshare-prefix-create-blossom-2 c = omega (arith, c .before .before .before .before .before .before .before .before .before .before .before .before .before .before .before .before .before .before .before .before .before .few .ensures .most, c .before .before .before .before .before .before .before .before .before .before .before .before .before .before .before .before .before .before .lay .ensures .wide, c .before .before .before .before .name2 .ensures .long, c .before .before .before .before .before .before .before .before .before .before .before .before .before .before .before .before .before .before .before .before .before .before .before .before .before .before .before .pre .1 .1 .1 .1)
+slice-reshare-prefix-create-blossom-2 c =
+    let f = c .before .before .before .before .before .before .before .before .before .before .before .before .before .before .before .before .before .before .before .before .before .few in
+    let l = c .before .before .before .before .before .before .before .before .before .before .before .before .before .before .before .before .before .before .lay in
+    let z = c .before .before .before .before .before .before .before .before .before .before .before .before .before .before .before .before .before .before .before .before .before .before .before .before .before .before .before in
+    omega (arith, f .ensures .most, l .ensures .wide, c .before .before .before .before .name2 .ensures .long, z .pre .1 .1 .1 .1)
 
 slice-aggregate-create-blossom-2 : tie.Need-slice-aggregate-create-blossom-2
-slice-aggregate-create-blossom-2 c = sym (length-take-le _ _ (omega (arith, c .before .before .before .before .before .before .before .before .before .before .before .before .before .before .before .before .before .before .before .before .before .before .few .ensures .most, c .before .before .before .before .before .before .before .before .before .before .before .before .before .before .before .before .before .before .before .lay .ensures .wide, c .before .before .before .before .before .name2 .ensures .long, c .before .before .before .before .before .before .before .before .before .before .before .before .before .before .before .before .before .before .before .before .before .before .before .before .before .before .before .before .pre .1 .1 .1 .1)))
+slice-aggregate-create-blossom-2 c =
+    let f = c .before .before .before .before .before .before .before .before .before .before .before .before .before .before .before .before .before .before .before .before .before .before .few in
+    let l = c .before .before .before .before .before .before .before .before .before .before .before .before .before .before .before .before .before .before .before .lay in
+    let z = c .before .before .before .before .before .before .before .before .before .before .before .before .before .before .before .before .before .before .before .before .before .before .before .before .before .before .before .before in
+    sym (length-take-le _ _ (omega (arith, f .ensures .most, l .ensures .wide, c .before .before .before .before .before .name2 .ensures .long, z .pre .1 .1 .1 .1)))
 
 create-blossom-requires : tie.Need-create-blossom-requires
 create-blossom-requires c κs = search needs
@@ -64,21 +83,33 @@ keep-requires : tie.Need-keep-requires
 keep-requires c κs = search needs
 
 tell-requires : tie.Need-tell-requires
-tell-requires c κs = search needs
+tell-requires c κs =
+    let z = c .before .before .before .before .before .before .before .before .before .before .before .before .before .before .before .before .before .before .before .before .before .before .before .before .before .before .before .before .before .before .before .before in
+    sound-after (z .pre .0) (c .before .before .before .create-blossom .ensures .0)
 
 same-length : tie.Need-same-length
-same-length c = c .before .before .before .before .before .before .before .before .before .before .before .before .before .before .before .before .name .ensures .long ∙ c .before .before .before .before .before .before .before .before .before .before .before .before .before .before .before .before .before .before .before .before .before .before .before .before .lay .ensures .long
+same-length c =
+    let n = c .before .before .before .before .before .before .before .before .before .before .before .before .before .before .before .before .name in
+    let l = c .before .before .before .before .before .before .before .before .before .before .before .before .before .before .before .before .before .before .before .before .before .before .before .before .lay in
+    n .ensures .long ∙ l .ensures .long
 
 same-length-2 : tie.Need-same-length-2
-same-length-2 c = c .before .before .before .before .before .before .before .before .before .before .name2 .ensures .long ∙ c .before .before .before .before .before .before .before .before .before .before .before .before .before .before .before .before .before .before .before .before .before .before .before .before .lay .ensures .wide
+same-length-2 c =
+    let m = c .before .before .before .before .before .before .before .before .before .before .name2 in
+    let l = c .before .before .before .before .before .before .before .before .before .before .before .before .before .before .before .before .before .before .before .before .before .before .before .before .lay in
+    m .ensures .long ∙ l .ensures .wide
 
 returns : tie.Need-returns
 returns c =
     let z = c .before .before .before .before .before .before .before .before .before .before .before .before .before .before .before .before .before .before .before .before .before .before .before .before .before .before .before .before .before .before .before .before .before in
-    let a = z .args in
+    let t = c .before .before .before .before .before .before .before .before .before .before .before .before .before .before .before .before .before .before .before .before .before .before .before .before .before .before .before .before .two-at in
     let f = c .before .before .before .before .before .before .before .before .before .before .before .before .before .before .before .before .before .before .before .before .before .before .before .before .before .before .before .few in
-    done-blossom (a .b .now) (z .pre .0) (a .s .now) (a .p) (z .pre .1 .0) (z .pre .1 .1 .0) (c .before .before .before .before .before .before .before .before .before .before .before .before .before .before .before .before .before .before .before .before .before .before .before .before .before .before .before .before .two-at .result) (f .result) (c .before .before .before .before .before .before .before .before .before .before .before .before .before .before .before .before .before .before .before .before .before .before .before .before .before .before .before .before .two-at .ensures .0) (f .ensures)
-    (a .members .now) (a .touching .now) _ _ _ _ (z .pre .1 .1 .1 .0) (z .pre .1 .1 .1 .1) (c .before .before .before .before .before .before .before .before .before .before .before .before .before .before .before .before .before .before .before .before .before .before .before .before .lay .ensures) (c .before .before .before .before .before .before .before .before .before .before .before .before .before .before .before .before .name .ensures) (c .before .before .before .before .before .before .before .before .before .before .name2 .ensures)
+    let l = c .before .before .before .before .before .before .before .before .before .before .before .before .before .before .before .before .before .before .before .before .before .before .before .before .lay in
+    let n = c .before .before .before .before .before .before .before .before .before .before .before .before .before .before .before .before .name in
+    let m = c .before .before .before .before .before .before .before .before .before .before .name2 in
+    let a = z .args in
+    done-blossom (a .b .now) (z .pre .0) (a .s .now) (a .p) (z .pre .1 .0) (z .pre .1 .1 .0) (t .result) (f .result) (t .ensures .0) (f .ensures)
+    (a .members .now) (a .touching .now) _ _ _ _ (z .pre .1 .1 .1 .0) (z .pre .1 .1 .1 .1) (l .ensures) (n .ensures) (m .ensures)
     _ _ _ (c .before .before .before .before .create-blossom .ensures) (c .tell .result) (c .tell .ensures)
 
 pub blossom-spec : {M : Type 1} → statement M

@@ -33,9 +33,12 @@ same-length-3 c = search needs
 
 returns-2 : tie.Need-returns-2
 returns-2 c =
+    let at-line-at = c .before .before .before .before .before .before in
+    let at-if1 = at-line-at .before in
+    let at-shared-slice-known = at-if1 .before .before .before .before in
     let z = c .before .before .before .before .before .before .before .before .before .before .before .before in
     let a = z .args in
-    done-line (a .b .now) (a .s .now) (a .p) (z .pre .1 .0) (bytes-from (a .s .now) (a .p) (c .before .before .before .before .before .before .before .before .before .before .before .shared-slice-known .given)) (c .before .before .before .before .before .before .before .if1 .left) (c .before .before .before .before .before .before .line-at .result) (c .before .before .before .before .before .before .line-at .ensures) (a .members .now)
+    done-line (a .b .now) (a .s .now) (a .p) (z .pre .1 .0) (bytes-from (a .s .now) (a .p) (at-shared-slice-known .shared-slice-known .given)) (at-if1 .if1 .left) (at-line-at .line-at .result) (at-line-at .line-at .ensures) (a .members .now)
     (c .before .before .turn .result) _ (c .before .before .turn .ensures)
 
 pub perform-spec : {M : Type 1} → statement M

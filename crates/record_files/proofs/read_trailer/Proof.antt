@@ -40,28 +40,32 @@ is-fitting-requires c κs = search needs
 
 returns-2 : tie.Need-returns-2
 returns-2 c =
-    let s = c .before .before .before .before .before .before .before .before .args .s .now in
+    let at-four-at2 = c .before .before .before .before in
+    let at-four-at = at-four-at2 .before in
+    let at-if1 = at-four-at .before in
+    let start = at-if1 .before .before in
+    let s = start .args .s .now in
     let n = length s - 16 in
-    let long : length s ≡ n + 16 = omega (arith, c .before .before .before .before .before .before .if1 .left) in
-    let w = c .before .before .before .before .before .four-at in
-    let x = c .before .before .before .before .four-at2 in
+    let long : length s ≡ n + 16 = omega (arith, at-if1 .if1 .left) in
     let y = c .before .before .before .four-at3 in
     let z = c .before .before .four-at4 in
-    fit s n long (w .result) (x .result) (y .result) (z .result) (w .ensures .0) (x .ensures .0) (y .ensures .0) (z .ensures .0) (sym (c .before .is-fitting .ensures) ∙ c .if2 .taken)
+    fit s n long (at-four-at .four-at .result) (at-four-at2 .four-at2 .result) (y .result) (z .result) (at-four-at .four-at .ensures .0) (at-four-at2 .four-at2 .ensures .0) (y .ensures .0) (z .ensures .0) (sym (c .before .is-fitting .ensures) ∙ c .if2 .taken)
 
 no-trailer-requires-2 : tie.Need-no-trailer-requires-2
 no-trailer-requires-2 c κs = search needs
 
 returns-3 : tie.Need-returns-3
 returns-3 c =
-    let s = c .before .before .before .before .before .before .before .before .before .args .s .now in
+    let at-four-at3 = c .before .before .before .before in
+    let at-four-at2 = at-four-at3 .before in
+    let at-four-at = at-four-at2 .before in
+    let at-if1 = at-four-at .before in
+    let start = at-if1 .before .before in
+    let s = start .args .s .now in
     let n = length s - 16 in
-    let long : length s ≡ n + 16 = omega (arith, c .before .before .before .before .before .before .before .if1 .left) in
-    let w = c .before .before .before .before .before .before .four-at in
-    let x = c .before .before .before .before .before .four-at2 in
-    let y = c .before .before .before .before .four-at3 in
+    let long : length s ≡ n + 16 = omega (arith, at-if1 .if1 .left) in
     let z = c .before .before .before .four-at4 in
-    c .no-trailer2 .ensures ∙ unfit s n long (w .result) (x .result) (y .result) (z .result) (w .ensures .0) (x .ensures .0) (y .ensures .0) (z .ensures .0) (sym (c .before .before .is-fitting .ensures) ∙ c .before .if2 .left)
+    c .no-trailer2 .ensures ∙ unfit s n long (at-four-at .four-at .result) (at-four-at2 .four-at2 .result) (at-four-at3 .four-at3 .result) (z .result) (at-four-at .four-at .ensures .0) (at-four-at2 .four-at2 .ensures .0) (at-four-at3 .four-at3 .ensures .0) (z .ensures .0) (sym (c .before .before .is-fitting .ensures) ∙ c .before .if2 .left)
 
 pub read-trailer-spec : {M : Type 1} → statement M
 read-trailer-spec =

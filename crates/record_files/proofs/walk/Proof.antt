@@ -44,39 +44,52 @@ returns-2 c =
 
 add-p : tie.Need-add-p Inv-loop μ-loop
 add-p c =
-    let a = c .before .before .before .before .before .before .before .before .args in
-    let l = c .before .before .before .before .before .loop in
+    let at-loop = c .before .before .before .before .before in
+    let at-shared-slice-known2 = at-loop .before in
+    let start = at-shared-slice-known2 .before .before in
     let m = c .before .measure in
-    let g = stands (a .t .now) (l .p) (m .result) (m .ensures) (l .inv .low) (bytes-from (a .t .now) (l .p) (c .before .before .before .before .before .before .shared-slice-known2 .given)) (c .if2 .left) in
+    let g = stands (start .args .t .now) (at-loop .loop .p) (m .result) (m .ensures) (at-loop .loop .inv .low) (bytes-from (start .args .t .now) (at-loop .loop .p) (at-shared-slice-known2 .shared-slice-known2 .given)) (c .if2 .left) in
     omega (arith, g .fits, ap (λ (x : Measured). x .size) (g .is))
 
 add-entry : tie.Need-add-entry Inv-loop μ-loop
-add-entry c = omega (arith, c .before .before .before .before .before .loop .inv .entries, c .before .before .before .before .loop-test .taken, c .before .before .before .before .before .before .before .before .pre .0)
+add-entry c =
+    let at-loop-test = c .before .before .before .before in
+    let at-loop = at-loop-test .before in
+    let start = at-loop .before .before .before in
+    omega (arith, at-loop .loop .inv .entries, at-loop-test .loop-test .taken, start .pre .0)
 
 sub-left : tie.Need-sub-left Inv-loop μ-loop
 sub-left c = omega (arith, c .before .before .before .before .loop-test .taken)
 
 add-text : tie.Need-add-text Inv-loop μ-loop
 add-text c =
-    let a = c .before .before .before .before .before .before .before .before .before .args in
-    let l = c .before .before .before .before .before .before .loop in
+    let at-loop-test = c .before .before .before .before .before in
+    let at-loop = at-loop-test .before in
+    let at-shared-slice-known2 = at-loop .before in
+    let start = at-shared-slice-known2 .before .before in
     let m = c .before .before .measure in
-    let g = stands (a .t .now) (l .p) (m .result) (m .ensures) (l .inv .low) (bytes-from (a .t .now) (l .p) (c .before .before .before .before .before .before .before .shared-slice-known2 .given)) (c .before .if2 .left) in
-    omega (arith, l .inv .short, c .before .before .before .before .before .loop-test .taken, c .before .before .before .before .before .before .before .before .before .pre .1, g .short, ap (λ (x : Measured). x .line) (g .is))
+    let g = stands (start .args .t .now) (at-loop .loop .p) (m .result) (m .ensures) (at-loop .loop .inv .low) (bytes-from (start .args .t .now) (at-loop .loop .p) (at-shared-slice-known2 .shared-slice-known2 .given)) (c .before .if2 .left) in
+    omega (arith, at-loop .loop .inv .short, at-loop-test .loop-test .taken, start .pre .1, g .short, ap (λ (x : Measured). x .line) (g .is))
 
 both-requires : tie.Need-both-requires Inv-loop μ-loop
 both-requires c κs = search needs
 
 loop-less : tie.Need-loop-less Inv-loop μ-loop
-loop-less c = omega (arith, c .before .before .before .before .before .before .loop-test .taken)
+loop-less c =
+    let at-loop-test = c .before .before .before .before .before .before in
+    omega (arith, at-loop-test .loop-test .taken)
 
 loop-again : tie.Need-loop-again Inv-loop μ-loop
 loop-again c =
-    let a = c .before .before .before .before .before .before .before .before .before .before .args in
-    let l = c .before .before .before .before .before .before .before .loop in
+    let at-if1 = c .before .before .before .before in
+    let at-four-at = at-if1 .before in
+    let at-loop-test = at-four-at .before in
+    let at-loop = at-loop-test .before in
+    let at-shared-slice-known2 = at-loop .before in
+    let start = at-shared-slice-known2 .before .before in
     let m = c .before .before .before .measure in
-    let g = stands (a .t .now) (l .p) (m .result) (m .ensures) (l .inv .low) (bytes-from (a .t .now) (l .p) (c .before .before .before .before .before .before .before .before .shared-slice-known2 .given)) (c .before .before .if2 .left) in
-    walk-on (a .s .now) (a .t .now) (a .list) (a .count) (l .p) (l .entry) (l .left) (l .text) (l .own) (l .inv) (c .before .before .before .before .before .before .loop-test .taken) (c .before .before .before .before .before .four-at .result) (c .before .before .before .before .before .four-at .ensures .0) (c .before .before .before .before .if1 .left) (m .result) (c .both .result) g (c .both .ensures)
+    let g = stands (start .args .t .now) (at-loop .loop .p) (m .result) (m .ensures) (at-loop .loop .inv .low) (bytes-from (start .args .t .now) (at-loop .loop .p) (at-shared-slice-known2 .shared-slice-known2 .given)) (c .before .before .if2 .left) in
+    walk-on (start .args .s .now) (start .args .t .now) (start .args .list) (start .args .count) (at-loop .loop .p) (at-loop .loop .entry) (at-loop .loop .left) (at-loop .loop .text) (at-loop .loop .own) (at-loop .loop .inv) (at-loop-test .loop-test .taken) (at-four-at .four-at .result) (at-four-at .four-at .ensures .0) (at-if1 .if1 .left) (m .result) (c .both .result) g (c .both .ensures)
 
 not-file-requires-3 : tie.Need-not-file-requires-3 Inv-loop μ-loop
 not-file-requires-3 c κs = search needs

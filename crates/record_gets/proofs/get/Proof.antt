@@ -26,91 +26,107 @@ front-of-requires c κs = search needs
 
 mul-size : tie.Need-mul-size
 mul-size c =
-    let a = c .before .before .before .before .before .before .before .before .args in
-    let s = a .file .now in
-    let f = c .before .before .before .before .before .find in
-    let p = f .result .place in
-    let h = f .ensures .found (c .before .before .before .if1 .left) in
-    let b = bytes-from s p (c .before .before .before .before .before .before .before .shared-slice-known .given) in
+    let at-find = c .before .before .before .before .before in
+    let at-shared-slice-known = at-find .before .before in
+    let start = at-shared-slice-known .before in
+    let s = start .args .file .now in
+    let p = at-find .find .result .place in
+    let h = at-find .find .ensures .found (c .before .before .before .if1 .left) in
+    let b = bytes-from s p (at-shared-slice-known .shared-slice-known .given) in
     let l = c .before .before .line-at in
     let w = c .before .front-of in
-    omega (arith, members-room s (a .k) p b h (l .result) (l .ensures) (w .result) (w .ensures), c .before .before .before .before .before .before .before .before .good)
+    omega (arith, members-room s (start .args .k) p b h (l .result) (l .ensures) (w .result) (w .ensures), start .good)
 
 add-size : tie.Need-add-size
 add-size c =
-    let a = c .before .before .before .before .before .before .before .before .before .args in
-    let s = a .file .now in
-    let f = c .before .before .before .before .before .before .find in
-    let p = f .result .place in
-    let h = f .ensures .found (c .before .before .before .before .if1 .left) in
-    let b = bytes-from s p (c .before .before .before .before .before .before .before .before .shared-slice-known .given) in
+    let at-if1 = c .before .before .before .before in
+    let at-find = at-if1 .before .before in
+    let at-shared-slice-known = at-find .before .before in
+    let start = at-shared-slice-known .before in
+    let s = start .args .file .now in
+    let p = at-find .find .result .place in
+    let h = at-find .find .ensures .found (at-if1 .if1 .left) in
+    let b = bytes-from s p (at-shared-slice-known .shared-slice-known .given) in
     let l = c .before .before .before .line-at in
     let w = c .before .before .front-of in
-    omega (arith, members-room s (a .k) p b h (l .result) (l .ensures) (w .result) (w .ensures), fronted s (a .k) p b h (l .result) (l .ensures) (w .result) (w .ensures) .1, c .before .before .before .before .before .before .before .before .before .good)
+    omega (arith, members-room s (start .args .k) p b h (l .result) (l .ensures) (w .result) (w .ensures), fronted s (start .args .k) p b h (l .result) (l .ensures) (w .result) (w .ensures) .1, start .good)
 
 returns-2 : tie.Need-returns-2
 returns-2 c =
-    let a = c .before .before .before .before .before .before .before .before .before .before .args in
-    let s = a .file .now in
-    let f = c .before .before .before .before .before .before .before .find in
-    let p = f .result .place in
-    let h = f .ensures .found (c .before .before .before .before .before .if1 .left) in
-    let b = bytes-from s p (c .before .before .before .before .before .before .before .before .before .shared-slice-known .given) in
-    let l = c .before .before .before .before .line-at in
+    let at-line-at = c .before .before .before .before in
+    let at-if1 = at-line-at .before in
+    let at-find = at-if1 .before .before in
+    let at-shared-slice-known = at-find .before .before in
+    let start = at-shared-slice-known .before in
+    let s = start .args .file .now in
+    let p = at-find .find .result .place in
+    let h = at-find .find .ensures .found (at-if1 .if1 .left) in
+    let b = bytes-from s p (at-shared-slice-known .shared-slice-known .given) in
     let w = c .before .before .before .front-of in
-    no-space s (a .k) p b h (l .result) (l .ensures) (w .result) (w .ensures) (a .out .now) (c .if2 .taken)
+    no-space s (start .args .k) p b h (at-line-at .line-at .result) (at-line-at .line-at .ensures) (w .result) (w .ensures) (start .args .out .now) (c .if2 .taken)
 
 put-front-requires : tie.Need-put-front-requires
 put-front-requires c κs =
-    let a = c .before .before .before .before .before .before .before .before .before .before .before .args in
-    let s = a .file .now in
-    let f = c .before .before .before .before .before .before .before .before .find in
-    let p = f .result .place in
-    let h = f .ensures .found (c .before .before .before .before .before .before .if1 .left) in
-    let b = bytes-from s p (c .before .before .before .before .before .before .before .before .before .before .shared-slice-known .given) in
-    let l = c .before .before .before .before .before .line-at in
-    let w = c .before .before .before .before .front-of in
-    let r = fronted s (a .k) p b h (l .result) (l .ensures) (w .result) (w .ensures) in
+    let at-front-of = c .before .before .before .before in
+    let at-line-at = at-front-of .before in
+    let at-if1 = at-line-at .before in
+    let at-find = at-if1 .before .before in
+    let at-shared-slice-known = at-find .before .before in
+    let start = at-shared-slice-known .before in
+    let s = start .args .file .now in
+    let p = at-find .find .result .place in
+    let h = at-find .find .ensures .found (at-if1 .if1 .left) in
+    let b = bytes-from s p (at-shared-slice-known .shared-slice-known .given) in
+    let r = fronted s (start .args .k) p b h (at-line-at .line-at .result) (at-line-at .line-at .ensures) (at-front-of .front-of .result) (at-front-of .front-of .ensures) in
     (r .0, (r .1, omega (arith, c .before .if2 .left)))
 
 add-put-members : tie.Need-add-put-members
 add-put-members c =
-    let a = c .before .before .before .before .before .before .before .before .before .before .before .before .before .before .args in
-    let s = a .file .now in
-    let f = c .before .before .before .before .before .before .before .before .before .before .before .find in
-    let p = f .result .place in
-    let h = f .ensures .found (c .before .before .before .before .before .before .before .before .before .if1 .left) in
-    let b = bytes-from s p (c .before .before .before .before .before .before .before .before .before .before .before .before .before .shared-slice-known .given) in
-    let l = c .before .before .before .before .before .before .before .before .line-at in
-    let w = c .before .before .before .before .before .before .before .front-of in
-    omega (arith, members-room s (a .k) p b h (l .result) (l .ensures) (w .result) (w .ensures), c .before .before .before .before .before .before .before .before .before .before .before .before .before .before .good)
+    let at-front-of = c .before .before .before .before .before .before .before in
+    let at-line-at = at-front-of .before in
+    let at-if1 = at-line-at .before in
+    let at-find = at-if1 .before .before in
+    let at-shared-slice-known = at-find .before .before in
+    let start = at-shared-slice-known .before in
+    let s = start .args .file .now in
+    let p = at-find .find .result .place in
+    let h = at-find .find .ensures .found (at-if1 .if1 .left) in
+    let b = bytes-from s p (at-shared-slice-known .shared-slice-known .given) in
+    omega (arith, members-room s (start .args .k) p b h (at-line-at .line-at .result) (at-line-at .line-at .ensures) (at-front-of .front-of .result) (at-front-of .front-of .ensures), start .good)
 
 put-members-requires : tie.Need-put-members-requires
 put-members-requires c κs =
-    let a = c .before .before .before .before .before .before .before .before .before .before .before .before .before .before .before .args in
-    let s = a .file .now in
-    let f = c .before .before .before .before .before .before .before .before .before .before .before .before .find in
-    let p = f .result .place in
-    let h = f .ensures .found (c .before .before .before .before .before .before .before .before .before .before .if1 .left) in
-    let b = bytes-from s p (c .before .before .before .before .before .before .before .before .before .before .before .before .before .before .shared-slice-known .given) in
-    let l = c .before .before .before .before .before .before .before .before .before .line-at in
-    let w = c .before .before .before .before .before .before .before .before .front-of in
-    (members-room s (a .k) p b h (l .result) (l .ensures) (w .result) (w .ensures), omega (arith, c .before .before .before .before .before .if2 .left, c .before .before .before .put-front .kept .0))
+    let at-if2 = c .before .before .before .before .before in
+    let at-front-of = at-if2 .before .before .before in
+    let at-line-at = at-front-of .before in
+    let at-if1 = at-line-at .before in
+    let at-find = at-if1 .before .before in
+    let at-shared-slice-known = at-find .before .before in
+    let start = at-shared-slice-known .before in
+    let s = start .args .file .now in
+    let p = at-find .find .result .place in
+    let h = at-find .find .ensures .found (at-if1 .if1 .left) in
+    let b = bytes-from s p (at-shared-slice-known .shared-slice-known .given) in
+    (members-room s (start .args .k) p b h (at-line-at .line-at .result) (at-line-at .line-at .ensures) (at-front-of .front-of .result) (at-front-of .front-of .ensures), omega (arith, at-if2 .if2 .left, c .before .before .before .put-front .kept .0))
 
 same-length : tie.Need-same-length
 same-length c = search needs
 
 returns-3 : tie.Need-returns-3
 returns-3 c =
-    let a = c .before .before .before .before .before .before .before .before .before .before .before .before .before .before .before .before .before .before .args in
-    let s = a .file .now in
-    let f = c .before .before .before .before .before .before .before .before .before .before .before .before .before .before .before .find in
-    let p = f .result .place in
-    let h = f .ensures .found (c .before .before .before .before .before .before .before .before .before .before .before .before .before .if1 .left) in
-    let b = bytes-from s p (c .before .before .before .before .before .before .before .before .before .before .before .before .before .before .before .before .before .shared-slice-known .given) in
-    let l = c .before .before .before .before .before .before .before .before .before .before .before .before .line-at in
-    let w = c .before .before .before .before .before .before .before .before .before .before .before .front-of in
-    got s (a .k) p b h (l .result) (l .ensures) (w .result) (w .ensures) (a .out .now) (c .before .before .before .before .before .before .before .before .if2 .left) _ _ (c .before .before .before .before .before .before .put-front .ensures) (c .before .before .put-members .ensures)
+    let at-put-front = c .before .before .before .before .before .before in
+    let at-if2 = at-put-front .before .before in
+    let at-front-of = at-if2 .before .before .before in
+    let at-line-at = at-front-of .before in
+    let at-if1 = at-line-at .before in
+    let at-find = at-if1 .before .before in
+    let at-shared-slice-known = at-find .before .before in
+    let start = at-shared-slice-known .before in
+    let s = start .args .file .now in
+    let p = at-find .find .result .place in
+    let h = at-find .find .ensures .found (at-if1 .if1 .left) in
+    let b = bytes-from s p (at-shared-slice-known .shared-slice-known .given) in
+    got s (start .args .k) p b h (at-line-at .line-at .result) (at-line-at .line-at .ensures) (at-front-of .front-of .result) (at-front-of .front-of .ensures) (start .args .out .now) (at-if2 .if2 .left) _ _ (at-put-front .put-front .ensures) (c .before .before .put-members .ensures)
 
 pub get-spec : {M : Type 1} → statement M
 get-spec =

@@ -32,58 +32,63 @@ begins-requires c κs = search needs
 
 returns : tie.Need-returns
 returns c =
+    let at-end-of = c .before .before .before .before in
+    let at-four-at = at-end-of .before in
+    let at-shared-slice-known = at-four-at .before in
     let z = c .before .before .before .before .before .before .before in
     let a = z .args in
     let s = a .s .now in
-    let f = c .before .before .before .before .before .four-at in
-    let e = c .before .before .before .before .end-of in
     let m = c .before .before .measure in
-    let h = bytes-all s (c .before .before .before .before .before .before .shared-slice-known .given) in
-    astray s (a .list) (a .count) (a .k) h (z .pre .0) (z .pre .1) (f .result) (e .result) (f .ensures .0) (e .ensures) (m .result) (m .ensures) (sym (c .before .begins .ensures) ∙ not-true _ (c .if1 .taken))
+    let h = bytes-all s (at-shared-slice-known .shared-slice-known .given) in
+    astray s (a .list) (a .count) (a .k) h (z .pre .0) (z .pre .1) (at-four-at .four-at .result) (at-end-of .end-of .result) (at-four-at .four-at .ensures .0) (at-end-of .end-of .ensures) (m .result) (m .ensures) (sym (c .before .begins .ensures) ∙ not-true _ (c .if1 .taken))
 
 returns-2 : tie.Need-returns-2
 returns-2 c =
+    let at-end-of = c .before .before .before .before .before in
+    let at-four-at = at-end-of .before in
+    let at-shared-slice-known = at-four-at .before in
     let z = c .before .before .before .before .before .before .before .before in
     let a = z .args in
     let s = a .s .now in
-    let f = c .before .before .before .before .before .before .four-at in
-    let e = c .before .before .before .before .before .end-of in
     let m = c .before .before .before .measure in
-    let h = bytes-all s (c .before .before .before .before .before .before .before .shared-slice-known .given) in
-    nothing-there s (a .list) (a .count) (a .k) h (z .pre .0) (z .pre .1) (f .result) (e .result) (f .ensures .0) (e .ensures) (m .result) (m .ensures) (sym (c .before .before .begins .ensures) ∙ not-false _ (c .before .if1 .left)) (c .if2 .taken)
+    let h = bytes-all s (at-shared-slice-known .shared-slice-known .given) in
+    nothing-there s (a .list) (a .count) (a .k) h (z .pre .0) (z .pre .1) (at-four-at .four-at .result) (at-end-of .end-of .result) (at-four-at .four-at .ensures .0) (at-end-of .end-of .ensures) (m .result) (m .ensures) (sym (c .before .before .begins .ensures) ∙ not-false _ (c .before .if1 .left)) (c .if2 .taken)
 
 add-if3 : tie.Need-add-if3
 add-if3 c =
+    let at-end-of = c .before .before .before .before .before in
+    let at-four-at = at-end-of .before in
+    let at-shared-slice-known = at-four-at .before in
     let z = c .before .before .before .before .before .before .before .before in
     let a = z .args in
     let s = a .s .now in
-    let f = c .before .before .before .before .before .before .four-at in
-    let e = c .before .before .before .before .before .end-of in
     let m = c .before .before .before .measure in
-    let h = bytes-all s (c .before .before .before .before .before .before .before .shared-slice-known .given) in
-    omega (arith, z .pre .0, z .good, inside-list s (a .list) (a .count) (a .k) h (z .pre .0) (z .pre .1) (f .result) (e .result) (f .ensures .0) (e .ensures) (m .result) (m .ensures) (sym (c .before .before .begins .ensures) ∙ not-false _ (c .before .if1 .left)) (c .if2 .left))
+    let h = bytes-all s (at-shared-slice-known .shared-slice-known .given) in
+    omega (arith, z .pre .0, z .good, inside-list s (a .list) (a .count) (a .k) h (z .pre .0) (z .pre .1) (at-four-at .four-at .result) (at-end-of .end-of .result) (at-four-at .four-at .ensures .0) (at-end-of .end-of .ensures) (m .result) (m .ensures) (sym (c .before .before .begins .ensures) ∙ not-false _ (c .before .if1 .left)) (c .if2 .left))
 
 returns-3 : tie.Need-returns-3
 returns-3 c =
+    let at-measure = c .before .before .before .before in
+    let at-end-of = at-measure .before .before in
+    let at-four-at = at-end-of .before in
+    let at-shared-slice-known = at-four-at .before in
     let z = c .before .before .before .before .before .before .before .before .before in
     let a = z .args in
     let s = a .s .now in
-    let f = c .before .before .before .before .before .before .before .four-at in
-    let e = c .before .before .before .before .before .before .end-of in
-    let m = c .before .before .before .before .measure in
-    let h = bytes-all s (c .before .before .before .before .before .before .before .before .shared-slice-known .given) in
-    ends-elsewhere s (a .list) (a .count) (a .k) h (z .pre .0) (z .pre .1) (f .result) (e .result) (f .ensures .0) (e .ensures) (m .result) (m .ensures) (sym (c .before .before .before .begins .ensures) ∙ not-false _ (c .before .before .if1 .left)) (c .before .if2 .left) (c .if3 .taken)
+    let h = bytes-all s (at-shared-slice-known .shared-slice-known .given) in
+    ends-elsewhere s (a .list) (a .count) (a .k) h (z .pre .0) (z .pre .1) (at-four-at .four-at .result) (at-end-of .end-of .result) (at-four-at .four-at .ensures .0) (at-end-of .end-of .ensures) (at-measure .measure .result) (at-measure .measure .ensures) (sym (c .before .before .before .begins .ensures) ∙ not-false _ (c .before .before .if1 .left)) (c .before .if2 .left) (c .if3 .taken)
 
 returns-4 : tie.Need-returns-4
 returns-4 c =
+    let at-measure = c .before .before .before .before in
+    let at-end-of = at-measure .before .before in
+    let at-four-at = at-end-of .before in
+    let at-shared-slice-known = at-four-at .before in
     let z = c .before .before .before .before .before .before .before .before .before in
     let a = z .args in
     let s = a .s .now in
-    let f = c .before .before .before .before .before .before .before .four-at in
-    let e = c .before .before .before .before .before .before .end-of in
-    let m = c .before .before .before .before .measure in
-    let h = bytes-all s (c .before .before .before .before .before .before .before .before .shared-slice-known .given) in
-    stands-there s (a .list) (a .count) (a .k) h (z .pre .0) (z .pre .1) (f .result) (e .result) (f .ensures .0) (e .ensures) (m .result) (m .ensures) (sym (c .before .before .before .begins .ensures) ∙ not-false _ (c .before .before .if1 .left)) (c .before .if2 .left) (c .if3 .left)
+    let h = bytes-all s (at-shared-slice-known .shared-slice-known .given) in
+    stands-there s (a .list) (a .count) (a .k) h (z .pre .0) (z .pre .1) (at-four-at .four-at .result) (at-end-of .end-of .result) (at-four-at .four-at .ensures .0) (at-end-of .end-of .ensures) (at-measure .measure .result) (at-measure .measure .ensures) (sym (c .before .before .before .begins .ensures) ∙ not-false _ (c .before .before .if1 .left)) (c .before .if2 .left) (c .if3 .left)
 
 pub stand-spec : {M : Type 1} → statement M
 stand-spec =

@@ -1,7 +1,7 @@
 -- The match goes as the definition does. Assumes nothing.
 use native.Mathlib.Omega.{arith}
 use Prim.Native.Nat.{ℕ}
-use mathlib.Core.Path.{refl, sym, _∙_, ap}
+use mathlib.Core.Path.{sym, ap}
 use mathlib.Core.List.{List}
 use lib.ListN.{length}
 use lib.Seq.{sets}
@@ -48,8 +48,8 @@ byte-at-requires c κs = let a = c .before .before .before .before .args in omeg
 
 put-serial-state-requires : tie.Need-put-serial-state-requires
 put-serial-state-requires c κs =
-    let a = c .before .before .before .before .before .before .args in
-    omega (arith, c .before .before .before .before .before .before .pre .0, ap length (text-S (a .letter) (a .t .now) (a .q) (c .before .before .before .match .keys4) (c .before .before .four-at .result) (c .before .byte-at .result) (c .before .before .four-at .ensures .0) (c .before .byte-at .ensures .0)))
+    let start = c .before .before .before .before .before .before in
+    omega (arith, start .pre .0, ap length (text-S (start .args .letter) (start .args .t .now) (start .args .q) (c .before .before .before .match .keys4) (c .before .before .four-at .result) (c .before .byte-at .result) (c .before .before .four-at .ensures .0) (c .before .byte-at .ensures .0)))
 
 eight-at-requires : tie.Need-eight-at-requires
 eight-at-requires c κs = let a = c .before .before .before .args in omega (arith, c .before .before .before .pre .1, fields-G (a .letter) (a .t .now) (a .q) (c .match .keys5) .1)
@@ -70,8 +70,8 @@ byte-at-requires-3 c κs = let a = c .before .before .before .before .args in om
 
 put-halves-requires : tie.Need-put-halves-requires
 put-halves-requires c κs =
-    let a = c .before .before .before .before .before .before .args in
-    omega (arith, c .before .before .before .before .before .before .pre .0, ap length (text-F (a .letter) (a .t .now) (a .q) (c .before .before .before .match .keys6) (c .before .before .byte-at2 .result) (c .before .byte-at3 .result) (c .before .before .byte-at2 .ensures .0) (c .before .byte-at3 .ensures .0)))
+    let start = c .before .before .before .before .before .before in
+    omega (arith, start .pre .0, ap length (text-F (start .args .letter) (start .args .t .now) (start .args .q) (c .before .before .before .match .keys6) (c .before .before .byte-at2 .result) (c .before .byte-at3 .result) (c .before .before .byte-at2 .ensures .0) (c .before .byte-at3 .ensures .0)))
 
 same-length : tie.Need-same-length
 same-length c = search needs
@@ -102,8 +102,11 @@ same-length-4 c = search needs
 
 returns-4 : tie.Need-returns-4
 returns-4 c =
-    let a = c .before .before .before .before .before .before .before .before .before .args in
-    same-text (a .out .now) (a .at) _ _ _ _ (text-S (a .letter) (a .t .now) (a .q) (c .before .before .before .before .before .before .match .keys4) (c .before .before .before .before .before .four-at .result) (c .before .before .before .before .byte-at .result) (c .before .before .before .before .before .four-at .ensures .0) (c .before .before .before .before .byte-at .ensures .0)) (c .before .before .put-serial-state .ensures)
+    let at-byte-at = c .before .before .before .before in
+    let at-four-at = at-byte-at .before in
+    let at-match = at-four-at .before in
+    let start = at-match .before .before .before in
+    same-text (start .args .out .now) (start .args .at) _ _ _ _ (text-S (start .args .letter) (start .args .t .now) (start .args .q) (at-match .match .keys4) (at-four-at .four-at .result) (at-byte-at .byte-at .result) (at-four-at .four-at .ensures .0) (at-byte-at .byte-at .ensures .0)) (c .before .before .put-serial-state .ensures)
 
 same-length-5 : tie.Need-same-length-5
 same-length-5 c = search needs
@@ -118,8 +121,11 @@ same-length-6 c = search needs
 
 returns-6 : tie.Need-returns-6
 returns-6 c =
-    let a = c .before .before .before .before .before .before .before .before .before .args in
-    same-text (a .out .now) (a .at) _ _ _ _ (text-F (a .letter) (a .t .now) (a .q) (c .before .before .before .before .before .before .match .keys6) (c .before .before .before .before .before .byte-at2 .result) (c .before .before .before .before .byte-at3 .result) (c .before .before .before .before .before .byte-at2 .ensures .0) (c .before .before .before .before .byte-at3 .ensures .0)) (c .before .before .put-halves .ensures)
+    let at-byte-at3 = c .before .before .before .before in
+    let at-byte-at2 = at-byte-at3 .before in
+    let at-match = at-byte-at2 .before in
+    let start = at-match .before .before .before in
+    same-text (start .args .out .now) (start .args .at) _ _ _ _ (text-F (start .args .letter) (start .args .t .now) (start .args .q) (at-match .match .keys6) (at-byte-at2 .byte-at2 .result) (at-byte-at3 .byte-at3 .result) (at-byte-at2 .byte-at2 .ensures .0) (at-byte-at3 .byte-at3 .ensures .0)) (c .before .before .put-halves .ensures)
 
 returns-7 : tie.Need-returns-7
 unfolding tail

@@ -18,7 +18,9 @@ same-length c = search needs
 
 returns : tie.Need-returns
 returns c =
-    same-text (c .before .before .before .before .before .before .args .out .now) (c .before .before .before .before .before .before .args .at) _ _ _ _ (ap (λ (l : List ℕ). 32 ∷ l) (sym (above (c .before .before .before .before .before .before .args .n) (c .before .before .before .before .if1 .taken)))) (c .before .before .put-field .ensures)
+    let at-if1 = c .before .before .before .before in
+    let start = at-if1 .before .before in
+    same-text (start .args .out .now) (start .args .at) _ _ _ _ (ap (λ (l : List ℕ). 32 ∷ l) (sym (above (start .args .n) (at-if1 .if1 .taken)))) (c .before .before .put-field .ensures)
 
 size-below-requires : tie.Need-size-below-requires
 size-below-requires c κs = search needs
@@ -31,7 +33,9 @@ same-length-2 c = search needs
 
 returns-2 : tie.Need-returns-2
 returns-2 c =
-    same-text (c .before .before .before .before .before .before .before .args .out .now) (c .before .before .before .before .before .before .before .args .at) _ _ _ _ (ap (λ (l : List ℕ). 32 ∷ l) (sym (c .before .before .before .before .size-below .ensures))) (c .before .before .put-below .ensures)
+    let at-size-below = c .before .before .before .before in
+    let start = at-size-below .before .before .before in
+    same-text (start .args .out .now) (start .args .at) _ _ _ _ (ap (λ (l : List ℕ). 32 ∷ l) (sym (at-size-below .size-below .ensures))) (c .before .before .put-below .ensures)
 
 pub put-length-spec : {M : Type 1} → statement M
 put-length-spec =

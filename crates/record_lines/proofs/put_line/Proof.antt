@@ -44,45 +44,49 @@ put-field-requires c κs =
 
 add-put-fields : tie.Need-add-put-fields
 add-put-fields c =
-    let a = c .before .before .before .before .before .before .before .before .before .args in
-    let h = here (a .t .now) (a .p) (a .at) (length (a .out .now)) (c .before .before .before .before .before .before .before .before .before .pre) in
-    omega (arith, h .stood .long, c .before .before .before .before .before .before .before .before .before .good)
+    let start = c .before .before .before .before .before .before .before .before .before in
+    let h = here (start .args .t .now) (start .args .p) (start .args .at) (length (start .args .out .now)) (start .pre) in
+    omega (arith, h .stood .long, start .good)
 
 put-fields-requires : tie.Need-put-fields-requires
 put-fields-requires c κs =
-    let a = c .before .before .before .before .before .before .before .before .before .args in
-    let h = here (a .t .now) (a .p) (a .at) (length (a .out .now)) (c .before .before .before .before .before .before .before .before .before .pre) in
-    let l = getD (a .t .now) (a .p) 0 in
-    let u = c .before .before .before .before .before .byte-at in
-    (fields-room (a .t .now) (a .p) (a .at) (a .out .now) h l (u .result) refl (u .ensures .0) _ _ (c .before .before .before .put-field .ensures), numbers-there (a .t .now) (a .p) (a .at) (a .out .now) h l (u .result) refl (u .ensures .0))
+    let at-byte-at = c .before .before .before .before .before in
+    let start = at-byte-at .before .before .before .before in
+    let h = here (start .args .t .now) (start .args .p) (start .args .at) (length (start .args .out .now)) (start .pre) in
+    let l = getD (start .args .t .now) (start .args .p) 0 in
+    (fields-room (start .args .t .now) (start .args .p) (start .args .at) (start .args .out .now) h l (at-byte-at .byte-at .result) refl (at-byte-at .byte-at .ensures .0) _ _ (c .before .before .before .put-field .ensures), numbers-there (start .args .t .now) (start .args .p) (start .args .at) (start .args .out .now) h l (at-byte-at .byte-at .result) refl (at-byte-at .byte-at .ensures .0))
 
 slice-write-out-2 : tie.Need-slice-write-out-2
 slice-write-out-2 c =
-    let a = c .before .before .before .before .before .before .before .before .before .before .before .before .args in
-    let h = here (a .t .now) (a .p) (a .at) (length (a .out .now)) (c .before .before .before .before .before .before .before .before .before .before .before .before .pre) in
-    let u = c .before .before .before .before .before .before .before .before .byte-at in
-    omega (arith, end-room (a .t .now) (a .p) (a .at) (a .out .now) h (getD (a .t .now) (a .p) 0) (u .result) refl (u .ensures .0) _ _ (c .before .before .before .before .before .before .put-field .ensures) _ _ (c .before .before .put-fields .ensures))
+    let at-put-field = c .before .before .before .before .before .before in
+    let at-byte-at = at-put-field .before .before in
+    let start = at-byte-at .before .before .before .before in
+    let h = here (start .args .t .now) (start .args .p) (start .args .at) (length (start .args .out .now)) (start .pre) in
+    omega (arith, end-room (start .args .t .now) (start .args .p) (start .args .at) (start .args .out .now) h (getD (start .args .t .now) (start .args .p) 0) (at-byte-at .byte-at .result) refl (at-byte-at .byte-at .ensures .0) _ _ (at-put-field .put-field .ensures) _ _ (c .before .before .put-fields .ensures))
 
 add-result : tie.Need-add-result
 add-result c =
-    let a = c .before .before .before .before .before .before .before .before .before .before .before .before .args in
-    let h = here (a .t .now) (a .p) (a .at) (length (a .out .now)) (c .before .before .before .before .before .before .before .before .before .before .before .before .pre) in
-    let u = c .before .before .before .before .before .before .before .before .byte-at in
-    omega (arith, end-fits (a .t .now) (a .p) (a .at) (a .out .now) h (getD (a .t .now) (a .p) 0) (u .result) refl (u .ensures .0) _ _ (c .before .before .before .before .before .before .put-field .ensures) _ _ (c .before .before .put-fields .ensures), c .before .before .before .before .before .before .before .before .before .before .before .before .good)
+    let at-put-field = c .before .before .before .before .before .before in
+    let at-byte-at = at-put-field .before .before in
+    let start = at-byte-at .before .before .before .before in
+    let h = here (start .args .t .now) (start .args .p) (start .args .at) (length (start .args .out .now)) (start .pre) in
+    omega (arith, end-fits (start .args .t .now) (start .args .p) (start .args .at) (start .args .out .now) h (getD (start .args .t .now) (start .args .p) 0) (at-byte-at .byte-at .result) refl (at-byte-at .byte-at .ensures .0) _ _ (at-put-field .put-field .ensures) _ _ (c .before .before .put-fields .ensures), start .good)
 
 same-length : tie.Need-same-length
 same-length c =
-    let a = c .before .before .before .before .before .before .before .before .before .before .before .before .args in
-    let h = here (a .t .now) (a .p) (a .at) (length (a .out .now)) (c .before .before .before .before .before .before .before .before .before .before .before .before .pre) in
-    let u = c .before .before .before .before .before .before .before .before .byte-at in
-    whole-long (a .t .now) (a .p) (a .at) (a .out .now) h (getD (a .t .now) (a .p) 0) (u .result) refl (u .ensures .0) _ _ (c .before .before .before .before .before .before .put-field .ensures) _ _ (c .before .before .put-fields .ensures)
+    let at-put-field = c .before .before .before .before .before .before in
+    let at-byte-at = at-put-field .before .before in
+    let start = at-byte-at .before .before .before .before in
+    let h = here (start .args .t .now) (start .args .p) (start .args .at) (length (start .args .out .now)) (start .pre) in
+    whole-long (start .args .t .now) (start .args .p) (start .args .at) (start .args .out .now) h (getD (start .args .t .now) (start .args .p) 0) (at-byte-at .byte-at .result) refl (at-byte-at .byte-at .ensures .0) _ _ (at-put-field .put-field .ensures) _ _ (c .before .before .put-fields .ensures)
 
 returns : tie.Need-returns
 returns c =
-    let a = c .before .before .before .before .before .before .before .before .before .before .before .before .args in
-    let h = here (a .t .now) (a .p) (a .at) (length (a .out .now)) (c .before .before .before .before .before .before .before .before .before .before .before .before .pre) in
-    let u = c .before .before .before .before .before .before .before .before .byte-at in
-    whole-line (a .t .now) (a .p) (a .at) (a .out .now) h (getD (a .t .now) (a .p) 0) (u .result) refl (u .ensures .0) _ _ (c .before .before .before .before .before .before .put-field .ensures) _ _ (c .before .before .put-fields .ensures)
+    let at-put-field = c .before .before .before .before .before .before in
+    let at-byte-at = at-put-field .before .before in
+    let start = at-byte-at .before .before .before .before in
+    let h = here (start .args .t .now) (start .args .p) (start .args .at) (length (start .args .out .now)) (start .pre) in
+    whole-line (start .args .t .now) (start .args .p) (start .args .at) (start .args .out .now) h (getD (start .args .t .now) (start .args .p) 0) (at-byte-at .byte-at .result) refl (at-byte-at .byte-at .ensures .0) _ _ (at-put-field .put-field .ensures) _ _ (c .before .before .put-fields .ensures)
 
 pub put-line-spec : {M : Type 1} → statement M
 put-line-spec =

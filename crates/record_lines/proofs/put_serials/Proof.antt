@@ -18,12 +18,16 @@ four-at-requires c κs = omega (arith, c .before .loop .inv .members, c .loop-te
 
 put-field-requires : tie.Need-put-field-requires Inv-loop μ-loop
 put-field-requires c κs =
-    let a = c .before .before .before .before .before .before .args in
+    let start = c .before .before .before .before .before .before in
     let l = c .before .before .before .loop in
-    room (a .t .now) (a .count) (a .q) (a .out .now) (a .at) (l .out) (l .place) (l .from) (l .left) (l .inv) (c .before .before .loop-test .taken) (c .before .four-at .result) (c .before .four-at .ensures .0) (c .before .before .before .before .before .before .pre .0)
+    room (start .args .t .now) (start .args .count) (start .args .q) (start .args .out .now) (start .args .at) (l .out) (l .place) (l .from) (l .left) (l .inv) (c .before .before .loop-test .taken) (c .before .four-at .result) (c .before .four-at .ensures .0) (start .pre .0)
 
 add-from : tie.Need-add-from Inv-loop μ-loop
-add-from c = omega (arith, c .before .before .before .before .before .before .loop .inv .members, c .before .before .before .before .before .loop-test .taken, c .before .before .before .before .before .before .before .before .before .pre .1, c .before .before .before .before .before .before .before .before .before .good)
+add-from c =
+    let at-loop-test = c .before .before .before .before .before in
+    let at-loop = at-loop-test .before in
+    let start = at-loop .before .before .before in
+    omega (arith, at-loop .loop .inv .members, at-loop-test .loop-test .taken, start .pre .1, start .good)
 
 sub-left : tie.Need-sub-left Inv-loop μ-loop
 sub-left c = omega (arith, c .before .before .before .before .before .loop-test .taken)

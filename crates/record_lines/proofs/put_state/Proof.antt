@@ -18,7 +18,9 @@ same-length c = search needs
 
 returns : tie.Need-returns
 returns c =
-    same-text (c .before .before .before .before .before .before .args .out .now) (c .before .before .before .before .before .before .args .at) _ _ _ _ (ap (λ (l : List ℕ). 32 ∷ l) (sym (state-minus (c .before .before .before .before .before .before .args .n) (c .before .before .before .before .if1 .taken)))) (c .before .before .put-below .ensures)
+    let at-if1 = c .before .before .before .before in
+    let start = at-if1 .before .before in
+    same-text (start .args .out .now) (start .args .at) _ _ _ _ (ap (λ (l : List ℕ). 32 ∷ l) (sym (state-minus (start .args .n) (at-if1 .if1 .taken)))) (c .before .before .put-below .ensures)
 
 put-field-requires : tie.Need-put-field-requires
 put-field-requires c κs = omega (arith, c .before .before .before .pre, ap length (state-plain (c .before .before .before .args .n) (c .before .if1 .left)))
@@ -28,7 +30,9 @@ same-length-2 c = search needs
 
 returns-2 : tie.Need-returns-2
 returns-2 c =
-    same-text (c .before .before .before .before .before .before .args .out .now) (c .before .before .before .before .before .before .args .at) _ _ _ _ (ap (λ (l : List ℕ). 32 ∷ l) (sym (state-plain (c .before .before .before .before .before .before .args .n) (c .before .before .before .before .if1 .left)))) (c .before .before .put-field .ensures)
+    let at-if1 = c .before .before .before .before in
+    let start = at-if1 .before .before in
+    same-text (start .args .out .now) (start .args .at) _ _ _ _ (ap (λ (l : List ℕ). 32 ∷ l) (sym (state-plain (start .args .n) (at-if1 .if1 .left)))) (c .before .before .put-field .ensures)
 
 pub put-state-spec : {M : Type 1} → statement M
 put-state-spec =

@@ -1,8 +1,8 @@
 -- The number is read, and then written. Assumes nothing.
 use native.Mathlib.Omega.{arith}
 use Prim.Native.Nat.{ℕ}
-use mathlib.Core.Path.{sym, ap}
-use mathlib.Core.List.{List, _∷_}
+use mathlib.Core.Path.{ap}
+use mathlib.Core.List.{_∷_}
 use lib.ListN.{length}
 use Rattle.ledger_spec.specs.Decimals.{decimal}
 use Rattle.text_decimals.proofs.Writes.{same-text}
@@ -20,7 +20,10 @@ same-length : tie.Need-same-length
 same-length c = search needs
 
 returns : tie.Need-returns
-returns c = same-text (c .before .before .before .before .before .before .before .args .out .now) (c .before .before .before .before .before .before .before .args .at) _ _ _ _ (ap (λ (k : ℕ). 32 ∷ decimal k) (c .before .before .before .before .four-at .ensures .0)) (c .before .before .put-field .ensures)
+returns c =
+    let at-four-at = c .before .before .before .before in
+    let start = at-four-at .before .before .before in
+    same-text (start .args .out .now) (start .args .at) _ _ _ _ (ap (λ (k : ℕ). 32 ∷ decimal k) (at-four-at .four-at .ensures .0)) (c .before .before .put-field .ensures)
 
 pub put-word-spec : {M : Type 1} → statement M
 put-word-spec =

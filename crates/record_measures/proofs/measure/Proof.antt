@@ -54,61 +54,79 @@ grow-requires c κs = search needs
 fuse-requires : tie.Need-fuse-requires
 fuse-requires c κs = search needs
 
-clear-requires : tie.Need-clear-requires
-clear-requires c κs = search needs
+unit-alone-requires : tie.Need-unit-alone-requires
+unit-alone-requires c κs = search needs
 
-check-requires : tie.Need-check-requires
-check-requires c κs = search needs
+unit-alone-requires-2 : tie.Need-unit-alone-requires-2
+unit-alone-requires-2 c κs = search needs
 
 nothing-requires-3 : tie.Need-nothing-requires-3
 nothing-requires-3 c κs = search needs
 
 returns-3 : tie.Need-returns-3
 returns-3 c =
-    let a = c .before .before .before .before .before .before .before .args in
-    letter-is (a .t .now) (a .p) 68 (c .before .before .byte-at .result) (c .defect .result) (omega (arith, c .before .before .before .before .if2 .left, c .before .before .before .before .before .if1 .left)) (c .before .match .keys1) (c .before .before .byte-at .ensures .0) (c .defect .ensures)
+    let s = c .before .before in
+    let x = s .before .before in
+    let a = x .before .before .before .args in
+    letter-is (a .t .now) (a .p) 68 (s .byte-at .result) (c .defect .result) (omega (arith, x .if2 .left, x .before .if1 .left)) (c .before .match .keys1) (s .byte-at .ensures .0) (c .defect .ensures)
 
 returns-4 : tie.Need-returns-4
 returns-4 c =
-    let a = c .before .before .before .before .before .before .before .args in
-    letter-is (a .t .now) (a .p) 66 (c .before .before .byte-at .result) (c .blossom .result) (omega (arith, c .before .before .before .before .if2 .left, c .before .before .before .before .before .if1 .left)) (c .before .match .keys2) (c .before .before .byte-at .ensures .0) (c .blossom .ensures)
+    let s = c .before .before in
+    let x = s .before .before in
+    let a = x .before .before .before .args in
+    letter-is (a .t .now) (a .p) 66 (s .byte-at .result) (c .blossom .result) (omega (arith, x .if2 .left, x .before .if1 .left)) (c .before .match .keys2) (s .byte-at .ensures .0) (c .blossom .ensures)
 
 returns-5 : tie.Need-returns-5
 returns-5 c =
-    let a = c .before .before .before .before .before .before .before .args in
-    letter-is (a .t .now) (a .p) 69 (c .before .before .byte-at .result) (c .expand .result) (omega (arith, c .before .before .before .before .if2 .left, c .before .before .before .before .before .if1 .left)) (c .before .match .keys3) (c .before .before .byte-at .ensures .0) (c .expand .ensures)
+    let s = c .before .before in
+    let x = s .before .before in
+    let a = x .before .before .before .args in
+    letter-is (a .t .now) (a .p) 69 (s .byte-at .result) (c .expand .result) (omega (arith, x .if2 .left, x .before .if1 .left)) (c .before .match .keys3) (s .byte-at .ensures .0) (c .expand .ensures)
 
 returns-6 : tie.Need-returns-6
 returns-6 c =
-    let a = c .before .before .before .before .before .before .before .args in
-    letter-is (a .t .now) (a .p) 83 (c .before .before .byte-at .result) (c .set-state .result) (omega (arith, c .before .before .before .before .if2 .left, c .before .before .before .before .before .if1 .left)) (c .before .match .keys4) (c .before .before .byte-at .ensures .0) (c .set-state .ensures)
+    let s = c .before .before in
+    let x = s .before .before in
+    let a = x .before .before .before .args in
+    letter-is (a .t .now) (a .p) 83 (s .byte-at .result) (c .set-state .result) (omega (arith, x .if2 .left, x .before .if1 .left)) (c .before .match .keys4) (s .byte-at .ensures .0) (c .set-state .ensures)
 
 returns-7 : tie.Need-returns-7
 returns-7 c =
-    let a = c .before .before .before .before .before .before .before .args in
-    letter-is (a .t .now) (a .p) 71 (c .before .before .byte-at .result) (c .grow .result) (omega (arith, c .before .before .before .before .if2 .left, c .before .before .before .before .before .if1 .left)) (c .before .match .keys5) (c .before .before .byte-at .ensures .0) (c .grow .ensures)
+    let s = c .before .before in
+    let x = s .before .before in
+    let a = x .before .before .before .args in
+    letter-is (a .t .now) (a .p) 71 (s .byte-at .result) (c .grow .result) (omega (arith, x .if2 .left, x .before .if1 .left)) (c .before .match .keys5) (s .byte-at .ensures .0) (c .grow .ensures)
 
 returns-8 : tie.Need-returns-8
 returns-8 c =
-    let a = c .before .before .before .before .before .before .before .args in
-    letter-is (a .t .now) (a .p) 70 (c .before .before .byte-at .result) (c .fuse .result) (omega (arith, c .before .before .before .before .if2 .left, c .before .before .before .before .before .if1 .left)) (c .before .match .keys6) (c .before .before .byte-at .ensures .0) (c .fuse .ensures)
+    let s = c .before .before in
+    let x = s .before .before in
+    let a = x .before .before .before .args in
+    letter-is (a .t .now) (a .p) 70 (s .byte-at .result) (c .fuse .result) (omega (arith, x .if2 .left, x .before .if1 .left)) (c .before .match .keys6) (s .byte-at .ensures .0) (c .fuse .ensures)
 
 returns-9 : tie.Need-returns-9
 returns-9 c =
-    let a = c .before .before .before .before .before .before .before .args in
-    letter-is (a .t .now) (a .p) 67 (c .before .before .byte-at .result) (c .clear .result) (omega (arith, c .before .before .before .before .if2 .left, c .before .before .before .before .before .if1 .left)) (c .before .match .keys7) (c .before .before .byte-at .ensures .0) (c .clear .ensures (drop (a .p + 2) (a .t .now)))
+    let s = c .before .before in
+    let x = s .before .before in
+    let a = x .before .before .before .args in
+    letter-is (a .t .now) (a .p) 67 (s .byte-at .result) (c .unit-alone .result) (omega (arith, x .if2 .left, x .before .if1 .left)) (c .before .match .keys7) (s .byte-at .ensures .0) (c .unit-alone .ensures (drop (a .p + 2) (a .t .now)) .0)
 
 returns-10 : tie.Need-returns-10
 returns-10 c =
-    let a = c .before .before .before .before .before .before .before .args in
-    letter-is (a .t .now) (a .p) 75 (c .before .before .byte-at .result) (c .check .result) (omega (arith, c .before .before .before .before .if2 .left, c .before .before .before .before .before .if1 .left)) (c .before .match .keys8) (c .before .before .byte-at .ensures .0) (c .check .ensures (drop (a .p + 2) (a .t .now)))
+    let s = c .before .before in
+    let x = s .before .before in
+    let a = x .before .before .before .args in
+    letter-is (a .t .now) (a .p) 75 (s .byte-at .result) (c .unit-alone2 .result) (omega (arith, x .if2 .left, x .before .if1 .left)) (c .before .match .keys8) (s .byte-at .ensures .0) (c .unit-alone2 .ensures (drop (a .p + 2) (a .t .now)) .1)
 
 returns-11 : tie.Need-returns-11
 returns-11 c =
-    let a = c .before .before .before .before .before .before .before .args in
+    let s = c .before .before in
+    let x = s .before .before in
+    let a = x .before .before .before .args in
     let m = c .before .match .rest in
     let l = getD (a .t .now) (a .p) 0 in
-    c .nothing3 .ensures ∙ letter-none (a .t .now) (a .p) l (c .before .before .byte-at .result) (omega (arith, c .before .before .before .before .if2 .left, c .before .before .before .before .before .if1 .left)) refl (c .before .before .byte-at .ensures .0) (rest-none l (c .before .before .byte-at .result) (drop (a .p + 2) (a .t .now)) (m .0 .0 .0 .0 .0 .0 .0 .1) (m .0 .0 .0 .0 .0 .0 .1) (m .0 .0 .0 .0 .0 .1) (m .0 .0 .0 .0 .1) (m .0 .0 .0 .1) (m .0 .0 .1) (m .0 .1) (m .1))
+    c .nothing3 .ensures ∙ letter-none (a .t .now) (a .p) l (s .byte-at .result) (omega (arith, x .if2 .left, x .before .if1 .left)) refl (s .byte-at .ensures .0) (rest-none l (s .byte-at .result) (drop (a .p + 2) (a .t .now)) (m .0 .0 .0 .0 .0 .0 .0 .1) (m .0 .0 .0 .0 .0 .0 .1) (m .0 .0 .0 .0 .0 .1) (m .0 .0 .0 .0 .1) (m .0 .0 .0 .1) (m .0 .0 .1) (m .0 .1) (m .1))
 
 pub measure-spec : {M : Type 1} → statement M
 measure-spec =
@@ -129,8 +147,8 @@ measure-spec =
     set-state-requires
     grow-requires
     fuse-requires
-    clear-requires
-    check-requires
+    unit-alone-requires
+    unit-alone-requires-2
     nothing-requires-3
     returns-3
     returns-4

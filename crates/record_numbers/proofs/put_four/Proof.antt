@@ -11,14 +11,19 @@ put-two-requires : tie.Need-put-two-requires
 put-two-requires c κs = search needs
 
 put-two-requires-2 : tie.Need-put-two-requires-2
-put-two-requires-2 c κs = omega (arith, c .before .before .before .put-two .ensures .next, c .before .before .before .put-two .kept .0, length-bytes 2 (c .before .before .before .before .before .before .args .n), c .before .before .before .before .before .before .pre)
+put-two-requires-2 c κs =
+    let start = c .before .before .before .before .before .before in
+    omega (arith, c .before .before .before .put-two .ensures .next, c .before .before .before .put-two .kept .0, length-bytes 2 (start .args .n), start .pre)
 
 same-length : tie.Need-same-length
 same-length c = search needs
 
 returns : tie.Need-returns
 unfolding bytes
-returns c = chain (c .before .before .before .before .before .before .before .before .before .args .out .now) (c .before .before .before .before .before .before .before .before .before .args .at) (bytes 2 (c .before .before .before .before .before .before .before .before .before .args .n)) _ (c .before .before .before .before .before .before .put-two .result) _ _ _ (c .before .before .before .before .before .before .put-two .ensures) (c .before .before .put-two2 .ensures)
+returns c =
+    let at-put-two = c .before .before .before .before .before .before in
+    let start = at-put-two .before .before .before in
+    chain (start .args .out .now) (start .args .at) (bytes 2 (start .args .n)) _ (at-put-two .put-two .result) _ _ _ (at-put-two .put-two .ensures) (c .before .before .put-two2 .ensures)
 
 pub put-four-spec : {M : Type 1} → statement M
 put-four-spec = tie.close (tie.spec put-two-requires put-two-requires-2 same-length returns)

@@ -40,38 +40,47 @@ add-size c =
 
 returns-2 : tie.Need-returns-2
 returns-2 c =
-    let t = c .before .before .before .before .before .before .args .text .now in
-    let out = c .before .before .before .before .before .before .args .out .now in
+    let start = c .before .before .before .before .before .before in
+    let t = start .args .text .now in
+    let out = start .args .out .now in
     let w = c .before .before .before .weigh in
     let m = moves t (w .result) (w .ensures) (not-false _ (c .before .if1 .left)) in
     too-small t (w .result) m out (c .if2 .taken)
 
 fill-requires : tie.Need-fill-requires
 fill-requires c κs =
-    let t = c .before .before .before .before .before .before .before .args .text .now in
-    let out = c .before .before .before .before .before .before .before .args .out .now in
-    let w = c .before .before .before .before .weigh in
-    let m = moves t (w .result) (w .ensures) (not-false _ (c .before .before .if1 .left)) in
-    ready t (w .result) m out (omega (arith, c .before .if2 .left))
+    let at-weigh = c .before .before .before .before in
+    let start = at-weigh .before .before .before in
+    let t = start .args .text .now in
+    let out = start .args .out .now in
+    let m = moves t (at-weigh .weigh .result) (at-weigh .weigh .ensures) (not-false _ (c .before .before .if1 .left)) in
+    ready t (at-weigh .weigh .result) m out (omega (arith, c .before .if2 .left))
 
 put-trailer-requires : tie.Need-put-trailer-requires
 put-trailer-requires c κs =
-    let t = c .before .before .before .before .before .before .before .before .before .before .before .args .text .now in
-    let out = c .before .before .before .before .before .before .before .before .before .before .before .args .out .now in
-    let w = c .before .before .before .before .before .before .before .before .weigh in
-    let m = moves t (w .result) (w .ensures) (not-false _ (c .before .before .before .before .before .before .if1 .left)) in
-    (omega (arith, c .before .before .before .before .before .if2 .left, c .before .before .before .fill .kept .1 .0), (omega (arith, sizes t (w .result) m), omega (arith, sizes t (w .result) m)))
+    let at-if2 = c .before .before .before .before .before in
+    let at-if1 = at-if2 .before in
+    let at-weigh = at-if1 .before .before in
+    let start = at-weigh .before .before .before in
+    let t = start .args .text .now in
+    let out = start .args .out .now in
+    let m = moves t (at-weigh .weigh .result) (at-weigh .weigh .ensures) (not-false _ (at-if1 .if1 .left)) in
+    (omega (arith, at-if2 .if2 .left, c .before .before .before .fill .kept .1 .0), (omega (arith, sizes t (at-weigh .weigh .result) m), omega (arith, sizes t (at-weigh .weigh .result) m)))
 
 same-length : tie.Need-same-length
 same-length c = search needs
 
 returns-3 : tie.Need-returns-3
 returns-3 c =
-    let t = c .before .before .before .before .before .before .before .before .before .before .before .before .before .before .args .text .now in
-    let out = c .before .before .before .before .before .before .before .before .before .before .before .before .before .before .args .out .now in
-    let w = c .before .before .before .before .before .before .before .before .before .before .before .weigh in
-    let m = moves t (w .result) (w .ensures) (not-false _ (c .before .before .before .before .before .before .before .before .before .if1 .left)) in
-    moved t (w .result) m out _ _ (c .before .before .put-trailer .result) (omega (arith, c .before .before .before .before .before .before .before .before .if2 .left)) (c .before .before .before .before .before .before .fill .ensures) (c .before .before .put-trailer .ensures)
+    let at-fill = c .before .before .before .before .before .before in
+    let at-if2 = at-fill .before .before in
+    let at-if1 = at-if2 .before in
+    let at-weigh = at-if1 .before .before in
+    let start = at-weigh .before .before .before in
+    let t = start .args .text .now in
+    let out = start .args .out .now in
+    let m = moves t (at-weigh .weigh .result) (at-weigh .weigh .ensures) (not-false _ (at-if1 .if1 .left)) in
+    moved t (at-weigh .weigh .result) m out _ _ (c .before .before .put-trailer .result) (omega (arith, at-if2 .if2 .left)) (at-fill .fill .ensures) (c .before .before .put-trailer .ensures)
 
 pub to-records-spec : {M : Type 1} → statement M
 to-records-spec =

@@ -1,13 +1,7 @@
 -- The head, and then the number. Assumes nothing.
 use native.Mathlib.Omega.{arith}
-use mathlib.Core.Path.{sym, _∙_, ap}
-use mathlib.Core.List.{_++_}
-use lib.ListN.{length, length-append}
-use Rattle.text_decimals.proofs.Writes.{chain, same-text, length-wrote}
-use Rattle.record_spec.specs.Numbers.{bytes, complement}
-use Rattle.record_spec.specs.Records.{stateByte}
-use Rattle.record_spec.proofs.Numbers.{length-bytes}
-use Rattle.ledger_spec.specs.Named.{stateNamed}
+use Rattle.text_decimals.proofs.Writes.{chain}
+use Rattle.record_spec.specs.Numbers.{bytes}
 use Rattle.record_puts.specs.Puts.{headOf}
 use Rattle.record_puts.proofs.Putting.{head-long}
 use borrow.Author.Needs.{needs}
@@ -18,15 +12,18 @@ put-head-requires : tie.Need-put-head-requires
 put-head-requires c κs = search needs
 
 put-four-requires : tie.Need-put-four-requires
-put-four-requires c κs = omega (arith, c .before .before .before .put-head .ensures .next, c .before .before .before .put-head .kept .0, head-long (c .before .before .before .before .before .before .args .letter) (c .before .before .before .before .before .before .args .unit), c .before .before .before .before .before .before .pre)
+put-four-requires c κs =
+    let start = c .before .before .before .before .before .before in
+    omega (arith, c .before .before .before .put-head .ensures .next, c .before .before .before .put-head .kept .0, head-long (start .args .letter) (start .args .unit), start .pre)
 
 same-length : tie.Need-same-length
 same-length c = search needs
 
 returns : tie.Need-returns
 returns c =
-    let a = c .before .before .before .before .before .before .before .before .before .args in
-    chain (a .out .now) (a .at) (headOf (a .letter) (a .unit)) _ _ (bytes 4 (a .n)) _ _ (c .before .before .before .before .before .before .put-head .ensures) (c .before .before .put-four .ensures)
+    let at-put-head = c .before .before .before .before .before .before in
+    let start = at-put-head .before .before .before in
+    chain (start .args .out .now) (start .args .at) (headOf (start .args .letter) (start .args .unit)) _ _ (bytes 4 (start .args .n)) _ _ (at-put-head .put-head .ensures) (c .before .before .put-four .ensures)
 
 pub put-four-after-spec : {M : Type 1} → statement M
 put-four-after-spec = tie.close (tie.spec put-head-requires put-four-requires same-length returns)

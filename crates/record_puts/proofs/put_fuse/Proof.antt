@@ -1,13 +1,9 @@
 -- The head, and then two interfaces. Assumes nothing.
 use native.Mathlib.Omega.{arith}
-use mathlib.Core.Path.{sym, _∙_, ap}
 use mathlib.Core.List.{_++_}
-use lib.ListN.{length, length-append}
-use Rattle.text_decimals.proofs.Writes.{chain, same-text, length-wrote}
-use Rattle.record_spec.specs.Numbers.{bytes, complement}
-use Rattle.record_spec.specs.Records.{stateByte}
+use Rattle.text_decimals.proofs.Writes.{chain}
+use Rattle.record_spec.specs.Numbers.{bytes}
 use Rattle.record_spec.proofs.Numbers.{length-bytes}
-use Rattle.ledger_spec.specs.Named.{stateNamed}
 use Rattle.record_puts.specs.Puts.{headOf}
 use Rattle.record_puts.proofs.Putting.{head-long}
 use borrow.Author.Needs.{needs}
@@ -18,18 +14,25 @@ put-head-requires : tie.Need-put-head-requires
 put-head-requires c κs = search needs
 
 put-byte-requires : tie.Need-put-byte-requires
-put-byte-requires c κs = omega (arith, c .before .before .before .put-head .ensures .next, c .before .before .before .put-head .kept .0, head-long 70 (c .before .before .before .before .before .before .args .parent), c .before .before .before .before .before .before .pre)
+put-byte-requires c κs =
+    let start = c .before .before .before .before .before .before in
+    omega (arith, c .before .before .before .put-head .ensures .next, c .before .before .before .put-head .kept .0, head-long 70 (start .args .parent), start .pre)
 
 put-byte-requires-2 : tie.Need-put-byte-requires-2
-put-byte-requires-2 c κs = omega (arith, c .before .before .before .before .before .before .before .put-head .ensures .next, c .before .before .before .before .before .before .before .put-head .kept .0, head-long 70 (c .before .before .before .before .before .before .before .before .before .before .args .parent), c .before .before .before .put-byte .ensures .next, c .before .before .before .put-byte .kept .0, length-bytes 1 (c .before .before .before .before .before .before .before .before .before .before .args .left), c .before .before .before .before .before .before .before .before .before .before .pre)
+put-byte-requires-2 c κs =
+    let at-put-head = c .before .before .before .before .before .before .before in
+    let start = at-put-head .before .before .before in
+    omega (arith, at-put-head .put-head .ensures .next, at-put-head .put-head .kept .0, head-long 70 (start .args .parent), c .before .before .before .put-byte .ensures .next, c .before .before .before .put-byte .kept .0, length-bytes 1 (start .args .left), start .pre)
 
 same-length : tie.Need-same-length
 same-length c = search needs
 
 returns : tie.Need-returns
 returns c =
-    let a = c .before .before .before .before .before .before .before .before .before .before .before .before .before .args in
-    chain (a .out .now) (a .at) (headOf 70 (a .parent) ++ bytes 1 (a .left)) _ _ (bytes 1 (a .right)) _ _ (chain (a .out .now) (a .at) (headOf 70 (a .parent)) _ _ (bytes 1 (a .left)) _ _ (c .before .before .before .before .before .before .before .before .before .before .put-head .ensures) (c .before .before .before .before .before .before .put-byte .ensures)) (c .before .before .put-byte2 .ensures)
+    let at-put-byte = c .before .before .before .before .before .before in
+    let at-put-head = at-put-byte .before .before .before .before in
+    let start = at-put-head .before .before .before in
+    chain (start .args .out .now) (start .args .at) (headOf 70 (start .args .parent) ++ bytes 1 (start .args .left)) _ _ (bytes 1 (start .args .right)) _ _ (chain (start .args .out .now) (start .args .at) (headOf 70 (start .args .parent)) _ _ (bytes 1 (start .args .left)) _ _ (at-put-head .put-head .ensures) (at-put-byte .put-byte .ensures)) (c .before .before .put-byte2 .ensures)
 
 pub put-fuse-spec : {M : Type 1} → statement M
 put-fuse-spec =

@@ -1,15 +1,8 @@
 -- The letter, and then the unit. Assumes nothing.
 use native.Mathlib.Omega.{arith}
-use mathlib.Core.Path.{sym, _∙_, ap}
-use mathlib.Core.List.{_++_}
-use lib.ListN.{length, length-append}
-use Rattle.text_decimals.proofs.Writes.{chain, same-text, length-wrote}
-use Rattle.record_spec.specs.Numbers.{bytes, complement}
-use Rattle.record_spec.specs.Records.{stateByte}
+use Rattle.text_decimals.proofs.Writes.{chain}
+use Rattle.record_spec.specs.Numbers.{bytes}
 use Rattle.record_spec.proofs.Numbers.{length-bytes}
-use Rattle.ledger_spec.specs.Named.{stateNamed}
-use Rattle.record_puts.specs.Puts.{headOf}
-use Rattle.record_puts.proofs.Putting.{head-long}
 use borrow.Author.Needs.{needs}
 use Rattle.record_puts.proofs.put_head.Statement.{statement}
 use Rattle.record_puts.proofs.put_head.Tie as tie
@@ -18,15 +11,18 @@ put-byte-requires : tie.Need-put-byte-requires
 put-byte-requires c κs = search needs
 
 put-byte-requires-2 : tie.Need-put-byte-requires-2
-put-byte-requires-2 c κs = omega (arith, c .before .before .before .put-byte .ensures .next, c .before .before .before .put-byte .kept .0, length-bytes 1 (c .before .before .before .before .before .before .args .letter), c .before .before .before .before .before .before .pre)
+put-byte-requires-2 c κs =
+    let start = c .before .before .before .before .before .before in
+    omega (arith, c .before .before .before .put-byte .ensures .next, c .before .before .before .put-byte .kept .0, length-bytes 1 (start .args .letter), start .pre)
 
 same-length : tie.Need-same-length
 same-length c = search needs
 
 returns : tie.Need-returns
 returns c =
-    let a = c .before .before .before .before .before .before .before .before .before .args in
-    chain (a .out .now) (a .at) (bytes 1 (a .letter)) _ _ (bytes 1 (a .unit)) _ _ (c .before .before .before .before .before .before .put-byte .ensures) (c .before .before .put-byte2 .ensures)
+    let at-put-byte = c .before .before .before .before .before .before in
+    let start = at-put-byte .before .before .before in
+    chain (start .args .out .now) (start .args .at) (bytes 1 (start .args .letter)) _ _ (bytes 1 (start .args .unit)) _ _ (at-put-byte .put-byte .ensures) (c .before .before .put-byte2 .ensures)
 
 pub put-head-spec : {M : Type 1} → statement M
 put-head-spec = tie.close (tie.spec put-byte-requires put-byte-requires-2 same-length returns)

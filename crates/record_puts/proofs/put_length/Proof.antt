@@ -1,13 +1,9 @@
 -- The head, and then the length's number. Assumes nothing.
 use native.Mathlib.Omega.{arith}
-use mathlib.Core.Path.{sym, _∙_, ap}
-use mathlib.Core.List.{_++_}
-use lib.ListN.{length, length-append}
-use Rattle.text_decimals.proofs.Writes.{chain, same-text, length-wrote}
+use mathlib.Core.Path.{sym}
+use lib.ListN.{length}
+use Rattle.text_decimals.proofs.Writes.{chain}
 use Rattle.record_spec.specs.Numbers.{bytes, complement}
-use Rattle.record_spec.specs.Records.{stateByte}
-use Rattle.record_spec.proofs.Numbers.{length-bytes}
-use Rattle.ledger_spec.specs.Named.{stateNamed}
 use Rattle.record_puts.specs.Puts.{headOf}
 use Rattle.record_puts.proofs.Putting.{head-long}
 use mir.Facts.{toZ-ofZ}
@@ -22,16 +18,21 @@ complement-of-requires : tie.Need-complement-of-requires
 complement-of-requires c κs = search needs
 
 put-eight-requires : tie.Need-put-eight-requires
-put-eight-requires c κs = omega (arith, c .before .before .before .before .put-head .ensures .next, c .before .before .before .before .put-head .kept .0, head-long 71 (c .before .before .before .before .before .before .before .args .unit), c .before .before .before .before .before .before .before .pre)
+put-eight-requires c κs =
+    let at-put-head = c .before .before .before .before in
+    let start = at-put-head .before .before .before in
+    omega (arith, at-put-head .put-head .ensures .next, at-put-head .put-head .kept .0, head-long 71 (start .args .unit), start .pre)
 
 same-length : tie.Need-same-length
 same-length c = search needs
 
 returns : tie.Need-returns
 returns c =
-    let a = c .before .before .before .before .before .before .before .before .before .before .args in
-    let n = rw (toZ-ofZ (c .before .before .before .before .before .before .before .before .before .before .fits .length)) at (c .before .before .before .before .complement-of .ensures) in
-    chain (a .out .now) (a .at) (headOf 71 (a .unit)) _ _ (bytes 8 (complement (a .length))) _ _ (c .before .before .before .before .before .before .before .put-head .ensures) (rw (sym n) (c .before .before .put-eight .ensures))
+    let at-complement-of = c .before .before .before .before in
+    let at-put-head = at-complement-of .before .before .before in
+    let start = at-put-head .before .before .before in
+    let n = rw (toZ-ofZ (start .fits .length)) at (at-complement-of .complement-of .ensures) in
+    chain (start .args .out .now) (start .args .at) (headOf 71 (start .args .unit)) _ _ (bytes 8 (complement (start .args .length))) _ _ (at-put-head .put-head .ensures) (rw (sym n) (c .before .before .put-eight .ensures))
 
 pub put-length-spec : {M : Type 1} → statement M
 put-length-spec =

@@ -1,15 +1,9 @@
 -- The serial, thrice. Assumes nothing.
 use native.Mathlib.Omega.{arith}
-use mathlib.Core.Path.{sym, _∙_, ap}
 use mathlib.Core.List.{_++_}
-use lib.ListN.{length, length-append}
-use Rattle.text_decimals.proofs.Writes.{chain, same-text, length-wrote}
-use Rattle.record_spec.specs.Numbers.{bytes, complement}
-use Rattle.record_spec.specs.Records.{stateByte}
+use Rattle.text_decimals.proofs.Writes.{chain}
+use Rattle.record_spec.specs.Numbers.{bytes}
 use Rattle.record_spec.proofs.Numbers.{length-bytes}
-use Rattle.ledger_spec.specs.Named.{stateNamed}
-use Rattle.record_puts.specs.Puts.{headOf}
-use Rattle.record_puts.proofs.Putting.{head-long}
 use borrow.Author.Needs.{needs}
 use Rattle.record_puts.proofs.put_member.Statement.{statement}
 use Rattle.record_puts.proofs.put_member.Tie as tie
@@ -18,18 +12,25 @@ put-four-requires : tie.Need-put-four-requires
 put-four-requires c κs = search needs
 
 put-four-requires-2 : tie.Need-put-four-requires-2
-put-four-requires-2 c κs = omega (arith, c .before .before .before .put-four .ensures .next, c .before .before .before .put-four .kept .0, length-bytes 4 (c .before .before .before .before .before .before .args .n), c .before .before .before .before .before .before .pre)
+put-four-requires-2 c κs =
+    let start = c .before .before .before .before .before .before in
+    omega (arith, c .before .before .before .put-four .ensures .next, c .before .before .before .put-four .kept .0, length-bytes 4 (start .args .n), start .pre)
 
 put-four-requires-3 : tie.Need-put-four-requires-3
-put-four-requires-3 c κs = omega (arith, c .before .before .before .before .before .before .before .put-four .ensures .next, c .before .before .before .before .before .before .before .put-four .kept .0, c .before .before .before .put-four2 .ensures .next, c .before .before .before .put-four2 .kept .0, length-bytes 4 (c .before .before .before .before .before .before .before .before .before .before .args .n), c .before .before .before .before .before .before .before .before .before .before .pre)
+put-four-requires-3 c κs =
+    let at-put-four = c .before .before .before .before .before .before .before in
+    let start = at-put-four .before .before .before in
+    omega (arith, at-put-four .put-four .ensures .next, at-put-four .put-four .kept .0, c .before .before .before .put-four2 .ensures .next, c .before .before .before .put-four2 .kept .0, length-bytes 4 (start .args .n), start .pre)
 
 same-length : tie.Need-same-length
 same-length c = search needs
 
 returns : tie.Need-returns
 returns c =
-    let a = c .before .before .before .before .before .before .before .before .before .before .before .before .before .args in
-    chain (a .out .now) (a .at) (bytes 4 (a .n) ++ bytes 4 (a .n)) _ _ (bytes 4 (a .n)) _ _ (chain (a .out .now) (a .at) (bytes 4 (a .n)) _ _ (bytes 4 (a .n)) _ _ (c .before .before .before .before .before .before .before .before .before .before .put-four .ensures) (c .before .before .before .before .before .before .put-four2 .ensures)) (c .before .before .put-four3 .ensures)
+    let at-put-four2 = c .before .before .before .before .before .before in
+    let at-put-four = at-put-four2 .before .before .before .before in
+    let start = at-put-four .before .before .before in
+    chain (start .args .out .now) (start .args .at) (bytes 4 (start .args .n) ++ bytes 4 (start .args .n)) _ _ (bytes 4 (start .args .n)) _ _ (chain (start .args .out .now) (start .args .at) (bytes 4 (start .args .n)) _ _ (bytes 4 (start .args .n)) _ _ (at-put-four .put-four .ensures) (at-put-four2 .put-four2 .ensures)) (c .before .before .put-four3 .ensures)
 
 pub put-member-spec : {M : Type 1} → statement M
 put-member-spec =

@@ -1,10 +1,10 @@
 -- The head and the serial, and then the state. Assumes nothing.
 use native.Mathlib.Omega.{arith}
-use mathlib.Core.Path.{sym, _∙_, ap}
+use mathlib.Core.Path.{sym}
 use mathlib.Core.List.{_++_}
-use lib.ListN.{length, length-append}
-use Rattle.text_decimals.proofs.Writes.{chain, same-text, length-wrote}
-use Rattle.record_spec.specs.Numbers.{bytes, complement}
+use lib.ListN.{length-append}
+use Rattle.text_decimals.proofs.Writes.{chain}
+use Rattle.record_spec.specs.Numbers.{bytes}
 use Rattle.record_spec.specs.Records.{stateByte}
 use Rattle.record_spec.proofs.Numbers.{length-bytes}
 use Rattle.ledger_spec.specs.Named.{stateNamed}
@@ -21,15 +21,20 @@ state-byte-requires : tie.Need-state-byte-requires
 state-byte-requires c κs = search needs
 
 put-byte-requires : tie.Need-put-byte-requires
-put-byte-requires c κs = omega (arith, c .before .before .before .before .put-four-after .ensures .next, c .before .before .before .before .put-four-after .kept .0, head-long 83 (c .before .before .before .before .before .before .before .args .unit), length-append (headOf 83 (c .before .before .before .before .before .before .before .args .unit)) (bytes 4 (c .before .before .before .before .before .before .before .args .serial)), length-bytes 4 (c .before .before .before .before .before .before .before .args .serial), c .before .before .before .before .before .before .before .pre)
+put-byte-requires c κs =
+    let at-put-four-after = c .before .before .before .before in
+    let start = at-put-four-after .before .before .before in
+    omega (arith, at-put-four-after .put-four-after .ensures .next, at-put-four-after .put-four-after .kept .0, head-long 83 (start .args .unit), length-append (headOf 83 (start .args .unit)) (bytes 4 (start .args .serial)), length-bytes 4 (start .args .serial), start .pre)
 
 same-length : tie.Need-same-length
 same-length c = search needs
 
 returns : tie.Need-returns
 returns c =
-    let a = c .before .before .before .before .before .before .before .before .before .before .args in
-    chain (a .out .now) (a .at) (headOf 83 (a .unit) ++ bytes 4 (a .serial)) _ _ (bytes 1 (stateByte (stateNamed (a .state)))) _ _ (c .before .before .before .before .before .before .before .put-four-after .ensures) (rw (sym (c .before .before .before .before .state-byte .ensures)) (c .before .before .put-byte .ensures))
+    let at-state-byte = c .before .before .before .before in
+    let at-put-four-after = at-state-byte .before .before .before in
+    let start = at-put-four-after .before .before .before in
+    chain (start .args .out .now) (start .args .at) (headOf 83 (start .args .unit) ++ bytes 4 (start .args .serial)) _ _ (bytes 1 (stateByte (stateNamed (start .args .state)))) _ _ (at-put-four-after .put-four-after .ensures) (rw (sym (at-state-byte .state-byte .ensures)) (c .before .before .put-byte .ensures))
 
 pub put-state-spec : {M : Type 1} → statement M
 put-state-spec =

@@ -1,6 +1,6 @@
 -- As many members as the count says. Assumes nothing.
 use mathlib.Core.Path.{_∙_, sym, ap}
-use Prim.Native.Nat.{ℕ, _+_}
+use Prim.Native.Nat.{_+_}
 use lib.ListN.{length-map}
 use Rattle.text_lines.specs.declared.Line.the-variants.{Blossom}
 use Rattle.record_spec.specs.Places.{at}

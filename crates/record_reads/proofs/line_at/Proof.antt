@@ -1,9 +1,7 @@
 -- By the letter, as the definition goes. Assumes nothing.
-use Prim.Native.Nat.{_+_}
 use native.Mathlib.Omega.{arith}
-use mathlib.Core.Path.{refl, _∙_}
+use mathlib.Core.Path.{refl}
 use lib.ListN.{getD}
-use Rattle.record_spec.specs.Places.{at}
 use Rattle.record_reads.proofs.Reading as rec
 use Rattle.record_reads.proofs.line_at.Statement.{statement}
 use Rattle.record_reads.proofs.line_at.Tie as tie

@@ -1,7 +1,5 @@
 -- Serial and state are the numbers there. Assumes nothing.
 use mathlib.Core.Path.{_∙_, ap}
-use Prim.Native.Nat.{ℕ}
-use Rattle.kinds.specs.declared.GrowState.{GrowState}
 use Rattle.text_lines.specs.declared.Line.the-variants.{SetState}
 use Rattle.record_reads.specs.Reads.{stateOf}
 use borrow.Author.Needs.{needs}

@@ -44,41 +44,48 @@ perform-requires c κs =
 
 mul-put : tie.Need-mul-put Inv-loop μ-loop
 mul-put c =
+    let at-loop-test = c .before .before .before .before .before .before .before .before .before in
+    let at-loop = at-loop-test .before in
     let z = c .before .before .before .before .before .before .before .before .before .before .before .before in
     let a = z .args in
-    let v = c .before .before .before .before .before .before .before .before .before .before .loop in
     let y = z .pre .1 in
-    omega (arith, y .fits, c .before .before .before .before .before .before .before .before .before .loop-test .taken, still-long (a .file .now) (a .list) (a .count) (length (a .answers .now)) y (a .b .now) (a .answers .now) refl (v .b) (v .answers) (v .i) (v .inv .0))
+    omega (arith, y .fits, at-loop-test .loop-test .taken, still-long (a .file .now) (a .list) (a .count) (length (a .answers .now)) y (a .b .now) (a .answers .now) refl (at-loop .loop .b) (at-loop .loop .answers) (at-loop .loop .i) (at-loop .loop .inv .0))
 
 put-requires : tie.Need-put-requires Inv-loop μ-loop
 put-requires c κs =
+    let at-loop-test = c .before .before .before .before .before .before .before .before .before in
+    let at-loop = at-loop-test .before in
     let z = c .before .before .before .before .before .before .before .before .before .before .before .before in
     let a = z .args in
-    let v = c .before .before .before .before .before .before .before .before .before .before .loop in
     let y = z .pre .1 in
-    omega (arith, y .fits, c .before .before .before .before .before .before .before .before .before .loop-test .taken, still-long (a .file .now) (a .list) (a .count) (length (a .answers .now)) y (a .b .now) (a .answers .now) refl (v .b) (v .answers) (v .i) (v .inv .0))
+    omega (arith, y .fits, at-loop-test .loop-test .taken, still-long (a .file .now) (a .list) (a .count) (length (a .answers .now)) y (a .b .now) (a .answers .now) refl (at-loop .loop .b) (at-loop .loop .answers) (at-loop .loop .i) (at-loop .loop .inv .0))
 
 add-i : tie.Need-add-i Inv-loop μ-loop
 add-i c =
+    let at-loop-test = c .before .before .before .before .before .before .before .before .before .before .before in
+    let at-loop = at-loop-test .before in
     let z = c .before .before .before .before .before .before .before .before .before .before .before .before .before .before in
     let a = z .args in
-    let v = c .before .before .before .before .before .before .before .before .before .before .before .before .loop in
     let y = z .pre .1 in
-    omega (arith, c .before .before .before .before .before .before .before .before .before .before .before .loop-test .taken)
+    omega (arith, at-loop-test .loop-test .taken)
 
 loop-less : tie.Need-loop-less Inv-loop μ-loop
-loop-less c = omega (arith, c .before .before .before .before .before .before .before .before .before .before .before .loop-test .taken)
+loop-less c =
+    let at-loop-test = c .before .before .before .before .before .before .before .before .before .before .before in
+    omega (arith, at-loop-test .loop-test .taken)
 
 loop-again : tie.Need-loop-again Inv-loop μ-loop
 loop-again c =
+    let at-perform = c .before .before .before .before .before in
+    let at-place-in = at-perform .before .before .before .before .before in
+    let at-loop-test = at-place-in .before in
+    let at-loop = at-loop-test .before in
     let z = c .before .before .before .before .before .before .before .before .before .before .before .before .before .before in
     let a = z .args in
-    let v = c .before .before .before .before .before .before .before .before .before .before .before .before .loop in
-    let y = z .pre .1 in
-    let f = c .before .before .before .before .before .perform in (
-      subst (λ (x : List ℤ). AllRunning (a .b .now) (a .file .now) (a .answers .now) (f .last .0) x (v .i + 1)) (sym (c .before .put .ensures))
-          (turn (a .file .now) (a .list) (a .count) (length (a .answers .now)) y (a .b .now) (a .answers .now) refl (v .b) (v .answers) (v .i) (v .inv .0) (c .before .before .before .before .before .before .before .before .before .before .before .loop-test .taken) (c .before .before .before .before .before .before .before .before .before .before .place-in .result) (c .before .before .before .before .before .before .before .before .before .before .place-in .ensures) (f .result) (f .last .0) (f .ensures)),
-      (f .kept .1 .1 .1 .0 ∙ v .inv .1 .0, f .kept .1 .1 .1 .1 .0 ∙ v .inv .1 .1),
+    let y = z .pre .1 in (
+      subst (λ (x : List ℤ). AllRunning (a .b .now) (a .file .now) (a .answers .now) (at-perform .perform .last .0) x (at-loop .loop .i + 1)) (sym (c .before .put .ensures))
+          (turn (a .file .now) (a .list) (a .count) (length (a .answers .now)) y (a .b .now) (a .answers .now) refl (at-loop .loop .b) (at-loop .loop .answers) (at-loop .loop .i) (at-loop .loop .inv .0) (at-loop-test .loop-test .taken) (at-place-in .place-in .result) (at-place-in .place-in .ensures) (at-perform .perform .result) (at-perform .perform .last .0) (at-perform .perform .ensures)),
+      (at-perform .perform .kept .1 .1 .1 .0 ∙ at-loop .loop .inv .1 .0, at-perform .perform .kept .1 .1 .1 .1 .0 ∙ at-loop .loop .inv .1 .1),
     )
 
 same-length : tie.Need-same-length Inv-loop μ-loop

@@ -1,8 +1,7 @@
--- FILE, BROKEN, SMALL, or every operation. Assumes nothing.
+-- FILE, BROKEN, or the run on sound words. Assumes nothing.
 use mathlib.Core.Path.{sym, _∙_}
-use lib.ListN.{length}
 use borrow.Author.Tests.{not-true, not-false}
-use Rattle.record_runs.proofs.Ending.{held, no-file, ready, ran-small, ran-all, any-no-file, any-sound, any-broken}
+use Rattle.record_runs.proofs.Ending.{listing, no-file, any-no-file, any-sound, any-broken}
 use borrow.Author.Needs.{needs}
 use Rattle.record_runs.proofs.run.Statement.{statement}
 use Rattle.record_runs.proofs.run.Tie as tie
@@ -28,49 +27,32 @@ refused-requires-2 c κs = search needs
 
 returns-2 : tie.Need-returns-2
 returns-2 c =
-    let z = c .before .before .before .before .before .before .before .before in
-    let a = z .args in
-    let x = c .before .before .before .before .before .before .scan in
-    let h = held (a .file .now) (x .result) (x .ensures) (not-false _ (c .before .before .before .before .if1 .left)) in
-    any-broken (a .b .now) (a .file .now) (a .answers .now) (x .result) h (sym (c .before .before .is-bench .ensures .is) ∙ not-true _ (c .before .if2 .taken)) (c .refused2 .result) (c .refused2 .ensures)
+    let s = c .before .before in
+    let x = s .before .before .before .before in
+    let a = x .before .before .args in
+    let h = listing (a .file .now) (x .scan .result) (x .scan .ensures) (not-false _ (s .before .before .if1 .left)) in
+    any-broken (a .b .now) (a .file .now) (a .answers .now) (x .scan .result .start) (x .scan .result .count) h
+    (sym (s .is-bench .ensures .is) ∙ not-true _ (c .before .if2 .taken)) (c .refused2 .result) (c .refused2 .ensures)
 
-refused-requires-3 : tie.Need-refused-requires-3
-refused-requires-3 c κs = search needs
-
-returns-3 : tie.Need-returns-3
-returns-3 c =
-    let z = c .before .before .before .before .before .before .before .before .before in
-    let a = z .args in
-    let x = c .before .before .before .before .before .before .before .scan in
-    let h = held (a .file .now) (x .result) (x .ensures) (not-false _ (c .before .before .before .before .before .if1 .left)) in
-    let s = c .before .before .before .is-bench in
-    let t = not-false _ (c .before .before .if2 .left) in
-    any-sound (a .b .now) (a .file .now) (a .answers .now) (x .result) h (c .refused3 .result) _ _ (sym (s .ensures .is) ∙ t)
-    (ran-small (a .b .now) (a .file .now) (a .answers .now) (s .ensures .says t) (x .result) h (c .before .if3 .taken) (c .refused3 .result) (c .refused3 .ensures))
-
-go-requires : tie.Need-go-requires
-go-requires c κs =
-    let z = c .before .before .before .before .before .before .before .before .before .before in
-    let a = z .args in
-    let x = c .before .before .before .before .before .before .before .before .scan in
-    let h = held (a .file .now) (x .result) (x .ensures) (not-false _ (c .before .before .before .before .before .before .if1 .left)) in
-    let s = c .before .before .before .before .is-bench in
-    let t = not-false _ (c .before .before .before .if2 .left) in
-    (s .ensures .says t, ready (a .file .now) (x .result) (length (a .answers .now)) h (c .before .before .if3 .left))
+run-whole-requires : tie.Need-run-whole-requires
+run-whole-requires c κs =
+    let s = c .before .before .before in
+    let x = s .before .before .before .before in
+    let f = x .before .before .args .file .now in
+    (s .is-bench .ensures .says (not-false _ (c .before .before .if2 .left)), listing f (x .scan .result) (x .scan .ensures) (not-false _ (s .before .before .if1 .left)))
 
 same-length : tie.Need-same-length
 same-length c = search needs
 
-returns-4 : tie.Need-returns-4
-returns-4 c =
-    let z = c .before .before .before .before .before .before .before .before .before .before .before .before in
-    let a = z .args in
-    let x = c .before .before .before .before .before .before .before .before .before .before .scan in
-    let h = held (a .file .now) (x .result) (x .ensures) (not-false _ (c .before .before .before .before .before .before .before .before .if1 .left)) in
-    let s = c .before .before .before .before .before .before .is-bench in
-    let t = not-false _ (c .before .before .before .before .before .if2 .left) in
-    any-sound (a .b .now) (a .file .now) (a .answers .now) (x .result) h _ _ _ (sym (s .ensures .is) ∙ t)
-    (ran-all (a .b .now) (a .file .now) (a .answers .now) (s .ensures .says t) (x .result) h (c .before .before .before .before .if3 .left) _ _ (c .before .go .ensures))
+returns-3 : tie.Need-returns-3
+returns-3 c =
+    let t = c .before .before .before .before in
+    let s = t .before in
+    let x = s .before .before .before .before in
+    let a = x .before .before .args in
+    let h = listing (a .file .now) (x .scan .result) (x .scan .ensures) (not-false _ (s .before .before .if1 .left)) in
+    any-sound (a .b .now) (a .file .now) (a .answers .now) (x .scan .result .start) (x .scan .result .count) h _ _ _
+    (sym (s .is-bench .ensures .is) ∙ not-false _ (t .if2 .left)) (c .before .run-whole .ensures)
 
 pub run-spec : {M : Type 1} → statement M
 run-spec =
@@ -82,8 +64,6 @@ run-spec =
     is-bench-requires
     refused-requires-2
     returns-2
-    refused-requires-3
-    returns-3
-    go-requires
+    run-whole-requires
     same-length
-    returns-4)
+    returns-3)

@@ -1,6 +1,5 @@
 -- What is written and what is left make the whole (`Filling`); one start less is left at each turn. Assumes nothing.
 use native.Mathlib.Omega.{arith}
-use mathlib.Core.Path.{_∙_}
 use Rattle.record_files.proofs.Slices.{bytes-all}
 use Rattle.record_unpacks.proofs.Filling.{Filling, filling, line-ready, fill-on, filled}
 use Rattle.record_unpacks.proofs.fill.Statement.{statement}
@@ -25,7 +24,11 @@ put-line-requires c κs =
     line-ready (a .s .now) (a .t .now) (a .list) (a .count) (a .out .now) (l .entry) (l .left) (l .at) (l .out) (bytes-all (a .t .now) (c .before .before .before .before .before .shared-slice-known2 .given)) (l .inv) (c .before .before .loop-test .taken) (c .before .four-at .result) (c .before .four-at .ensures .0)
 
 add-entry : tie.Need-add-entry Inv-loop μ-loop
-add-entry c = omega (arith, c .before .before .before .before .before .before .loop .inv .entries, c .before .before .before .before .before .loop-test .taken, c .before .before .before .before .before .before .before .before .before .before .pre .0, c .before .before .before .before .before .before .before .before .before .before .good)
+add-entry c =
+    let at-loop-test = c .before .before .before .before .before in
+    let at-loop = at-loop-test .before in
+    let start = at-loop .before .before .before .before in
+    omega (arith, at-loop .loop .inv .entries, at-loop-test .loop-test .taken, start .pre .0, start .good)
 
 sub-left : tie.Need-sub-left Inv-loop μ-loop
 sub-left c = omega (arith, c .before .before .before .before .before .loop-test .taken)
@@ -35,9 +38,12 @@ loop-less c = omega (arith, c .before .before .before .before .before .loop-test
 
 loop-again : tie.Need-loop-again Inv-loop μ-loop
 loop-again c =
-    let a = c .before .before .before .before .before .before .before .before .before .before .args in
-    let l = c .before .before .before .before .before .before .loop in
-    fill-on (a .s .now) (a .t .now) (a .list) (a .count) (a .out .now) (l .entry) (l .left) (l .at) (l .out) (bytes-all (a .t .now) (c .before .before .before .before .before .before .before .before .shared-slice-known2 .given)) (l .inv) (c .before .before .before .before .before .loop-test .taken) (c .before .before .before .before .four-at .result) (c .before .before .before .before .four-at .ensures .0) _ (c .before .before .put-line .result) (c .before .before .put-line .kept .0) (c .before .before .put-line .ensures)
+    let at-four-at = c .before .before .before .before in
+    let at-loop-test = at-four-at .before in
+    let at-loop = at-loop-test .before in
+    let at-shared-slice-known2 = at-loop .before .before in
+    let start = at-shared-slice-known2 .before .before in
+    fill-on (start .args .s .now) (start .args .t .now) (start .args .list) (start .args .count) (start .args .out .now) (at-loop .loop .entry) (at-loop .loop .left) (at-loop .loop .at) (at-loop .loop .out) (bytes-all (start .args .t .now) (at-shared-slice-known2 .shared-slice-known2 .given)) (at-loop .loop .inv) (at-loop-test .loop-test .taken) (at-four-at .four-at .result) (at-four-at .four-at .ensures .0) _ (c .before .before .put-line .result) (c .before .before .put-line .kept .0) (c .before .before .put-line .ensures)
 
 same-length : tie.Need-same-length Inv-loop μ-loop
 same-length c = c .before .loop .inv .long

@@ -18,7 +18,10 @@ same-length : tie.Need-same-length
 same-length c = search needs
 
 returns-2 : tie.Need-returns-2
-returns-2 c = let s = c .before .before .before .before .before .before .before .before .before .before in let a = s .args in a-bench (a .b .now) (a .unit) (a .length) (a .groups .now) (a .out .now) (c .before .before .before .before .before .before .is-bench .ensures) (c .before .before .before .before .before .if1 .left) (rw (toZ-ofZ (s .fits .length)) at (c .before .before .grow-recorded .ensures))
+returns-2 c =
+    let at-if1 = c .before .before .before .before .before in
+    let at-is-bench = at-if1 .before in
+    let s = c .before .before .before .before .before .before .before .before .before .before in let a = s .args in a-bench (a .b .now) (a .unit) (a .length) (a .groups .now) (a .out .now) (at-is-bench .is-bench .ensures) (at-if1 .if1 .left) (rw (toZ-ofZ (s .fits .length)) at (c .before .before .grow-recorded .ensures))
 
 pub grow-recorded-spec : {M : Type 1} → statement M
 grow-recorded-spec = tie.close (tie.spec is-bench-requires returns grow-recorded-requires same-length returns-2)

@@ -1,6 +1,5 @@
 -- The quotient, and one more where something is left. Assumes nothing.
 use native.Mathlib.Omega.{arith}
-use native.Mathlib.Nat.{div-add-mod'}
 use lib.ListN.{length}
 use Rattle.recorded_groups.proofs.Counts.{counted, covers-once}
 use borrow.Author.Needs.{needs}

@@ -1,12 +1,12 @@
 -- The word of the length is the growth. Assumes nothing.
-use mathlib.Core.Path.{sym, _∙_, ap}
+use mathlib.Core.Path.{_∙_, ap}
 use mathlib.Core.Bool.{Bool, cond}
 use native.Mathlib.Omega.{arith}
 use borrow.Author.Tests.{lt-ltb, le-ltb}
 use lib.IntN.{pos}
 use lib.ListN.{getD}
 use Rattle.ledger_spec.specs.Groups.{smaller}
-use Rattle.recorded_groups.proofs.Positions.{Going, going}
+use Rattle.recorded_groups.proofs.Positions.{going}
 use Rattle.recorded_groups.proofs.step_by.Statement.{statement}
 use Rattle.recorded_groups.proofs.step_by.Tie as tie
 

@@ -39,7 +39,12 @@ pass-requires : tie.Need-pass-requires
 pass-requires c κs = search needs
 
 returns-3 : tie.Need-returns-3
-returns-3 c = let s = c .before .before .before .before .before .before .before .before .before .before in let a = s .args in let fw = forward (a .length) (s .fits .length) (c .before .before .before .before .before .before .if2 .left) in by-step (a .b .now) (s .pre) (a .unit) (a .length) (a .groups .now) (a .room) (c .before .before .before .before .before .before .before .before .unit-number .result) (c .before .before .before .before .before .before .before .before .unit-number .ensures) (c .before .before .before .before .before .before .before .if1 .left) _ (c .before .before .before .before .before .load-interface .ensures) _ (c .before .before .before .least-shrinking .ensures) _ (fw .is) (fw .sign) _ (c .before .before .pass .ensures) (c .if3 .taken)
+returns-3 c =
+    let at-load-interface = c .before .before .before .before .before in
+    let at-if2 = at-load-interface .before in
+    let at-if1 = at-if2 .before in
+    let at-unit-number = at-if1 .before in
+    let s = c .before .before .before .before .before .before .before .before .before .before in let a = s .args in let fw = forward (a .length) (s .fits .length) (at-if2 .if2 .left) in by-step (a .b .now) (s .pre) (a .unit) (a .length) (a .groups .now) (a .room) (at-unit-number .unit-number .result) (at-unit-number .unit-number .ensures) (at-if1 .if1 .left) _ (at-load-interface .load-interface .ensures) _ (c .before .before .before .least-shrinking .ensures) _ (fw .is) (fw .sign) _ (c .before .before .pass .ensures) (c .if3 .taken)
 
 count-requires : tie.Need-count-requires
 count-requires c κs = search needs
@@ -48,10 +53,24 @@ refused-requires-3 : tie.Need-refused-requires-3
 refused-requires-3 c κs = search needs
 
 returns-4 : tie.Need-returns-4
-returns-4 c = let s = c .before .before .before .before .before .before .before .before .before .before .before .before .before in let a = s .args in let fw = forward (a .length) (s .fits .length) (c .before .before .before .before .before .before .before .before .before .if2 .left) in refuses (a .b .now) (s .pre) (a .unit) (a .length) (a .groups .now) (a .room) 19 (c .refused3 .result) (by-room (a .b .now) (s .pre) (a .unit) (a .length) (a .groups .now) (a .room) (c .before .before .before .before .before .before .before .before .before .before .before .unit-number .result) (c .before .before .before .before .before .before .before .before .before .before .before .unit-number .ensures) (c .before .before .before .before .before .before .before .before .before .before .if1 .left) _ (c .before .before .before .before .before .before .before .before .load-interface .ensures) _ (c .before .before .before .before .before .before .least-shrinking .ensures) _ (fw .is) (fw .sign) _ (c .before .before .before .before .before .pass .ensures) (c .before .before .before .if3 .left) (omega (arith, c .before .before .count .ensures))) (λ z. omega (arith, z)) (c .refused3 .ensures .0) (c .refused3 .ensures .1)
+returns-4 c =
+    let at-pass = c .before .before .before .before .before in
+    let at-least-shrinking = at-pass .before in
+    let at-load-interface = at-least-shrinking .before .before in
+    let at-if2 = at-load-interface .before in
+    let at-if1 = at-if2 .before in
+    let at-unit-number = at-if1 .before in
+    let s = c .before .before .before .before .before .before .before .before .before .before .before .before .before in let a = s .args in let fw = forward (a .length) (s .fits .length) (at-if2 .if2 .left) in refuses (a .b .now) (s .pre) (a .unit) (a .length) (a .groups .now) (a .room) 19 (c .refused3 .result) (by-room (a .b .now) (s .pre) (a .unit) (a .length) (a .groups .now) (a .room) (at-unit-number .unit-number .result) (at-unit-number .unit-number .ensures) (at-if1 .if1 .left) _ (at-load-interface .load-interface .ensures) _ (at-least-shrinking .least-shrinking .ensures) _ (fw .is) (fw .sign) _ (at-pass .pass .ensures) (c .before .before .before .if3 .left) (omega (arith, c .before .before .count .ensures))) (λ z. omega (arith, z)) (c .refused3 .ensures .0) (c .refused3 .ensures .1)
 
 returns-5 : tie.Need-returns-5
-returns-5 c = let s = c .before .before .before .before .before .before .before .before .before .before .before .before in let a = s .args in let fw = forward (a .length) (s .fits .length) (c .before .before .before .before .before .before .before .before .if2 .left) in by-all (a .b .now) (s .pre) (a .unit) (a .length) (a .groups .now) (a .room) (c .before .before .before .before .before .before .before .before .before .before .unit-number .result) (c .before .before .before .before .before .before .before .before .before .before .unit-number .ensures) (c .before .before .before .before .before .before .before .before .before .if1 .left) _ (c .before .before .before .before .before .before .before .load-interface .ensures) _ (c .before .before .before .before .before .least-shrinking .ensures) _ (fw .is) (fw .sign) _ (c .before .before .before .before .pass .ensures) (c .before .before .if3 .left) (omega (arith, c .before .count .ensures))
+returns-5 c =
+    let at-pass = c .before .before .before .before in
+    let at-least-shrinking = at-pass .before in
+    let at-load-interface = at-least-shrinking .before .before in
+    let at-if2 = at-load-interface .before in
+    let at-if1 = at-if2 .before in
+    let at-unit-number = at-if1 .before in
+    let s = c .before .before .before .before .before .before .before .before .before .before .before .before in let a = s .args in let fw = forward (a .length) (s .fits .length) (at-if2 .if2 .left) in by-all (a .b .now) (s .pre) (a .unit) (a .length) (a .groups .now) (a .room) (at-unit-number .unit-number .result) (at-unit-number .unit-number .ensures) (at-if1 .if1 .left) _ (at-load-interface .load-interface .ensures) _ (at-least-shrinking .least-shrinking .ensures) _ (fw .is) (fw .sign) _ (at-pass .pass .ensures) (c .before .before .if3 .left) (omega (arith, c .before .count .ensures))
 
 pub judge-spec : {M : Type 1} → statement M
 judge-spec =

@@ -41,7 +41,11 @@ refused-requires-2 : tie.Need-refused-requires-2 Inv-loop μ-loop
 refused-requires-2 c κs = search needs
 
 returns-2 : tie.Need-returns-2 Inv-loop μ-loop
-returns-2 c = let l = c .before .before .before .before .before .before .before in let a = l .before .before .args in record { number = c .refused2 .ensures .0 ∙ c .before .before .limit-number .ensures ∙ sym (reached-past (limitNo (a .reach) (a .floor)) (a .ws .now) (a .length) (l .loop .at) (l .loop .taken) (l .loop .done) (l .loop .inv) (c .before .before .before .before .before .before .loop-test .taken) _ (c .before .before .before .before .before .step-at .ensures) (c .before .before .before .before .if1 .left) (λ z. c .before .if2 .taken (c .before .before .limit-number .ensures ∙ z))); taken = λ z. absurd (c .before .if2 .taken (sym (c .refused2 .ensures .0) ∙ z)); none-taken = λ h. c .refused2 .ensures .1 }
+returns-2 c =
+    let at-if1 = c .before .before .before .before in
+    let at-step-at = at-if1 .before in
+    let at-loop-test = at-step-at .before in
+    let l = c .before .before .before .before .before .before .before in let a = l .before .before .args in record { number = c .refused2 .ensures .0 ∙ c .before .before .limit-number .ensures ∙ sym (reached-past (limitNo (a .reach) (a .floor)) (a .ws .now) (a .length) (l .loop .at) (l .loop .taken) (l .loop .done) (l .loop .inv) (at-loop-test .loop-test .taken) _ (at-step-at .step-at .ensures) (at-if1 .if1 .left) (λ z. c .before .if2 .taken (c .before .before .limit-number .ensures ∙ z))); taken = λ z. absurd (c .before .if2 .taken (sym (c .refused2 .ensures .0) ∙ z)); none-taken = λ h. c .refused2 .ensures .1 }
 
 add-taken : tie.Need-add-taken Inv-loop μ-loop
 add-taken c = omega arith

@@ -1,10 +1,7 @@
 -- What is left of the lengths, written from here, comes to the whole (`Writing`). The measure is the words left. Assumes nothing.
 use Prim.Native.Nat.{_-_}
-use mathlib.Core.Path.{sym, _∙_}
 use native.Mathlib.Omega.{arith}
 use lib.ListN.{length as size}
-use Rattle.recorded_steps.specs.Passes.{Ready}
-use Rattle.recorded_steps.proofs.Passing.{by-low}
 use Rattle.recorded_steps.proofs.Reaching.{Writing, writing-start, goes-on, writing-room, writing-next, writing-end}
 use Rattle.recorded_steps.proofs.put_lengths.Statement.{statement}
 use Rattle.recorded_steps.proofs.put_lengths.Tie as tie

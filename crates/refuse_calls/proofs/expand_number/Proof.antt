@@ -33,7 +33,11 @@ is-blossom-requires : tie.Need-is-blossom-requires
 is-blossom-requires c κs = search needs
 
 returns-2 : tie.Need-returns-2
-returns-2 c = expand-defect (c .before .before .before .before .before .before .before .args .b .now) (c .before .before .before .before .before .before .before .pre) (c .before .before .before .before .before .before .before .args .unit) (c .before .before .before .before .before .before .named-number .result) (handleNamed (c .before .before .before .before .before .before .before .args .h)) (c .before .before .before .before .before .before .named-number .ensures) (c .before .before .before .before .before .if1 .left) (c .before .before .load-node .result) (c .before .before .load-node .ensures) (c .before .is-blossom .result) (c .before .is-blossom .ensures) (not-true (c .before .is-blossom .result) (c .if2 .taken))
+returns-2 c =
+    let at-if1 = c .before .before .before .before .before in
+    let at-named-number = at-if1 .before in
+    let start = at-named-number .before in
+    expand-defect (start .args .b .now) (start .pre) (start .args .unit) (at-named-number .named-number .result) (handleNamed (start .args .h)) (at-named-number .named-number .ensures) (at-if1 .if1 .left) (c .before .before .load-node .result) (c .before .before .load-node .ensures) (c .before .is-blossom .result) (c .before .is-blossom .ensures) (not-true (c .before .is-blossom .result) (c .if2 .taken))
 
 enum-told : tie.Need-enum-told
 enum-told c = search needs

@@ -1,5 +1,4 @@
 -- The length's own number first; then the least value that shrinks decides. Assumes nothing.
-use borrow.Author.Needs.{needs}
 use Rattle.refuse_calls.proofs.Lengths.{forward-of}
 use Rattle.refuse_calls.proofs.Belows.{length-said, grow-early, here, onward, grow-below, grow-above}
 use Rattle.refuse_calls.proofs.grow_number.Statement.{statement}

@@ -30,10 +30,18 @@ add-if3 c =
     record { fits = omega (arith, f .small, ap (λ (x : Interface). x .progress) (c .before .load-interface .ensures), s .pre .progress (s .args .unit) (unit-low (s .args .b .now) (s .args .unit) (c .before .before .before .before .unit-number .result) (c .before .before .before .before .unit-number .ensures) (c .before .before .before .if1 .left))) }
 
 returns-3 : tie.Need-returns-3
-returns-3 c = grow-far (c .before .before .before .before .before .before .args .b .now) (c .before .before .before .before .before .before .args .unit) (c .before .before .before .before .before .unit-number .result) (c .before .before .before .before .before .unit-number .ensures) (c .before .before .before .before .if1 .left) (c .before .before .load-interface .result) (c .before .before .load-interface .ensures) _ (c .before .before .before .before .before .before .args .length) (forward (c .before .before .before .before .before .before .args .length) (c .before .before .before .before .before .before .fits .length) (c .before .before .before .if2 .left) .is) (c .if3 .taken)
+returns-3 c =
+    let at-if1 = c .before .before .before .before in
+    let at-unit-number = at-if1 .before in
+    let start = at-unit-number .before in
+    grow-far (start .args .b .now) (start .args .unit) (at-unit-number .unit-number .result) (at-unit-number .unit-number .ensures) (at-if1 .if1 .left) (c .before .before .load-interface .result) (c .before .before .load-interface .ensures) _ (start .args .length) (forward (start .args .length) (start .fits .length) (c .before .before .before .if2 .left) .is) (c .if3 .taken)
 
 returns-4 : tie.Need-returns-4
-returns-4 c = grow-fine (c .before .before .before .before .before .before .args .b .now) (c .before .before .before .before .before .before .args .unit) (c .before .before .before .before .before .unit-number .result) (c .before .before .before .before .before .unit-number .ensures) (c .before .before .before .before .if1 .left) (c .before .before .load-interface .result) (c .before .before .load-interface .ensures) _ (c .before .before .before .before .before .before .args .length) (forward (c .before .before .before .before .before .before .args .length) (c .before .before .before .before .before .before .fits .length) (c .before .before .before .if2 .left) .is) (c .if3 .left)
+returns-4 c =
+    let at-if1 = c .before .before .before .before in
+    let at-unit-number = at-if1 .before in
+    let start = at-unit-number .before in
+    grow-fine (start .args .b .now) (start .args .unit) (at-unit-number .unit-number .result) (at-unit-number .unit-number .ensures) (at-if1 .if1 .left) (c .before .before .load-interface .result) (c .before .before .load-interface .ensures) _ (start .args .length) (forward (start .args .length) (start .fits .length) (c .before .before .before .if2 .left) .is) (c .if3 .left)
 
 pub length-number-spec : {M : Type 1} → statement M
 length-number-spec =

@@ -30,7 +30,10 @@ again-requires : tie.Need-again-requires Inv-loop μ-loop
 again-requires c κs = (c .before .before .before .before .pre, in-at (c .before .before .before .before .args .ws .now) (c .before .before .loop .i) (c .before .loop-test .taken))
 
 returns : tie.Need-returns Inv-loop μ-loop
-returns c = sym (c .before .before .before .before .loop .inv ∙ still-here (c .before .before .before .before .before .before .args .ws .now) (c .before .before .before .before .loop .i) (c .before .before .before .loop-test .taken) (sym (c .before .again .ensures) ∙ c .if1 .taken))
+returns c =
+    let at-loop = c .before .before .before .before in
+    let start = at-loop .before .before in
+    sym (at-loop .loop .inv ∙ still-here (start .args .ws .now) (at-loop .loop .i) (c .before .before .before .loop-test .taken) (sym (c .before .again .ensures) ∙ c .if1 .taken))
 
 add-i : tie.Need-add-i Inv-loop μ-loop
 add-i c = search needs
@@ -39,7 +42,10 @@ loop-less : tie.Need-loop-less Inv-loop μ-loop
 loop-less c = search needs
 
 loop-again : tie.Need-loop-again Inv-loop μ-loop
-loop-again c = c .before .before .before .before .loop .inv ∙ still-on (c .before .before .before .before .before .before .args .ws .now) (c .before .before .before .before .loop .i) (c .before .before .before .loop-test .taken) (sym (c .before .again .ensures) ∙ c .if1 .left)
+loop-again c =
+    let at-loop = c .before .before .before .before in
+    let start = at-loop .before .before in
+    at-loop .loop .inv ∙ still-on (start .args .ws .now) (at-loop .loop .i) (c .before .before .before .loop-test .taken) (sym (c .before .again .ensures) ∙ c .if1 .left)
 
 returns-2 : tie.Need-returns-2 Inv-loop μ-loop
 returns-2 c = sym (c .before .loop .inv ∙ still-end (c .before .before .before .args .ws .now) (c .before .loop .i) (omega arith))

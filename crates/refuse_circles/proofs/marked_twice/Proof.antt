@@ -29,7 +29,11 @@ element-copy-out-if1 : tie.Need-element-copy-out-if1 Inv-loop μ-loop
 element-copy-out-if1 c = omega (arith, c .spot .ensures .1, c .before .before .before .loop .inv .long)
 
 returns : tie.Need-returns Inv-loop μ-loop
-returns c = let l = c .before .before .before .before .before .loop in going-here (c .before .before .before .before .before .before .before .args .ws .now) (l .seen) (l .i) (l .inv) (c .before .before .before .before .loop-test .taken) (c .before .before .spot .result) (c .before .before .spot .ensures .0) (c .if1 .taken)
+returns c =
+    let at-loop-test = c .before .before .before .before in
+    let at-loop = at-loop-test .before in
+    let start = at-loop .before .before in
+    going-here (start .args .ws .now) (at-loop .loop .seen) (at-loop .loop .i) (at-loop .loop .inv) (at-loop-test .loop-test .taken) (c .before .before .spot .result) (c .before .before .spot .ensures .0) (c .if1 .taken)
 
 element-write-seen : tie.Need-element-write-seen Inv-loop μ-loop
 element-write-seen c = omega (arith, c .before .before .spot .ensures .1, c .before .before .before .before .before .loop .inv .long)
@@ -41,7 +45,11 @@ loop-less : tie.Need-loop-less Inv-loop μ-loop
 loop-less c = search needs
 
 loop-again : tie.Need-loop-again Inv-loop μ-loop
-loop-again c = let l = c .before .before .before .before .before .loop in going-on (c .before .before .before .before .before .before .before .args .ws .now) (l .seen) (l .i) (l .inv) (c .before .before .before .before .loop-test .taken) (c .before .before .before .before .before .before .before .pre .0) (c .before .before .spot .result) (c .before .before .spot .ensures .0) (c .if1 .left)
+loop-again c =
+    let at-loop-test = c .before .before .before .before in
+    let at-loop = at-loop-test .before in
+    let start = at-loop .before .before in
+    going-on (start .args .ws .now) (at-loop .loop .seen) (at-loop .loop .i) (at-loop .loop .inv) (at-loop-test .loop-test .taken) (start .pre .0) (c .before .before .spot .result) (c .before .before .spot .ensures .0) (c .if1 .left)
 
 returns-2 : tie.Need-returns-2 Inv-loop μ-loop
 returns-2 c = let l = c .before .loop in going-ends (c .before .before .before .args .ws .now) (l .seen) (l .i) (l .inv) (omega arith)

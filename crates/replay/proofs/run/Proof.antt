@@ -2,13 +2,6 @@ use Prim.Native.Nat.{_-_, _≤_}
 use borrow.Author.Needs.{needs}
 use Rattle.replay.proofs.run.Statement.{statement}
 use Rattle.replay.proofs.run.Tie as tie
-use Rattle.replay.proofs.run.Reads as reads
-use Rattle.replay.proofs.run.Lts as lts
-use Rattle.replay.proofs.byte.Reads as byte-reads
-use Rattle.replay.proofs.ended.Reads as ended-reads
-use Rattle.replay.proofs.fill.Reads as fill-reads
-use Rattle.replay.proofs.keep.Reads as keep-reads
-use Rattle.replay.proofs.line_done.Reads as line-done-reads
 
 abbrev Inv-loop2 : tie.InvT-loop2
 Inv-loop2 b₀ p₀ q₀ r₀ s₀ line₀ row₀ out₀ chunk count₀ held₀ budget n i₀ b p q r s line row out count held i = i ≤ n

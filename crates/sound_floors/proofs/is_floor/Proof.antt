@@ -1,5 +1,4 @@
 -- Each way out is a part of the test. Assumes nothing.
-use native.Mathlib.Omega.{arith}
 use borrow.Author.Needs.{needs}
 use Rattle.sound_floors.proofs.Rows.{good-loaded, used-small, not-level, unfloored, all-afloat}
 use Rattle.sound_floors.proofs.is_floor.Statement.{statement}

@@ -49,8 +49,10 @@ loop-less c = search needs
 
 loop-again : tie.Need-loop-again Inv-loop μ-loop
 loop-again c =
-    let a = c .before .before .before .before .before .before .before .args in
-    (all-more (slotTest (a .b .now) (c .before .before .before .before .before .before .load-interface .result .used) (c .before .before .before .before .before .load-map .result) (a .u)) (c .before .before .before .loop .s) (c .before .before .before .loop .inv .0) (sym (c .before .is-slot .ensures) ∙ not-false (c .before .is-slot .result) (c .if1 .left)), omega arith)
+    let at-load-map = c .before .before .before .before .before in
+    let at-load-interface = at-load-map .before in
+    let start = at-load-interface .before in
+    (all-more (slotTest (start .args .b .now) (at-load-interface .load-interface .result .used) (at-load-map .load-map .result) (start .args .u)) (c .before .before .before .loop .s) (c .before .before .before .loop .inv .0) (sym (c .before .is-slot .ensures) ∙ not-false (c .before .is-slot .result) (c .if1 .left)), omega arith)
 
 returns-2 : tie.Need-returns-2 Inv-loop μ-loop
 returns-2 c =

@@ -40,10 +40,19 @@ is-class-requires : tie.Need-is-class-requires
 is-class-requires c κs = search needs
 
 is-parent-requires : tie.Need-is-parent-requires
-is-parent-requires c κs = (c .before .before .before .before .before .before .before .before .before .pre .0, good-parent (c .before .before .before .before .before .before .before .before .before .args .b .now) (c .before .before .before .before .before .before .before .before .before .args .u * 64 + c .before .before .before .before .before .before .before .before .before .args .s) (c .before .before .before .before .before .load-node .result) (c .before .before .before .before .before .load-node .ensures))
+is-parent-requires c κs =
+    let at-load-node = c .before .before .before .before .before in
+    let start = at-load-node .before .before .before .before in
+    (start .pre .0, good-parent (start .args .b .now) (start .args .u * 64 + start .args .s) (at-load-node .load-node .result) (at-load-node .load-node .ensures))
 
 returns-2 : tie.Need-returns-2
-returns-2 c = node-row (c .before .before .before .before .before .before .before .before .before .before .args .b .now) (c .before .before .before .before .before .before .before .before .before .before .args .u) (c .before .before .before .before .before .before .before .before .before .before .args .s) (c .before .before .before .before .before .before .before .before .before .is-coded .result) (c .before .before .before .before .before .before .before .before .before .is-coded .ensures) (not-false (c .before .before .before .before .before .before .before .before .before .is-coded .result) (c .before .before .before .before .before .before .before .before .if1 .left)) (c .before .before .before .before .before .before .before .before .before .before .args .g) (c .before .before .before .before .before .before .before .before .before .before .pre .1 .1 .1) (c .before .before .before .before .before .before .before .load-next .result) (c .before .before .before .before .before .before .before .load-next .ensures) (c .before .before .before .before .before .before .load-node .result) (c .before .before .before .before .before .before .load-node .ensures) (c .before .before .is-near .result) (c .before .is-class .result) (c .is-parent .result) (c .before .before .is-near .ensures) (c .before .is-class .ensures) (c .is-parent .ensures)
+returns-2 c =
+    let at-load-node = c .before .before .before .before .before .before in
+    let at-load-next = at-load-node .before in
+    let at-if1 = at-load-next .before in
+    let at-is-coded = at-if1 .before in
+    let start = at-is-coded .before in
+    node-row (start .args .b .now) (start .args .u) (start .args .s) (at-is-coded .is-coded .result) (at-is-coded .is-coded .ensures) (not-false (at-is-coded .is-coded .result) (at-if1 .if1 .left)) (start .args .g) (start .pre .1 .1 .1) (at-load-next .load-next .result) (at-load-next .load-next .ensures) (at-load-node .load-node .result) (at-load-node .load-node .ensures) (c .before .before .is-near .result) (c .before .is-class .result) (c .is-parent .result) (c .before .before .is-near .ensures) (c .before .is-class .ensures) (c .is-parent .ensures)
 
 pub is-node-spec : {M : Type 1} → statement M
 is-node-spec =

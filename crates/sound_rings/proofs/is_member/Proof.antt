@@ -14,7 +14,10 @@ cast-touching-2 : tie.Need-cast-touching-2
 cast-touching-2 c = search needs
 
 returns : tie.Need-returns
-returns c = member-row (c .before .before .before .before .before .before .before .args .m) (c .before .before .before .before .before .before .before .args .h) (c .before .before .before .before .before .before .before .args .i) (c .before .before .before .before .before .before .before .args .next) (c .before .before .before .before .is-inside .result) (c .before .before .before .before .is-inside .ensures)
+returns c =
+    let at-is-inside = c .before .before .before .before in
+    let start = at-is-inside .before .before .before in
+    member-row (start .args .m) (start .args .h) (start .args .i) (start .args .next) (at-is-inside .is-inside .result) (at-is-inside .is-inside .ensures)
 
 pub is-member-spec : {M : Type 1} → statement M
 is-member-spec = tie.close (tie.spec is-inside-requires cast-touching cast-touching-2 returns)

@@ -24,7 +24,9 @@ loop-holds : tie.Need-loop-holds Inv-loop μ-loop
 loop-holds c = going-starts (nodeAt (c .before .before .before .before .args .b .now)) (c .before .before .before .before .args .next) (c .before .before .before .before .args .h) (c .before .before .before .before .args .n) (c .before .before .if1 .left) (c .if2 .left)
 
 returns-3 : tie.Need-returns-3 Inv-loop μ-loop
-returns-3 c = going-out (nodeAt (c .before .before .before .before .before .before .before .before .args .b .now)) (c .before .before .before .before .before .before .before .before .args .next) (c .before .before .before .before .before .before .before .before .args .h) (c .before .before .before .before .before .before .before .before .args .n) (c .before .before .before .loop .p) (c .before .before .before .loop .total) (c .before .before .before .loop .i) (c .before .before .before .loop .inv) (c .before .if3 .taken) (c .if4 .taken)
+returns-3 c =
+    let start = c .before .before .before .before .before .before .before .before in
+    going-out (nodeAt (start .args .b .now)) (start .args .next) (start .args .h) (start .args .n) (c .before .before .before .loop .p) (c .before .before .before .loop .total) (c .before .before .before .loop .i) (c .before .before .before .loop .inv) (c .before .if3 .taken) (c .if4 .taken)
 
 load-node-requires : tie.Need-load-node-requires Inv-loop μ-loop
 load-node-requires c κs = search needs
@@ -33,22 +35,41 @@ is-member-requires : tie.Need-is-member-requires Inv-loop μ-loop
 is-member-requires c κs = search needs
 
 returns-4 : tie.Need-returns-4 Inv-loop μ-loop
-returns-4 c = going-fails (nodeAt (c .before .before .before .before .before .before .before .before .before .before .before .args .b .now)) (c .before .before .before .before .before .before .before .before .before .before .before .args .next) (c .before .before .before .before .before .before .before .before .before .before .before .args .h) (c .before .before .before .before .before .before .before .before .before .before .before .args .n) (c .before .before .before .before .before .before .loop .p) (c .before .before .before .before .before .before .loop .total) (c .before .before .before .before .before .before .loop .i) (c .before .before .before .before .before .before .loop .inv) (c .before .before .before .before .if3 .taken) (c .before .before .before .if4 .left) (c .before .before .load-node .result) (c .before .before .load-node .ensures) (c .before .is-member .result) (c .before .is-member .ensures) (not-true (c .before .is-member .result) (c .if5 .taken))
+returns-4 c =
+    let at-if3 = c .before .before .before .before in
+    let at-loop = at-if3 .before .before in
+    let start = at-loop .before .before .before .before .before in
+    going-fails (nodeAt (start .args .b .now)) (start .args .next) (start .args .h) (start .args .n) (at-loop .loop .p) (at-loop .loop .total) (at-loop .loop .i) (at-loop .loop .inv) (at-if3 .if3 .taken) (c .before .before .before .if4 .left) (c .before .before .load-node .result) (c .before .before .load-node .ensures) (c .before .is-member .result) (c .before .is-member .ensures) (not-true (c .before .is-member .result) (c .if5 .taken))
 
 add-total : tie.Need-add-total Inv-loop μ-loop
-add-total c = let m = little (nodeAt (c .before .before .before .before .before .before .before .before .before .before .before .before .args .b .now)) (c .before .before .before .before .before .before .before .before .before .before .before .before .args .next) (c .before .before .before .before .before .before .before .before .before .before .before .before .args .h) (c .before .before .before .before .before .before .before .before .before .before .before .before .args .n) (c .before .before .before .before .before .before .before .loop .p) (c .before .before .before .before .before .before .before .loop .total) (c .before .before .before .before .before .before .before .loop .i) (c .before .before .before .before .before .before .before .loop .inv) (c .before .before .before .before .before .if3 .taken) (c .before .before .before .before .if4 .left) (c .before .before .before .load-node .result) (c .before .before .before .load-node .ensures) (c .before .before .is-member .result) (c .before .before .is-member .ensures) (not-false (c .before .before .is-member .result) (c .before .if5 .left)) in record { fits = omega (arith, c .before .before .before .before .before .before .before .loop .inv .small, c .before .before .before .before .before .before .before .loop .inv .low, c .before .before .before .before .before .before .before .loop .inv .few) }
+add-total c =
+    let at-if4 = c .before .before .before .before in
+    let at-if3 = at-if4 .before in
+    let at-loop = at-if3 .before .before in
+    let start = at-loop .before .before .before .before .before in
+    let m = little (nodeAt (start .args .b .now)) (start .args .next) (start .args .h) (start .args .n) (at-loop .loop .p) (at-loop .loop .total) (at-loop .loop .i) (at-loop .loop .inv) (at-if3 .if3 .taken) (at-if4 .if4 .left) (c .before .before .before .load-node .result) (c .before .before .before .load-node .ensures) (c .before .before .is-member .result) (c .before .before .is-member .ensures) (not-false (c .before .before .is-member .result) (c .before .if5 .left)) in record { fits = omega (arith, at-loop .loop .inv .small, at-loop .loop .inv .low, at-loop .loop .inv .few) }
 
 add-i : tie.Need-add-i Inv-loop μ-loop
-add-i c = record { fits = omega (arith, c .before .before .before .before .before .if3 .taken, c .before .before .before .before .before .before .before .loop .inv .few) }
+add-i c =
+    let at-if3 = c .before .before .before .before .before in
+    let at-loop = at-if3 .before .before in
+    record { fits = omega (arith, at-if3 .if3 .taken, at-loop .loop .inv .few) }
 
 loop-less : tie.Need-loop-less Inv-loop μ-loop
 loop-less c = omega (arith, c .before .before .before .before .before .if3 .taken)
 
 loop-again : tie.Need-loop-again Inv-loop μ-loop
-loop-again c = going-on (nodeAt (c .before .before .before .before .before .before .before .before .before .before .before .before .args .b .now)) (c .before .before .before .before .before .before .before .before .before .before .before .before .args .next) (c .before .before .before .before .before .before .before .before .before .before .before .before .args .h) (c .before .before .before .before .before .before .before .before .before .before .before .before .args .n) (c .before .before .before .before .before .before .before .loop .p) (c .before .before .before .before .before .before .before .loop .total) (c .before .before .before .before .before .before .before .loop .i) (c .before .before .before .before .before .before .before .loop .inv) (c .before .before .before .before .before .if3 .taken) (c .before .before .before .before .if4 .left) (c .before .before .before .load-node .result) (c .before .before .before .load-node .ensures) (c .before .before .is-member .result) (c .before .before .is-member .ensures) (not-false (c .before .before .is-member .result) (c .before .if5 .left))
+loop-again c =
+    let at-if4 = c .before .before .before .before in
+    let at-if3 = at-if4 .before in
+    let at-loop = at-if3 .before .before in
+    let start = at-loop .before .before .before .before .before in
+    going-on (nodeAt (start .args .b .now)) (start .args .next) (start .args .h) (start .args .n) (at-loop .loop .p) (at-loop .loop .total) (at-loop .loop .i) (at-loop .loop .inv) (at-if3 .if3 .taken) (at-if4 .if4 .left) (c .before .before .before .load-node .result) (c .before .before .before .load-node .ensures) (c .before .before .is-member .result) (c .before .before .is-member .ensures) (not-false (c .before .before .is-member .result) (c .before .if5 .left))
 
 returns-5 : tie.Need-returns-5 Inv-loop μ-loop
-returns-5 c = going-ends (nodeAt (c .before .before .before .before .before .before .before .before .args .b .now)) (c .before .before .before .before .before .before .before .before .args .next) (c .before .before .before .before .before .before .before .before .args .h) (c .before .before .before .before .before .before .before .before .args .n) (c .before .before .before .loop .p) (c .before .before .before .loop .total) (c .before .before .before .loop .i) (c .before .before .before .loop .inv) (c .before .if3 .left)
+returns-5 c =
+    let start = c .before .before .before .before .before .before .before .before in
+    going-ends (nodeAt (start .args .b .now)) (start .args .next) (start .args .h) (start .args .n) (c .before .before .before .loop .p) (c .before .before .before .loop .total) (c .before .before .before .loop .i) (c .before .before .before .loop .inv) (c .before .if3 .left)
 
 pub is-ring-spec : {M : Type 1} → statement M
 is-ring-spec =

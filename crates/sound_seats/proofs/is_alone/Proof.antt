@@ -17,7 +17,11 @@ same-requires-2 : tie.Need-same-requires-2
 same-requires-2 c κs = search needs
 
 returns : tie.Need-returns
-returns c = alone-row (c .before .before .before .before .before .before .before .before .args .n) (c .before .before .before .before .before .nobody .result) (c .before .before .before .nobody2 .result) (c .before .before .before .before .same .result) (c .before .before .same2 .result) (c .before .before .before .before .before .nobody .ensures) (c .before .before .before .nobody2 .ensures) (c .before .before .before .before .same .ensures) (c .before .before .same2 .ensures)
+returns c =
+    let at-same = c .before .before .before .before in
+    let at-nobody = at-same .before in
+    let start = at-nobody .before .before .before in
+    alone-row (start .args .n) (at-nobody .nobody .result) (c .before .before .before .nobody2 .result) (at-same .same .result) (c .before .before .same2 .result) (at-nobody .nobody .ensures) (c .before .before .before .nobody2 .ensures) (at-same .same .ensures) (c .before .before .same2 .ensures)
 
 pub is-alone-spec : {M : Type 1} → statement M
 is-alone-spec =

@@ -23,7 +23,10 @@ returns : tie.Need-returns
 returns c = seat-many (c .before .before .before .before .before .args .b .now) (c .before .before .before .before .before .args .k) (c .before .before .before .before .before .args .top) (c .before .before .before .before .before .args .n) (c .before .before .before .before .before .args .q) (c .before .before .load-node .result) (c .before .before .load-node .ensures) (c .if1 .taken)
 
 returns-2 : tie.Need-returns-2
-returns-2 c = seat-past (c .before .before .before .before .before .before .before .before .args .b .now) (c .before .before .before .before .before .before .before .before .args .k) (c .before .before .before .before .before .before .before .before .args .top) (c .before .before .before .before .before .before .before .before .args .n) (c .before .before .before .before .before .before .before .before .args .q) (c .before .before .before .before .before .load-node .result) (c .before .before .before .before .before .load-node .ensures) (c .before .before .before .if1 .left) (c .if2 .taken)
+returns-2 c =
+    let at-load-node = c .before .before .before .before .before in
+    let start = at-load-node .before .before .before in
+    seat-past (start .args .b .now) (start .args .k) (start .args .top) (start .args .n) (start .args .q) (at-load-node .load-node .result) (at-load-node .load-node .ensures) (c .before .before .before .if1 .left) (c .if2 .taken)
 
 is-stay-requires : tie.Need-is-stay-requires
 is-stay-requires c κs = search needs
@@ -41,7 +44,16 @@ walk-requires : tie.Need-walk-requires
 walk-requires c κs = search needs
 
 returns-3 : tie.Need-returns-3
-returns-3 c = seat-row (c .before .before .before .before .before .before .before .before .before .before .before .before .before .before .before .before .before .before .args .b .now) (c .before .before .before .before .before .before .before .before .before .before .before .before .before .before .before .before .before .before .args .k) (c .before .before .before .before .before .before .before .before .before .before .before .before .before .before .before .before .before .before .args .top) (c .before .before .before .before .before .before .before .before .before .before .before .before .before .before .before .before .before .before .args .n) (c .before .before .before .before .before .before .before .before .before .before .before .before .before .before .before .before .before .before .args .q) (c .before .before .before .before .before .before .before .before .before .before .before .before .before .before .before .load-node .result) (c .before .before .before .before .before .before .before .before .before .before .before .before .before .before .before .load-node .ensures) (c .before .before .before .before .before .before .before .before .before .before .before .before .before .if1 .left) (c .before .before .before .before .before .before .before .before .before .before .if2 .left) (c .before .before .before .before .before .before .before .before .before .is-stay .result) (c .before .before .before .before .before .before .before .before .is-blossom .result) (c .before .before .before .before .before .before .climb .result .top) (c .before .before .before .before .before .before .climb .result .total) (c .before .before .before .before .before .walk .result) (c .before .before .before .before .before .before .before .before .before .is-stay .ensures) (c .before .before .before .before .before .before .before .before .is-blossom .ensures) (c .before .before .before .before .before .before .climb .ensures) (c .before .before .before .before .before .walk .ensures)
+returns-3 c =
+    let at-walk = c .before .before .before .before .before in
+    let at-climb = at-walk .before in
+    let at-is-blossom = at-climb .before .before in
+    let at-is-stay = at-is-blossom .before in
+    let at-if2 = at-is-stay .before in
+    let at-if1 = at-if2 .before .before .before in
+    let at-load-node = at-if1 .before .before in
+    let start = at-load-node .before .before .before in
+    seat-row (start .args .b .now) (start .args .k) (start .args .top) (start .args .n) (start .args .q) (at-load-node .load-node .result) (at-load-node .load-node .ensures) (at-if1 .if1 .left) (at-if2 .if2 .left) (at-is-stay .is-stay .result) (at-is-blossom .is-blossom .result) (at-climb .climb .result .top) (at-climb .climb .result .total) (at-walk .walk .result) (at-is-stay .is-stay .ensures) (at-is-blossom .is-blossom .ensures) (at-climb .climb .ensures) (at-walk .walk .ensures)
 
 pub is-seated-spec : {M : Type 1} → statement M
 is-seated-spec =

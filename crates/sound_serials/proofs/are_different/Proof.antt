@@ -37,7 +37,11 @@ loop-less : tie.Need-loop-less Inv-loop μ-loop
 loop-less c = search needs
 
 loop-again : tie.Need-loop-again Inv-loop μ-loop
-loop-again c = going-more (c .before .before .before .before .before .before .before .before .args .b .now) (c .before .before .before .before .before .loop .t) (c .before .mark .last .0) (c .before .before .before .before .before .loop .k) (c .before .before .before .serial-at .result) (c .before .mark .result) (c .before .before .before .before .before .loop .inv) (c .before .before .before .before .loop-test .taken) (c .before .before .before .serial-at .ensures) (c .before .mark .ensures) (not-false (c .before .mark .result) (c .if1 .left))
+loop-again c =
+    let at-loop-test = c .before .before .before .before in
+    let at-loop = at-loop-test .before in
+    let start = at-loop .before .before .before in
+    going-more (start .args .b .now) (at-loop .loop .t) (c .before .mark .last .0) (at-loop .loop .k) (c .before .before .before .serial-at .result) (c .before .mark .result) (at-loop .loop .inv) (at-loop-test .loop-test .taken) (c .before .before .before .serial-at .ensures) (c .before .mark .ensures) (not-false (c .before .mark .result) (c .if1 .left))
 
 returns-2 : tie.Need-returns-2 Inv-loop μ-loop
 returns-2 c = going-ends (c .before .before .before .before .args .b .now) (c .before .loop .t) (c .before .loop .k) (c .before .loop .inv) (c .loop-test .left)

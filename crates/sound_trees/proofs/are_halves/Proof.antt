@@ -36,7 +36,13 @@ is-under-requires-2 : tie.Need-is-under-requires-2
 is-under-requires-2 c κs = search needs
 
 returns-5 : tie.Need-returns-5
-returns-5 c = down-both (interfaceAt (c .before .before .before .before .before .before .before .before .args .b .now)) (c .before .before .before .before .before .before .before .before .args .l) (c .before .before .before .before .before .before .before .before .args .r) (c .before .before .before .before .before .before .before .before .args .u) (c .before .before .before .before .before .before .before .if1 .left) (c .before .before .before .before .before .before .if2 .left) (c .before .before .before .before .before .if3 .left) (c .before .before .before .before .if4 .left) (c .before .before .before .load-interface .result) (c .before .before .load-interface2 .result) (c .before .is-under .result) (c .is-under2 .result) (c .before .before .before .load-interface .ensures) (c .before .before .load-interface2 .ensures) (c .before .is-under .ensures) (c .is-under2 .ensures)
+returns-5 c =
+    let at-if4 = c .before .before .before .before in
+    let at-if3 = at-if4 .before in
+    let at-if2 = at-if3 .before in
+    let at-if1 = at-if2 .before in
+    let start = at-if1 .before in
+    down-both (interfaceAt (start .args .b .now)) (start .args .l) (start .args .r) (start .args .u) (at-if1 .if1 .left) (at-if2 .if2 .left) (at-if3 .if3 .left) (at-if4 .if4 .left) (c .before .before .before .load-interface .result) (c .before .before .load-interface2 .result) (c .before .is-under .result) (c .is-under2 .result) (c .before .before .before .load-interface .ensures) (c .before .before .load-interface2 .ensures) (c .before .is-under .ensures) (c .is-under2 .ensures)
 
 pub are-halves-spec : {M : Type 1} → statement M
 are-halves-spec =

@@ -17,13 +17,22 @@ is-flags-requires : tie.Need-is-flags-requires
 is-flags-requires c κs = search needs
 
 is-half-requires : tie.Need-is-half-requires
-is-half-requires c κs = (good-loaded (c .before .before .before .before .before .before .args .b .now) (c .before .before .before .before .before .before .args .u) (c .before .before .before .before .before .load-interface .result) (c .before .before .before .before .before .load-interface .ensures), c .before .before .before .before .before .before .pre)
+is-half-requires c κs =
+    let at-load-interface = c .before .before .before .before .before in
+    let start = at-load-interface .before in
+    (good-loaded (start .args .b .now) (start .args .u) (at-load-interface .load-interface .result) (at-load-interface .load-interface .ensures), start .pre)
 
 are-halves-requires : tie.Need-are-halves-requires
 are-halves-requires c κs = search needs
 
 returns : tie.Need-returns
-returns c = interface-row (c .before .before .before .before .before .before .before .before .args .b .now) (c .before .before .before .before .before .before .before .before .args .u) (c .before .before .before .before .before .before .before .load-interface .result) (c .before .before .before .before .before .before .is-spare .result) (c .before .before .before .before .before .is-link .result) (c .before .before .before .before .is-flags .result) (c .before .is-half .result) (c .are-halves .result) (c .before .before .before .before .before .before .before .load-interface .ensures) (c .before .before .before .before .before .before .is-spare .ensures) (c .before .before .before .before .before .is-link .ensures) (c .before .before .before .before .is-flags .ensures) (c .before .is-half .ensures) (c .are-halves .ensures)
+returns c =
+    let at-is-flags = c .before .before .before .before in
+    let at-is-link = at-is-flags .before in
+    let at-is-spare = at-is-link .before in
+    let at-load-interface = at-is-spare .before in
+    let start = at-load-interface .before in
+    interface-row (start .args .b .now) (start .args .u) (at-load-interface .load-interface .result) (at-is-spare .is-spare .result) (at-is-link .is-link .result) (at-is-flags .is-flags .result) (c .before .is-half .result) (c .are-halves .result) (at-load-interface .load-interface .ensures) (at-is-spare .is-spare .ensures) (at-is-link .is-link .ensures) (at-is-flags .is-flags .ensures) (c .before .is-half .ensures) (c .are-halves .ensures)
 
 pub is-interface-spec : {M : Type 1} → statement M
 is-interface-spec =

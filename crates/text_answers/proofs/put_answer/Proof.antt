@@ -20,60 +20,69 @@ spaced-requires c κs =
 
 spaced-signed-requires : tie.Need-spaced-signed-requires
 spaced-signed-requires c κs =
-    let a = c .before .before .before .before .before .before .before .before .before .before .args in
-    let pre = c .before .before .before .before .before .before .before .before .before .before .pre in
-    let p = c .before .before .before .before .before .before .before .put-number .ensures in
+    let at-put-number = c .before .before .before .before .before .before .before in
+    let start = at-put-number .before .before .before in
+    let p = at-put-number .put-number .ensures in
     let s = c .before .before .before .spaced .ensures in
-    rw (toZ-ofZ (c .before .before .before .before .before .before .before .before .before .before .fits .speed)) (room-speed (a .number) (a .serial) (a .speed) (a .sum) (a .out .now) (a .at) pre _ _ p _ _ s)
+    rw (toZ-ofZ (start .fits .speed)) (room-speed (start .args .number) (start .args .serial) (start .args .speed) (start .args .sum) (start .args .out .now) (start .args .at) (start .pre) _ _ p _ _ s)
 
 spaced-signed-requires-2 : tie.Need-spaced-signed-requires-2
 spaced-signed-requires-2 c κs =
-    let a = c .before .before .before .before .before .before .before .before .before .before .before .before .before .before .args in
-    let pre = c .before .before .before .before .before .before .before .before .before .before .before .before .before .before .pre in
-    let p = c .before .before .before .before .before .before .before .before .before .before .before .put-number .ensures in
-    let s = c .before .before .before .before .before .before .before .spaced .ensures in
-    let v = rw (toZ-ofZ (c .before .before .before .before .before .before .before .before .before .before .before .before .before .before .fits .speed)) at (c .before .before .before .spaced-signed .ensures) in
-    rw (toZ-ofZ (c .before .before .before .before .before .before .before .before .before .before .before .before .before .before .fits .sum)) (room-sum (a .number) (a .serial) (a .speed) (a .sum) (a .out .now) (a .at) pre _ _ p _ _ s _ _ v)
+    let at-spaced = c .before .before .before .before .before .before .before in
+    let at-put-number = at-spaced .before .before .before .before in
+    let start = at-put-number .before .before .before in
+    let p = at-put-number .put-number .ensures in
+    let s = at-spaced .spaced .ensures in
+    let v = rw (toZ-ofZ (start .fits .speed)) at (c .before .before .before .spaced-signed .ensures) in
+    rw (toZ-ofZ (start .fits .sum)) (room-sum (start .args .number) (start .args .serial) (start .args .speed) (start .args .sum) (start .args .out .now) (start .args .at) (start .pre) _ _ p _ _ s _ _ v)
 
 slice-write-out : tie.Need-slice-write-out
 slice-write-out c =
-    let a = c .before .before .before .before .before .before .before .before .before .before .before .before .before .before .before .before .before .args in
-    let pre = c .before .before .before .before .before .before .before .before .before .before .before .before .before .before .before .before .before .pre in
-    let p = c .before .before .before .before .before .before .before .before .before .before .before .before .before .before .put-number .ensures in
-    let s = c .before .before .before .before .before .before .before .before .before .before .spaced .ensures in
-    let v = rw (toZ-ofZ (c .before .before .before .before .before .before .before .before .before .before .before .before .before .before .before .before .before .fits .speed)) at (c .before .before .before .before .before .before .spaced-signed .ensures) in
-    let w = rw (toZ-ofZ (c .before .before .before .before .before .before .before .before .before .before .before .before .before .before .before .before .before .fits .sum)) at (c .before .before .spaced-signed2 .ensures) in
-    room-end (a .number) (a .serial) (a .speed) (a .sum) (a .out .now) (a .at) pre _ _ p _ _ s _ _ v _ _ w
+    let at-spaced-signed = c .before .before .before .before .before .before in
+    let at-spaced = at-spaced-signed .before .before .before .before in
+    let at-put-number = at-spaced .before .before .before .before in
+    let start = at-put-number .before .before .before in
+    let p = at-put-number .put-number .ensures in
+    let s = at-spaced .spaced .ensures in
+    let v = rw (toZ-ofZ (start .fits .speed)) at (at-spaced-signed .spaced-signed .ensures) in
+    let w = rw (toZ-ofZ (start .fits .sum)) at (c .before .before .spaced-signed2 .ensures) in
+    room-end (start .args .number) (start .args .serial) (start .args .speed) (start .args .sum) (start .args .out .now) (start .args .at) (start .pre) _ _ p _ _ s _ _ v _ _ w
 
 add-result : tie.Need-add-result
 add-result c =
-    let a = c .before .before .before .before .before .before .before .before .before .before .before .before .before .before .before .before .before .args in
-    let pre = c .before .before .before .before .before .before .before .before .before .before .before .before .before .before .before .before .before .pre in
-    let p = c .before .before .before .before .before .before .before .before .before .before .before .before .before .before .put-number .ensures in
-    let s = c .before .before .before .before .before .before .before .before .before .before .spaced .ensures in
-    let v = rw (toZ-ofZ (c .before .before .before .before .before .before .before .before .before .before .before .before .before .before .before .before .before .fits .speed)) at (c .before .before .before .before .before .before .spaced-signed .ensures) in
-    let w = rw (toZ-ofZ (c .before .before .before .before .before .before .before .before .before .before .before .before .before .before .before .before .before .fits .sum)) at (c .before .before .spaced-signed2 .ensures) in
-    omega (arith, whole-answer (a .number) (a .serial) (a .speed) (a .sum) (a .out .now) (a .at) pre _ _ p _ _ s _ _ v _ _ w .next, pre, c .before .before .before .before .before .before .before .before .before .before .before .before .before .before .before .before .before .good)
+    let at-spaced-signed = c .before .before .before .before .before .before in
+    let at-spaced = at-spaced-signed .before .before .before .before in
+    let at-put-number = at-spaced .before .before .before .before in
+    let start = at-put-number .before .before .before in
+    let p = at-put-number .put-number .ensures in
+    let s = at-spaced .spaced .ensures in
+    let v = rw (toZ-ofZ (start .fits .speed)) at (at-spaced-signed .spaced-signed .ensures) in
+    let w = rw (toZ-ofZ (start .fits .sum)) at (c .before .before .spaced-signed2 .ensures) in
+    omega (arith, whole-answer (start .args .number) (start .args .serial) (start .args .speed) (start .args .sum) (start .args .out .now) (start .args .at) (start .pre) _ _ p _ _ s _ _ v _ _ w .next, (start .pre), start .good)
 
 same-length : tie.Need-same-length
 same-length c =
-    let a = c .before .before .before .before .before .before .before .before .before .before .before .before .before .before .before .before .before .args in
-    let pre = c .before .before .before .before .before .before .before .before .before .before .before .before .before .before .before .before .before .pre in
-    let p = c .before .before .before .before .before .before .before .before .before .before .before .before .before .before .put-number .ensures in
-    let s = c .before .before .before .before .before .before .before .before .before .before .spaced .ensures in
-    let v = rw (toZ-ofZ (c .before .before .before .before .before .before .before .before .before .before .before .before .before .before .before .before .before .fits .speed)) at (c .before .before .before .before .before .before .spaced-signed .ensures) in
-    let w = rw (toZ-ofZ (c .before .before .before .before .before .before .before .before .before .before .before .before .before .before .before .before .before .fits .sum)) at (c .before .before .spaced-signed2 .ensures) in
-    long (a .number) (a .serial) (a .speed) (a .sum) (a .out .now) (a .at) pre _ _ p _ _ s _ _ v _ _ w
+    let at-spaced-signed = c .before .before .before .before .before .before in
+    let at-spaced = at-spaced-signed .before .before .before .before in
+    let at-put-number = at-spaced .before .before .before .before in
+    let start = at-put-number .before .before .before in
+    let p = at-put-number .put-number .ensures in
+    let s = at-spaced .spaced .ensures in
+    let v = rw (toZ-ofZ (start .fits .speed)) at (at-spaced-signed .spaced-signed .ensures) in
+    let w = rw (toZ-ofZ (start .fits .sum)) at (c .before .before .spaced-signed2 .ensures) in
+    long (start .args .number) (start .args .serial) (start .args .speed) (start .args .sum) (start .args .out .now) (start .args .at) (start .pre) _ _ p _ _ s _ _ v _ _ w
 
 returns : tie.Need-returns
 returns c =
-    let a = c .before .before .before .before .before .before .before .before .before .before .before .before .before .before .before .before .before .args in
-    let pre = c .before .before .before .before .before .before .before .before .before .before .before .before .before .before .before .before .before .pre in
-    let p = c .before .before .before .before .before .before .before .before .before .before .before .before .before .before .put-number .ensures in
-    let s = c .before .before .before .before .before .before .before .before .before .before .spaced .ensures in
-    let v = rw (toZ-ofZ (c .before .before .before .before .before .before .before .before .before .before .before .before .before .before .before .before .before .fits .speed)) at (c .before .before .before .before .before .before .spaced-signed .ensures) in
-    let w = rw (toZ-ofZ (c .before .before .before .before .before .before .before .before .before .before .before .before .before .before .before .before .before .fits .sum)) at (c .before .before .spaced-signed2 .ensures) in
-    whole-answer (a .number) (a .serial) (a .speed) (a .sum) (a .out .now) (a .at) pre _ _ p _ _ s _ _ v _ _ w
+    let at-spaced-signed = c .before .before .before .before .before .before in
+    let at-spaced = at-spaced-signed .before .before .before .before in
+    let at-put-number = at-spaced .before .before .before .before in
+    let start = at-put-number .before .before .before in
+    let p = at-put-number .put-number .ensures in
+    let s = at-spaced .spaced .ensures in
+    let v = rw (toZ-ofZ (start .fits .speed)) at (at-spaced-signed .spaced-signed .ensures) in
+    let w = rw (toZ-ofZ (start .fits .sum)) at (c .before .before .spaced-signed2 .ensures) in
+    whole-answer (start .args .number) (start .args .serial) (start .args .speed) (start .args .sum) (start .args .out .now) (start .args .at) (start .pre) _ _ p _ _ s _ _ v _ _ w
 
 pub put-answer-spec : {M : Type 1} → statement M
 put-answer-spec =

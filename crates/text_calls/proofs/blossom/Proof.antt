@@ -3,6 +3,7 @@ use mathlib.Core.Path.{sym}
 use native.Mathlib.Omega.{arith}
 use borrow.Author.Needs.{needs}
 use lib.Seq.{length-take-le}
+use Rattle.outcomes.proofs.Outcomes.{sound-after}
 use Rattle.text_calls.proofs.Members.{turned-blossom}
 use Rattle.text_calls.proofs.blossom.Statement.{statement}
 use Rattle.text_calls.proofs.blossom.Tie as tie
@@ -17,7 +18,10 @@ slice-reshare-prefix-create-blossom : tie.Need-slice-reshare-prefix-create-bloss
 slice-reshare-prefix-create-blossom c = search needs
 
 slice-aggregate-create-blossom : tie.Need-slice-aggregate-create-blossom
-slice-aggregate-create-blossom c = sym (length-take-le _ _ (omega (arith, c .before .before .before .before .before .before .before .before .few .ensures .most, c .before .before .before .before .name .ensures .long, c .before .before .before .before .before .before .before .before .before .before .pre .1)))
+slice-aggregate-create-blossom c =
+    let f = c .before .before .before .before .before .before .before .before .few in
+    let z = c .before .before .before .before .before .before .before .before .before .before in
+    sym (length-take-le _ _ (omega (arith, f .ensures .most, c .before .before .before .before .name .ensures .long, z .pre .1)))
 
 array-share-prefix-each-itself : tie.Need-array-share-prefix-each-itself
 array-share-prefix-each-itself c = search needs
@@ -32,7 +36,9 @@ keep-requires : tie.Need-keep-requires
 keep-requires c κs = search needs
 
 tell-requires : tie.Need-tell-requires
-tell-requires c κs = search needs
+tell-requires c κs =
+    let s = c .before .before .before .before .before .before .before .before .before .before .before .before .before .before .before in
+    sound-after (s .pre .0) (c .before .before .before .create-blossom .ensures .0)
 
 same-length : tie.Need-same-length
 same-length c = search needs
@@ -40,8 +46,10 @@ same-length c = search needs
 returns : tie.Need-returns
 returns c =
     let s = c .before .before .before .before .before .before .before .before .before .before .before .before .before .before .before .before in
+    let f = c .before .before .before .before .before .before .before .before .before .before .before .before .before .before .few in
+    let n = c .before .before .before .before .before .before .before .before .before .before .name in
     let a = s .args in
-    turned-blossom (a .b .now) (s .pre .0) (a .unit) (a .serials .now) (a .count) (s .pre .1) (c .before .before .before .before .before .before .before .before .before .before .before .before .before .before .few .result) (c .before .before .before .before .before .before .before .before .before .before .before .before .before .before .few .ensures) _ (c .before .before .before .before .before .before .before .before .before .before .name .ensures)
+    turned-blossom (a .b .now) (s .pre .0) (a .unit) (a .serials .now) (a .count) (s .pre .1) (f .result) (f .ensures) _ (n .ensures)
     _ _ _ (c .before .before .before .before .create-blossom .ensures) (c .tell .result) (c .tell .ensures)
 
 pub blossom-spec : {M : Type 1} → statement M

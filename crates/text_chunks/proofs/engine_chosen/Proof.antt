@@ -23,13 +23,25 @@ shared-slice-read-digit : tie.Need-shared-slice-read-digit
 shared-slice-read-digit c = search needs
 
 returns-4 : tie.Need-returns-4
-returns-4 c = chosen-plain (c .before .before .before .before .before .before .before .args .line .now) (c .before .before .before .before .before .before .if1 .left) (c .before .before .before .before .if2 .left) (c .before .before .if3 .left) (c .if4 .taken)
+returns-4 c =
+    let at-if2 = c .before .before .before .before in
+    let at-if1 = at-if2 .before .before in
+    let start = at-if1 .before in
+    chosen-plain (start .args .line .now) (at-if1 .if1 .left) (at-if2 .if2 .left) (c .before .before .if3 .left) (c .if4 .taken)
 
 returns-5 : tie.Need-returns-5
-returns-5 c = chosen-lazy (c .before .before .before .before .before .before .before .before .args .line .now) (c .before .before .before .before .before .before .before .if1 .left) (c .before .before .before .before .before .if2 .left) (c .before .before .before .if3 .left) (c .before .if4 .left) (c .if5 .taken)
+returns-5 c =
+    let at-if2 = c .before .before .before .before .before in
+    let at-if1 = at-if2 .before .before in
+    let start = at-if1 .before in
+    chosen-lazy (start .args .line .now) (at-if1 .if1 .left) (at-if2 .if2 .left) (c .before .before .before .if3 .left) (c .before .if4 .left) (c .if5 .taken)
 
 returns-6 : tie.Need-returns-6
-returns-6 c = chosen-digit (c .before .before .before .before .before .before .before .before .args .line .now) (c .before .before .before .before .before .before .before .if1 .left) (c .before .before .before .before .before .if2 .left) (c .before .before .before .if3 .left) (c .before .if4 .left) (c .if5 .left)
+returns-6 c =
+    let at-if2 = c .before .before .before .before .before in
+    let at-if1 = at-if2 .before .before in
+    let start = at-if1 .before in
+    chosen-digit (start .args .line .now) (at-if1 .if1 .left) (at-if2 .if2 .left) (c .before .before .before .if3 .left) (c .before .if4 .left) (c .if5 .left)
 
 pub engine-chosen-spec : {M : Type 1} → statement M
 engine-chosen-spec =

@@ -23,7 +23,9 @@ add-t12 : tie.Need-add-t12 Inv-loop μ-loop
 add-t12 c = omega arith
 
 same-length : tie.Need-same-length Inv-loop μ-loop
-same-length c = c .before .before .before .loop .inv .long ∙ sym (c .before .before .before .before .before .before .pre .1 .0)
+same-length c =
+    let start = c .before .before .before .before .before .before in
+    c .before .before .before .loop .inv .long ∙ sym (start .pre .1 .0)
 
 returns : tie.Need-returns Inv-loop μ-loop
 returns c =
@@ -42,9 +44,11 @@ loop-less c = omega arith
 
 loop-again : tie.Need-loop-again Inv-loop μ-loop
 loop-again c =
-    let a = c .before .before .before .before .before .before .before .before .before .before .args in
-    let l = c .before .before .before .before .before .before .before .loop in
-    feed-turn (a .at) (drop (a .at) (a .chunk .now)) (take (a .held) (a .buf .now)) (a .chunk .now) (l .buf) (l .n) (l .i) (l .inv) (c .before .before .before .before .before .before .loop-test .taken) (c .before .before .before .before .if1 .left)
+    let at-if1 = c .before .before .before .before in
+    let at-loop-test = at-if1 .before .before in
+    let at-loop = at-loop-test .before in
+    let start = at-loop .before .before .before in
+    feed-turn (start .args .at) (drop (start .args .at) (start .args .chunk .now)) (take (start .args .held) (start .args .buf .now)) (start .args .chunk .now) (at-loop .loop .buf) (at-loop .loop .n) (at-loop .loop .i) (at-loop .loop .inv) (at-loop-test .loop-test .taken) (at-if1 .if1 .left)
     (c .before .before .push .last .0) (c .before .before .push .result) (c .before .before .push .kept .0) (c .before .before .push .ensures)
 
 same-length-2 : tie.Need-same-length-2 Inv-loop μ-loop

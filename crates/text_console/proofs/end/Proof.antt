@@ -14,8 +14,9 @@ slice-reshare-prefix-send c = search needs
 
 slice-aggregate-send : tie.Need-slice-aggregate-send
 slice-aggregate-send c =
+    let start = c .before .before .before .before .before .before in
     let t = c .before .before .before .finish in
-    sym (length-take-le _ _ (omega (arith, t .ensures .few, t .kept .1 .0, c .before .before .before .before .before .before .pre)))
+    sym (length-take-le _ _ (omega (arith, t .ensures .few, t .kept .1 .0, start .pre)))
 
 send-requires : tie.Need-send-requires
 send-requires c κs = search needs

@@ -20,7 +20,9 @@ slice-aggregate-serve-4 : tie.Need-slice-aggregate-serve-4
 slice-aggregate-serve-4 c = search needs
 
 serve-requires : tie.Need-serve-requires
-serve-requires c κs = ready-first _ (c .before .before .before .before .before .before .start .ensures) _ _ _ _ (zeros 4096) (zeros 1024) (zeros 65) (zeros 233472)
+serve-requires c κs =
+    let at-start = c .before .before .before .before .before .before in
+    ready-first _ (at-start .start .ensures) _ _ _ _ (zeros 4096) (zeros 1024) (zeros 65) (zeros 233472)
 
 returns : tie.Need-returns
 returns c = search needs

@@ -21,16 +21,22 @@ loop-holds c =
     serving-start _ _ _ _ _ (s .pre .0) (s .pre .1)
 
 step-requires : tie.Need-step-requires Inv-loop μ-loop
-step-requires c κs = c .before .before .before .before .before .before .before .loop .inv .ready
+step-requires c κs =
+    let at-loop = c .before .before .before .before .before .before .before in
+    at-loop .loop .inv .ready
 
 enum-known-next : tie.Need-enum-known-next Inv-loop μ-loop
 enum-known-next c = search needs
 
 sub-pieces : tie.Need-sub-pieces Inv-loop μ-loop
-sub-pieces c = omega (arith, c .before .before .before .before .before .before .before .before .before .before .before .before .before .before .before .before .before .before .loop-test .taken)
+sub-pieces c =
+    let at-loop-test = c .before .before .before .before .before .before .before .before .before .before .before .before .before .before .before .before .before .before in
+    omega (arith, at-loop-test .loop-test .taken)
 
 loop-less : tie.Need-loop-less Inv-loop μ-loop
-loop-less c = omega (arith, c .before .before .before .before .before .before .before .before .before .before .before .before .before .before .before .before .before .before .loop-test .taken)
+loop-less c =
+    let at-loop-test = c .before .before .before .before .before .before .before .before .before .before .before .before .before .before .before .before .before .before in
+    omega (arith, at-loop-test .loop-test .taken)
 
 loop-again : tie.Need-loop-again Inv-loop μ-loop
 loop-again c =
@@ -43,19 +49,34 @@ enum-told : tie.Need-enum-told Inv-loop μ-loop
 enum-told c = search needs
 
 end-requires : tie.Need-end-requires Inv-loop μ-loop
-end-requires c κs = omega (arith, c .before .before .before .before .before .before .before .before .before .before .before .step .kept .1 .1 .1 .1 .1 .1 .1 .0, c .before .before .before .before .before .before .before .before .before .before .before .before .before .before .before .before .before .before .before .loop .inv .end)
+end-requires c κs =
+    let at-step = c .before .before .before .before .before .before .before .before .before .before .before in
+    let at-loop = at-step .before .before .before .before .before .before .before .before in
+    omega (arith, at-step .step .kept .1 .1 .1 .1 .1 .1 .1 .0, at-loop .loop .inv .end)
 
 same-length : tie.Need-same-length Inv-loop μ-loop
-same-length c = c .before .before .before .before .before .before .before .before .before .before .before .before .before .before .step .kept .1 .0 ∙ c .before .before .before .before .before .before .before .before .before .before .before .before .before .before .before .before .before .before .before .before .before .before .loop .inv .same-piece
+same-length c =
+    let at-step = c .before .before .before .before .before .before .before .before .before .before .before .before .before .before in
+    let at-loop = at-step .before .before .before .before .before .before .before .before in
+    at-step .step .kept .1 .0 ∙ at-loop .loop .inv .same-piece
 
 same-length-2 : tie.Need-same-length-2 Inv-loop μ-loop
-same-length-2 c = c .before .before .before .before .before .before .before .before .before .before .before .before .before .before .step .kept .1 .1 .0 ∙ c .before .before .before .before .before .before .before .before .before .before .before .before .before .before .before .before .before .before .before .before .before .before .loop .inv .same-buf
+same-length-2 c =
+    let at-step = c .before .before .before .before .before .before .before .before .before .before .before .before .before .before in
+    let at-loop = at-step .before .before .before .before .before .before .before .before in
+    at-step .step .kept .1 .1 .0 ∙ at-loop .loop .inv .same-buf
 
 same-length-3 : tie.Need-same-length-3 Inv-loop μ-loop
-same-length-3 c = c .before .before .before .before .before .before .before .before .before .before .before .before .before .before .step .kept .1 .1 .1 .1 .1 .0 ∙ c .before .before .before .before .before .before .before .before .before .before .before .before .before .before .before .before .before .before .before .before .before .before .loop .inv .same-serials
+same-length-3 c =
+    let at-step = c .before .before .before .before .before .before .before .before .before .before .before .before .before .before in
+    let at-loop = at-step .before .before .before .before .before .before .before .before in
+    at-step .step .kept .1 .1 .1 .1 .1 .0 ∙ at-loop .loop .inv .same-serials
 
 same-length-4 : tie.Need-same-length-4 Inv-loop μ-loop
-same-length-4 c = c .before .before .end .kept .1 .0 ∙ c .before .before .before .before .before .before .before .before .before .before .before .before .before .before .step .kept .1 .1 .1 .1 .1 .1 .1 .0 ∙ c .before .before .before .before .before .before .before .before .before .before .before .before .before .before .before .before .before .before .before .before .before .before .loop .inv .same-out
+same-length-4 c =
+    let at-step = c .before .before .before .before .before .before .before .before .before .before .before .before .before .before in
+    let at-loop = at-step .before .before .before .before .before .before .before .before in
+    c .before .before .end .kept .1 .0 ∙ at-step .step .kept .1 .1 .1 .1 .1 .1 .1 .0 ∙ at-loop .loop .inv .same-out
 
 returns : tie.Need-returns Inv-loop μ-loop
 returns c = tt
@@ -64,16 +85,28 @@ enum-told-2 : tie.Need-enum-told-2 Inv-loop μ-loop
 enum-told-2 c = search needs
 
 same-length-5 : tie.Need-same-length-5 Inv-loop μ-loop
-same-length-5 c = c .before .before .before .before .before .before .before .before .before .before .step .kept .1 .0 ∙ c .before .before .before .before .before .before .before .before .before .before .before .before .before .before .before .before .before .before .loop .inv .same-piece
+same-length-5 c =
+    let at-step = c .before .before .before .before .before .before .before .before .before .before in
+    let at-loop = at-step .before .before .before .before .before .before .before .before in
+    at-step .step .kept .1 .0 ∙ at-loop .loop .inv .same-piece
 
 same-length-6 : tie.Need-same-length-6 Inv-loop μ-loop
-same-length-6 c = c .before .before .before .before .before .before .before .before .before .before .step .kept .1 .1 .0 ∙ c .before .before .before .before .before .before .before .before .before .before .before .before .before .before .before .before .before .before .loop .inv .same-buf
+same-length-6 c =
+    let at-step = c .before .before .before .before .before .before .before .before .before .before in
+    let at-loop = at-step .before .before .before .before .before .before .before .before in
+    at-step .step .kept .1 .1 .0 ∙ at-loop .loop .inv .same-buf
 
 same-length-7 : tie.Need-same-length-7 Inv-loop μ-loop
-same-length-7 c = c .before .before .before .before .before .before .before .before .before .before .step .kept .1 .1 .1 .1 .1 .0 ∙ c .before .before .before .before .before .before .before .before .before .before .before .before .before .before .before .before .before .before .loop .inv .same-serials
+same-length-7 c =
+    let at-step = c .before .before .before .before .before .before .before .before .before .before in
+    let at-loop = at-step .before .before .before .before .before .before .before .before in
+    at-step .step .kept .1 .1 .1 .1 .1 .0 ∙ at-loop .loop .inv .same-serials
 
 same-length-8 : tie.Need-same-length-8 Inv-loop μ-loop
-same-length-8 c = c .before .before .before .before .before .before .before .before .before .before .step .kept .1 .1 .1 .1 .1 .1 .1 .0 ∙ c .before .before .before .before .before .before .before .before .before .before .before .before .before .before .before .before .before .before .loop .inv .same-out
+same-length-8 c =
+    let at-step = c .before .before .before .before .before .before .before .before .before .before in
+    let at-loop = at-step .before .before .before .before .before .before .before .before in
+    at-step .step .kept .1 .1 .1 .1 .1 .1 .1 .0 ∙ at-loop .loop .inv .same-out
 
 returns-2 : tie.Need-returns-2 Inv-loop μ-loop
 returns-2 c = tt

@@ -42,13 +42,19 @@ answer-next-requires c κs = search needs
 
 slice-reshare-prefix-send : tie.Need-slice-reshare-prefix-send
 slice-reshare-prefix-send c =
-    let t = c .before .before .before .before .before .before .answer-next in
-    omega (arith, piece-done _ _ _ _ _ _ _ _ _ _ (t .ensures) .2, t .kept .1 .1 .1 .1 .1 .1 .1 .0, c .before .before .before .before .before .before .before .before .before .before .before .before .before .count .ensures .0, c .before .before .before .before .before .before .before .before .before .before .before .before .before .before .before .before .before .before .before .read .kept .1 .0, c .before .before .before .before .before .before .before .before .before .before .before .before .before .before .before .before .before .before .before .before .before .before .before .before .before .pre .room)
+    let at-answer-next = c .before .before .before .before .before .before in
+    let at-count = at-answer-next .before .before .before .before .before .before .before in
+    let at-read = at-count .before .before .before .before .before .before in
+    let start = at-read .before .before .before .before .before .before in
+    omega (arith, piece-done _ _ _ _ _ _ _ _ _ _ (at-answer-next .answer-next .ensures) .2, at-answer-next .answer-next .kept .1 .1 .1 .1 .1 .1 .1 .0, at-count .count .ensures .0, at-read .read .kept .1 .0, start .pre .room)
 
 slice-aggregate-send : tie.Need-slice-aggregate-send
 slice-aggregate-send c =
-    let t = c .before .before .before .before .before .before .before .answer-next in
-    sym (length-take-le _ _ (omega (arith, piece-done _ _ _ _ _ _ _ _ _ _ (t .ensures) .2, t .kept .1 .1 .1 .1 .1 .1 .1 .0, c .before .before .before .before .before .before .before .before .before .before .before .before .before .before .count .ensures .0, c .before .before .before .before .before .before .before .before .before .before .before .before .before .before .before .before .before .before .before .before .read .kept .1 .0, c .before .before .before .before .before .before .before .before .before .before .before .before .before .before .before .before .before .before .before .before .before .before .before .before .before .before .pre .room)))
+    let at-answer-next = c .before .before .before .before .before .before .before in
+    let at-count = at-answer-next .before .before .before .before .before .before .before in
+    let at-read = at-count .before .before .before .before .before .before in
+    let start = at-read .before .before .before .before .before .before in
+    sym (length-take-le _ _ (omega (arith, piece-done _ _ _ _ _ _ _ _ _ _ (at-answer-next .answer-next .ensures) .2, at-answer-next .answer-next .kept .1 .1 .1 .1 .1 .1 .1 .0, at-count .count .ensures .0, at-read .read .kept .1 .0, start .pre .room)))
 
 send-requires : tie.Need-send-requires
 send-requires c κs = search needs
@@ -67,7 +73,8 @@ same-length-6 c = search needs
 
 returns-3 : tie.Need-returns-3
 returns-3 c =
-    let d = piece-done _ _ _ _ _ _ _ _ _ _ (c .before .before .before .before .before .before .before .before .before .answer-next .ensures) in
+    let at-answer-next = c .before .before .before .before .before .before .before .before .before in
+    let d = piece-done _ _ _ _ _ _ _ _ _ _ (at-answer-next .answer-next .ensures) in
     record { words = d .0; short = d .1 }
 
 same-length-7 : tie.Need-same-length-7
@@ -84,7 +91,8 @@ same-length-10 c = search needs
 
 returns-4 : tie.Need-returns-4
 returns-4 c =
-    let d = piece-done _ _ _ _ _ _ _ _ _ _ (c .before .before .before .before .before .before .before .before .before .answer-next .ensures) in
+    let at-answer-next = c .before .before .before .before .before .before .before .before .before in
+    let d = piece-done _ _ _ _ _ _ _ _ _ _ (at-answer-next .answer-next .ensures) in
     record { words = d .0; short = omega arith }
 
 pub step-spec : {M : Type 1} → statement M

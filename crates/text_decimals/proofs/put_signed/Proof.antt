@@ -31,8 +31,10 @@ same-length c = c .before .before .put-number .kept .0 ∙ simp length-set
 
 returns : tie.Need-returns
 returns c =
-    let t = turned (c .before .before .before .before .before .before .args .z) (c .before .before .before .before .before .before .fits .z) (c .before .before .before .before .if1 .taken) in
-    same-text (c .before .before .before .before .before .before .args .out .now) (c .before .before .before .before .before .before .args .at) _ _ _ _ (sym (t .text)) (after-byte (c .before .before .before .before .before .before .args .out .now) (c .before .before .before .before .before .before .args .at) 45 _ _ _ (c .before .before .put-number .ensures))
+    let at-if1 = c .before .before .before .before in
+    let start = at-if1 .before .before in
+    let t = turned (start .args .z) (start .fits .z) (at-if1 .if1 .taken) in
+    same-text (start .args .out .now) (start .args .at) _ _ _ _ (sym (t .text)) (after-byte (start .args .out .now) (start .args .at) 45 _ _ _ (c .before .before .put-number .ensures))
 
 cast-put-number-2 : tie.Need-cast-put-number-2
 cast-put-number-2 c = plain (c .before .before .before .args .z) (c .before .before .before .fits .z) (c .before .if1 .left) .whole
@@ -45,8 +47,10 @@ same-length-2 c = search needs
 
 returns-2 : tie.Need-returns-2
 returns-2 c =
-    let t = plain (c .before .before .before .before .before .before .args .z) (c .before .before .before .before .before .before .fits .z) (c .before .before .before .before .if1 .left) in
-    same-text (c .before .before .before .before .before .before .args .out .now) (c .before .before .before .before .before .before .args .at) _ _ _ _ (sym (t .text)) (c .before .before .put-number2 .ensures)
+    let at-if1 = c .before .before .before .before in
+    let start = at-if1 .before .before in
+    let t = plain (start .args .z) (start .fits .z) (at-if1 .if1 .left) in
+    same-text (start .args .out .now) (start .args .at) _ _ _ _ (sym (t .text)) (c .before .before .put-number2 .ensures)
 
 pub put-signed-spec : {M : Type 1} → statement M
 put-signed-spec =

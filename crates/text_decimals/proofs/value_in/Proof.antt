@@ -37,7 +37,11 @@ sub-if4 : tie.Need-sub-if4 Inv-loop μ-loop
 sub-if4 c = omega arith
 
 returns-4 : tie.Need-returns-4 Inv-loop μ-loop
-returns-4 c = let l = c .before .before .before .before .before .before .before .loop in let a = c .before .before .before .before .before .before .before .before .before .args in passing (a .f .now) (a .most) (l .n) (l .i) (l .inv) (a .least) (c .before .before .before .before .before .before .loop-test .taken) (λ h. omega arith)
+returns-4 c =
+    let at-loop-test = c .before .before .before .before .before .before in
+    let at-loop = at-loop-test .before in
+    let start = at-loop .before .before in
+    passing (start .args .f .now) (start .args .most) (at-loop .loop .n) (at-loop .loop .i) (at-loop .loop .inv) (start .args .least) (at-loop-test .loop-test .taken) (λ h. omega arith)
 
 mul-n : tie.Need-mul-n Inv-loop μ-loop
 mul-n c = omega arith
@@ -53,9 +57,11 @@ loop-less c = omega arith
 
 loop-again : tie.Need-loop-again Inv-loop μ-loop
 loop-again c =
-    let l = c .before .before .before .before .before .before .before .loop in
-    let a = c .before .before .before .before .before .before .before .before .before .args in
-    turn (a .f .now) (a .most) (l .n) (l .i) (l .inv) (c .before .wide .result) (c .before .before .before .before .before .before .loop-test .taken) (c .before .before .before .before .if1 .left) (c .before .before .before .if2 .left) (c .before .wide .ensures) (omega arith)
+    let at-if1 = c .before .before .before .before in
+    let at-loop-test = at-if1 .before .before in
+    let at-loop = at-loop-test .before in
+    let start = at-loop .before .before in
+    turn (start .args .f .now) (start .args .most) (at-loop .loop .n) (at-loop .loop .i) (at-loop .loop .inv) (c .before .wide .result) (at-loop-test .loop-test .taken) (at-if1 .if1 .left) (c .before .before .before .if2 .left) (c .before .wide .ensures) (omega arith)
 
 returns-5 : tie.Need-returns-5 Inv-loop μ-loop
 returns-5 c = let l = c .before .before .loop in let a = c .before .before .before .before .args in too-little (a .f .now) (a .most) (l .n) (l .i) (l .inv) (a .least) (c .before .loop-test .left) (c .if5 .taken)

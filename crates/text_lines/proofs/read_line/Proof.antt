@@ -15,8 +15,8 @@ use Rattle.text_lines.proofs.read_line.Tie as tie
 returns : tie.Need-returns
 returns c = let a = c .before .before .before .args in read-wrong (lineOf (a .s .now)) (a .serials .now) (line-long (a .s .now) (c .if1 .taken))
 
-field-end-requires : tie.Need-field-end-requires
-field-end-requires c κs = search needs
+part-end-requires : tie.Need-part-end-requires
+part-end-requires c κs = search needs
 
 shared-slice-read-letter : tie.Need-shared-slice-read-letter
 shared-slice-read-letter c = search needs
@@ -32,17 +32,19 @@ enum-told c = search needs
 
 returns-2 : tie.Need-returns-2
 returns-2 c =
-    let a = c .before .before .before .before .before .before .before .before .before .args in
+    let t = c .before .before .before .before in
+    let a = t .before .before .before .before .before .args in
     let s = a .s .now in
     let n = c .before .before .next-number in
     let q : n .result ≡ Missed = cc in
-    read-wrong (lineOf s) (a .serials .now) (line-good s (c .before .before .before .before .before .field-end .result) (c .before .before .before .before .before .before .if1 .left) (c .before .before .before .before .before .field-end .ensures) (c .before .before .before .before .if2 .taken) ∙ missed s 1 0 255 (n .result) (n .ensures) (rest (getD s 0 0)) q)
+    read-wrong (lineOf s) (a .serials .now) (line-good s (t .before .part-end .result) (t .before .before .if1 .left) (t .before .part-end .ensures) (t .if2 .taken) ∙ missed s 1 0 255 (n .result) (n .ensures) (rest (getD s 0 0)) q)
 
 cast-unit : tie.Need-cast-unit
 cast-unit c =
+    let t = c .before .before .before .before .before in
     let n = c .before .before .before .next-number in
     let q : n .result ≡ Got (c .before .n .given .0 .0) (c .before .n .given .0 .1 .0) = cc in
-    omega (arith, got-further (c .before .before .before .before .before .before .before .before .before .before .args .s .now) 1 0 255 (n .result) (n .ensures) _ _ q .2)
+    omega (arith, got-further (t .before .before .before .before .before .args .s .now) 1 0 255 (n .result) (n .ensures) _ _ q .2)
 
 rest-of-requires : tie.Need-rest-of-requires
 rest-of-requires c κs = search needs
@@ -52,24 +54,27 @@ same-length c = search needs
 
 returns-3 : tie.Need-returns-3
 returns-3 c =
-    let a = c .before .before .before .before .before .before .before .before .before .before .before .before .before .before .args in
-    let z = c .before .before .before .before .before .before .before .before .before .before .field-end in
+    let t = c .before .before in
+    let x = t .before .before .before in
+    let y = x .before .before .before .before in
+    let a = y .before .before .before .before .before .args in
+    let z = y .before .part-end in
     let s = a .s .now in
-    let n = c .before .before .before .before .before .before .before .next-number in
-    let q : n .result ≡ Got (c .before .before .before .before .before .n .given .0 .0) (c .before .before .before .before .before .n .given .0 .1 .0) = cc in
-    read-as (rest (getD s 0 0) (c .before .before .before .before .before .n .given .0 .0) (from s (c .before .before .before .before .before .n .given .0 .1 .0))) (lineOf s) (a .serials .now) _ (c .before .before .rest-of .result)
-    (line-good s (z .result) (c .before .before .before .before .before .before .before .before .before .before .before .if1 .left) (z .ensures) (c .before .before .before .before .before .before .before .before .before .if2 .taken) ∙ got s 1 0 255 (n .result) (n .ensures) _ _ q (rest (getD s 0 0)))
-    (c .before .before .rest-of .ensures)
+    let n = x .before .before .next-number in
+    let q : n .result ≡ Got (x .n .given .0 .0) (x .n .given .0 .1 .0) = cc in
+    read-as (rest (getD s 0 0) (x .n .given .0 .0) (from s (x .n .given .0 .1 .0))) (lineOf s) (a .serials .now) _ (t .rest-of .result)
+    (line-good s (z .result) (y .before .before .if1 .left) (z .ensures) (y .if2 .taken) ∙ got s 1 0 255 (n .result) (n .ensures) _ _ q (rest (getD s 0 0)))
+    (t .rest-of .ensures)
 
 returns-4 : tie.Need-returns-4
-returns-4 c = let a = c .before .before .before .before .before .args in read-wrong (lineOf (a .s .now)) (a .serials .now) (line-bad (a .s .now) (c .before .field-end .result) (c .before .before .if1 .left) (c .before .field-end .ensures) (c .if2 .left))
+returns-4 c = let a = c .before .before .before .before .before .args in read-wrong (lineOf (a .s .now)) (a .serials .now) (line-bad (a .s .now) (c .before .part-end .result) (c .before .before .if1 .left) (c .before .part-end .ensures) (c .if2 .left))
 
 pub read-line-spec : {M : Type 1} → statement M
 read-line-spec =
     tie.close
     (tie.spec
     returns
-    field-end-requires
+    part-end-requires
     shared-slice-read-letter
     next-number-requires
     enum-known-n

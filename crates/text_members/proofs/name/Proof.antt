@@ -29,7 +29,10 @@ mul-serials : tie.Need-mul-serials Inv-loop μ-loop
 mul-serials c = search needs
 
 slice-write-serials : tie.Need-slice-write-serials Inv-loop μ-loop
-slice-write-serials c = let p = c .before .before .before .before .loop .inv in omega (arith, p .long, c .before .before .before .before .before .before .pre .1, c .before .before .before .loop-test .taken)
+slice-write-serials c =
+    let at-loop = c .before .before .before .before in
+    let start = at-loop .before .before in
+    let p = at-loop .loop .inv in omega (arith, p .long, start .pre .1, c .before .before .before .loop-test .taken)
 
 add-i : tie.Need-add-i Inv-loop μ-loop
 add-i c = omega arith

@@ -3,8 +3,6 @@ use Rattle.text_sessions.proofs.Inputs.{all-done}
 use borrow.Author.Needs.{needs}
 use Rattle.text_sessions.proofs.answer_all.Statement.{statement}
 use Rattle.text_sessions.proofs.answer_all.Tie as tie
-use Rattle.text_sessions.proofs.answer_opening.Reads as answer-opening-reads
-use Rattle.text_sessions.proofs.finish.Reads as finish-reads
 
 answer-opening-requires : tie.Need-answer-opening-requires
 answer-opening-requires c κs = search needs

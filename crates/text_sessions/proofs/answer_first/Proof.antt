@@ -5,10 +5,6 @@ use borrow.Author.Needs.{needs}
 use Rattle.text_chunks.specs.declared.Choice.the-variants.{Engine}
 use Rattle.text_sessions.proofs.answer_first.Statement.{statement}
 use Rattle.text_sessions.proofs.answer_first.Tie as tie
-use Rattle.deed_trees.proofs.set_up_in.Reads as set-up-in-reads
-use Rattle.text_answers.proofs.write_answer.Reads as write-answer-reads
-use Rattle.text_chunks.proofs.engine_chosen.Reads as engine-chosen-reads
-use Rattle.text_sessions.proofs.answer_line.Reads as answer-line-reads
 
 engine-chosen-requires : tie.Need-engine-chosen-requires
 engine-chosen-requires c κs = search needs
@@ -46,10 +42,11 @@ same-length-3 c = search needs
 
 returns-2 : tie.Need-returns-2
 returns-2 c =
-    let a = c .before .before .before .before .before .before .before .before .before .before .before .before .before .before .before .args in
-    let k = c .before .before .before .before .before .before .before .before .before .before .before .engine-chosen in
-    let l = c .before .before .before .before .answer-line in
-    first-any (a .line .now) (k .result) (k .ensures) (c .before .before .before .before .before .before .before .before .before .enum-told .given .1) (a .b .now) (c .before .before .before .before .before .before .before .before .before .before .before .before .before .before .before .pre .0) (l .last .0) (a .out .now) (l .last .1 .1 .1 .1 .0) (l .result) (l .ensures)
+    let at-answer-line = c .before .before .before .before in
+    let at-enum-told = at-answer-line .before .before .before .before .before in
+    let at-engine-chosen = at-enum-told .before .before in
+    let start = at-engine-chosen .before .before .before .before in
+    first-any (start .args .line .now) (at-engine-chosen .engine-chosen .result) (at-engine-chosen .engine-chosen .ensures) (at-enum-told .enum-told .given .1) (start .args .b .now) (start .pre .0) (at-answer-line .answer-line .last .0) (start .args .out .now) (at-answer-line .answer-line .last .1 .1 .1 .1 .0) (at-answer-line .answer-line .result) (at-answer-line .answer-line .ensures)
 
 pub answer-first-spec : {M : Type 1} → statement M
 answer-first-spec =

@@ -27,17 +27,19 @@ same-length-2 c = search needs
 
 returns : tie.Need-returns
 returns c =
-    let a = c .before .before .before .before .before .before .before .before .before .before .before .before .before .before .before .before .before .before .before .args in
-    let r = c .before .before .before .before .before .before .before .before .turn .result in
+    let at-turn = c .before .before .before .before .before .before .before .before in
+    let at-read-line = at-turn .before .before .before .before .before .before in
+    let start = at-read-line .before .before .before .before .before in
+    let r = at-turn .turn .result in
     let t = c .before .before .before .struct-told2 .given in
     let v : SFits w64 (r .speed) = record { sfits = t .1 .1 .0 .1 } in
     let w : SFits w64 (r .sum) = record { sfits = t .1 .1 .1 .0 .1 } in
     let n : r .number < 256 = t .0 .1 in
     let k : r .serial < 4294967296 = t .1 .0 .1 in
-    line-done (a .b .now) (a .line .now) r (c .before .before .before .before .before .before .before .before .turn .last .0)
-    (c .before .before .before .before .before .before .before .before .turn .ensures (lineOf (a .line .now)) (a .serials .now) (sym (c .before .before .before .before .before .before .before .before .before .before .before .before .before .before .read-line .kept .1 .0)) (c .before .before .before .before .before .before .before .before .before .before .before .before .before .before .read-line .ensures))
+    line-done (start .args .b .now) (start .args .line .now) r (at-turn .turn .last .0)
+    (at-turn .turn .ensures (lineOf (start .args .line .now)) (start .args .serials .now) (sym (at-read-line .read-line .kept .1 .0)) (at-read-line .read-line .ensures))
     n k v w
-    (a .out .now) (a .at) (c .before .before .write-answer .last .0) (c .before .before .write-answer .result)
+    (start .args .out .now) (start .args .at) (c .before .before .write-answer .last .0) (c .before .before .write-answer .result)
     (rw (toZ-ofZ v, toZ-ofZ w) at (c .before .before .write-answer .ensures))
 
 pub answer-line-spec : {M : Type 1} → statement M

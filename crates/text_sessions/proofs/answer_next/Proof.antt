@@ -4,8 +4,6 @@ use Rattle.text_sessions.proofs.Opening.{next-first, next-later}
 use borrow.Author.Needs.{needs}
 use Rattle.text_sessions.proofs.answer_next.Statement.{statement}
 use Rattle.text_sessions.proofs.answer_next.Tie as tie
-use Rattle.text_sessions.proofs.answer_chunk.Reads as answer-chunk-reads
-use Rattle.text_sessions.proofs.answer_opening.Reads as answer-opening-reads
 
 answer-opening-requires : tie.Need-answer-opening-requires
 answer-opening-requires c κs = search needs
@@ -21,9 +19,10 @@ same-length-3 c = search needs
 
 returns : tie.Need-returns
 returns c =
-    let a = c .before .before .before .before .before .before .before .before .before .before .before .before .before .before .before .before .before .args in
-    let t = c .before .before .before .before .before .before .answer-opening in
-    next-first (a .fresh) (a .b .now) (a .chunk .now) (take (a .before) (a .buf .now)) (a .out .now) (t .last .0) (t .last .1 .1 .0) (t .last .1 .1 .1 .1 .1 .1 .0) (t .result .held) (t .result .wrote) (c .before .before .before .before .before .before .before .before .before .before .before .before .if1 .taken) (t .ensures)
+    let at-answer-opening = c .before .before .before .before .before .before in
+    let at-if1 = at-answer-opening .before .before .before .before .before .before in
+    let start = at-if1 .before .before .before .before .before in
+    next-first (start .args .fresh) (start .args .b .now) (start .args .chunk .now) (take (start .args .before) (start .args .buf .now)) (start .args .out .now) (at-answer-opening .answer-opening .last .0) (at-answer-opening .answer-opening .last .1 .1 .0) (at-answer-opening .answer-opening .last .1 .1 .1 .1 .1 .1 .0) (at-answer-opening .answer-opening .result .held) (at-answer-opening .answer-opening .result .wrote) (at-if1 .if1 .taken) (at-answer-opening .answer-opening .ensures)
 
 answer-chunk-requires : tie.Need-answer-chunk-requires
 answer-chunk-requires c κs = search needs
@@ -39,9 +38,10 @@ same-length-6 c = search needs
 
 returns-2 : tie.Need-returns-2
 returns-2 c =
-    let a = c .before .before .before .before .before .before .before .before .before .before .before .before .before .before .before .before .before .args in
-    let t = c .before .before .before .before .before .before .answer-chunk in
-    next-later (a .fresh) (a .b .now) (a .chunk .now) (take (a .before) (a .buf .now)) (a .out .now) (t .last .0) (t .last .1 .1 .0) (t .last .1 .1 .1 .1 .1 .1 .0) (t .result .held) (t .result .wrote) (c .before .before .before .before .before .before .before .before .before .before .before .before .if1 .left) (t .ensures)
+    let at-answer-chunk = c .before .before .before .before .before .before in
+    let at-if1 = at-answer-chunk .before .before .before .before .before .before in
+    let start = at-if1 .before .before .before .before .before in
+    next-later (start .args .fresh) (start .args .b .now) (start .args .chunk .now) (take (start .args .before) (start .args .buf .now)) (start .args .out .now) (at-answer-chunk .answer-chunk .last .0) (at-answer-chunk .answer-chunk .last .1 .1 .0) (at-answer-chunk .answer-chunk .last .1 .1 .1 .1 .1 .1 .0) (at-answer-chunk .answer-chunk .result .held) (at-answer-chunk .answer-chunk .result .wrote) (at-if1 .if1 .left) (at-answer-chunk .answer-chunk .ensures)
 
 pub answer-next-spec : {M : Type 1} → statement M
 answer-next-spec =

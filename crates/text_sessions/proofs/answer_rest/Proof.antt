@@ -37,28 +37,35 @@ slice-aggregate-answer-line c = let f = c .before .before .before .before .befor
 
 answer-line-requires : tie.Need-answer-line-requires Inv-loop μ-loop
 answer-line-requires c κs =
+    let at-loop-test = c .before .before .before .before .before .before .before .before .before .before in
+    let at-loop = at-loop-test .before in
     let s = c .before .before .before .before .before .before .before .before .before .before .before .before .before .before .before .before in
-    let a = s .args in
-    let l = c .before .before .before .before .before .before .before .before .before .before .before .loop in (
-      l .inv .words,
-      omega (arith, l .inv .same, s .pre .1),
-      going-room (view (a .b .now)) (a .chunk .now) (drop (a .from) (a .chunk .now)) (take (a .before) (a .buf .now)) (a .out .now) (a .written) (view (l .b)) (l .buf) (l .out) (l .held) (l .wrote) (l .at) (l .inv .going) (s .pre .6) (c .before .before .before .before .before .before .before .before .before .before .loop-test .taken),
+    let a = s .args in (
+      at-loop .loop .inv .words,
+      omega (arith, at-loop .loop .inv .same, s .pre .1),
+      going-room (view (a .b .now)) (a .chunk .now) (drop (a .from) (a .chunk .now)) (take (a .before) (a .buf .now)) (a .out .now) (a .written) (view (at-loop .loop .b)) (at-loop .loop .buf) (at-loop .loop .out) (at-loop .loop .held) (at-loop .loop .wrote) (at-loop .loop .at) (at-loop .loop .inv .going) (s .pre .6) (at-loop-test .loop-test .taken),
     )
 
 loop-less : tie.Need-loop-less Inv-loop μ-loop
-loop-less c = let f = c .before .before .before .before .before .before .before .before .before .before .before .before .before .feed .ensures in omega (arith, f .on (c .before .before .before .before .before .before .before .before .before .before .if1 .taken), f .in-chunk, c .before .before .before .before .before .before .before .before .before .before .before .before .before .before .before .loop-test .taken)
+loop-less c =
+    let at-if1 = c .before .before .before .before .before .before .before .before .before .before in
+    let at-feed = at-if1 .before .before .before in
+    let at-loop-test = at-feed .before .before in
+    let f = at-feed .feed .ensures in omega (arith, f .on (at-if1 .if1 .taken), f .in-chunk, at-loop-test .loop-test .taken)
 
 loop-again : tie.Need-loop-again Inv-loop μ-loop
 loop-again c =
-    let a = c .before .before .before .before .before .before .before .before .before .before .before .before .before .before .before .before .before .before .before .before .before .args in
-    let l = c .before .before .before .before .before .before .before .before .before .before .before .before .before .before .before .before .loop in
-    let w = c .before .before .before .before .answer-line in
+    let at-answer-line = c .before .before .before .before in
+    let at-if1 = at-answer-line .before .before .before .before .before .before in
+    let at-feed = at-if1 .before .before .before in
+    let at-loop = at-feed .before .before .before in
+    let start = at-loop .before .before .before .before .before in
     record {
-      words = w .ensures .words;
-      same = w .kept .1 .1 .0 ∙ l .inv .same;
-      going = going-line (view (a .b .now)) (a .chunk .now) (drop (a .from) (a .chunk .now)) (take (a .before) (a .buf .now)) (a .out .now) (a .written) (view (l .b)) (l .buf) (l .out) (l .held) (l .wrote) (l .at) (l .inv .going)
-          (c .before .before .before .before .before .before .before .before .before .before .before .before .before .feed .last .1 .1 .0) (c .before .before .before .before .before .before .before .before .before .before .before .before .before .feed .result .ended) (c .before .before .before .before .before .before .before .before .before .before .before .before .before .feed .result .held) (c .before .before .before .before .before .before .before .before .before .before .before .before .before .feed .result .at) (c .before .before .before .before .before .before .before .before .before .before .before .before .before .feed .ensures) (c .before .before .before .before .before .before .before .before .before .before .if1 .taken)
-          (view (w .last .0)) (w .last .1 .1 .1 .1 .0) (w .result) (w .ensures .answered);
+      words = at-answer-line .answer-line .ensures .words;
+      same = at-answer-line .answer-line .kept .1 .1 .0 ∙ at-loop .loop .inv .same;
+      going = going-line (view (start .args .b .now)) (start .args .chunk .now) (drop (start .args .from) (start .args .chunk .now)) (take (start .args .before) (start .args .buf .now)) (start .args .out .now) (start .args .written) (view (at-loop .loop .b)) (at-loop .loop .buf) (at-loop .loop .out) (at-loop .loop .held) (at-loop .loop .wrote) (at-loop .loop .at) (at-loop .loop .inv .going)
+          (at-feed .feed .last .1 .1 .0) (at-feed .feed .result .ended) (at-feed .feed .result .held) (at-feed .feed .result .at) (at-feed .feed .ensures) (at-if1 .if1 .taken)
+          (view (at-answer-line .answer-line .last .0)) (at-answer-line .answer-line .last .1 .1 .1 .1 .0) (at-answer-line .answer-line .result) (at-answer-line .answer-line .ensures .answered);
     }
 
 loop-less-2 : tie.Need-loop-less-2 Inv-loop μ-loop
@@ -76,7 +83,9 @@ loop-again-2 c =
     }
 
 same-length : tie.Need-same-length Inv-loop μ-loop
-same-length c = c .before .loop .inv .going .long ∙ sym (c .before .before .before .before .before .before .pre .2)
+same-length c =
+    let start = c .before .before .before .before .before .before in
+    c .before .loop .inv .going .long ∙ sym (start .pre .2)
 
 same-length-2 : tie.Need-same-length-2 Inv-loop μ-loop
 same-length-2 c = c .before .loop .inv .same

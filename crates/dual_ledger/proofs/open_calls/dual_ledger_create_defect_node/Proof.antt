@@ -1,6 +1,5 @@
 -- BROKEN on words that hold no sound bench; else the call on sound words answers. Assumes nothing.
 use mathlib.Core.Path.{refl}
-use Rattle.ledger_spec.specs.Calls.{Defect}
 use Rattle.dual_ledger.proofs.Telling.{sound-so, called-broken, called-sound}
 use borrow.Author.Needs.{needs}
 use Rattle.dual_ledger.proofs.open_calls.dual_ledger_create_defect_node.Statement.{
@@ -15,14 +14,14 @@ refused-requires : tie.Need-refused-requires
 refused-requires c κs = search needs
 
 returns : tie.Need-returns
-returns c = called-broken (c .before .before .before .is-bench .ensures) (Defect (c .before .before .before .before .before .args .unit) (c .before .before .before .before .before .args .vertex)) (c .before .before .if1 .taken) (c .refused .ensures) refl
+returns c = called-broken (c .before .before .before .is-bench .ensures) (c .before .before .if1 .taken) _ (c .refused .ensures) refl
 
 dual-ledger-told-create-defect-node-requires :
     tie.Need-dual-ledger-told-create-defect-node-requires
 dual-ledger-told-create-defect-node-requires c κs = sound-so (c .before .before .before .is-bench .ensures) (c .before .before .if1 .left)
 
 returns-2 : tie.Need-returns-2
-returns-2 c = called-sound (c .before .before .before .before .is-bench .ensures) (Defect (c .before .before .before .before .before .before .args .unit) (c .before .before .before .before .before .before .args .vertex)) (c .before .before .before .if1 .left) (c .dual-ledger-told-create-defect-node .ensures)
+returns-2 c = called-sound (c .before .before .before .before .is-bench .ensures) (c .before .before .before .if1 .left) _ (c .dual-ledger-told-create-defect-node .ensures)
 
 pub dual-ledger-create-defect-node-spec : {M : Type 1} → statement M
 dual-ledger-create-defect-node-spec =

@@ -1,7 +1,5 @@
 -- BROKEN on words that hold no sound bench; else the call on sound words answers. Assumes nothing.
 use mathlib.Core.Path.{refl}
-use Rattle.ledger_spec.specs.Calls.{Expand}
-use Rattle.bench_views.specs.Given.{handGiven}
 use Rattle.dual_ledger.proofs.Telling.{sound-so, called-broken, called-sound}
 use borrow.Author.Needs.{needs}
 use Rattle.dual_ledger.proofs.open_calls.dual_ledger_expand_blossom.Statement.{statement}
@@ -14,13 +12,13 @@ refused-requires : tie.Need-refused-requires
 refused-requires c κs = search needs
 
 returns : tie.Need-returns
-returns c = called-broken (c .before .before .before .is-bench .ensures) (Expand (c .before .before .before .before .before .args .unit) (handGiven (c .before .before .before .before .before .args .node))) (c .before .before .if1 .taken) (c .refused .ensures) refl
+returns c = called-broken (c .before .before .before .is-bench .ensures) (c .before .before .if1 .taken) _ (c .refused .ensures) refl
 
 dual-ledger-told-expand-blossom-requires : tie.Need-dual-ledger-told-expand-blossom-requires
 dual-ledger-told-expand-blossom-requires c κs = sound-so (c .before .before .before .is-bench .ensures) (c .before .before .if1 .left)
 
 returns-2 : tie.Need-returns-2
-returns-2 c = called-sound (c .before .before .before .before .is-bench .ensures) (Expand (c .before .before .before .before .before .before .args .unit) (handGiven (c .before .before .before .before .before .before .args .node))) (c .before .before .before .if1 .left) (c .dual-ledger-told-expand-blossom .ensures)
+returns-2 c = called-sound (c .before .before .before .before .is-bench .ensures) (c .before .before .before .if1 .left) _ (c .dual-ledger-told-expand-blossom .ensures)
 
 pub dual-ledger-expand-blossom-spec : {M : Type 1} → statement M
 dual-ledger-expand-blossom-spec =

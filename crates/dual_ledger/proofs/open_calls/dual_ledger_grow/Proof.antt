@@ -1,6 +1,5 @@
 -- BROKEN on words that hold no sound bench; else the call on sound words answers. Assumes nothing.
 use mathlib.Core.Path.{refl}
-use Rattle.ledger_spec.specs.Calls.{Grow}
 use Rattle.dual_ledger.proofs.Settling.{same-length}
 use Rattle.dual_ledger.proofs.Telling.{sound-so, called-broken, called-sound, told-as}
 use borrow.Author.Needs.{needs}
@@ -14,13 +13,15 @@ refused-requires : tie.Need-refused-requires
 refused-requires c κs = search needs
 
 returns : tie.Need-returns
-returns c = called-broken (c .before .before .before .is-bench .ensures) (Grow (c .before .before .before .before .before .args .unit) (c .before .before .before .before .before .args .length)) (c .before .before .if1 .taken) (c .refused .ensures) refl
+returns c = called-broken (c .before .before .before .is-bench .ensures) (c .before .before .if1 .taken) _ (c .refused .ensures) refl
 
 dual-ledger-told-grow-requires : tie.Need-dual-ledger-told-grow-requires
 dual-ledger-told-grow-requires c κs = sound-so (c .before .before .before .is-bench .ensures) (c .before .before .if1 .left)
 
 returns-2 : tie.Need-returns-2
-returns-2 c = called-sound (c .before .before .before .before .is-bench .ensures) (Grow (c .before .before .before .before .before .before .args .unit) (c .before .before .before .before .before .before .args .length)) (c .before .before .before .if1 .left) (told-as (same-length _ (c .before .before .before .before .before .before .fits .length)) (c .dual-ledger-told-grow .ensures))
+returns-2 c =
+    let s = c .before .before .before .before .before .before in
+    called-sound (c .before .before .before .before .is-bench .ensures) (c .before .before .before .if1 .left) _ (told-as _ (same-length _ (s .fits .length)) (c .dual-ledger-told-grow .ensures))
 
 pub dual-ledger-grow-spec : {M : Type 1} → statement M
 dual-ledger-grow-spec =

@@ -1,8 +1,5 @@
 -- BROKEN on words that hold no sound bench; else the call on sound words answers. Assumes nothing.
 use mathlib.Core.Path.{refl}
-use Rattle.ledger_spec.specs.Calls.{SetState}
-use Rattle.bench_views.specs.Given.{handGiven}
-use Rattle.link_answers.specs.Forms.{stateGiven}
 use Rattle.dual_ledger.proofs.Settling.{same-state}
 use Rattle.dual_ledger.proofs.Telling.{sound-so, called-broken, called-sound, told-as}
 use borrow.Author.Needs.{needs}
@@ -16,13 +13,15 @@ refused-requires : tie.Need-refused-requires
 refused-requires c κs = search needs
 
 returns : tie.Need-returns
-returns c = called-broken (c .before .before .before .is-bench .ensures) (SetState (c .before .before .before .before .before .args .unit) (handGiven (c .before .before .before .before .before .args .node)) (stateGiven (c .before .before .before .before .before .args .state))) (c .before .before .if1 .taken) (c .refused .ensures) refl
+returns c = called-broken (c .before .before .before .is-bench .ensures) (c .before .before .if1 .taken) _ (c .refused .ensures) refl
 
 dual-ledger-told-set-grow-state-requires : tie.Need-dual-ledger-told-set-grow-state-requires
 dual-ledger-told-set-grow-state-requires c κs = sound-so (c .before .before .before .is-bench .ensures) (c .before .before .if1 .left)
 
 returns-2 : tie.Need-returns-2
-returns-2 c = called-sound (c .before .before .before .before .is-bench .ensures) (SetState (c .before .before .before .before .before .before .args .unit) (handGiven (c .before .before .before .before .before .before .args .node)) (stateGiven (c .before .before .before .before .before .before .args .state))) (c .before .before .before .if1 .left) (told-as (same-state _ refl (c .before .before .before .before .before .before .fits .state) refl) (c .dual-ledger-told-set-grow-state .ensures))
+returns-2 c =
+    let s = c .before .before .before .before .before .before in
+    called-sound (c .before .before .before .before .is-bench .ensures) (c .before .before .before .if1 .left) _ (told-as _ (same-state _ refl (s .fits .state) refl) (c .dual-ledger-told-set-grow-state .ensures))
 
 pub dual-ledger-set-grow-state-spec : {M : Type 1} → statement M
 dual-ledger-set-grow-state-spec =

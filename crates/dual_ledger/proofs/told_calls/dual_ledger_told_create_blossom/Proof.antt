@@ -3,9 +3,10 @@ use Rattle.ledger_spec.specs.Named.{handleNamed}
 use Rattle.ledger_laws.proofs.Answered.{nodeOf}
 use Rattle.bench_views.specs.View.{view}
 use Rattle.deed_circles.specs.Given.{handsGiven, pairsGiven}
+use Rattle.outcomes.proofs.Outcomes.{tests-are, node-made}
 use Rattle.outcome_notices.proofs.Tells.{tells-blossom}
 use Rattle.call_told.proofs.Telling.{few-members}
-use Rattle.dual_ledger.proofs.Telling.{passed, made-node, told-stops, told-goes}
+use Rattle.dual_ledger.proofs.Telling.{told-stops, told-goes}
 use borrow.Author.Needs.{needs}
 use Rattle.dual_ledger.proofs.told_calls.dual_ledger_told_create_blossom.Statement.{
   statement,
@@ -19,21 +20,21 @@ refused-requires : tie.Need-refused-requires
 refused-requires c κs = search needs
 
 returns : tie.Need-returns
-returns c = told-stops (c .before .before .before .before .before .before .before .before .pre) (c .before .before .before .before .create-blossom .ensures) (c .before .before .if1 .taken) (c .refused .ensures)
+returns c = told-stops (c .before .before .before .before .create-blossom .ensures .0) (c .before .before .if1 .taken) _ (c .refused .ensures)
 
 blossom-requires : tie.Need-blossom-requires
 blossom-requires c κs =
-    let s = c .before .before .before .before .before .before .before in
-    few-members (s .args .bench .now) (s .args .unit) (s .args .members .now) (pairsGiven (s .args .touching .now)) (passed (s .pre) (c .before .before .before .create-blossom .ensures) (c .before .if1 .left))
+    let a = c .before .before .before .before .before .before .before .args in
+    few-members (a .bench .now) (a .unit) (a .members .now) (pairsGiven (a .touching .now)) (tests-are (c .before .before .before .create-blossom .ensures .0) (c .before .if1 .left))
 
 returns-2 : tie.Need-returns-2
 unfolding nodeOf
 returns-2 c =
-    let s = c .before .before .before .before .before .before .before .before in
+    let a = c .before .before .before .before .before .before .before .before .args in
     let m = c .before .before .before .before .create-blossom in
     let z = c .before .before .if1 .left in
-    let h = made-node (s .pre) (m .ensures) z in
-    told-goes (s .pre) (m .ensures) z h (tells-blossom (view (s .args .bench .now)) (s .args .unit) (handsGiven (s .args .members .now)) (pairsGiven (s .args .touching .now)) (handleNamed (m .result .node)) h) (c .blossom .ensures)
+    let h = node-made (m .ensures .0) z (m .ensures .1) in
+    told-goes (m .ensures .0) z h (tells-blossom (view (a .bench .now)) (a .unit) (handsGiven (a .members .now)) (pairsGiven (a .touching .now)) (handleNamed (m .result .node)) h) _ (c .blossom .ensures)
 
 pub dual-ledger-told-create-blossom-spec : {M : Type 1} → statement M
 dual-ledger-told-create-blossom-spec =

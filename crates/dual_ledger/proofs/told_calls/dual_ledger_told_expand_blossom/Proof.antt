@@ -34,8 +34,8 @@ returns c =
     let n = c .before .before .before .expand-number in
     let b = s .args .bench .now in
     let q = c .before .before .if1 .taken in
-    told-as (ap (Expand (s .args .unit)) (h .ensures))
-    (told-stops (s .pre) (refused b (Expand (s .args .unit) (handleNamed (h .result))) (s .pre) b (n .result) q (n .ensures) refl) q (c .refused .ensures))
+    told-as _ (ap (Expand (s .args .unit)) (h .ensures))
+    (told-stops (refused b (Expand (s .args .unit) (handleNamed (h .result))) (s .pre) b (n .result) q (n .ensures) refl .0) q _ (c .refused .ensures))
 
 expanded-requires : tie.Need-expanded-requires
 expanded-requires c κs =
@@ -44,9 +44,12 @@ expanded-requires c κs =
 
 remove-blossom-requires : tie.Need-remove-blossom-requires
 remove-blossom-requires c κs =
+    let at-if1 = c .before .before .before .before in
+    let at-expand-number = at-if1 .before in
+    let at-hand = at-expand-number .before .before in
     let s = c .before .before .before .before .before .before .before .before in
-    let h = handleNamed (c .before .before .before .before .before .before .before .hand .result) in
-    fits (s .args .bench .now) (s .pre) (first (expandTests (view (s .args .bench .now)) (s .args .unit) h)) (c .before .before .before .before .before .expand-number .result) (c .before .before .before .before .before .expand-number .ensures) (c .before .before .before .before .if1 .left)
+    let h = handleNamed (at-hand .hand .result) in
+    fits (s .args .bench .now) (s .pre) (first (expandTests (view (s .args .bench .now)) (s .args .unit) h)) (at-expand-number .expand-number .result) (at-expand-number .expand-number .ensures) (at-if1 .if1 .left)
 
 returns-2 : tie.Need-returns-2
 unfolding testsOf deedOf nodeOf
@@ -56,8 +59,9 @@ returns-2 c =
     let n = c .before .before .before .before .before .before .expand-number in
     let b = s .args .bench .now in
     let k = handleNamed (h .result) in
-    told-as (ap (Expand (s .args .unit)) (h .ensures))
-    (told-goes (s .pre) (did b (Expand (s .args .unit) k) (s .pre) _ (h .result) (sym (n .ensures) ∙ c .before .before .before .before .before .if1 .left) (c .remove-blossom .ensures) refl) refl refl (tells-expand (view b) (s .args .unit) k) (c .before .before .expanded .ensures))
+    let z = sym (n .ensures) ∙ c .before .before .before .before .before .if1 .left in
+    told-as _ (ap (Expand (s .args .unit)) (h .ensures))
+    (told-goes (did b (Expand (s .args .unit) k) (s .pre) _ (h .result) z (c .remove-blossom .ensures) refl .0) refl refl (tells-expand (view b) (s .args .unit) k) _ (c .before .before .expanded .ensures))
 
 pub dual-ledger-told-expand-blossom-spec : {M : Type 1} → statement M
 dual-ledger-told-expand-blossom-spec =

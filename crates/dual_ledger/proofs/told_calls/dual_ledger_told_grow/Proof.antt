@@ -17,7 +17,9 @@ refused-requires : tie.Need-refused-requires
 refused-requires c κs = search needs
 
 returns : tie.Need-returns
-returns c = told-as (same-length _ (c .before .before .before .before .before .before .fits .length)) (told-stops (c .before .before .before .before .before .before .pre) (c .before .before .before .before .grow .ensures) (c .before .before .if1 .taken) (c .refused .ensures))
+returns c =
+    let s = c .before .before .before .before .before .before in
+    told-as _ (same-length _ (s .fits .length)) (told-stops (c .before .before .before .before .grow .ensures .0) (c .before .before .if1 .taken) _ (c .refused .ensures))
 
 grown-requires : tie.Need-grown-requires
 grown-requires c κs = search needs
@@ -26,7 +28,7 @@ returns-2 : tie.Need-returns-2
 unfolding nodeOf
 returns-2 c =
     let s = c .before .before .before .before .before .before in
-    told-as (same-length _ (s .fits .length)) (told-goes (s .pre) (c .before .before .before .before .grow .ensures) (c .before .before .if1 .left) refl (tells-grown (view (s .args .bench .now)) (s .args .unit) (again (s .args .length))) (c .grown .ensures))
+    told-as _ (same-length _ (s .fits .length)) (told-goes (c .before .before .before .before .grow .ensures .0) (c .before .before .if1 .left) refl (tells-grown (view (s .args .bench .now)) (s .args .unit) (again (s .args .length))) _ (c .grown .ensures))
 
 pub dual-ledger-told-grow-spec : {M : Type 1} → statement M
 dual-ledger-told-grow-spec =

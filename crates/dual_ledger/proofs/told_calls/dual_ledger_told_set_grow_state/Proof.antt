@@ -26,8 +26,10 @@ refused-requires c κs = search needs
 
 returns : tie.Need-returns
 returns c =
-    told-as (same-state _ (c .before .before .before .before .before .before .before .hand .ensures) (c .before .before .before .before .before .before .before .before .fits .state) (c .before .before .before .before .before .before .state-given .ensures))
-    (told-stops (c .before .before .before .before .before .before .before .before .pre) (c .before .before .before .before .set-grow-state .ensures) (c .before .before .if1 .taken) (c .refused .ensures))
+    let s = c .before .before .before .before .before .before .before .before in
+    let h = c .before .before .before .before .before .before .before .hand in
+    let g = c .before .before .before .before .before .before .state-given in
+    told-as _ (same-state _ (h .ensures) (s .fits .state) (g .ensures)) (told-stops (c .before .before .before .before .set-grow-state .ensures .0) (c .before .before .if1 .taken) _ (c .refused .ensures))
 
 state-requires : tie.Need-state-requires
 state-requires c κs = search needs
@@ -38,8 +40,8 @@ returns-2 c =
     let s = c .before .before .before .before .before .before .before .before in
     let h = c .before .before .before .before .before .before .before .hand in
     let g = c .before .before .before .before .before .before .state-given in
-    told-as (same-state _ (h .ensures) (s .fits .state) (g .ensures))
-    (told-goes (s .pre) (c .before .before .before .before .set-grow-state .ensures) (c .before .before .if1 .left) refl (tells-state (view (s .args .bench .now)) (s .args .unit) (handleNamed (h .result)) (stateNamed (g .result))) (c .state .ensures))
+    told-as _ (same-state _ (h .ensures) (s .fits .state) (g .ensures))
+    (told-goes (c .before .before .before .before .set-grow-state .ensures .0) (c .before .before .if1 .left) refl (tells-state (view (s .args .bench .now)) (s .args .unit) (handleNamed (h .result)) (stateNamed (g .result))) _ (c .state .ensures))
 
 pub dual-ledger-told-set-grow-state-spec : {M : Type 1} → statement M
 dual-ledger-told-set-grow-state-spec =

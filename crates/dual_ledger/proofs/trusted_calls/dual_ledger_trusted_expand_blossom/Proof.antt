@@ -1,8 +1,8 @@
--- The call below answers; its number, its node as a word and the words are handed on. Assumes nothing.
+-- The call below answers; its number and the words are handed on. Assumes nothing.
 use borrow.Author.Needs.{needs}
 use mathlib.Core.Path.{ap}
 use Rattle.ledger_spec.specs.Calls.{Expand}
-use Rattle.dual_ledger.proofs.Settling.{settled}
+use Rattle.outcomes.proofs.Outcomes.{named-as}
 use Rattle.dual_ledger.proofs.trusted_calls.dual_ledger_trusted_expand_blossom.Statement.{statement}
 use Rattle.dual_ledger.proofs.trusted_calls.dual_ledger_trusted_expand_blossom.Tie as tie
 
@@ -13,7 +13,7 @@ expand-blossom-requires : tie.Need-expand-blossom-requires
 expand-blossom-requires c κs = search needs
 
 returns : tie.Need-returns
-returns c = settled (ap (Expand (c .before .before .before .args .unit)) (c .before .before .hand .ensures)) (c .expand-blossom .ensures)
+returns c = named-as (ap (Expand (c .before .before .before .args .unit)) (c .before .before .hand .ensures)) (c .expand-blossom .ensures .0)
 
 pub dual-ledger-trusted-expand-blossom-spec : {M : Type 1} → statement M
 dual-ledger-trusted-expand-blossom-spec = tie.close (tie.spec hand-requires expand-blossom-requires returns)

@@ -57,10 +57,16 @@ returns-5 : tie.Need-returns-5
 returns-5 c = named-has _ _ _ _ (c .before .before .before .before .nodes-of .ensures) (c .before .before .nodes2 .given .1) (c .either-gone .ensures)
 
 returns-6 : tie.Need-returns-6
-returns-6 c = named-has _ _ _ _ (c .before .before .before .before .before .before .nodes-of .ensures) (c .before .before .before .before .nodes3 .given .1) (c .either-gone2 .ensures ∙ rest-has _ _ _ (sym (c .before .before .is-gone2 .ensures) ∙ c .before .if1 .left))
+returns-6 c =
+    let at-nodes3 = c .before .before .before .before in
+    let at-nodes-of = at-nodes3 .before .before in
+    named-has _ _ _ _ (at-nodes-of .nodes-of .ensures) (at-nodes3 .nodes3 .given .1) (c .either-gone2 .ensures ∙ rest-has _ _ _ (sym (c .before .before .is-gone2 .ensures) ∙ c .before .if1 .left))
 
 returns-7 : tie.Need-returns-7
-returns-7 c = named-has _ _ _ _ (c .before .before .before .before .before .before .nodes-of .ensures) (c .before .before .before .before .nodes4 .given .1) (c .either-gone4 .ensures ∙ back-has _ _ _ (sym (c .before .before .either-gone3 .ensures) ∙ c .before .if2 .left))
+returns-7 c =
+    let at-nodes4 = c .before .before .before .before in
+    let at-nodes-of = at-nodes4 .before .before in
+    named-has _ _ _ _ (at-nodes-of .nodes-of .ensures) (at-nodes4 .nodes4 .given .1) (c .either-gone4 .ensures ∙ back-has _ _ _ (sym (c .before .before .either-gone3 .ensures) ∙ c .before .if2 .left))
 
 pub names-gone-spec : {M : Type 1} → statement M
 names-gone-spec =

@@ -5,7 +5,8 @@ use mathlib.Core.Path.{_∙_, sym, ap}
 use mathlib.Core.Option.{Option}
 use mathlib.Core.List.{List}
 use lib.ListN.{drop}
-use Rattle.record_spec.specs.Operations.{Operation, B}
+use Rattle.ledger_spec.specs.Operations.{B}
+use Rattle.record_spec.specs.Operations.{Op}
 use Rattle.record_spec.specs.Reader.{rest}
 use Rattle.record_spec.specs.Places.{at}
 use Rattle.record_measures.specs.Measures.{measuredOf, kept, membersAt, triedMembers}
@@ -57,7 +58,7 @@ returns-3 c =
     let a = c .before .before .before .before .before .args in
     let n = c .before .before .two-at in
     let many = at 2 (a .t .now) (a .q) in
-    c .members .ensures ∙ ap (λ (k : ℕ). triedMembers (a .unit) (membersAt k (a .t .now) (a .q + 2))) (n .ensures .0) ∙ sym (whatever-after (B (a .unit) (membersAt many (a .t .now) (a .q + 2))) (drop (a .q + 2 + 12 * many) (a .t .now))) ∙ sym (ap (λ (o : Option (Operation × List ℕ)). measuredOf (kept o)) (rest-B (a .t .now) (a .q) (a .unit) (omega (arith, c .before .before .before .if1 .left, c .before .before .before .before .before .pre .0, c .before .if2 .left, n .ensures .0))))
+    c .members .ensures ∙ ap (λ (k : ℕ). triedMembers (a .unit) (membersAt k (a .t .now) (a .q + 2))) (n .ensures .0) ∙ sym (whatever-after (B (a .unit) (membersAt many (a .t .now) (a .q + 2))) (drop (a .q + 2 + 12 * many) (a .t .now))) ∙ sym (ap (λ (o : Option (Op × List ℕ)). measuredOf (kept o)) (rest-B (a .t .now) (a .q) (a .unit) (omega (arith, c .before .before .before .if1 .left, c .before .before .before .before .before .pre .0, c .before .if2 .left, n .ensures .0))))
 
 pub blossom-spec : {M : Type 1} → statement M
 blossom-spec =

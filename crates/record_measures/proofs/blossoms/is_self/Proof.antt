@@ -1,7 +1,5 @@
 -- The first, and where it is the member the second. Assumes nothing.
 use borrow.Author.Tests.{eq-eqb, ne-eqb}
-use mathlib.Core.Bool.{_&&_}
-use mathlib.Core.Path.{sym}
 use Rattle.record_measures.proofs.blossoms.is_self.Statement.{statement}
 use Rattle.record_measures.proofs.blossoms.is_self.Tie as tie
 

@@ -3,7 +3,6 @@ use native.Mathlib.Omega.{arith}
 use Prim.Native.Nat.{ℕ}
 use mathlib.Core.Path.{_∙_, sym, ap}
 use borrow.Author.Needs.{needs}
-use lib.ListN.{length}
 use Rattle.record_measures.specs.Measures.{membersAt, triedMembers}
 use Rattle.record_measures.proofs.Measuring.{line-B}
 use Rattle.record_measures.proofs.Members.{Weighing, weighing, weigh-on, weigh-bad, weighed, members-many, none-tried, bad-tried, long-tried, good-tried}
@@ -43,10 +42,16 @@ both-requires : tie.Need-both-requires Inv-loop μ-loop
 both-requires c κs = search needs
 
 add-line : tie.Need-add-line Inv-loop μ-loop
-add-line c = omega (arith, c .before .before .before .before .loop .inv .few, c .before .before .weigh-member .ensures .1, c .before .before .before .before .before .before .before .pre .1 .1)
+add-line c =
+    let at-loop = c .before .before .before .before in
+    let start = at-loop .before .before .before in
+    omega (arith, at-loop .loop .inv .few, c .before .before .weigh-member .ensures .1, start .pre .1 .1)
 
 add-at : tie.Need-add-at Inv-loop μ-loop
-add-at c = omega (arith, c .before .before .before .before .loop .inv .place, c .before .before .before .loop-test .taken, c .before .before .before .before .before .before .before .pre .0)
+add-at c =
+    let at-loop = c .before .before .before .before in
+    let start = at-loop .before .before .before in
+    omega (arith, at-loop .loop .inv .place, c .before .before .before .loop-test .taken, start .pre .0)
 
 sub-left : tie.Need-sub-left Inv-loop μ-loop
 sub-left c = omega (arith, c .before .before .before .loop-test .taken)
@@ -82,10 +87,14 @@ returns-3 c =
     c .nothing3 .ensures ∙ long-tried (a .unit) ms (omega (arith, line-B (a .unit) ms, w .text, c .before .before .digits .ensures .0, c .before .if3 .taken))
 
 mul-t15 : tie.Need-mul-t15 Inv-loop μ-loop
-mul-t15 c = omega (arith, c .before .before .before .before .before .before .pre .1 .1)
+mul-t15 c =
+    let start = c .before .before .before .before .before .before in
+    omega (arith, start .pre .1 .1)
 
 add-t16 : tie.Need-add-t16 Inv-loop μ-loop
-add-t16 c = omega (arith, c .before .before .before .before .before .before .pre .1 .1)
+add-t16 c =
+    let start = c .before .before .before .before .before .before in
+    omega (arith, start .pre .1 .1)
 
 add-t17 : tie.Need-add-t17 Inv-loop μ-loop
 add-t17 c = omega (arith, c .if3 .left)

@@ -4,7 +4,7 @@ use mathlib.Core.Path.{_∙_, sym, ap}
 use mathlib.Core.Bool.{_&&_}
 use lib.Dec.{eqb}
 use lib.ListN.{length}
-use Prim.Native.Nat.{ℕ, suc}
+use Prim.Native.Nat.{ℕ}
 use Rattle.ledger_spec.specs.Decimals.{decimal}
 use Rattle.record_measures.specs.Measures.{memberAt}
 use Rattle.record_measures.proofs.Members.{weight-bad, weight-good, serial-zero, first-zero, second-zero, none-zero}
@@ -34,12 +34,14 @@ returns c =
 
 returns-2 : tie.Need-returns-2
 returns-2 c =
-    let m = memberAt (c .before .before .before .before .before .before .args .t .now) (c .before .before .before .before .before .before .args .q) in
+    let start = c .before .before .before .before .before .before in
+    let m = memberAt (start .args .t .now) (start .args .q) in
     (weight-bad m (first-zero m (sym (c .before .before .before .four-at2 .ensures .0) ∙ c .if2 .taken)), omega arith)
 
 returns-3 : tie.Need-returns-3
 returns-3 c =
-    let m = memberAt (c .before .before .before .before .before .before .before .args .t .now) (c .before .before .before .before .before .before .before .args .q) in
+    let start = c .before .before .before .before .before .before .before in
+    let m = memberAt (start .args .t .now) (start .args .q) in
     (weight-bad m (second-zero m (sym (c .before .before .before .four-at3 .ensures .0) ∙ c .if3 .taken)), omega arith)
 
 digits-requires : tie.Need-digits-requires
@@ -53,11 +55,13 @@ add-t8 c = search needs
 
 returns-4 : tie.Need-returns-4
 returns-4 c =
-    let m = memberAt (c .before .before .before .before .before .before .before .before .before .args .t .now) (c .before .before .before .before .before .before .before .before .before .args .q) in
-    let x = c .before .before .before .before .before .before .before .four-at in
-    let y = c .before .before .before .before .before .before .four-at2 in
-    let z = c .before .before .before .before .before .four-at3 in
-    (weight-good m _ _ (none-zero m (omega (arith, x .ensures .0, c .before .before .before .before .if1 .left)) (omega (arith, y .ensures .0, c .before .before .before .if2 .left)) (omega (arith, z .ensures .0, c .before .before .if3 .left))) (omega (arith, c .before .digits .ensures .0, ap (λ (n : ℕ). length (decimal n)) (x .ensures .0))) (c .is-self .ensures ∙ (λ i. eqb (y .ensures .0 i) (x .ensures .0 i) && eqb (z .ensures .0 i) (x .ensures .0 i))), omega (arith, c .before .digits .ensures .1))
+    let at-if1 = c .before .before .before .before in
+    let at-four-at3 = at-if1 .before in
+    let at-four-at2 = at-four-at3 .before in
+    let at-four-at = at-four-at2 .before in
+    let start = at-four-at .before .before in
+    let m = memberAt (start .args .t .now) (start .args .q) in
+    (weight-good m _ _ (none-zero m (omega (arith, at-four-at .four-at .ensures .0, at-if1 .if1 .left)) (omega (arith, at-four-at2 .four-at2 .ensures .0, c .before .before .before .if2 .left)) (omega (arith, at-four-at3 .four-at3 .ensures .0, c .before .before .if3 .left))) (omega (arith, c .before .digits .ensures .0, ap (λ (n : ℕ). length (decimal n)) (at-four-at .four-at .ensures .0))) (c .is-self .ensures ∙ (λ i. eqb (at-four-at2 .four-at2 .ensures .0 i) (at-four-at .four-at .ensures .0 i) && eqb (at-four-at3 .four-at3 .ensures .0 i) (at-four-at .four-at .ensures .0 i))), omega (arith, c .before .digits .ensures .1))
 
 pub weigh-member-spec : {M : Type 1} → statement M
 weigh-member-spec =

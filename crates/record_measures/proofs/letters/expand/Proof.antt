@@ -46,9 +46,10 @@ add-t8 c = search needs
 
 returns-3 : tie.Need-returns-3
 returns-3 c =
-    let a = c .before .before .before .before .before .before .args in
+    let at-if1 = c .before .before .before .before in
+    let start = at-if1 .before .before in
     let v = c .before .before .before .four-at in
-    is-E (a .t .now) (a .q) (a .unit) (c .before .before .before .before .before .before .pre .1) _ (c .before .digits .ensures .0) (v .result) _ (omega (arith, c .before .before .before .before .if1 .left, c .before .before .before .before .before .before .pre .0)) (v .ensures .0) (v .ensures .1) (omega (arith, c .before .before .if2 .left)) (c .digits2 .ensures .0)
+    is-E (start .args .t .now) (start .args .q) (start .args .unit) (start .pre .1) _ (c .before .digits .ensures .0) (v .result) _ (omega (arith, at-if1 .if1 .left, start .pre .0)) (v .ensures .0) (v .ensures .1) (omega (arith, c .before .before .if2 .left)) (c .digits2 .ensures .0)
 
 pub expand-spec : {M : Type 1} → statement M
 expand-spec =

@@ -50,10 +50,11 @@ add-t12 c = search needs
 
 returns-2 : tie.Need-returns-2
 returns-2 c =
-    let a = c .before .before .before .before .before .before .before .args in
-    let v = c .before .before .before .before .byte-at in
+    let at-byte-at = c .before .before .before .before in
+    let at-if1 = at-byte-at .before in
+    let start = at-if1 .before .before in
     let w = c .before .before .before .byte-at2 in
-    is-F (a .t .now) (a .q) (a .parent) (c .before .before .before .before .before .before .before .pre .1) _ (c .before .before .digits .ensures .0) (v .result) (w .result) _ _ (omega (arith, c .before .before .before .before .before .if1 .left, c .before .before .before .before .before .before .before .pre .0)) (v .ensures .0) (v .ensures .1) (w .ensures .0) (w .ensures .1) (c .before .digits2 .ensures .0) (c .digits3 .ensures .0)
+    is-F (start .args .t .now) (start .args .q) (start .args .parent) (start .pre .1) _ (c .before .before .digits .ensures .0) (at-byte-at .byte-at .result) (w .result) _ _ (omega (arith, at-if1 .if1 .left, start .pre .0)) (at-byte-at .byte-at .ensures .0) (at-byte-at .byte-at .ensures .1) (w .ensures .0) (w .ensures .1) (c .before .digits2 .ensures .0) (c .digits3 .ensures .0)
 
 pub fuse-spec : {M : Type 1} → statement M
 fuse-spec =

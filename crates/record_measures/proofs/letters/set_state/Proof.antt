@@ -35,8 +35,9 @@ nothing-requires-2 c κs = search needs
 
 returns-2 : tie.Need-returns-2
 returns-2 c =
-    let a = c .before .before .before .before .before .before .args in
-    c .nothing2 .ensures ∙ zero-S (a .t .now) (a .q) (a .unit) (c .before .before .before .before .before .before .pre .1) (omega (arith, c .before .before .before .before .if1 .left, c .before .before .before .before .before .before .pre .0)) (sym (c .before .before .before .four-at .ensures .0) ∙ c .before .if2 .taken)
+    let at-if1 = c .before .before .before .before in
+    let start = at-if1 .before .before in
+    c .nothing2 .ensures ∙ zero-S (start .args .t .now) (start .args .q) (start .args .unit) (start .pre .1) (omega (arith, at-if1 .if1 .left, start .pre .0)) (sym (c .before .before .before .four-at .ensures .0) ∙ c .before .if2 .taken)
 
 state-digits-requires : tie.Need-state-digits-requires
 state-digits-requires c κs = search needs
@@ -46,8 +47,10 @@ nothing-requires-3 c κs = search needs
 
 returns-3 : tie.Need-returns-3
 returns-3 c =
-    let a = c .before .before .before .before .before .before .before .before .args in
-    c .nothing3 .ensures ∙ wrong-S (a .t .now) (a .q) (a .unit) (c .before .before .before .before .before .before .before .before .pre .1) (c .before .before .before .before .byte-at .result) (c .before .before .state-digits .result) (omega (arith, c .before .before .before .before .before .before .if1 .left, c .before .before .before .before .before .before .before .before .pre .0)) (c .before .before .before .before .byte-at .ensures .0) (c .before .before .state-digits .ensures .0) (c .before .if3 .taken)
+    let at-byte-at = c .before .before .before .before in
+    let at-if1 = at-byte-at .before .before in
+    let start = at-if1 .before .before in
+    c .nothing3 .ensures ∙ wrong-S (start .args .t .now) (start .args .q) (start .args .unit) (start .pre .1) (at-byte-at .byte-at .result) (c .before .before .state-digits .result) (omega (arith, at-if1 .if1 .left, start .pre .0)) (at-byte-at .byte-at .ensures .0) (c .before .before .state-digits .ensures .0) (c .before .if3 .taken)
 
 digits-requires : tie.Need-digits-requires
 digits-requires c κs = search needs
@@ -66,10 +69,12 @@ add-t12 c = omega (arith, c .before .before .before .state-digits .ensures .1)
 
 returns-4 : tie.Need-returns-4
 returns-4 c =
-    let a = c .before .before .before .before .before .before .before .before .before .args in
-    let v = c .before .before .before .before .before .before .four-at in
-    let n = c .before .before .before .before .before .byte-at in
-    is-S (a .t .now) (a .q) (a .unit) (c .before .before .before .before .before .before .before .before .before .pre .1) _ (c .before .digits .ensures .0) (v .result) (n .result) _ _ (omega (arith, c .before .before .before .before .before .before .before .if1 .left, c .before .before .before .before .before .before .before .before .before .pre .0)) (v .ensures .0) (v .ensures .1) (omega (arith, c .before .before .before .before .if2 .left)) (n .ensures .0) (c .digits2 .ensures .0) (c .before .before .before .state-digits .ensures .0) (c .before .before .if3 .left)
+    let at-if2 = c .before .before .before .before in
+    let at-byte-at = at-if2 .before in
+    let at-four-at = at-byte-at .before in
+    let at-if1 = at-four-at .before in
+    let start = at-if1 .before .before in
+    is-S (start .args .t .now) (start .args .q) (start .args .unit) (start .pre .1) _ (c .before .digits .ensures .0) (at-four-at .four-at .result) (at-byte-at .byte-at .result) _ _ (omega (arith, at-if1 .if1 .left, start .pre .0)) (at-four-at .four-at .ensures .0) (at-four-at .four-at .ensures .1) (omega (arith, at-if2 .if2 .left)) (at-byte-at .byte-at .ensures .0) (c .digits2 .ensures .0) (c .before .before .before .state-digits .ensures .0) (c .before .before .if3 .left)
 
 pub set-state-spec : {M : Type 1} → statement M
 set-state-spec =

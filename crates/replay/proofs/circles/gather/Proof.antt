@@ -4,10 +4,6 @@ use lib.ListN.{length}
 use borrow.Author.Needs.{needs}
 use Rattle.replay.proofs.circles.gather.Statement.{statement}
 use Rattle.replay.proofs.circles.gather.Tie as tie
-use Rattle.replay.proofs.circles.gather.Reads as reads
-use Rattle.replay.proofs.circles.gather.Lts as lts
-use Rattle.replay.proofs.circles.keep.Reads as keep-reads
-use Rattle.replay.proofs.circles.packed.Reads as packed-reads
 
 abbrev Inv-loop : tie.InvT-loop
 Inv-loop b row from to list₀ n₀ i₀ list n i = (n ≤ 1280) × (length list ≡ length list₀)

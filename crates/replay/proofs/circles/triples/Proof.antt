@@ -4,10 +4,6 @@ use lib.ListN.{length}
 use borrow.Author.Needs.{needs}
 use Rattle.replay.proofs.circles.triples.Statement.{statement}
 use Rattle.replay.proofs.circles.triples.Tie as tie
-use Rattle.replay.proofs.circles.triples.Reads as reads
-use Rattle.replay.proofs.circles.triples.Lts as lts
-use Rattle.replay.proofs.circles.keep.Reads as keep-reads
-use Rattle.replay.proofs.circles.packed.Reads as packed-reads
 
 abbrev Inv-loop : tie.InvT-loop
 Inv-loop b row n members₀ touching₀ k₀ members touching k = (k ≤ 640) × (length members ≡ length members₀) × (length touching ≡ length touching₀)

@@ -2,14 +2,6 @@ use Prim.Native.Nat.{_-_, _≤_}
 use borrow.Author.Needs.{needs}
 use Rattle.replay.proofs.damage.bits.Statement.{statement}
 use Rattle.replay.proofs.damage.bits.Tie as tie
-use Rattle.replay.proofs.damage.bits.Reads as reads
-use Rattle.replay.proofs.damage.bits.Lts as lts
-use Rattle.replay.proofs.damage.get.Reads as get-reads
-use Rattle.replay.proofs.damage.more.Reads as more-reads
-use Rattle.replay.proofs.damage.with.Reads as with-reads
-use Rattle.replay.proofs.tapes.say.Reads as say-reads
-use Rattle.replay.proofs.told.small.Reads as small-reads
-use Rattle.std.proofs.num.wrapping_add_u64.Reads as wrapping-add-u64-reads
 
 abbrev Inv-loop : tie.InvT-loop
 Inv-loop b₀ out i sum₀ bit₀ n₀ b sum bit n = n ≤ 64

@@ -2,14 +2,6 @@ use Prim.Native.Nat.{_-_, _≤_}
 use borrow.Author.Needs.{needs}
 use Rattle.replay.proofs.looks.vertices_in.Statement.{statement}
 use Rattle.replay.proofs.looks.vertices_in.Tie as tie
-use Rattle.replay.proofs.looks.vertices_in.Reads as reads
-use Rattle.replay.proofs.looks.vertices_in.Lts as lts
-use Rattle.dual_ledger.proofs.open_reads.dual_ledger_get_all_vertices.Reads as dual-ledger-get-all-vertices-reads
-use Rattle.replay.proofs.looks.two.Reads as two-reads
-use Rattle.replay.proofs.looks.vertex.Reads as vertex-reads
-use Rattle.replay.proofs.tapes.say.Reads as say-reads
-use Rattle.replay.proofs.tapes.vertices_within.Reads as vertices-within-reads
-use Rattle.replay.proofs.told.small.Reads as small-reads
 
 abbrev Inv-loop : tie.InvT-loop
 Inv-loop b out₀ h room vs most count r n₀ i₀ out n i = i ≤ most

@@ -2,11 +2,6 @@ use Prim.Native.Nat.{_-_, _≤_}
 use borrow.Author.Needs.{needs}
 use Rattle.replay.proofs.nodes.circle.Statement.{statement}
 use Rattle.replay.proofs.nodes.circle.Tie as tie
-use Rattle.replay.proofs.nodes.circle.Reads as reads
-use Rattle.replay.proofs.nodes.circle.Lts as lts
-use Rattle.replay.proofs.nodes.member.Reads as member-reads
-use Rattle.replay.proofs.tapes.say.Reads as say-reads
-use Rattle.replay.proofs.told.small.Reads as small-reads
 
 abbrev Inv-loop : tie.InvT-loop
 Inv-loop b out₀ n count first said₀ at₀ i₀ out said at i = i ≤ count

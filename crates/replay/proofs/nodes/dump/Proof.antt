@@ -2,12 +2,6 @@ use Prim.Native.Nat.{_-_, _≤_}
 use borrow.Author.Needs.{needs}
 use Rattle.replay.proofs.nodes.dump.Statement.{statement}
 use Rattle.replay.proofs.nodes.dump.Tie as tie
-use Rattle.replay.proofs.nodes.dump.Reads as reads
-use Rattle.replay.proofs.nodes.dump.Lts as lts
-use Rattle.dual_ledger.proofs.open_reads.dual_ledger_nodes_count.Reads as dual-ledger-nodes-count-reads
-use Rattle.replay.proofs.nodes.slot.Reads as slot-reads
-use Rattle.replay.proofs.tapes.say.Reads as say-reads
-use Rattle.replay.proofs.told.small.Reads as small-reads
 
 abbrev Inv-loop : tie.InvT-loop
 Inv-loop b out₀ unit count number a n₀ i₀ out n i = i ≤ 512

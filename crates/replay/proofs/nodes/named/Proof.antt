@@ -2,10 +2,6 @@ use Prim.Native.Nat.{_-_, _≤_}
 use borrow.Author.Needs.{needs}
 use Rattle.replay.proofs.nodes.named.Statement.{statement}
 use Rattle.replay.proofs.nodes.named.Tie as tie
-use Rattle.replay.proofs.nodes.named.Reads as reads
-use Rattle.replay.proofs.nodes.named.Lts as lts
-use Rattle.replay.proofs.nodes.handle_at.Reads as handle-at-reads
-use Rattle.replay.proofs.nodes.holds.Reads as holds-reads
 
 abbrev Inv-loop : tie.InvT-loop
 Inv-loop b serial k₀ k = k ≤ 512

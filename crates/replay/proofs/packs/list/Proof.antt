@@ -2,11 +2,6 @@ use Prim.Native.Nat.{_-_, _≤_}
 use borrow.Author.Needs.{needs}
 use Rattle.replay.proofs.packs.list.Statement.{statement}
 use Rattle.replay.proofs.packs.list.Tie as tie
-use Rattle.replay.proofs.packs.list.Reads as reads
-use Rattle.replay.proofs.packs.list.Lts as lts
-use Rattle.replay.proofs.packs.entry.Reads as entry-reads
-use Rattle.replay.proofs.tapes.say.Reads as say-reads
-use Rattle.replay.proofs.told.small.Reads as small-reads
 
 abbrev Inv-loop : tie.InvT-loop
 Inv-loop out₀ n g at₀ i₀ out at i = i ≤ 128

@@ -2,10 +2,6 @@ use Prim.Native.Nat.{_-_, _≤_}
 use borrow.Author.Needs.{needs}
 use Rattle.replay.proofs.tapes.numbers.Statement.{statement}
 use Rattle.replay.proofs.tapes.numbers.Tie as tie
-use Rattle.replay.proofs.tapes.numbers.Reads as reads
-use Rattle.replay.proofs.tapes.numbers.Lts as lts
-use Rattle.text_fields.proofs.next_length.Reads as next-length-reads
-use Rattle.replay.proofs.tapes.say.Reads as say-reads
 
 abbrev Inv-loop : tie.InvT-loop
 Inv-loop s row₀ place₀ n₀ row place n = n ≤ 8192

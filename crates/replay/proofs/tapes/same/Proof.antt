@@ -2,9 +2,6 @@ use Prim.Native.Nat.{_-_, _≤_}
 use borrow.Author.Needs.{needs}
 use Rattle.replay.proofs.tapes.same.Statement.{statement}
 use Rattle.replay.proofs.tapes.same.Tie as tie
-use Rattle.replay.proofs.tapes.same.Reads as reads
-use Rattle.replay.proofs.tapes.same.Lts as lts
-use Rattle.replay.proofs.tapes.number.Reads as number-reads
 
 abbrev Inv-loop : tie.InvT-loop
 Inv-loop a m b n i₀ i = i ≤ m

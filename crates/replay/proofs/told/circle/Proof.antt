@@ -2,11 +2,6 @@ use Prim.Native.Nat.{_-_, _≤_}
 use borrow.Author.Needs.{needs}
 use Rattle.replay.proofs.told.circle.Statement.{statement}
 use Rattle.replay.proofs.told.circle.Tie as tie
-use Rattle.replay.proofs.told.circle.Reads as reads
-use Rattle.replay.proofs.told.circle.Lts as lts
-use Rattle.replay.proofs.tapes.say.Reads as say-reads
-use Rattle.replay.proofs.told.member.Reads as member-reads
-use Rattle.replay.proofs.told.small.Reads as small-reads
 
 abbrev Inv-loop : tie.InvT-loop
 Inv-loop out₀ n words a at₀ i₀ out at i = i ≤ 64

@@ -2,11 +2,6 @@ use Prim.Native.Nat.{_-_, _≤_}
 use borrow.Author.Needs.{needs}
 use Rattle.replay.proofs.told.notices.Statement.{statement}
 use Rattle.replay.proofs.told.notices.Tie as tie
-use Rattle.replay.proofs.told.notices.Reads as reads
-use Rattle.replay.proofs.told.notices.Lts as lts
-use Rattle.replay.proofs.tapes.say.Reads as say-reads
-use Rattle.replay.proofs.told.entry.Reads as entry-reads
-use Rattle.replay.proofs.told.small.Reads as small-reads
 
 abbrev Inv-loop : tie.InvT-loop
 Inv-loop out₀ n words at₀ i₀ out at i = i ≤ 66

@@ -1,9 +1,11 @@
 -- One signed number is left, and then the line ends. Assumes nothing.
 use mathlib.Core.Path.{_≡_, sym, _∙_, ap}
+use mathlib.Core.Option.{some}
 use mir.Syntax.{w64}
 use mir.Val.{SFits}
 use mir.Facts.{toZ-ofZ}
-use Rattle.ledger_spec.specs.Grammar.{noMore, G}
+use Rattle.ledger_spec.specs.Operations.{G}
+use Rattle.ledger_spec.specs.Grammar.{noMore}
 use Rattle.text_fields.specs.declared.NextLength.the-variants.{Length, NoLength}
 use Rattle.text_lines.specs.Shown.{lineShown}
 use Rattle.text_lines.proofs.Follow.{length-got, length-missed, ended, goes-on}
@@ -25,22 +27,24 @@ returns c =
     let a = c .before .before .before .before .args in
     let n = c .before .before .next-length in
     let q : n .result ≡ NoLength = cc in
-    sym (ap lineShown (length-missed (a .s .now) (a .place) (n .result) (n .ensures) (λ x. noMore (G (a .unit) x)) q))
+    sym (ap lineShown (length-missed (a .s .now) (a .place) (n .result) (n .ensures) (λ x. noMore (some (G (a .unit) x))) q))
 
 returns-2 : tie.Need-returns-2
 returns-2 c =
-    let a = c .before .before .before .before .before .before .args in
-    let n = c .before .before .before .before .next-length in
-    let q : n .result ≡ Length (c .before .before .l .given .0 .0) (c .before .before .l .given .0 .1 .0) = cc in
-    sym (ap lineShown (length-got (a .s .now) (a .place) (n .result) (n .ensures) (λ x. noMore (G (a .unit) x)) _ _ q ∙ goes-on (a .s .now) _ _ (c .if1 .taken)))
+    let t = c .before .before in
+    let a = t .before .before .before .before .args in
+    let n = t .before .before .next-length in
+    let q : n .result ≡ Length (t .l .given .0 .0) (t .l .given .0 .1 .0) = cc in
+    sym (ap lineShown (length-got (a .s .now) (a .place) (n .result) (n .ensures) (λ x. noMore (some (G (a .unit) x))) _ _ q ∙ goes-on (a .s .now) _ _ (c .if1 .taken)))
 
 returns-3 : tie.Need-returns-3
 returns-3 c =
-    let a = c .before .before .before .before .before .before .args in
-    let n = c .before .before .before .before .next-length in
-    let q : n .result ≡ Length (c .before .before .l .given .0 .0) (c .before .before .l .given .0 .1 .0) = cc in
-    let ok : SFits w64 (c .before .before .l .given .0 .0) = record { sfits = c .before .known-told .given .0 .1 } in
-    rw (toZ-ofZ ok) (sym (ap lineShown (length-got (a .s .now) (a .place) (n .result) (n .ensures) (λ x. noMore (G (a .unit) x)) _ _ q ∙ ended (a .s .now) _ _ (c .if1 .left))))
+    let t = c .before .before in
+    let a = t .before .before .before .before .args in
+    let n = t .before .before .next-length in
+    let q : n .result ≡ Length (t .l .given .0 .0) (t .l .given .0 .1 .0) = cc in
+    let ok : SFits w64 (t .l .given .0 .0) = record { sfits = c .before .known-told .given .0 .1 } in
+    rw (toZ-ofZ ok) (sym (ap lineShown (length-got (a .s .now) (a .place) (n .result) (n .ensures) (λ x. noMore (some (G (a .unit) x))) _ _ q ∙ ended (a .s .now) _ _ (c .if1 .left))))
 
 pub grow-spec : {M : Type 1} → statement M
 grow-spec =

@@ -1,8 +1,8 @@
 -- Each field is its word. Assumes nothing.
 use Rattle.group_lent.specs.Forms.{fiveAt}
 use borrow.Author.Needs.{needs}
-use Rattle.group_lent_sound.proofs.five_of.Statement.{statement}
-use Rattle.group_lent_sound.proofs.five_of.Tie as tie
+use Rattle.group_lent.proofs.five_of.Statement.{statement}
+use Rattle.group_lent.proofs.five_of.Tie as tie
 
 mul-t3 : tie.Need-mul-t3
 mul-t3 c = search needs
