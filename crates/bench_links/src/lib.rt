@@ -120,8 +120,7 @@ pub fn is_foreign(b: &[u64; WORDS], unit: u8, h: Handle) -> bool
     ensures { λ r. ⌜ r ≡ foreign (view (now (b .entry))) unit (handleNamed h) ⌝ }
 {
     let from = h.unit as usize;
-    let c = bench_trees::climb(b, from);
-    c.top != (unit as usize)
+    bench_trees::top_of(b, from) != (unit as usize)
 }
 
 // A number that the words hold c higher than it is.

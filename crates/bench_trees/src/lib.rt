@@ -8,7 +8,7 @@ ghost use Prim.Native.Nat.{_+_, _<_, _≤_};
 ghost use Rattle.bench_words.specs.Codec.{pick};
 ghost use Rattle.ledger_spec.specs.Look.{top};
 ghost use Rattle.bench_views.specs.Records.{rateOf, Steady};
-ghost use Rattle.bench_views.specs.View.{valueBy, biasOf};
+ghost use Rattle.bench_views.specs.View.{valueBy, biasOf, view};
 ghost use Rattle.bench_trees.specs.Climb.{Climbs};
 
 // The value of a node, 2^60 higher than it is.
@@ -86,4 +86,27 @@ pub fn climb(b: &[u64; WORDS], unit: usize) -> Climbed
         }
     }
     Climbed { top: u, total: t }
+}
+
+// The top alone, of any words.
+pub fn top_of(b: &[u64; WORDS], unit: usize) -> usize
+    requires { ⌜ unit < 8 ⌝ }
+    ensures { λ r. ⌜ (r ≡ top (view (now (b .entry))) unit) × (r < 8) ⌝ }
+{
+    let mut u = unit;
+    let mut left: usize = 8;
+    while 0 < left {
+        let f = bench_words::load_interface(b, u);
+        left = left - 1;
+        let up = f.parent;
+        match up {
+            Up::Top => {
+                return u;
+            }
+            Up::Under(p) => {
+                u = p as usize;
+            }
+        }
+    }
+    u
 }

@@ -47,8 +47,7 @@ fn is_far(b: &[u64; WORDS], unit: u8, home: usize) -> bool
     if home == (unit as usize) {
         return false;
     }
-    let c = bench_trees::climb(b, home);
-    c.top != (unit as usize)
+    bench_trees::top_of(b, home) != (unit as usize)
 }
 
 // What one node is refused by: STALE (8), FOREIGN (9), inside a blossom (11), or 0.

@@ -19,7 +19,6 @@ use Rattle.bench_words.proofs.Laws.{GoodHandle, GoodParent}
 use Rattle.ledger_spec.specs.Look.{climb}
 use Rattle.bench_views.specs.View.{view}
 use Rattle.bench_views.specs.Canon.{walk}
-use Rattle.bench_trees.specs.Climb.{Climbs}
 use Rattle.sound_seats.specs.Seats.{isStay, aloneTest, seatIn, seatTest, parentTest}
 
 pub past-last : (b : List ℕ) (p : ℕ) → length b ≡ 6273 → 512 ≤ p → 0 ≡ nodeAt b p .next
@@ -61,11 +60,11 @@ module _ (b : List ℕ) (k t : ℕ) (n : Node) (q : Handle) (m : Node) (e : m �
   unfolding seatIn
   seat-past f l = sym (ap₂ (λ (x y : Bool). x && (y && ((isStay (n .state) && ltb (n .serial .0) (q .serial .0)) && ((eqb (m .serial .0) (q .serial .0) && blossomOf (m .class)) && (eqb (climb 8 (view b) (q .unit)) t && eqb (walk (n .place) (nodeAt b) (m .first)) k))))) (le-leb (m .count) 64 f) (le-ltb (n .place) (m .count) l)) ∙ same
 
-  pub seat-row : m .count ≤ 64 → n .place < m .count → (s r : Bool) (u v w : ℕ) → s ≡ isStay (n .state) → r ≡ blossomOf (m .class) → Climbs b (q .unit) u v → w ≡ walk (n .place) (nodeAt b) (m .first)
+  pub seat-row : m .count ≤ 64 → n .place < m .count → (s r : Bool) (u w : ℕ) → s ≡ isStay (n .state) → r ≡ blossomOf (m .class) → u ≡ climb 8 (view b) (q .unit) → w ≡ walk (n .place) (nodeAt b) (m .first)
       → ((s && ltb (n .serial .0) (q .serial .0)) && ((eqb (m .serial .0) (q .serial .0) && r) && (eqb u t && eqb w k))) ≡ seatTest b k t n q
   unfolding seatIn
-  seat-row f l s r u v w es er C ew =
-      rw (es, er, C .top, ew)
+  seat-row f l s r u w es er C ew =
+      rw (es, er, C, ew)
       (sym (ap₂ (λ (x y : Bool). x && (y && ((isStay (n .state) && ltb (n .serial .0) (q .serial .0)) && ((eqb (m .serial .0) (q .serial .0) && blossomOf (m .class)) && (eqb (climb 8 (view b) (q .unit)) t && eqb (walk (n .place) (nodeAt b) (m .first)) k))))) (le-leb (m .count) 64 f) (lt-ltb (n .place) (m .count) l)) ∙ same)
 
 -- ---- by parent

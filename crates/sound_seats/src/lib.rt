@@ -76,10 +76,10 @@ fn is_seated(b: &[u64; WORDS], k: usize, top: usize, n: Node, q: Handle) -> bool
     let class = m.class;
     let stays = is_stay(state);
     let ring = class.is_blossom();
-    let c = bench_trees::climb(b, q.unit as usize);
+    let above = bench_trees::top_of(b, q.unit as usize);
     let seat = walk(b, m.first, n.place);
     (stays & (n.serial.0 < q.serial.0))
-        & (((m.serial.0 == q.serial.0) & ring) & ((c.top == top) & (seat == (k as u64))))
+        & (((m.serial.0 == q.serial.0) & ring) & ((above == top) & (seat == (k as u64))))
 }
 
 // Where a node's parent says it is.

@@ -11,10 +11,9 @@ use Rattle.bench_words.specs.declared.Interface.{Interface}
 use Rattle.bench_words.specs.declared.Node.{Node}
 use Rattle.bench_words.specs.declared.Up.{Up}
 use Rattle.bench_words.specs.declared.Up.the-variants.{Top, Under}
-use Rattle.ledger_spec.specs.Look.{climb}
+use Rattle.ledger_spec.specs.Look.{climb, top}
 use Rattle.bench_views.specs.Records.{rateOf, Steady}
 use Rattle.bench_views.specs.View.{over, view}
-use Rattle.bench_trees.specs.Climb.{Climbs}
 use Rattle.sound_trees.specs.Below.{sumTo, between}
 use Rattle.sound_trees.proofs.Belows.{sum-none, sum-more}
 use Rattle.sound_trees.specs.Width.{widthOf}
@@ -39,15 +38,15 @@ pub rate-known : (b : List ℕ) (u s : ℕ) (n : Node) (r : ℕ) → n ≡ nodeA
 rate-known b u s n r e h = h ∙ ap (λ (x : Node). rateOf (x .state)) e
 
 -- ---- one interface
-module _ (b : List ℕ) (i u t s : ℕ) (C : Climbs b u t s) where
+module _ (b : List ℕ) (i u t : ℕ) (C : t ≡ top (view b) u) where
   pub pace-else : (t ≡ i → ⊥) → (64 ≡ paceUnder b i u) × (64 ≤ 192)
   unfolding paceUnder
-  pace-else ne = (rw (ne-eqb (climb 8 (view b) u) i (λ e. ne (C .top ∙ e))), omega arith)
+  pace-else ne = (rw (ne-eqb (climb 8 (view b) u) i (λ e. ne (C ∙ e))), omega arith)
 
   pub pace-here : t ≡ i → (f : Interface) → f ≡ interfaceAt b u → (r : ℕ) → (r ≡ sumTo (rateIn b u) (f .used)) × (r ≤ 128) → (r + (64 - f .used) ≡ paceUnder b i u) × (r + (64 - f .used) ≤ 192)
   unfolding paceUnder
   pace-here e f q r h =
-      (ap (λ (x : ℕ). x + (64 - f .used)) (h .0) ∙ ap (λ (x : Interface). sumTo (rateIn b u) (x .used) + (64 - x .used)) q ∙ rw (eq-eqb (climb 8 (view b) u) i (sym (C .top) ∙ e)), omega (arith, h .1))
+      (ap (λ (x : ℕ). x + (64 - f .used)) (h .0) ∙ ap (λ (x : Interface). sumTo (rateIn b u) (x .used) + (64 - x .used)) q ∙ rw (eq-eqb (climb 8 (view b) u) i (sym C ∙ e)), omega (arith, h .1))
 
 pub used-few : (b : List ℕ) (u : ℕ) (f : Interface) → Steady b → u < 8 → f ≡ interfaceAt b u → f .used ≤ 64
 used-few b u f st l e = omega (arith, ap (λ (x : Interface). x .used) e, st .slots u l)

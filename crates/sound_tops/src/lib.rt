@@ -32,8 +32,7 @@ fn pace_under(b: &[u64; WORDS], top: usize, u: usize) -> u64
     requires { ⌜ u < 8 ⌝ }
     ensures { λ r. ⌜ (r ≡ paceUnder (now (b .entry)) top u) × (r ≤ 192) ⌝ }
 {
-    let c = bench_trees::climb(b, u);
-    if c.top != top {
+    if bench_trees::top_of(b, u) != top {
         return 64;
     }
     let f = bench_words::load_interface(b, u);

@@ -15,7 +15,6 @@ use Rattle.ledger_spec.specs.Look.{top}
 use Rattle.bench_views.specs.Records.{Steady}
 use Rattle.bench_views.specs.View.{view}
 use Rattle.bench_views.proofs.Sums.{bounded}
-use Rattle.bench_trees.specs.Climb.{Climbs}
 use Rattle.sound_trees.specs.Below.{sumTo}
 use Rattle.bench_words.specs.Coding.{spareAt, linkAt, flagsAt}
 use Rattle.sound_trees.proofs.Belows.{sum-none, sum-more}
@@ -62,12 +61,12 @@ unfolding interfaceTest
 interface-row b u f s l g h d e p q r x y = simp (p, q, r, x, y, e)
 
 -- ---- W
-module _ (b : List ℕ) (st : Steady b) (i u : ℕ) (lu : u < 8) (t s : ℕ) (C : Climbs b u t s) where
+module _ (b : List ℕ) (st : Steady b) (i u : ℕ) (lu : u < 8) (t : ℕ) (C : t ≡ top (view b) u) where
   pub not-under : (t ≡ i → ⊥) → (0 ≡ progressUnder b i u) × (0 ≤ 1099511627776)
-  not-under ne = (rw (ne-eqb (top (view b) u) i (λ e. ne (C .top ∙ e))), omega arith)
+  not-under ne = (rw (ne-eqb (top (view b) u) i (λ e. ne (C ∙ e))), omega arith)
 
   pub is-under : t ≡ i → (f : Interface) → f ≡ interfaceAt b u → (f .progress ≡ progressUnder b i u) × (f .progress ≤ 1099511627776)
-  is-under e f q = (ap (λ (x : Interface). x .progress) q ∙ rw (eq-eqb (top (view b) u) i (sym (C .top) ∙ e)), bounded u st lu q)
+  is-under e f q = (ap (λ (x : Interface). x .progress) q ∙ rw (eq-eqb (top (view b) u) i (sym C ∙ e)), bounded u st lu q)
 
 pub record Adding (b : List ℕ) (i w u : ℕ) : Type 0 where
   pub sum : w ≡ sumTo (progressUnder b i) u

@@ -94,8 +94,7 @@ fn progress_under(b: &[u64; WORDS], top: usize, u: usize) -> u64
     requires { ⌜ u < 8 ⌝ }
     ensures { λ r. ⌜ (r ≡ progressUnder (now (b .entry)) top u) × (r ≤ 1099511627776) ⌝ }
 {
-    let c = bench_trees::climb(b, u);
-    if c.top != top {
+    if bench_trees::top_of(b, u) != top {
         return 0;
     }
     let f = bench_words::load_interface(b, u);

@@ -10,11 +10,11 @@ use Rattle.bench_links.proofs.is_foreign.Tie as tie
 cast-from : tie.Need-cast-from
 cast-from c = search needs
 
-climb-requires : tie.Need-climb-requires
-climb-requires c κs = search needs
+top-of-requires : tie.Need-top-of-requires
+top-of-requires c κs = search needs
 
 returns : tie.Need-returns
-returns c = ap (λ (t : ℕ). not (eqb t (c .before .before .before .args .unit))) (c .before .climb .ensures .top)
+returns c = ap (λ (t : ℕ). not (eqb t (c .before .before .args .unit))) (c .top-of .ensures .0)
 
 pub is-foreign-spec : {M : Type 1} → statement M
-is-foreign-spec = tie.close (tie.spec cast-from climb-requires returns)
+is-foreign-spec = tie.close (tie.spec cast-from top-of-requires returns)

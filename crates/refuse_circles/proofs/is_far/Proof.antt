@@ -12,11 +12,11 @@ use Rattle.refuse_circles.proofs.is_far.Tie as tie
 returns : tie.Need-returns
 returns c = let s = c .before in near-own (view (s .args .b .now)) (s .args .unit) (s .pre .2) (s .args .home) (c .if1 .taken)
 
-climb-requires : tie.Need-climb-requires
-climb-requires c κs = search needs
+top-of-requires : tie.Need-top-of-requires
+top-of-requires c κs = search needs
 
 returns-2 : tie.Need-returns-2
-returns-2 c = ap (λ (t : ℕ). not (eqb t (c .before .before .before .args .unit))) (c .before .climb .ensures .top)
+returns-2 c = ap (λ (t : ℕ). not (eqb t (c .before .before .args .unit))) (c .top-of .ensures .0)
 
 pub is-far-spec : {M : Type 1} → statement M
-is-far-spec = tie.close (tie.spec returns climb-requires returns-2)
+is-far-spec = tie.close (tie.spec returns top-of-requires returns-2)

@@ -34,26 +34,26 @@ is-stay-requires c κs = search needs
 is-blossom-requires : tie.Need-is-blossom-requires
 is-blossom-requires c κs = search needs
 
-cast-climb : tie.Need-cast-climb
-cast-climb c = search needs
+cast-top-of : tie.Need-cast-top-of
+cast-top-of c = search needs
 
-climb-requires : tie.Need-climb-requires
-climb-requires c κs = search needs
+top-of-requires : tie.Need-top-of-requires
+top-of-requires c κs = search needs
 
 walk-requires : tie.Need-walk-requires
 walk-requires c κs = search needs
 
 returns-3 : tie.Need-returns-3
 returns-3 c =
-    let at-walk = c .before .before .before .before .before in
-    let at-climb = at-walk .before in
-    let at-is-blossom = at-climb .before .before in
+    let at-walk = c .before .before .before .before in
+    let at-top-of = at-walk .before in
+    let at-is-blossom = at-top-of .before .before in
     let at-is-stay = at-is-blossom .before in
     let at-if2 = at-is-stay .before in
     let at-if1 = at-if2 .before .before .before in
     let at-load-node = at-if1 .before .before in
     let start = at-load-node .before .before .before in
-    seat-row (start .args .b .now) (start .args .k) (start .args .top) (start .args .n) (start .args .q) (at-load-node .load-node .result) (at-load-node .load-node .ensures) (at-if1 .if1 .left) (at-if2 .if2 .left) (at-is-stay .is-stay .result) (at-is-blossom .is-blossom .result) (at-climb .climb .result .top) (at-climb .climb .result .total) (at-walk .walk .result) (at-is-stay .is-stay .ensures) (at-is-blossom .is-blossom .ensures) (at-climb .climb .ensures) (at-walk .walk .ensures)
+    seat-row (start .args .b .now) (start .args .k) (start .args .top) (start .args .n) (start .args .q) (at-load-node .load-node .result) (at-load-node .load-node .ensures) (at-if1 .if1 .left) (at-if2 .if2 .left) (at-is-stay .is-stay .result) (at-is-blossom .is-blossom .result) (at-top-of .top-of .result) (at-walk .walk .result) (at-is-stay .is-stay .ensures) (at-is-blossom .is-blossom .ensures) (at-top-of .top-of .ensures .0) (at-walk .walk .ensures)
 
 pub is-seated-spec : {M : Type 1} → statement M
 is-seated-spec =
@@ -68,7 +68,7 @@ is-seated-spec =
     returns-2
     is-stay-requires
     is-blossom-requires
-    cast-climb
-    climb-requires
+    cast-top-of
+    top-of-requires
     walk-requires
     returns-3)
