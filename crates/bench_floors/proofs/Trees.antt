@@ -13,13 +13,13 @@ use lib.IntN.{ℤ}
 use Rattle.ledger_spec.specs.Bench.{Node, Bench}
 use Rattle.ledger_spec.specs.Look.{interface, top, tree}
 use Rattle.ledger_spec.specs.Tests.{any, sinks, floored, below}
-use Rattle.ledger_spec.specs.Reads.{slotsFrom, gather, slots_of}
+use Rattle.ledger_spec.specs.Reads.{slots_from, gather, slots_of}
 use Rattle.ledger_spec.specs.SoundTree.{units}
 use Rattle.ledger_spec.specs.Frame.{Frame}
 use Rattle.ledger_spec.specs.Knit.{In}
-use Rattle.ledger_spec.proofs.Lists.{any-no, no-any}
-use Rattle.ledger_spec.proofs.Tops.{climb-none}
-use Rattle.ledger_spec.proofs.Gathered.{in-units, units_in, in_tree, tree-in}
+use Rattle.ledger_spec.proofs.Lists.{any_no, no_any}
+use Rattle.ledger_spec.proofs.Tops.{climb_none}
+use Rattle.ledger_spec.proofs.Gathered.{in_units, units_in, in_tree, tree_in}
 
 or_assoc : (a c d : Bool) → ((a || c) || d) ≡ (a || (c || d))
 or_assoc true c d = refl
@@ -34,46 +34,46 @@ unfolding any
 any_append p [] ys = refl
 any_append p (x ∷ xs) ys = ap (λ (c : Bool). p x || c) (any_append p xs ys) ∙ sym (or_assoc (p x) (any p xs) (any p ys))
 
-pub sinking-slots : (l : ℤ) (u k : ℕ) (xs : List (Option Node)) → sinking l (slotsFrom u k xs) ≡ any (sinks l) xs
-unfolding any slotsFrom
-sinking-slots l u k [] = refl
-sinking-slots l u k (x ∷ xs) = ap (λ (c : Bool). sinks l x || c) (sinking-slots l u (suc k) xs)
+pub sinking_slots : (l : ℤ) (u k : ℕ) (xs : List (Option Node)) → sinking l (slots_from u k xs) ≡ any (sinks l) xs
+unfolding any slots_from
+sinking_slots l u k [] = refl
+sinking_slots l u k (x ∷ xs) = ap (λ (c : Bool). sinks l x || c) (sinking_slots l u (suc k) xs)
 
 module _ (b : Bench) (l : ℤ) where
   abbrev deep : ℕ → Bool
   deep w = any (sinks l) (interface b w).slots
 
-  sinking-gather : (us : List ℕ) → sinking l (gather b us) ≡ any deep us
+  sinking_gather : (us : List ℕ) → sinking l (gather b us) ≡ any deep us
   unfolding any gather
-  sinking-gather [] = refl
-  sinking-gather (u ∷ us) = any_append (λ (t : ℕ × ℕ × Option Node). sinks l t.2) (slotsFrom u 0 (interface b u).slots) (gather b us) ∙ ap₂ ◌||◌ (sinking-slots l u 0 (interface b u).slots) (sinking-gather us)
+  sinking_gather [] = refl
+  sinking_gather (u ∷ us) = any_append (λ (t : ℕ × ℕ × Option Node). sinks l t.2) (slots_from u 0 (interface b u).slots) (gather b us) ∙ ap₂ ◌||◌ (sinking_slots l u 0 (interface b u).slots) (sinking_gather us)
 
   module _ (F : Frame b) (u : ℕ) (low : u < 8) (free : (interface b u).parent ≡ none) where
     abbrev under : ℕ → Bool
     under w = eqb (top b w) u && deep w
 
     self : top b u ≡ u
-    self = climb-none 8 b u free
+    self = climb_none 8 b u free
 
-    under-yes : (w : ℕ) → top b w ≡ u → under w ≡ deep w
-    under-yes w t = ap (λ (c : Bool). c && deep w) (eq-eqb (top b w) u t)
+    under_yes : (w : ℕ) → top b w ≡ u → under w ≡ deep w
+    under_yes w t = ap (λ (c : Bool). c && deep w) (eq-eqb (top b w) u t)
 
-    units-tree : any under units ≡ any deep (tree 8 b u)
-    units-tree = go (any under units) (any deep (tree 8 b u)) refl refl
+    units_tree : any under units ≡ any deep (tree 8 b u)
+    units_tree = go (any under units) (any deep (tree 8 b u)) refl refl
       where
-        no-tree : any under units ≡ false → any deep (tree 8 b u) ≡ false
-        no-tree e = no-any deep (tree 8 b u) (λ w i. let r = in_tree b F 8 u w low i in sym (under-yes w (r.1 ∙ self)) ∙ any-no under units e (in-units w r.0))
+        no_tree : any under units ≡ false → any deep (tree 8 b u) ≡ false
+        no_tree e = no_any deep (tree 8 b u) (λ w i. let r = in_tree b F 8 u w low i in sym (under_yes w (r.1 ∙ self)) ∙ any_no under units e (in_units w r.0))
 
-        no-units : any deep (tree 8 b u) ≡ false → any under units ≡ false
-        no-units e = no-any under units (λ w i. by_cases (ℕ_discrete (top b w) u)
-            (λ (t : top b w ≡ u). under-yes w t ∙ any-no deep (tree 8 b u) e (subst (λ (x : ℕ). In w (tree 8 b x)) t (tree-in b F w (units_in w i))))
+        no_units : any deep (tree 8 b u) ≡ false → any under units ≡ false
+        no_units e = no_any under units (λ w i. by_cases (ℕ_discrete (top b w) u)
+            (λ (t : top b w ≡ u). under_yes w t ∙ any_no deep (tree 8 b u) e (subst (λ (x : ℕ). In w (tree 8 b x)) t (tree_in b F w (units_in w i))))
             (λ (t : top b w ≢ u). ap (λ (c : Bool). c && deep w) (ne_eqb (top b w) u t)))
 
         go : (x y : Bool) → any under units ≡ x → any deep (tree 8 b u) ≡ y → any under units ≡ any deep (tree 8 b u)
         go true true p q = p ∙ sym q
-        go false y p q = p ∙ sym (no-tree p)
-        go true false p q = no-units q ∙ sym q
+        go false y p q = p ∙ sym (no_tree p)
+        go true false p q = no_units q ∙ sym q
 
-    pub below-slots : below b u l ≡ (floored b u && sinking l (slots_of b u))
+    pub below_slots : below b u l ≡ (floored b u && sinking l (slots_of b u))
     unfolding below
-    below-slots = ap (λ (c : Bool). floored b u && c) (units-tree ∙ sym (sinking-gather (tree 8 b u)))
+    below_slots = ap (λ (c : Bool). floored b u && c) (units_tree ∙ sym (sinking_gather (tree 8 b u)))

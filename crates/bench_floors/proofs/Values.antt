@@ -12,11 +12,11 @@ use lib.IntN.{ℤ, pos, negsuc}
 use lib.Signed.{lt_z, le_z}
 use Rattle.ledger_spec.specs.Bench.{Node, Bench}
 use Rattle.ledger_spec.specs.Look.{slot_of}
-use Rattle.ledger_spec.specs.Tests.{isShrink, sinks, floored, below}
+use Rattle.ledger_spec.specs.Tests.{is_shrink, sinks, floored, below}
 use Rattle.ledger_spec.specs.Sound.{afloat}
 use Rattle.ledger_spec.specs.Facts.{Floors}
-use Rattle.ledger_spec.proofs.Accepted.{unsunk-tests}
-use Rattle.ledger_laws.proofs.Floors.{level-top}
+use Rattle.ledger_spec.proofs.Accepted.{unsunk_tests}
+use Rattle.ledger_laws.proofs.Floors.{level_top}
 use Rattle.bench_views.specs.View.{view}
 use Rattle.bench_views.specs.Fit.{Fit}
 use Rattle.bench_floors.specs.Least.{Lowest, Least}
@@ -25,17 +25,17 @@ and_none : (c : Bool) → (c && false) ≡ false
 and_none true = refl
 and_none false = refl
 
-not-sunk : (o : Option Node) → afloat o ≡ true → sinks (pos 0) o ≡ false
-not-sunk none e = refl
-not-sunk (some n) e = go n.value e
+not_sunk : (o : Option Node) → afloat o ≡ true → sinks (pos 0) o ≡ false
+not_sunk none e = refl
+not_sunk (some n) e = go n.value e
   where
-    go : (z : ℤ) → le_z (pos 0) z ≡ true → (isShrink n.state && lt_z z (pos 0)) ≡ false
-    go (pos m) k = ap (λ (c : Bool). isShrink n.state && c) (le-ltb m 0 (omega arith)) ∙ and_none (isShrink n.state)
+    go : (z : ℤ) → le_z (pos 0) z ≡ true → (is_shrink n.state && lt_z z (pos 0)) ≡ false
+    go (pos m) k = ap (λ (c : Bool). is_shrink n.state && c) (le-ltb m 0 (omega arith)) ∙ and_none (is_shrink n.state)
     go (negsuc m) k = absurd (true≢false (sym k))
 
 -- a growth by nothing is never BELOW
 none_below : (b : Bench) → Floors b → (u : ℕ) → below b u (pos 0) ≡ false
-none_below b L u = unsunk-tests b u (pos 0) (λ f w s h t. not-sunk (slot_of b w s) (L.values w s (level-top b L w ∙ ap (floored b) t ∙ f)))
+none_below b L u = unsunk_tests b u (pos 0) (λ f w s h t. not_sunk (slot_of b w s) (L.values w s (level_top b L w ∙ ap (floored b) t ∙ f)))
 
 module _ (b : List ℕ) (F : Fit b) (unit low : ℕ) (L : Lowest b unit low) where
   pub high : 1152921504606846976 ≤ low

@@ -1,13 +1,13 @@
 -- Least values, as numbers that stand 2^60 higher than they are: what is below such a number by a length l. Assumes nothing.
 use Rattle.std.specs.Prelude.{ℕ, ◌+◌, ◌/◌, ◌%◌, ◌<◌, ◌≡◌, Bool, ◌||◌, List, ltb, pos}
-use Rattle.bench_words.specs.Codec.{valueOffset}
+use Rattle.bench_words.specs.Codec.{value_offset}
 use Rattle.ledger_spec.specs.Look.{interface, slot_of}
 use Rattle.ledger_spec.specs.Tests.{any, sinks, below}
 use Rattle.bench_views.specs.View.{view}
 
 -- a growth by l takes the value m below 0
 abbrev pub sunk : ℕ → ℕ → Bool
-sunk m l = ltb m (valueOffset + l)
+sunk m l = ltb m (value_offset + l)
 
 -- r is the lower of m and the value in a slot, if a node shrinks there; of m and those of an interface
 pub record Lower (b : List ℕ) (k m r : ℕ) : Type 0 where

@@ -2,12 +2,12 @@
 // reads. Assumes nothing.
 ghost use Rattle.std.specs.Prelude.{◌≡◌, ◌/◌, ◌%◌, ◌<◌};
 ghost use Rattle.std.proofs.Math.Option.{none};
-ghost use Rattle.bench_words.specs.Store.{interfaceAt};
+ghost use Rattle.bench_words.specs.Store.{interface_at};
 ghost use Rattle.ledger_spec.specs.Look.{interface};
-ghost use Rattle.ledger_spec.specs.Named.{stateNamed};
-ghost use Rattle.ledger_spec.specs.Tests.{isShrink};
+ghost use Rattle.ledger_spec.specs.Named.{state_named};
+ghost use Rattle.ledger_spec.specs.Tests.{is_shrink};
 ghost use Rattle.bench_views.specs.Fit.{Fit};
-ghost use Rattle.bench_views.specs.View.{sumUp, view};
+ghost use Rattle.bench_views.specs.View.{sum_up, view};
 ghost use Rattle.bench_floors.specs.Least.{Lower, LowerIn, Lowest, Least};
 
 use bench_words::{Node, WORDS};
@@ -17,7 +17,7 @@ use kinds::GrowState;
 const NONE: u64 = 18446744073709551615;
 
 fn is_shrink(state: GrowState) -> bool
-    ensures { result ≡ isShrink (stateNamed state) }
+    ensures { result ≡ is_shrink (state_named state) }
 {
     match state {
         GrowState::Grow => false,
@@ -30,8 +30,8 @@ fn is_shrink(state: GrowState) -> bool
 fn lower(b: &[u64; WORDS], k: usize, t: u64, m: u64) -> u64
     requires fit { Fit b.now }
     requires k_bound { k / 64 < 8 }
-    requires k_bound_2 { k % 64 < (interfaceAt b.now (k / 64)).used }
-    requires t_value { t ≡ sumUp 8 (interfaceAt b.now) (k / 64) }
+    requires k_bound_2 { k % 64 < (interface_at b.now (k / 64)).used }
+    requires t_value { t ≡ sum_up 8 (interface_at b.now) (k / 64) }
     ensures { Lower b.now k m result }
 {
     let n = bench_words::load_node(b, k);

@@ -1,19 +1,19 @@
 -- What finding a node by its handle says. Assumes nothing.
 use Rattle.std.specs.Prelude.{ℕ, ◌+◌, ◌*◌, ◌<◌, ◌≡◌, Bool, true, false, List}
 use Rattle.std.proofs.Math.Option.{none}
-use Rattle.bench_words.specs.Store.{nodeAt, interfaceAt}
+use Rattle.bench_words.specs.Store.{node_at, interface_at}
 use Rattle.kinds.specs.declared.Class.{Class}
 use Rattle.kinds.specs.declared.Class.TheVariants.{Absent, Blossom, Defect}
 use Rattle.ledger_spec.specs.Bench.{Handle}
-use Rattle.ledger_spec.specs.Look.{nodeNamed}
-use Rattle.bench_views.specs.View.{view, slotSeen, sumUp, circleOf}
+use Rattle.ledger_spec.specs.Look.{node_named}
+use Rattle.bench_views.specs.View.{view, slot_seen, sum_up, circle_of}
 use Rattle.bench_links.specs.declared.Found.{Found}
 use Rattle.bench_links.specs.declared.Found.TheVariants.{At, Stale}
 
-abbrev pub absentOf : Class → Bool
-absentOf Absent = true
-absentOf Blossom = false
-absentOf (Defect v) = false
+abbrev pub absent_of : Class → Bool
+absent_of Absent = true
+absent_of Blossom = false
+absent_of (Defect v) = false
 
 -- a handle's position among the slots
 abbrev pub spot : Handle → ℕ
@@ -22,11 +22,11 @@ spot h = h.unit * 64 + h.slot
 -- the handle names a present node: it stands in a used slot, and is what the ledger has by the handle
 pub record Stands (b : List ℕ) (h : Handle) : Type 0 where
   pub unit : h.unit < 8
-  pub slot : h.slot < (interfaceAt b h.unit).used
+  pub slot : h.slot < (interface_at b h.unit).used
   pub low : h.slot < 64
-  pub present : (nodeAt b (spot h)).class ≡ Absent → ⊥
-  pub serial : (nodeAt b (spot h)).serial.0 ≡ h.serial
-  pub seen : nodeNamed (view b) h ≡ slotSeen (nodeAt b (spot h)) (sumUp 8 (interfaceAt b) h.unit) (circleOf (nodeAt b) (spot h))
+  pub present : (node_at b (spot h)).class ≡ Absent → ⊥
+  pub serial : (node_at b (spot h)).serial.0 ≡ h.serial
+  pub seen : node_named (view b) h ≡ slot_seen (node_at b (spot h)) (sum_up 8 (interface_at b) h.unit) (circle_of (node_at b) (spot h))
 
 pub record Held (b : List ℕ) (h : Handle) (k : ℕ) : Type 0 where
   pub place : k ≡ spot h
@@ -36,4 +36,4 @@ pub record Held (b : List ℕ) (h : Handle) (k : ℕ) : Type 0 where
 -- the ledger's node by a handle, or none
 abbrev pub Finds : List ℕ → Handle → Found → Type 0
 Finds b h (At k) = Held b h k
-Finds b h Stale = nodeNamed (view b) h ≡ none
+Finds b h Stale = node_named (view b) h ≡ none

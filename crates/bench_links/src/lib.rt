@@ -2,16 +2,16 @@
 // Everything here only reads. Positions are 64 * interface + slot. Assumes nothing.
 ghost use Rattle.std.specs.Prelude.{◌≡◌, ◌<◌};
 ghost use Rattle.std.proofs.Math.Option.{none};
-ghost use Rattle.ledger_spec.specs.Named.{handleNamed};
-ghost use Rattle.ledger_spec.specs.Look.{interface, nodeNamed};
+ghost use Rattle.ledger_spec.specs.Named.{handle_named};
+ghost use Rattle.ledger_spec.specs.Look.{interface, node_named};
 ghost use Rattle.ledger_spec.specs.Tests.{foreign};
 ghost use Rattle.ledger_spec.specs.Change.{worth};
 ghost use Rattle.bench_views.specs.Canon.{Canon};
 ghost use Rattle.bench_views.specs.Fit.{Fit};
 ghost use Rattle.bench_views.specs.Records.{Steady};
 ghost use Rattle.bench_views.specs.View.{off, view};
-ghost use Rattle.bench_views.specs.Given.{handGiven};
-ghost use Rattle.bench_links.specs.Find.{absentOf, Stands, Finds};
+ghost use Rattle.bench_views.specs.Given.{hand_given};
+ghost use Rattle.bench_links.specs.Find.{absent_of, Stands, Finds};
 ghost use Rattle.bench_links.specs.Outer.{Outers};
 
 use bench_words::{Interface, Node, WORDS};
@@ -25,7 +25,7 @@ pub enum Found {
 }
 
 pub fn is_absent(c: Class) -> bool
-    ensures { result ≡ absentOf c }
+    ensures { result ≡ absent_of c }
 {
     match c {
         Class::Absent => true,
@@ -37,7 +37,7 @@ pub fn is_absent(c: Class) -> bool
 // Any handle at all: one out of range, of an empty slot or with another serial is stale.
 pub fn find(b: &[u64; WORDS], h: Handle) -> Found
     requires { Canon b.now }
-    ensures { Finds b.now (handleNamed h) result }
+    ensures { Finds b.now (handle_named h) result }
 {
     if 8 <= h.unit {
         return Found::Stale;
@@ -60,7 +60,7 @@ pub fn find(b: &[u64; WORDS], h: Handle) -> Found
 // Any word at all, as a packed handle.
 pub fn find_word(b: &[u64; WORDS], w: u64) -> Found
     requires { Canon b.now }
-    ensures { Finds b.now (handGiven w) result }
+    ensures { Finds b.now (hand_given w) result }
 {
     if bench_words::PAST_HANDLES <= w {
         return Found::Stale;
@@ -79,8 +79,8 @@ pub struct Outer {
 // The loop's own count is the fuel of the definitions.
 pub fn outermost(b: &[u64; WORDS], h: Handle) -> Outer
     requires fit { Fit b.now }
-    requires stands { Stands b.now (handleNamed h) }
-    ensures { Outers b.now (handleNamed h) result }
+    requires stands { Stands b.now (handle_named h) }
+    ensures { Outers b.now (handle_named h) result }
 {
     let mut at = h;
     let mut under = h;
@@ -115,7 +115,7 @@ pub fn outermost(b: &[u64; WORDS], h: Handle) -> Outer
 pub fn is_foreign(b: &[u64; WORDS], unit: u8, h: Handle) -> bool
     requires steady { Steady b.now }
     requires unit_bound { h.unit < 8 }
-    ensures { result ≡ foreign (view b.now) unit (handleNamed h) }
+    ensures { result ≡ foreign (view b.now) unit (handle_named h) }
 {
     let from = h.unit as usize;
     bench_trees::top_of(b, from) != (unit as usize)
@@ -132,8 +132,8 @@ pub fn lowered(x: u64, c: u64) -> i64
 // The value of a node: its bias, and T more or less.
 pub fn value(b: &[u64; WORDS], h: Handle) -> i64
     requires fit { Fit b.now }
-    requires stands { Stands b.now (handleNamed h) }
-    ensures { result ≡ worth (nodeNamed (view b.now) (handleNamed h)) }
+    requires stands { Stands b.now (handle_named h) }
+    ensures { result ≡ worth (node_named (view b.now) (handle_named h)) }
 {
     let unit = h.unit as usize;
     let c = bench_trees::climb(b, unit);

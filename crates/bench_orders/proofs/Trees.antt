@@ -14,40 +14,40 @@ use Rattle.ledger_spec.specs.Look.{interface, top, tree}
 use Rattle.ledger_spec.specs.Account.{Σ, gate}
 use Rattle.ledger_spec.specs.Frame.{Frame}
 use Rattle.ledger_spec.specs.Knit.{In, here, there}
-use Rattle.ledger_spec.proofs.Trees.{along, tree-leaf, tree-fork, tree-sum}
+use Rattle.ledger_spec.proofs.Trees.{along, tree_leaf, tree_fork, tree_sum_lem}
 use Rattle.ledger_spec.proofs.Gathered.{in_tree}
 
 module _ (b : Bench) (F : Frame b) where
-  pub left-low : (u : ℕ) (lr : ℕ × ℕ) → (interface b u).halves ≡ some lr → lr.0 < u
-  left-low u lr e = (F.rising lr.0 u (F.left u lr.0 lr.1 e)).0
+  pub left_low : (u : ℕ) (lr : ℕ × ℕ) → (interface b u).halves ≡ some lr → lr.0 < u
+  left_low u lr e = (F.rising lr.0 u (F.left u lr.0 lr.1 e)).0
 
-  pub right-low : (u : ℕ) (lr : ℕ × ℕ) → (interface b u).halves ≡ some lr → lr.1 < u
-  right-low u lr e = (F.rising lr.1 u (F.right u lr.0 lr.1 e)).0
+  pub right_low : (u : ℕ) (lr : ℕ × ℕ) → (interface b u).halves ≡ some lr → lr.1 < u
+  right_low u lr e = (F.rising lr.1 u (F.right u lr.0 lr.1 e)).0
 
   -- steps enough
-  pub tree-more : (k u : ℕ) → u ≤ k → tree (suc k) b u ≡ tree k b u
+  pub tree_more : (k u : ℕ) → u ≤ k → tree (suc k) b u ≡ tree k b u
   unfolding tree
-  tree-more zero u l = go (interface b u).halves refl
+  tree_more zero u l = go (interface b u).halves refl
     where
       go : (q : Option (ℕ × ℕ)) → (interface b u).halves ≡ q → tree 1 b u ≡ u ∷ []
-      go none e = tree-leaf 0 b u e
-      go (some lr) e = absurd (omega (arith, l, left-low u lr e))
-  tree-more (suc k) u l = go (interface b u).halves refl (tree-more k)
+      go none e = tree_leaf 0 b u e
+      go (some lr) e = absurd (omega (arith, l, left_low u lr e))
+  tree_more (suc k) u l = go (interface b u).halves refl (tree_more k)
     where
       go : (q : Option (ℕ × ℕ)) → (interface b u).halves ≡ q → ((w : ℕ) → w ≤ k → tree (suc k) b w ≡ tree k b w) → tree (suc (suc k)) b u ≡ tree (suc k) b u
-      go none e ih = tree-leaf (suc k) b u e ∙ sym (tree-leaf k b u e)
+      go none e ih = tree_leaf (suc k) b u e ∙ sym (tree_leaf k b u e)
       go (some lr) e ih =
-          let x = left-low u lr e in
-          let y = right-low u lr e in
-          tree-fork (suc k) b u lr e
+          let x = left_low u lr e in
+          let y = right_low u lr e in
+          tree_fork (suc k) b u lr e
           ∙ ap₂ (λ (s t : List ℕ). (s ++ t) ++ (u ∷ [])) (ih lr.0 (omega arith)) (ih lr.1 (omega arith))
-          ∙ sym (tree-fork k b u lr e)
+          ∙ sym (tree_fork k b u lr e)
 
-  pub tree-halves : (u : ℕ) (lr : ℕ × ℕ) → u < 8 → (interface b u).halves ≡ some lr → tree 8 b u ≡ (tree 8 b lr.0 ++ tree 8 b lr.1) ++ (u ∷ [])
-  tree-halves u lr l e =
-      let x = left-low u lr e in
-      let y = right-low u lr e in
-      tree-fork 7 b u lr e ∙ ap₂ (λ (s t : List ℕ). (s ++ t) ++ (u ∷ [])) (sym (tree-more 7 lr.0 (omega arith))) (sym (tree-more 7 lr.1 (omega arith)))
+  pub tree_halves : (u : ℕ) (lr : ℕ × ℕ) → u < 8 → (interface b u).halves ≡ some lr → tree 8 b u ≡ (tree 8 b lr.0 ++ tree 8 b lr.1) ++ (u ∷ [])
+  tree_halves u lr l e =
+      let x = left_low u lr e in
+      let y = right_low u lr e in
+      tree_fork 7 b u lr e ∙ ap₂ (λ (s t : List ℕ). (s ++ t) ++ (u ∷ [])) (sym (tree_more 7 lr.0 (omega arith))) (sym (tree_more 7 lr.1 (omega arith)))
 
   -- ---- all below eight
   get_in : (us : List ℕ) (i : ℕ) → i < length us → In (get_or us i 0) us
@@ -55,8 +55,8 @@ module _ (b : Bench) (F : Frame b) where
   get_in (u ∷ us) zero l = here refl
   get_in (u ∷ us) (suc i) l = there (get_in us i (omega arith))
 
-  pub tree-low : (u i : ℕ) → u < 8 → i < length (tree 8 b u) → get_or (tree 8 b u) i 0 < 8
-  tree-low u i l m = (in_tree b F 8 u (get_or (tree 8 b u) i 0) l (get_in (tree 8 b u) i m)).0
+  pub tree_low : (u i : ℕ) → u < 8 → i < length (tree 8 b u) → get_or (tree 8 b u) i 0 < 8
+  tree_low u i l m = (in_tree b F 8 u (get_or (tree 8 b u) i 0) l (get_in (tree 8 b u) i m)).0
 
   -- ---- at most eight
   along_one : (us : List ℕ) → along (λ u. pos 1) us ≡ pos (length us)
@@ -75,11 +75,11 @@ module _ (b : Bench) (F : Frame b) where
       go true e (m, p, l) = (m + 1, ap₂ (λ (x : ℤ) (t : Bool). x +ℤ gate t (pos 1)) p e, omega arith)
       go false e (m, p, l) = (m + 0, ap₂ (λ (x : ℤ) (t : Bool). x +ℤ gate t (pos 1)) p e, omega arith)
 
-  pos-eq : {m n : ℕ} → pos m ≡ pos n → m ≡ n
-  pos-eq e = cc
+  pos_eq : {m n : ℕ} → pos m ≡ pos n → m ≡ n
+  pos_eq e = cc
 
-  pub tree-few : (u : ℕ) → u < 8 → (interface b u).parent ≡ none → length (tree 8 b u) ≤ 8
-  tree-few u l free =
+  pub tree_few : (u : ℕ) → u < 8 → (interface b u).parent ≡ none → length (tree 8 b u) ≤ 8
+  tree_few u l free =
       let k = few 8 (λ w. eqb (top b w) u) in
-      let e : length (tree 8 b u) ≡ k.0 = pos-eq (sym (along_one (tree 8 b u)) ∙ tree-sum b F (λ w. pos 1) u l free ∙ k.1) in
+      let e : length (tree 8 b u) ≡ k.0 = pos_eq (sym (along_one (tree 8 b u)) ∙ tree_sum_lem b F (λ w. pos 1) u l free ∙ k.1) in
       omega (arith, k.2, e)

@@ -3,9 +3,9 @@
 ghost use Rattle.std.specs.Prelude.{◌≡◌, ◌∷◌, [], ◌+◌, ◌<◌, ◌≤◌, length};
 ghost use Rattle.std.proofs.Math.Option.{none};
 ghost use Rattle.ledger_spec.specs.Look.{interface, tree};
-ghost use Rattle.ledger_spec.specs.Named.{handleNamed};
+ghost use Rattle.ledger_spec.specs.Named.{handle_named};
 ghost use Rattle.ledger_spec.specs.Reads.{slots_of};
-ghost use Rattle.ledger_spec.specs.Check.{indexIn};
+ghost use Rattle.ledger_spec.specs.Check.{index_in};
 ghost use Rattle.bench_views.specs.Fit.{Fit};
 ghost use Rattle.bench_views.specs.View.{view};
 ghost use Rattle.bench_links.specs.Find.{Stands};
@@ -112,8 +112,8 @@ pub fn index_of(b: &[u64; WORDS], unit: usize, h: Handle) -> NodeIndex
     requires fit { Fit b.now }
     requires unit_bound { unit < 8 }
     requires unit_value { (interface (view b.now) unit).parent ≡ none }
-    requires stands { Stands b.now (handleNamed h) }
-    ensures { result.0 ≡ indexIn (slots_of (view b.now) unit) 0 (handleNamed h) }
+    requires stands { Stands b.now (handle_named h) }
+    ensures { result.0 ≡ index_in (slots_of (view b.now) unit) 0 (handle_named h) }
 {
     let o = order_of(b, unit);
     let mut passed: u64 = 0;

@@ -1,12 +1,12 @@
 // The present node with a serial: by a hint that is looked at first and never trusted, else by a scan of the used slots. The hints are the
 // caller's to keep and may hold anything: no answer depends on them. Assumes nothing.
 ghost use Rattle.std.specs.Prelude.{◌≡◌, ◌<◌, ◌/◌, ◌%◌, set};
-ghost use Rattle.ledger_spec.specs.Named.{handleNamed};
+ghost use Rattle.ledger_spec.specs.Named.{handle_named};
 ghost use Rattle.ledger_spec.specs.Lines.{named};
 ghost use Rattle.bench_views.specs.Canon.{Canon};
 ghost use Rattle.bench_views.specs.Fit.{Fit};
 ghost use Rattle.bench_views.specs.View.{view};
-ghost use Rattle.bench_serials.specs.Seek.{handle, Scans, ScansAll, Seeks, hintsAfter};
+ghost use Rattle.bench_serials.specs.Seek.{handle, Scans, ScansAll, Seeks, hints_after};
 
 use bench_links::Found;
 use bench_words::WORDS;
@@ -21,7 +21,7 @@ fn wide(x: u16) -> usize {
 
 fn handle_at(k: usize, serial: Serial) -> Handle
     requires { k < 512 }
-    ensures { handleNamed result ≡ handle (k / 64) (k % 64) serial.0 }
+    ensures { handle_named result ≡ handle (k / 64) (k % 64) serial.0 }
 {
     Handle {
         unit: (k / 64) as u8,
@@ -106,7 +106,7 @@ fn look(b: &[u64; WORDS], serial: Serial, k: usize) -> Found
 pub fn seek(b: &[u64; WORDS], serial: Serial, hints: &mut [u16; HINTS]) -> Found
     requires { Fit b.now }
     ensures seeks { Seeks b.now serial.0 result }
-    ensures hints_after { hints.new ≡ hintsAfter hints.old serial.0 result }
+    ensures hints_after { hints.new ≡ hints_after hints.old serial.0 result }
 {
     let i = (serial.0 % 512) as usize;
     let found = look(b, serial, wide(hints[i]) % 512);
@@ -130,7 +130,7 @@ pub fn remember(hints: &mut [u16; HINTS], serial: Serial, k: usize)
 // The same as a handle: one of interface 8 where no node has the serial.
 pub fn named(b: &[u64; WORDS], serial: Serial, hints: &mut [u16; HINTS]) -> Handle
     requires { Fit b.now }
-    ensures { handleNamed result ≡ named (view b.now) serial.0 }
+    ensures { handle_named result ≡ named (view b.now) serial.0 }
 {
     let found = seek(b, serial, hints);
     match found {

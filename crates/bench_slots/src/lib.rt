@@ -1,6 +1,6 @@
 // The slot that a new node of an interface takes, off the interface's words and its map: no slot is read. Assumes nothing.
 ghost use Rattle.std.specs.Prelude.{◌≡◌, ◌<◌};
-ghost use Rattle.ledger_spec.specs.Look.{freeSlot};
+ghost use Rattle.ledger_spec.specs.Look.{free_slot};
 ghost use Rattle.bench_views.specs.Canon.{Canon};
 ghost use Rattle.bench_views.specs.View.{view};
 
@@ -11,7 +11,7 @@ use slot_map::Found;
 pub fn free_slot(b: &[u64; WORDS], unit: usize) -> u8
     requires canon { Canon b.now }
     requires unit_bound { unit < 8 }
-    ensures { result ≡ freeSlot (view b.now) unit }
+    ensures { result ≡ free_slot (view b.now) unit }
 {
     let f = bench_words::load_interface(b, unit);
     let marks = f.marks;

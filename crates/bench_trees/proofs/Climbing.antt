@@ -4,16 +4,16 @@ use mathlib.Core.Path.{◌≡◌, refl, ap, sym, ◌∙◌}
 use mathlib.Core.List.{List}
 use native.Mathlib.Omega.{arith}
 use lib.ListN.{get_or}
-use Rattle.bench_words.specs.Store.{nodeAt, interfaceAt}
+use Rattle.bench_words.specs.Store.{node_at, interface_at}
 use Rattle.bench_words.specs.declared.Interface.{Interface}
 use Rattle.bench_words.specs.declared.Up.{Up}
 use Rattle.bench_words.specs.declared.Up.TheVariants.{Top, Under}
 use Rattle.ledger_spec.specs.Look.{interface, climb}
-use Rattle.ledger_spec.proofs.Tops.{climb-none, climb-some}
-use Rattle.bench_views.specs.View.{sumUp, lagOf, view, upSeen}
+use Rattle.ledger_spec.proofs.Tops.{climb_none, climb_some}
+use Rattle.bench_views.specs.View.{sum_up, lag_of, view, up_seen}
 use Rattle.bench_views.specs.Records.{Steady}
-use Rattle.bench_views.proofs.Sums.{sumUp-none, lag-le, bounded, under-eight, ends, goes_on}
-use Rattle.bench_views.proofs.Views.{view-parent}
+use Rattle.bench_views.proofs.Sums.{sum_up_none, lag_le, bounded, under_eight, ends, goes_on}
+use Rattle.bench_views.proofs.Views.{view_parent}
 use Rattle.bench_trees.specs.Climb.{Climbs}
 
 -- ---- to the top
@@ -24,24 +24,24 @@ pub record Rising (b : List ℕ) (unit u n : ℕ) : Type 0 where
   pub left : n ≤ 8
   pub top : climb n (view b) u ≡ climb 8 (view b) unit
 
-module _ (b : List ℕ) (unit u n : ℕ) (R : Rising b unit u n) (f : Interface) (e : f ≡ interfaceAt b u) where
-  seen : {p : Up} → f.parent ≡ p → (interface (view b) u).parent ≡ upSeen p
-  seen q = view-parent (get_or b 0 0) (interfaceAt b) (nodeAt b) u R.low ∙ ap (λ (x : Interface). upSeen x.parent) (sym e) ∙ ap upSeen q
+module _ (b : List ℕ) (unit u n : ℕ) (R : Rising b unit u n) (f : Interface) (e : f ≡ interface_at b u) where
+  seen : {p : Up} → f.parent ≡ p → (interface (view b) u).parent ≡ up_seen p
+  seen q = view_parent (get_or b 0 0) (interface_at b) (node_at b) u R.low ∙ ap (λ (x : Interface). up_seen x.parent) (sym e) ∙ ap up_seen q
 
-  pub rising-ends : f.parent ≡ Top → u ≡ climb 8 (view b) unit
-  rising-ends q = sym (climb-none n (view b) u (seen q)) ∙ R.top
+  pub rising_ends : f.parent ≡ Top → u ≡ climb 8 (view b) unit
+  rising_ends q = sym (climb_none n (view b) u (seen q)) ∙ R.top
 
-  pub rising-on : 0 < n → (p : ℕ) → f.parent ≡ Under p → Rising b unit p (n - 1)
-  rising-on more p q =
+  pub rising_on : 0 < n → (p : ℕ) → f.parent ≡ Under p → Rising b unit p (n - 1)
+  rising_on more p q =
       let back : suc (n - 1) ≡ n = omega arith in
-      record { low = under-eight b u e q; left = omega (arith, R.left); top = sym (climb-some (n - 1) (view b) u p (seen q)) ∙ ap (λ (k : ℕ). climb k (view b) u) back ∙ R.top }
+      record { low = under_eight b u e q; left = omega (arith, R.left); top = sym (climb_some (n - 1) (view b) u p (seen q)) ∙ ap (λ (k : ℕ). climb k (view b) u) back ∙ R.top }
 
-pub rising-starts : (b : List ℕ) (unit : ℕ) → unit < 8 → Rising b unit unit 8
-rising-starts b unit l = record { low = l; left = omega arith; top = refl }
+pub rising_starts : (b : List ℕ) (unit : ℕ) → unit < 8 → Rising b unit unit 8
+rising_starts b unit l = record { low = l; left = omega arith; top = refl }
 
-pub rising-spent : (b : List ℕ) (unit u n : ℕ) → Rising b unit u n → n ≡ 0 → u ≡ climb 8 (view b) unit
+pub rising_spent : (b : List ℕ) (unit u n : ℕ) → Rising b unit u n → n ≡ 0 → u ≡ climb 8 (view b) unit
 unfolding climb
-rising-spent b unit u n R z = sym (ap (λ (k : ℕ). climb k (view b) u) z) ∙ R.top
+rising_spent b unit u n R z = sym (ap (λ (k : ℕ). climb k (view b) u) z) ∙ R.top
 
 -- ---- with T
 
@@ -49,40 +49,40 @@ rising-spent b unit u n R z = sym (ap (λ (k : ℕ). climb k (view b) u) z) ∙ 
 pub record Going (b : List ℕ) (unit t u n : ℕ) : Type 0 where
   pub rising : Rising b unit u n
   pub small : t + n * 1099511627776 ≤ 8796093022208
-  pub sum : t + sumUp n (interfaceAt b) u ≡ sumUp 8 (interfaceAt b) unit
+  pub sum : t + sum_up n (interface_at b) u ≡ sum_up 8 (interface_at b) unit
   pub steady : Steady b
 
-module _ (b : List ℕ) (unit t u n : ℕ) (G : Going b unit t u n) (more : 0 < n) (f : Interface) (e : f ≡ interfaceAt b u) where
-  pub little : lagOf f ≤ 1099511627776
-  little = omega (arith, bounded u G.steady G.rising.low e, lag-le f)
+module _ (b : List ℕ) (unit t u n : ℕ) (G : Going b unit t u n) (more : 0 < n) (f : Interface) (e : f ≡ interface_at b u) where
+  pub little : lag_of f ≤ 1099511627776
+  little = omega (arith, bounded u G.steady G.rising.low e, lag_le f)
 
-  pub going-ends : {x : ℕ} → x ≡ lagOf f → f.parent ≡ Top → Climbs b unit u (t + x)
-  going-ends {x} ex q =
+  pub going_ends : {x : ℕ} → x ≡ lag_of f → f.parent ≡ Top → Climbs b unit u (t + x)
+  going_ends {x} ex q =
       let m = little in
       record {
-        top = rising-ends b unit u n G.rising f e q;
+        top = rising_ends b unit u n G.rising f e q;
         low = G.rising.low;
-        total = ap (λ (y : ℕ). t + y) ex ∙ ends n t u (interfaceAt b) G.sum more e q;
+        total = ap (λ (y : ℕ). t + y) ex ∙ ends n t u (interface_at b) G.sum more e q;
         small = omega (arith, G.small, m, ex, more);
       }
 
-  pub going_on : {x : ℕ} → x ≡ lagOf f → (p : ℕ) → f.parent ≡ Under p → Going b unit (t + x) p (n - 1)
+  pub going_on : {x : ℕ} → x ≡ lag_of f → (p : ℕ) → f.parent ≡ Under p → Going b unit (t + x) p (n - 1)
   going_on {x} ex p q =
       let m = little in
       record {
-        rising = rising-on b unit u n G.rising f e more p q;
+        rising = rising_on b unit u n G.rising f e more p q;
         small = omega (arith, G.small, m, ex, more);
-        sum = ap (λ (y : ℕ). t + y + sumUp (n - 1) (interfaceAt b) p) ex ∙ goes_on n t u (interfaceAt b) G.sum more e q;
+        sum = ap (λ (y : ℕ). t + y + sum_up (n - 1) (interface_at b) p) ex ∙ goes_on n t u (interface_at b) G.sum more e q;
         steady = G.steady;
       }
 
-pub going-starts : (b : List ℕ) (unit : ℕ) → unit < 8 → Steady b → Going b unit 0 unit 8
-going-starts b unit l s = record { rising = rising-starts b unit l; small = omega arith; sum = omega arith; steady = s }
+pub going_starts : (b : List ℕ) (unit : ℕ) → unit < 8 → Steady b → Going b unit 0 unit 8
+going_starts b unit l s = record { rising = rising_starts b unit l; small = omega arith; sum = omega arith; steady = s }
 
-pub going-spent : (b : List ℕ) (unit t u n : ℕ) → Going b unit t u n → n ≡ 0 → Climbs b unit u t
-going-spent b unit t u n G z = record {
-  top = rising-spent b unit u n G.rising z;
+pub going_spent : (b : List ℕ) (unit t u n : ℕ) → Going b unit t u n → n ≡ 0 → Climbs b unit u t
+going_spent b unit t u n G z = record {
+  top = rising_spent b unit u n G.rising z;
   low = G.rising.low;
-  total = omega (arith, G.sum, sumUp-none (interfaceAt b) u, ap (λ (k : ℕ). sumUp k (interfaceAt b) u) z);
+  total = omega (arith, G.sum, sum_up_none (interface_at b) u, ap (λ (k : ℕ). sum_up k (interface_at b) u) z);
   small = omega (arith, G.small);
 }

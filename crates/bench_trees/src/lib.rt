@@ -3,8 +3,8 @@
 ghost use Rattle.std.specs.Prelude.{◌≡◌, ◌+◌, ◌<◌, ◌≤◌};
 ghost use Rattle.bench_words.specs.Codec.{pick};
 ghost use Rattle.ledger_spec.specs.Look.{top};
-ghost use Rattle.bench_views.specs.Records.{rateOf, Steady};
-ghost use Rattle.bench_views.specs.View.{valueBy, bias_of, view};
+ghost use Rattle.bench_views.specs.Records.{rate_of, Steady};
+ghost use Rattle.bench_views.specs.View.{value_by, bias_of, view};
 ghost use Rattle.bench_trees.specs.Climb.{Climbs};
 
 use bench_words::{Up, WORDS};
@@ -13,7 +13,7 @@ use kinds::GrowState;
 // The value of a node, 2^60 higher than it is.
 pub fn valued(g: GrowState, bias: u64, t: u64) -> u64
     requires { (t ≤ bias) × (bias + t < 18446744073709551616) }
-    ensures { result ≡ valueBy g bias t }
+    ensures { result ≡ value_by g bias t }
 {
     match g {
         GrowState::Grow => bias + t,
@@ -36,7 +36,7 @@ pub fn biased(g: GrowState, value: u64, t: u64) -> u64
 
 // A state's share of the speed, one higher than it is.
 pub fn rate_of(g: GrowState) -> u64
-    ensures { (result ≡ rateOf g) × (result ≤ 2) }
+    ensures { (result ≡ rate_of g) × (result ≤ 2) }
 {
     match g {
         GrowState::Grow => 2,

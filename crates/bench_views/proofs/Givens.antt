@@ -3,14 +3,14 @@ use Prim.Native.Nat.{ℕ}
 use mathlib.Core.Path.{◌≡◌, refl}
 use mathlib.Core.Bool.{Bool, true, false}
 use lib.Dec.{ltb}
-use Rattle.bench_words.specs.Codec.{pastHandles, pick, handle_of, nowhereCode, handOf}
-use Rattle.ledger_spec.specs.Named.{handleNamed}
-use Rattle.bench_views.specs.Given.{nowhere, handGiven}
+use Rattle.bench_words.specs.Codec.{past_handles, pick, handle_of, nowhere_code, hand_of}
+use Rattle.ledger_spec.specs.Named.{handle_named}
+use Rattle.bench_views.specs.Given.{nowhere, hand_given}
 
-pub hand-given : (w : ℕ) → handleNamed (handOf w) ≡ handGiven w
-unfolding handOf handGiven
-hand-given w = go (ltb w pastHandles)
+pub hand_given_lem : (w : ℕ) → handle_named (hand_of w) ≡ hand_given w
+unfolding hand_of hand_given
+hand_given_lem w = go (ltb w past_handles)
   where
-    go : (t : Bool) → handleNamed (pick t (handle_of w) nowhereCode) ≡ pick t (handleNamed (handle_of w)) nowhere
+    go : (t : Bool) → handle_named (pick t (handle_of w) nowhere_code) ≡ pick t (handle_named (handle_of w)) nowhere
     go true = refl
     go false = refl

@@ -6,33 +6,33 @@ use mathlib.Core.List.{List}
 use native.Mathlib.Decide.{dec_lt}
 use native.Mathlib.Omega.{arith}
 use lib.ListN.{get_or}
-use Rattle.bench_words.specs.Store.{nodeAt, interfaceAt}
+use Rattle.bench_words.specs.Store.{node_at, interface_at}
 use Rattle.kinds.specs.declared.Class.{Class}
 use Rattle.kinds.specs.declared.Class.TheVariants.{Absent, Blossom, Defect}
 use Rattle.bench_words.specs.declared.Node.{Node}
 use Rattle.ledger_spec.specs.Bench.{Member, blossom}
 use Rattle.ledger_spec.specs.Bench as plain
-use Rattle.ledger_spec.specs.Look.{slot_of, top, sameHandle}
+use Rattle.ledger_spec.specs.Look.{slot_of, top, same_handle}
 use Rattle.ledger_spec.specs.SoundTree.{tally}
 use Rattle.ledger_spec.specs.Knit.{In, nodes, mk, Up, Down, Sewn}
-use Rattle.ledger_spec.proofs.Knit.{none-some, some-eq, blossom-eq}
-use Rattle.bench_views.specs.View.{circleOf, handleAt, slotSeen, nodeSeen, sumUp, view}
-use Rattle.ledger_spec.specs.Named.{parentNamed}
-use Rattle.bench_views.proofs.Views.{view-slot, view-past, view_out}
+use Rattle.ledger_spec.proofs.Knit.{none_some, some_eq, blossom_eq}
+use Rattle.bench_views.specs.View.{circle_of, handle_at, slot_seen, node_seen, sum_up, view}
+use Rattle.ledger_spec.specs.Named.{parent_named}
+use Rattle.bench_views.proofs.Views.{view_slot, view_past, view_out}
 
 -- what a slot that shows a node holds
 pub record Shows (n : Node) (m : plain.Node) : Type 0 where
   pub present : n.class ≡ Absent → ⊥
   pub serial : m.serial ≡ n.serial.0
-  pub parent : m.parent ≡ parentNamed n.parent
+  pub parent : m.parent ≡ parent_named n.parent
   pub size : m.size ≡ n.size
 
-pub slot-shows : (n : Node) (t : ℕ) (ms : List Member) (m : plain.Node) → slotSeen n t ms ≡ some m → Shows n m
-unfolding slotSeen
-slot-shows n t ms m h = go n.class refl
+pub slot_shows : (n : Node) (t : ℕ) (ms : List Member) (m : plain.Node) → slot_seen n t ms ≡ some m → Shows n m
+unfolding slot_seen
+slot_shows n t ms m h = go n.class refl
   where
     go : (c : Class) → n.class ≡ c → Shows n m
-    go Absent e = absurd (let h2 : none ≡ some m = rw e at h in none-some refl h2)
+    go Absent e = absurd (let h2 : none ≡ some m = rw e at h in none_some refl h2)
     go Blossom e =
         let h2 = rw e at h in
         record {
@@ -51,55 +51,55 @@ slot-shows n t ms m h = go n.class refl
         }
 
 -- a slot that is not empty shows its node
-pub slot_held : (n : Node) (t : ℕ) (ms : List Member) → (n.class ≡ Absent → ⊥) → (c : plain.Class) × (slotSeen n t ms ≡ some (nodeSeen n t c))
-unfolding slotSeen
+pub slot_held : (n : Node) (t : ℕ) (ms : List Member) → (n.class ≡ Absent → ⊥) → (c : plain.Class) × (slot_seen n t ms ≡ some (node_seen n t c))
+unfolding slot_seen
 slot_held n t ms p = go n.class refl
   where
-    go : (c : Class) → n.class ≡ c → (d : plain.Class) × (slotSeen n t ms ≡ some (nodeSeen n t d))
+    go : (c : Class) → n.class ≡ c → (d : plain.Class) × (slot_seen n t ms ≡ some (node_seen n t d))
     go Absent e = absurd (p e)
     go Blossom e = (blossom ms, rw e)
     go (Defect v) e = (plain.defect v.0, rw e)
 
 pub record Blossoms (n : Node) (t : ℕ) (ms : List Member) : Type 0 where
   pub node : plain.Node
-  pub shown : slotSeen n t ms ≡ some node
+  pub shown : slot_seen n t ms ≡ some node
   pub class : node.class ≡ blossom ms
   pub serial : node.serial ≡ n.serial.0
 
-pub slot-blossom : (n : Node) (t : ℕ) (ms : List Member) → n.class ≡ Blossom → Blossoms n t ms
-unfolding slotSeen
-slot-blossom n t ms e = record { node = nodeSeen n t (blossom ms); shown = rw e; class = refl; serial = refl }
+pub slot_blossom : (n : Node) (t : ℕ) (ms : List Member) → n.class ≡ Blossom → Blossoms n t ms
+unfolding slot_seen
+slot_blossom n t ms e = record { node = node_seen n t (blossom ms); shown = rw e; class = refl; serial = refl }
 
 module _ (b : List ℕ) (S : Sewn (view b)) where
   -- p holds a member of the blossom in slot r of unit v
   pub record Ringed (v r p : ℕ) : Type 0 where
     pub unit : p / 64 < 8
-    pub slot : p % 64 < (interfaceAt b (p / 64)).used
-    pub present : (nodeAt b p).class ≡ Absent → ⊥
-    pub parent : parentNamed (nodeAt b p).parent ≡ some (record { unit = v; slot = r; serial = (nodeAt b (v * 64 + r)).serial.0 })
+    pub slot : p % 64 < (interface_at b (p / 64)).used
+    pub present : (node_at b p).class ≡ Absent → ⊥
+    pub parent : parent_named (node_at b p).parent ≡ some (record { unit = v; slot = r; serial = (node_at b (v * 64 + r)).serial.0 })
     pub node : plain.Node
     pub stands : slot_of (view b) (p / 64) (p % 64) ≡ some node
-    pub above : node.parent ≡ some (record { unit = v; slot = r; serial = (nodeAt b (v * 64 + r)).serial.0 })
-    pub own : node.serial ≡ (nodeAt b p).serial.0
+    pub above : node.parent ≡ some (record { unit = v; slot = r; serial = (node_at b (v * 64 + r)).serial.0 })
+    pub own : node.serial ≡ (node_at b p).serial.0
 
-  pub ringed : (v r : ℕ) → v < 8 → r < (interfaceAt b v).used → (nodeAt b (v * 64 + r)).class ≡ Blossom → (p : ℕ) → In (handleAt (nodeAt b) p) (nodes (circleOf (nodeAt b) (v * 64 + r))) → Ringed v r p
-  ringed v r lv lr e p i = go (dec_lt (p / 64) 8) (dec_lt (p % 64) (interfaceAt b (p / 64)).used)
+  pub ringed : (v r : ℕ) → v < 8 → r < (interface_at b v).used → (node_at b (v * 64 + r)).class ≡ Blossom → (p : ℕ) → In (handle_at (node_at b) p) (nodes (circle_of (node_at b) (v * 64 + r))) → Ringed v r p
+  ringed v r lv lr e p i = go (dec_lt (p / 64) 8) (dec_lt (p % 64) (interface_at b (p / 64)).used)
     where
       A : ℕ → Node
-      A = nodeAt b
+      A = node_at b
 
-      B : Blossoms (A (v * 64 + r)) (sumUp 8 (interfaceAt b) v) (circleOf A (v * 64 + r))
-      B = slot-blossom (A (v * 64 + r)) (sumUp 8 (interfaceAt b) v) (circleOf A (v * 64 + r)) e
+      B : Blossoms (A (v * 64 + r)) (sum_up 8 (interface_at b) v) (circle_of A (v * 64 + r))
+      B = slot_blossom (A (v * 64 + r)) (sum_up 8 (interface_at b) v) (circle_of A (v * 64 + r)) e
 
-      D : Down (slot_of (view b)) (handleAt A p) (mk v r B.node)
-      D = S.knit.down v r B.node (circleOf A (v * 64 + r)) (handleAt A p) (view-slot (get_or b 0 0) (interfaceAt b) A v r lv lr ∙ B.shown) B.class i
+      D : Down (slot_of (view b)) (handle_at A p) (mk v r B.node)
+      D = S.knit.down v r B.node (circle_of A (v * 64 + r)) (handle_at A p) (view_slot (get_or b 0 0) (interface_at b) A v r lv lr ∙ B.shown) B.class i
 
-      go : Dec (p / 64 < 8) → Dec (p % 64 < (interfaceAt b (p / 64)).used) → Ringed v r p
-      go (no q) w = absurd (none-some (view_out (get_or b 0 0) (interfaceAt b) A (p / 64) (p % 64) (omega arith)) D.has.stands)
-      go (yes q) (no w) = absurd (none-some (view-past (get_or b 0 0) (interfaceAt b) A (p / 64) (p % 64) q (omega arith)) D.has.stands)
+      go : Dec (p / 64 < 8) → Dec (p % 64 < (interface_at b (p / 64)).used) → Ringed v r p
+      go (no q) w = absurd (none_some (view_out (get_or b 0 0) (interface_at b) A (p / 64) (p % 64) (omega arith)) D.has.stands)
+      go (yes q) (no w) = absurd (none_some (view_past (get_or b 0 0) (interface_at b) A (p / 64) (p % 64) q (omega arith)) D.has.stands)
       go (yes q) (yes w) =
           let k : p / 64 * 64 + p % 64 ≡ p = omega arith in
-          let s : Shows (A (p / 64 * 64 + p % 64)) D.node = slot-shows (A (p / 64 * 64 + p % 64)) (sumUp 8 (interfaceAt b) (p / 64)) (circleOf A (p / 64 * 64 + p % 64)) D.node (sym (view-slot (get_or b 0 0) (interfaceAt b) A (p / 64) (p % 64) q w) ∙ D.has.stands) in
+          let s : Shows (A (p / 64 * 64 + p % 64)) D.node = slot_shows (A (p / 64 * 64 + p % 64)) (sum_up 8 (interface_at b) (p / 64)) (circle_of A (p / 64 * 64 + p % 64)) D.node (sym (view_slot (get_or b 0 0) (interface_at b) A (p / 64) (p % 64) q w) ∙ D.has.stands) in
           let s2 : Shows (A p) D.node = subst (λ (x : ℕ). Shows (A x) D.node) k s in
           record {
             unit = q;
@@ -113,16 +113,16 @@ module _ (b : List ℕ) (S : Sewn (view b)) where
           }
 
   -- a member stands in the circle once, and in its blossom's tree
-  module _ (v r p : ℕ) (lv : v < 8) (lr : r < (interfaceAt b v).used) (e : (nodeAt b (v * 64 + r)).class ≡ Blossom) (g : Ringed v r p) where
-    up_of : Up (slot_of (view b)) (top (view b)) (p / 64) (p % 64) g.node (record { unit = v; slot = r; serial = (nodeAt b (v * 64 + r)).serial.0 })
-    up_of = S.knit.up (p / 64) (p % 64) g.node (record { unit = v; slot = r; serial = (nodeAt b (v * 64 + r)).serial.0 }) g.stands g.above
+  module _ (v r p : ℕ) (lv : v < 8) (lr : r < (interface_at b v).used) (e : (node_at b (v * 64 + r)).class ≡ Blossom) (g : Ringed v r p) where
+    up_of : Up (slot_of (view b)) (top (view b)) (p / 64) (p % 64) g.node (record { unit = v; slot = r; serial = (node_at b (v * 64 + r)).serial.0 })
+    up_of = S.knit.up (p / 64) (p % 64) g.node (record { unit = v; slot = r; serial = (node_at b (v * 64 + r)).serial.0 }) g.stands g.above
 
-    pub ring-near : top (view b) (p / 64) ≡ top (view b) v
-    ring-near = up_of.near
+    pub ring_near : top (view b) (p / 64) ≡ top (view b) v
+    ring_near = up_of.near
 
-    pub ring-once : tally (sameHandle (handleAt (nodeAt b) p)) (nodes (circleOf (nodeAt b) (v * 64 + r))) ≡ 1
-    ring-once =
-        let B = slot-blossom (nodeAt b (v * 64 + r)) (sumUp 8 (interfaceAt b) v) (circleOf (nodeAt b) (v * 64 + r)) e in
-        let n : up_of.over ≡ B.node = some-eq up_of.has.stands (view-slot (get_or b 0 0) (interfaceAt b) (nodeAt b) v r lv lr ∙ B.shown) in
-        let m : up_of.ms ≡ circleOf (nodeAt b) (v * 64 + r) = blossom-eq up_of.ring (ap (λ (x : plain.Node). x.class) n ∙ B.class) in
-        ap₂ (λ (x : ℕ) (ms : List Member). tally (sameHandle (record { unit = p / 64; slot = p % 64; serial = x })) (nodes ms)) (sym g.own) (sym m) ∙ up_of.once
+    pub ring_once : tally (same_handle (handle_at (node_at b) p)) (nodes (circle_of (node_at b) (v * 64 + r))) ≡ 1
+    ring_once =
+        let B = slot_blossom (node_at b (v * 64 + r)) (sum_up 8 (interface_at b) v) (circle_of (node_at b) (v * 64 + r)) e in
+        let n : up_of.over ≡ B.node = some_eq up_of.has.stands (view_slot (get_or b 0 0) (interface_at b) (node_at b) v r lv lr ∙ B.shown) in
+        let m : up_of.ms ≡ circle_of (node_at b) (v * 64 + r) = blossom_eq up_of.ring (ap (λ (x : plain.Node). x.class) n ∙ B.class) in
+        ap₂ (λ (x : ℕ) (ms : List Member). tally (same_handle (record { unit = p / 64; slot = p % 64; serial = x })) (nodes ms)) (sym g.own) (sym m) ∙ up_of.once

@@ -1,8 +1,8 @@
 -- The plain ledger's own bench, read off the words. Assumes nothing.
 use Rattle.std.specs.Prelude.{ℕ, zero, suc, ◌+◌, ◌-◌, ◌*◌, ◌/◌, ◌%◌, List, [], ◌∷◌, eqb, get_or, ℤ, pos, ◌-ℤ◌}
 use Rattle.std.proofs.Math.Option.{Option, none, some}
-use Rattle.bench_words.specs.Codec.{valueOffset, sumOffset, speedOffset, pick}
-use Rattle.bench_words.specs.Store.{nodeAt, interfaceAt, setBias}
+use Rattle.bench_words.specs.Codec.{value_offset, sum_offset, speed_offset, pick}
+use Rattle.bench_words.specs.Store.{node_at, interface_at, set_bias}
 use Rattle.kinds.specs.declared.GrowState.{GrowState}
 use Rattle.kinds.specs.declared.GrowState.TheVariants.{Grow as Growing, Stay, Shrink}
 use Rattle.kinds.specs.declared.Class.{Class}
@@ -15,28 +15,28 @@ use Rattle.bench_words.specs.declared.Up.{Up}
 use Rattle.bench_words.specs.declared.Up.TheVariants.{Top, Under}
 use Rattle.ledger_spec.specs.Bench.{Handle, Member, defect, blossom, Bench}
 use Rattle.ledger_spec.specs.Bench as plain
-use Rattle.ledger_spec.specs.Named.{handleNamed, stateNamed, parentNamed}
+use Rattle.ledger_spec.specs.Named.{handle_named, state_named, parent_named}
 use Rattle.bench_views.specs.Tab.{tab}
 
 -- a number that stands c higher than it is
 unfoldable pub off : ℕ → ℕ → ℤ
 off c n = pos n -ℤ pos c
 
-abbrev pub upSeen : Up → Option ℕ
-upSeen Top = none
-upSeen (Under p) = some p
+abbrev pub up_seen : Up → Option ℕ
+up_seen Top = none
+up_seen (Under p) = some p
 
-abbrev pub halvesSeen : ℕ → ℕ → Option (ℕ × ℕ)
-halvesSeen l r = pick (eqb l 0) none (some (l - 1, r - 1))
+abbrev pub halves_seen : ℕ → ℕ → Option (ℕ × ℕ)
+halves_seen l r = pick (eqb l 0) none (some (l - 1, r - 1))
 
-abbrev pub marksSeen : Marks → plain.Marks
-marksSeen m = record { fills = m.fills; floored = m.floored }
+abbrev pub marks_seen : Marks → plain.Marks
+marks_seen m = record { fills = m.fills; floored = m.floored }
 
 -- ---- values
-abbrev pub valueBy : GrowState → ℕ → ℕ → ℕ
-valueBy Growing b t = b + t
-valueBy Stay b t = b
-valueBy Shrink b t = b - t
+abbrev pub value_by : GrowState → ℕ → ℕ → ℕ
+value_by Growing b t = b + t
+value_by Stay b t = b
+value_by Shrink b t = b - t
 
 abbrev pub bias_of : GrowState → ℕ → ℕ → ℕ
 bias_of Growing v t = v - t
@@ -45,65 +45,65 @@ bias_of Shrink v t = v + t
 
 -- a node whose value is l more, or less, by its state: what a growth does to each node in the plain engine
 abbrev pub raised : ℕ → Node → Node
-raised l n = setBias n (valueBy n.state n.bias l)
+raised l n = set_bias n (value_by n.state n.bias l)
 
 abbrev pub over : {A : Type 0} → Up → A → (ℕ → A) → A
 over Top a f = a
 over (Under p) a f = f p
 
 -- what the values in a unit's tree are behind by: its progress, or nothing in the plain engine
-abbrev pub lagOf : Interface → ℕ
-lagOf f = pick f.marks.plain 0 f.progress
+abbrev pub lag_of : Interface → ℕ
+lag_of f = pick f.marks.plain 0 f.progress
 
 -- what values are behind by, of a unit and of those above it, n at most
-unfoldable pub sumUp : ℕ → (ℕ → Interface) → ℕ → ℕ
-sumUp zero A u = 0
-sumUp (suc n) A u = lagOf (A u) + over (A u).parent 0 (sumUp n A)
+unfoldable pub sum_up : ℕ → (ℕ → Interface) → ℕ → ℕ
+sum_up zero A u = 0
+sum_up (suc n) A u = lag_of (A u) + over (A u).parent 0 (sum_up n A)
 
 -- ---- circles
-abbrev pub handleAt : (ℕ → Node) → ℕ → Handle
-handleAt A k = record { unit = k / 64; slot = k % 64; serial = (A k).serial.0 }
+abbrev pub handle_at : (ℕ → Node) → ℕ → Handle
+handle_at A k = record { unit = k / 64; slot = k % 64; serial = (A k).serial.0 }
 
-abbrev pub memberAt : (ℕ → Node) → ℕ → Member
-memberAt A k = record { node = handleAt A k; touch = (handleNamed (A k).left, handleNamed (A k).right) }
+abbrev pub member_at : (ℕ → Node) → ℕ → Member
+member_at A k = record { node = handle_at A k; touch = (handle_named (A k).left, handle_named (A k).right) }
 
 -- n members from position k on, each giving the next
 unfoldable pub follow : ℕ → (ℕ → Node) → ℕ → List Member
 follow zero A k = []
-follow (suc n) A k = memberAt A k ∷ follow n A (A k).next
+follow (suc n) A k = member_at A k ∷ follow n A (A k).next
 
-abbrev pub circleOf : (ℕ → Node) → ℕ → List Member
-circleOf A k = follow (A k).count A (A k).first
+abbrev pub circle_of : (ℕ → Node) → ℕ → List Member
+circle_of A k = follow (A k).count A (A k).first
 
 -- ---- a slot, an interface, the bench
-abbrev pub nodeSeen : Node → ℕ → plain.Class → plain.Node
-nodeSeen n t c = record { serial = n.serial.0; class = c; state = stateNamed n.state; parent = parentNamed n.parent; value = off valueOffset (valueBy n.state n.bias t); size = n.size }
+abbrev pub node_seen : Node → ℕ → plain.Class → plain.Node
+node_seen n t c = record { serial = n.serial.0; class = c; state = state_named n.state; parent = parent_named n.parent; value = off value_offset (value_by n.state n.bias t); size = n.size }
 
-abbrev pub byClass : {A : Type 0} → Class → A → A → (Vertex → A) → A
-byClass Absent a b d = a
-byClass Blossom a b d = b
-byClass (Defect v) a b d = d v
+abbrev pub by_class : {A : Type 0} → Class → A → A → (Vertex → A) → A
+by_class Absent a b d = a
+by_class Blossom a b d = b
+by_class (Defect v) a b d = d v
 
-unfoldable pub slotSeen : Node → ℕ → List Member → Option plain.Node
-slotSeen n t ms = byClass n.class none (some (nodeSeen n t (blossom ms))) (λ v. some (nodeSeen n t (defect v.0)))
+unfoldable pub slot_seen : Node → ℕ → List Member → Option plain.Node
+slot_seen n t ms = by_class n.class none (some (node_seen n t (blossom ms))) (λ v. some (node_seen n t (defect v.0)))
 
-abbrev pub slotIn : (ℕ → Interface) → (ℕ → Node) → ℕ → ℕ → Option plain.Node
-slotIn U A u s = slotSeen (A (u * 64 + s)) (sumUp 8 U u) (circleOf A (u * 64 + s))
+abbrev pub slot_in : (ℕ → Interface) → (ℕ → Node) → ℕ → ℕ → Option plain.Node
+slot_in U A u s = slot_seen (A (u * 64 + s)) (sum_up 8 U u) (circle_of A (u * 64 + s))
 
-abbrev pub interfaceIn : (ℕ → Interface) → (ℕ → Node) → ℕ → plain.Interface
-interfaceIn U A u =
+abbrev pub interface_in : (ℕ → Interface) → (ℕ → Node) → ℕ → plain.Interface
+interface_in U A u =
     record {
-      slots = tab (slotIn U A u) 0 (U u).used;
+      slots = tab (slot_in U A u) 0 (U u).used;
       progress = pos (U u).progress;
-      sum = off sumOffset (U u).sum;
-      speed = off speedOffset (U u).speed;
-      parent = upSeen (U u).parent;
-      halves = halvesSeen (U u).left (U u).right;
-      marks = marksSeen (U u).marks;
+      sum = off sum_offset (U u).sum;
+      speed = off speed_offset (U u).speed;
+      parent = up_seen (U u).parent;
+      halves = halves_seen (U u).left (U u).right;
+      marks = marks_seen (U u).marks;
     }
 
-unfoldable pub viewIn : ℕ → (ℕ → Interface) → (ℕ → Node) → Bench
-viewIn n U A = record { next = n; interfaces = tab (interfaceIn U A) 0 8; plain = (U 0).marks.plain }
+unfoldable pub view_in : ℕ → (ℕ → Interface) → (ℕ → Node) → Bench
+view_in n U A = record { next = n; interfaces = tab (interface_in U A) 0 8; plain = (U 0).marks.plain }
 
 abbrev pub view : List ℕ → Bench
-view b = viewIn (get_or b 0 0) (interfaceAt b) (nodeAt b)
+view b = view_in (get_or b 0 0) (interface_at b) (node_at b)

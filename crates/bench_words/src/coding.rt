@@ -1,13 +1,13 @@
 // Whether words are the code of what is loaded from them: the sound test's only view of single words. Assumes nothing.
 ghost use Rattle.std.specs.Prelude.{◌≡◌, ◌<◌};
-ghost use Rattle.bench_words.specs.Coding.{blankAt, codedAt, spareAt, link_at, flagsAt};
+ghost use Rattle.bench_words.specs.Coding.{blank_at, coded_at, spare_at, link_at, flags_at};
 
 use crate::{PAST_HANDLES, WORDS};
 
 // The slot holds nothing at all.
 pub fn is_blank(b: &[u64; WORDS], k: usize) -> bool
     requires { k < 512 }
-    ensures { result ≡ blankAt b.now k }
+    ensures { result ≡ blank_at b.now k }
 {
     let at = 128 + k * 12;
     (b[at + 1] == 0)
@@ -26,7 +26,7 @@ pub fn is_blank(b: &[u64; WORDS], k: usize) -> bool
 // Serial, class, state, parent and touching handles of a node have no stray bits. Its other words are numbers as they stand.
 pub fn is_coded(b: &[u64; WORDS], k: usize) -> bool
     requires { k < 512 }
-    ensures { result ≡ codedAt b.now k }
+    ensures { result ≡ coded_at b.now k }
 {
     let at = 128 + k * 12;
     (b[at + 1] < 4294967296)
@@ -39,7 +39,7 @@ pub fn is_coded(b: &[u64; WORDS], k: usize) -> bool
 // The words that no interface has yet are zero.
 pub fn is_spare(b: &[u64; WORDS], u: usize) -> bool
     requires { u < 8 }
-    ensures { result ≡ spareAt b.now u }
+    ensures { result ≡ spare_at b.now u }
 {
     let at = u * 16;
     (b[at + 10] == 0)
@@ -61,7 +61,7 @@ pub fn is_link(b: &[u64; WORDS], u: usize) -> bool
 // The word of an interface's marks has no stray bit, and the engine is that of interface 0.
 pub fn is_flags(b: &[u64; WORDS], u: usize) -> bool
     requires { u < 8 }
-    ensures { result ≡ flagsAt b.now u }
+    ensures { result ≡ flags_at b.now u }
 {
     let at = u * 16;
     let w = b[at + 9];

@@ -1,11 +1,11 @@
 // The two parts of an interface that have a code: its parent, and its marks, a bit each. Assumes nothing.
 ghost use Rattle.std.specs.Prelude.{◌≡◌, ◌≤◌};
-ghost use Rattle.bench_words.specs.Codec.{pick, upOf, upWord, marksOf, marksWord};
+ghost use Rattle.bench_words.specs.Codec.{pick, up_of, up_word, marks_of, marks_word};
 
 use crate::{Marks, Up};
 
 pub fn up_of(w: u64) -> Up
-    ensures { result ≡ upOf w }
+    ensures { result ≡ up_of w }
 {
     if w == 0 {
         return Up::Top;
@@ -14,7 +14,7 @@ pub fn up_of(w: u64) -> Up
 }
 
 pub fn up_word(u: Up) -> u64
-    ensures { result ≡ upWord u }
+    ensures { result ≡ up_word u }
 {
     match u {
         Up::Top => 0,
@@ -23,7 +23,7 @@ pub fn up_word(u: Up) -> u64
 }
 
 pub fn marks_of(w: u64) -> Marks
-    ensures { result ≡ marksOf w }
+    ensures { result ≡ marks_of w }
 {
     Marks {
         fills: w % 2 == 1,
@@ -43,7 +43,7 @@ fn bit(there: bool, w: u64) -> u64
 }
 
 pub fn marks_word(m: Marks) -> u64
-    ensures { result ≡ marksWord m }
+    ensures { result ≡ marks_word m }
 {
     bit(m.fills, 1) + bit(m.floored, 2) + bit(m.plain, 4)
 }

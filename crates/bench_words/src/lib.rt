@@ -14,8 +14,8 @@ pub mod coding; // whether words are the code of what is loaded from them
 pub mod interfaces; // an interface's parent and its marks, as words
 
 ghost use Rattle.std.specs.Prelude.{◌≡◌, length, get_or, set, ◌+◌, ◌*◌, ◌<◌};
-ghost use Rattle.bench_words.specs.Codec.{state_of, stateWord, handle_of, handOf, handleWord, class_of, classWord, parent_of, parentWord};
-ghost use Rattle.bench_words.specs.Store.{nodeAt, storeNode, interfaceAt, storeInterface, mapAt, storeMap};
+ghost use Rattle.bench_words.specs.Codec.{state_of, state_word, handle_of, hand_of, handle_word, class_of, class_word, parent_of, parent_word};
+ghost use Rattle.bench_words.specs.Store.{node_at, store_node, interface_at, store_interface, map_at, store_map};
 
 use kinds::{Class, GrowState, Handle, Parent, Serial, Vertex};
 
@@ -94,7 +94,7 @@ pub fn state_of(w: u64) -> GrowState
 }
 
 pub fn state_word(g: GrowState) -> u64
-    ensures { result ≡ stateWord g }
+    ensures { result ≡ state_word g }
 {
     match g {
         GrowState::Grow => 1,
@@ -116,7 +116,7 @@ pub fn handle_of(w: u64) -> Handle
 
 // The handle that any word gives: one of an interface that no bench has where the word is no packed handle.
 pub fn hand_of(w: u64) -> Handle
-    ensures { result ≡ handOf w }
+    ensures { result ≡ hand_of w }
 {
     if w < PAST_HANDLES {
         return handle_of(w);
@@ -129,7 +129,7 @@ pub fn hand_of(w: u64) -> Handle
 }
 
 pub fn handle_word(h: Handle) -> u64
-    ensures { (result ≡ handleWord h) × (result < 4398046511104) }
+    ensures { (result ≡ handle_word h) × (result < 4398046511104) }
 {
     ((h.serial.0 as u64) * 64 + (h.slot as u64)) * 8 + (h.unit as u64)
 }
@@ -145,7 +145,7 @@ pub fn class_of(w: u64) -> Class
 }
 
 pub fn class_word(c: Class) -> u64
-    ensures { result ≡ classWord c }
+    ensures { result ≡ class_word c }
 {
     match c {
         Class::Absent => 0,
@@ -164,7 +164,7 @@ pub fn parent_of(w: u64) -> Parent
 }
 
 pub fn parent_word(l: Parent) -> u64
-    ensures { result ≡ parentWord l }
+    ensures { result ≡ parent_word l }
 {
     match l {
         Parent::Outermost => 0,
@@ -195,7 +195,7 @@ pub fn store_next(b: &mut [u64; WORDS], next: u64)
 
 pub fn load_interface(b: &[u64; WORDS], u: usize) -> Interface
     requires { u < 8 }
-    ensures { result ≡ interfaceAt b.now u }
+    ensures { result ≡ interface_at b.now u }
 {
     let at = u * 16;
     let parent = interfaces::up_of(b[at + 5]);
@@ -214,7 +214,7 @@ pub fn load_interface(b: &[u64; WORDS], u: usize) -> Interface
 
 pub fn store_interface(b: &mut [u64; WORDS], u: usize, n: Interface)
     requires { u < 8 }
-    ensures { b.new ≡ storeInterface b.old u n }
+    ensures { b.new ≡ store_interface b.old u n }
 {
     let at = u * 16;
     let parent = n.parent;
@@ -232,7 +232,7 @@ pub fn store_interface(b: &mut [u64; WORDS], u: usize, n: Interface)
 // The map of an interface's present slots stands beside its record: most calls change the record and leave the map.
 pub fn load_map(b: &[u64; WORDS], u: usize) -> u64
     requires { u < 8 }
-    ensures { result ≡ mapAt b.now u }
+    ensures { result ≡ map_at b.now u }
 {
     let at = u * 16;
     b[at + 8]
@@ -240,7 +240,7 @@ pub fn load_map(b: &[u64; WORDS], u: usize) -> u64
 
 pub fn store_map(b: &mut [u64; WORDS], u: usize, map: u64)
     requires { u < 8 }
-    ensures { b.new ≡ storeMap b.old u map }
+    ensures { b.new ≡ store_map b.old u map }
 {
     let at = u * 16;
     b[at + 8] = map;
@@ -248,7 +248,7 @@ pub fn store_map(b: &mut [u64; WORDS], u: usize, map: u64)
 
 pub fn load_node(b: &[u64; WORDS], k: usize) -> Node
     requires { k < 512 }
-    ensures { result ≡ nodeAt b.now k }
+    ensures { result ≡ node_at b.now k }
 {
     let at = 128 + k * 12;
     let class = class_of(b[at + 2]);
@@ -274,7 +274,7 @@ pub fn load_node(b: &[u64; WORDS], k: usize) -> Node
 
 pub fn store_node(b: &mut [u64; WORDS], k: usize, n: Node)
     requires { k < 512 }
-    ensures { b.new ≡ storeNode b.old k n }
+    ensures { b.new ≡ store_node b.old k n }
 {
     let at = 128 + k * 12;
     let class = n.class;

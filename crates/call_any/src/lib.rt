@@ -2,9 +2,9 @@
 // the answer is BROKEN (2) and every word stays as it was; else the call on sound words answers. Assumes nothing.
 ghost use Rattle.ledger_spec.specs.Bench.{filling, floor};
 ghost use Rattle.ledger_spec.specs.Calls.{Defect, Blossom, Expand, SetState, Grow, Fuse, Clear, Mark};
-ghost use Rattle.ledger_spec.specs.Named.{handleNamed, stateNamed};
-ghost use Rattle.deed_circles.specs.Given.{handsGiven, pairsGiven};
-ghost use Rattle.sound_bench.specs.Sound.{soundWords};
+ghost use Rattle.ledger_spec.specs.Named.{handle_named, state_named};
+ghost use Rattle.deed_circles.specs.Given.{hands_given, pairs_given};
+ghost use Rattle.sound_bench.specs.Sound.{sound_words};
 ghost use Rattle.call_told.specs.Told.{Called};
 
 use bench_words::WORDS;
@@ -12,7 +12,7 @@ use call_told::Answer;
 use kinds::{GrowState, Handle, Vertex, numbers};
 
 pub fn create_defect_node(b: &mut [u64; WORDS], unit: u8, vertex: Vertex) -> Answer
-    ensures { Called (soundWords b.old) b.old (Defect unit vertex.0) result b.new }
+    ensures { Called (sound_words b.old) b.old (Defect unit vertex.0) result b.new }
 {
     if !sound_lent::is_bench(b) {
         return Answer::refused(numbers::BROKEN);
@@ -22,7 +22,7 @@ pub fn create_defect_node(b: &mut [u64; WORDS], unit: u8, vertex: Vertex) -> Ans
 
 // Members as packed handles, their touching handles two a member, or none; lists of any length.
 pub fn create_blossom(b: &mut [u64; WORDS], unit: u8, members: &[u64], touching: &[u64]) -> Answer
-    ensures { Called (soundWords b.old) b.old (Blossom unit (handsGiven members.now) (pairsGiven touching.now)) result b.new }
+    ensures { Called (sound_words b.old) b.old (Blossom unit (hands_given members.now) (pairs_given touching.now)) result b.new }
 {
     if !sound_lent::is_bench(b) {
         return Answer::refused(numbers::BROKEN);
@@ -31,7 +31,7 @@ pub fn create_blossom(b: &mut [u64; WORDS], unit: u8, members: &[u64], touching:
 }
 
 pub fn expand_blossom(b: &mut [u64; WORDS], unit: u8, node: Handle) -> Answer
-    ensures { Called (soundWords b.old) b.old (Expand unit (handleNamed node)) result b.new }
+    ensures { Called (sound_words b.old) b.old (Expand unit (handle_named node)) result b.new }
 {
     if !sound_lent::is_bench(b) {
         return Answer::refused(numbers::BROKEN);
@@ -40,7 +40,7 @@ pub fn expand_blossom(b: &mut [u64; WORDS], unit: u8, node: Handle) -> Answer
 }
 
 pub fn set_grow_state(b: &mut [u64; WORDS], unit: u8, node: Handle, state: GrowState) -> Answer
-    ensures { Called (soundWords b.old) b.old (SetState unit (handleNamed node) (stateNamed state)) result b.new }
+    ensures { Called (sound_words b.old) b.old (SetState unit (handle_named node) (state_named state)) result b.new }
 {
     if !sound_lent::is_bench(b) {
         return Answer::refused(numbers::BROKEN);
@@ -49,7 +49,7 @@ pub fn set_grow_state(b: &mut [u64; WORDS], unit: u8, node: Handle, state: GrowS
 }
 
 pub fn grow(b: &mut [u64; WORDS], unit: u8, length: i64) -> Answer
-    ensures { Called (soundWords b.old) b.old (Grow unit length) result b.new }
+    ensures { Called (sound_words b.old) b.old (Grow unit length) result b.new }
 {
     if !sound_lent::is_bench(b) {
         return Answer::refused(numbers::BROKEN);
@@ -58,7 +58,7 @@ pub fn grow(b: &mut [u64; WORDS], unit: u8, length: i64) -> Answer
 }
 
 pub fn fuse(b: &mut [u64; WORDS], parent: u8, left: u8, right: u8) -> Answer
-    ensures { Called (soundWords b.old) b.old (Fuse parent left right) result b.new }
+    ensures { Called (sound_words b.old) b.old (Fuse parent left right) result b.new }
 {
     if !sound_lent::is_bench(b) {
         return Answer::refused(numbers::BROKEN);
@@ -67,7 +67,7 @@ pub fn fuse(b: &mut [u64; WORDS], parent: u8, left: u8, right: u8) -> Answer
 }
 
 pub fn clear(b: &mut [u64; WORDS], unit: u8) -> Answer
-    ensures { Called (soundWords b.old) b.old (Clear unit) result b.new }
+    ensures { Called (sound_words b.old) b.old (Clear unit) result b.new }
 {
     if !sound_lent::is_bench(b) {
         return Answer::refused(numbers::BROKEN);
@@ -76,7 +76,7 @@ pub fn clear(b: &mut [u64; WORDS], unit: u8) -> Answer
 }
 
 pub fn mark_filling(b: &mut [u64; WORDS], unit: u8) -> Answer
-    ensures { Called (soundWords b.old) b.old (Mark unit filling) result b.new }
+    ensures { Called (sound_words b.old) b.old (Mark unit filling) result b.new }
 {
     if !sound_lent::is_bench(b) {
         return Answer::refused(numbers::BROKEN);
@@ -85,7 +85,7 @@ pub fn mark_filling(b: &mut [u64; WORDS], unit: u8) -> Answer
 }
 
 pub fn mark_floored(b: &mut [u64; WORDS], unit: u8) -> Answer
-    ensures { Called (soundWords b.old) b.old (Mark unit floor) result b.new }
+    ensures { Called (sound_words b.old) b.old (Mark unit floor) result b.new }
 {
     if !sound_lent::is_bench(b) {
         return Answer::refused(numbers::BROKEN);

@@ -2,7 +2,7 @@
 // the slots. (Add blossom has a crate of its own.) The answer and the words after are the plain ledger's own. Assumes nothing.
 ghost use Rattle.ledger_spec.specs.Bench.{filling, floor};
 ghost use Rattle.ledger_spec.specs.Calls.{Defect, Expand, SetState, Grow, Fuse, Clear, Mark};
-ghost use Rattle.ledger_spec.specs.Named.{handleNamed, stateNamed};
+ghost use Rattle.ledger_spec.specs.Named.{handle_named, state_named};
 ghost use Rattle.bench_views.specs.Fit.{SoundWords};
 ghost use Rattle.outcomes.specs.Answered.{Answered};
 
@@ -24,7 +24,7 @@ pub fn create_defect_node(b: &mut [u64; WORDS], unit: u8, vertex: Vertex) -> Mad
 
 pub fn set_grow_state(b: &mut [u64; WORDS], unit: u8, node: Handle, state: GrowState) -> Made
     requires { SoundWords b.old }
-    ensures { Answered b.old (SetState unit (handleNamed node) (stateNamed state)) result.number result.node b.new }
+    ensures { Answered b.old (SetState unit (handle_named node) (state_named state)) result.number result.node b.new }
 {
     let number = refuse_calls::state_number(b, unit, node);
     if number != 0 {
@@ -73,7 +73,7 @@ pub fn clear(b: &mut [u64; WORDS], unit: u8) -> Made
 
 pub fn expand_blossom(b: &mut [u64; WORDS], unit: u8, node: Handle) -> Made
     requires { SoundWords b.old }
-    ensures { Answered b.old (Expand unit (handleNamed node)) result.number result.node b.new }
+    ensures { Answered b.old (Expand unit (handle_named node)) result.number result.node b.new }
 {
     let number = refuse_calls::expand_number(b, unit, node);
     if number != 0 {

@@ -2,12 +2,12 @@
 // handles are lists of any length, of words of any kind. Assumes nothing.
 ghost use Rattle.std.specs.Prelude.{◌≡◌};
 ghost use Rattle.ledger_spec.specs.Tests.{first};
-ghost use Rattle.ledger_spec.specs.Refuse.{blossomTests};
+ghost use Rattle.ledger_spec.specs.Refuse.{blossom_tests};
 ghost use Rattle.ledger_spec.specs.Calls.{Blossom};
 ghost use Rattle.bench_views.specs.Canon.{Canon};
 ghost use Rattle.bench_views.specs.Fit.{SoundWords};
 ghost use Rattle.bench_views.specs.View.{view};
-ghost use Rattle.deed_circles.specs.Given.{handsGiven, pairsGiven};
+ghost use Rattle.deed_circles.specs.Given.{hands_given, pairs_given};
 ghost use Rattle.outcomes.specs.Answered.{Answered};
 
 use bench_words::WORDS;
@@ -17,7 +17,7 @@ use outcomes::Made;
 // The number that add blossom is refused by, or 0. Only reads.
 pub fn blossom_number(b: &[u64; WORDS], unit: u8, members: &[u64], touching: &[u64]) -> u8
     requires { Canon b.now }
-    ensures { result ≡ first (blossomTests (view b.now) unit (handsGiven members.now) (pairsGiven touching.now)) }
+    ensures { result ≡ first (blossom_tests (view b.now) unit (hands_given members.now) (pairs_given touching.now)) }
 {
     let named = read_sound::unit_number(b, unit);
     if named != 0 {
@@ -40,7 +40,7 @@ pub fn blossom_number(b: &[u64; WORDS], unit: u8, members: &[u64], touching: &[u
 // Makes a blossom of the members, which stay in it, and gives its handle; or refuses, with no word changed.
 pub fn create_blossom(b: &mut [u64; WORDS], unit: u8, members: &[u64], touching: &[u64]) -> Made
     requires { SoundWords b.old }
-    ensures { Answered b.old (Blossom unit (handsGiven members.now) (pairsGiven touching.now)) result.number result.node b.new }
+    ensures { Answered b.old (Blossom unit (hands_given members.now) (pairs_given touching.now)) result.number result.node b.new }
 {
     let number = blossom_number(b, unit, members, touching);
     if number != 0 {

@@ -3,10 +3,10 @@
 ghost use Rattle.std.specs.Prelude.{◌≡◌};
 ghost use Rattle.ledger_spec.specs.Bench.{filling, floor};
 ghost use Rattle.ledger_spec.specs.Calls.{Defect, Blossom, Expand, SetState, Grow, Fuse, Clear, Mark};
-ghost use Rattle.ledger_spec.specs.Named.{handleNamed, stateNamed};
-ghost use Rattle.deed_circles.specs.Given.{handsGiven, pairsGiven};
+ghost use Rattle.ledger_spec.specs.Named.{handle_named, state_named};
+ghost use Rattle.deed_circles.specs.Given.{hands_given, pairs_given};
 ghost use Rattle.bench_views.specs.Fit.{SoundWords};
-ghost use Rattle.call_told.specs.Shown.{refusedBy};
+ghost use Rattle.call_told.specs.Shown.{refused_by};
 ghost use Rattle.call_told.specs.Told.{Told};
 
 use bench_words::WORDS;
@@ -24,7 +24,7 @@ pub struct Answer {
 impl Answer {
     // No node and no notice: a refusal's number, or 0 of a call that has neither.
     pub fn refused(number: u8) -> Answer
-        ensures { result ≡ refusedBy number }
+        ensures { result ≡ refused_by number }
     {
         let node = Handle::nobody();
         let notices = outcome_notices::none();
@@ -55,7 +55,7 @@ pub fn create_defect_node(b: &mut [u64; WORDS], unit: u8, vertex: Vertex) -> Ans
 
 pub fn create_blossom(b: &mut [u64; WORDS], unit: u8, members: &[u64], touching: &[u64]) -> Answer
     requires { SoundWords b.old }
-    ensures { Told b.old (Blossom unit (handsGiven members.now) (pairsGiven touching.now)) result b.new }
+    ensures { Told b.old (Blossom unit (hands_given members.now) (pairs_given touching.now)) result b.new }
 {
     let made = call_sound_blossom::create_blossom(b, unit, members, touching);
     if made.number != 0 {
@@ -73,7 +73,7 @@ pub fn create_blossom(b: &mut [u64; WORDS], unit: u8, members: &[u64], touching:
 // The notices follow the circle, which is there only before the work; so the number is asked first.
 pub fn expand_blossom(b: &mut [u64; WORDS], unit: u8, node: Handle) -> Answer
     requires { SoundWords b.old }
-    ensures { Told b.old (Expand unit (handleNamed node)) result b.new }
+    ensures { Told b.old (Expand unit (handle_named node)) result b.new }
 {
     let number = refuse_calls::expand_number(b, unit, node);
     if number != 0 {
@@ -91,7 +91,7 @@ pub fn expand_blossom(b: &mut [u64; WORDS], unit: u8, node: Handle) -> Answer
 
 pub fn set_grow_state(b: &mut [u64; WORDS], unit: u8, node: Handle, state: GrowState) -> Answer
     requires { SoundWords b.old }
-    ensures { Told b.old (SetState unit (handleNamed node) (stateNamed state)) result b.new }
+    ensures { Told b.old (SetState unit (handle_named node) (state_named state)) result b.new }
 {
     let made = call_sound::set_grow_state(b, unit, node, state);
     if made.number != 0 {

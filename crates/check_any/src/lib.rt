@@ -2,8 +2,8 @@
 // verdict and an index. Neither changes the bench. Assumes nothing.
 ghost use Rattle.std.specs.Prelude.{◌≡◌};
 ghost use Rattle.bench_views.specs.View.{view};
-ghost use Rattle.check_sound.specs.Judged.{shownCheck};
-ghost use Rattle.sound_lent.specs.Verdict.{readWords};
+ghost use Rattle.check_sound.specs.Judged.{shown_check};
+ghost use Rattle.sound_lent.specs.Verdict.{read_words};
 ghost use Rattle.ledger_spec.specs.Answers.{checkRead, strictRead};
 
 use bench_words::WORDS;
@@ -11,7 +11,7 @@ use check_sound::Checked;
 use kinds::{NodeIndex, numbers};
 
 fn broken() -> Checked
-    ensures { shownCheck result ≡ (2, (0, 0)) }
+    ensures { shown_check result ≡ (2, (0, 0)) }
 {
     Checked {
         number: numbers::BROKEN,
@@ -21,7 +21,7 @@ fn broken() -> Checked
 }
 
 pub fn sanity_check(b: &[u64; WORDS], unit: u8) -> Checked
-    ensures { shownCheck result ≡ readWords b.now (checkRead (view b.now) unit) }
+    ensures { shown_check result ≡ read_words b.now (checkRead (view b.now) unit) }
 {
     if !sound_lent::is_bench(b) {
         return broken();
@@ -30,7 +30,7 @@ pub fn sanity_check(b: &[u64; WORDS], unit: u8) -> Checked
 }
 
 pub fn strict_check(b: &[u64; WORDS], unit: u8) -> Checked
-    ensures { shownCheck result ≡ readWords b.now (strictRead (view b.now) unit) }
+    ensures { shown_check result ≡ read_words b.now (strictRead (view b.now) unit) }
 {
     if !sound_lent::is_bench(b) {
         return broken();

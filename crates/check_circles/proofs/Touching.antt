@@ -6,76 +6,76 @@ use mathlib.Core.Option.{Option, none, some}
 use borrow.Author.Tests.{le-ltb, lt-ltb}
 use lib.Dec.{eqb}
 use Rattle.kinds.specs.declared.Handle.{Handle as Code}
-use Rattle.kinds.specs.Names.{sameCode}
+use Rattle.kinds.specs.Names.{same_code}
 use Rattle.ledger_spec.specs.Bench.{Handle, Member, Node, Bench}
-use Rattle.ledger_spec.specs.Look.{nodeNamed, sameHandle}
-use Rattle.ledger_spec.specs.Named.{handleNamed}
-use Rattle.ledger_spec.specs.Tests.{stale, is_some, isDefect}
+use Rattle.ledger_spec.specs.Look.{node_named, same_handle}
+use Rattle.ledger_spec.specs.Named.{handle_named}
+use Rattle.ledger_spec.specs.Tests.{stale, is_some, is_defect}
 use Rattle.ledger_spec.specs.Walk.{outermost}
-use Rattle.ledger_spec.specs.Check.{memberVerdict, isUnder}
-use Rattle.ledger_laws.proofs.Steps.{member-defect, member-two, strict-defect, strict-blossom}
-use Rattle.check_circles.specs.Found.{larger, ownBy, touchVerdict, underVerdict, touchBy, memberBy}
+use Rattle.ledger_spec.specs.Check.{member_verdict, is_under}
+use Rattle.ledger_laws.proofs.Steps.{member_defect, member_two, strict_defect, strict_blossom}
+use Rattle.check_circles.specs.Found.{larger, own_by, touch_verdict, under_verdict, touch_by, member_by}
 
 -- ---- the same handle, in code and in the ledger
 and_assoc : (x y z : Bool) → (x && (y && z)) ≡ ((x && y) && z)
 and_assoc true y z = refl
 and_assoc false y z = refl
 
-pub same-named : (g h : Code) → sameCode g h ≡ sameHandle (handleNamed g) (handleNamed h)
-same-named g h = and_assoc (eqb g.unit h.unit) (eqb g.slot h.slot) (eqb g.serial.0 h.serial.0)
+pub same_named : (g h : Code) → same_code g h ≡ same_handle (handle_named g) (handle_named h)
+same_named g h = and_assoc (eqb g.unit h.unit) (eqb g.slot h.slot) (eqb g.serial.0 h.serial.0)
 
 -- ---- a defect
 module _ (m x y : Handle) where
-  pub own-strict : (s : Bool) → s ≡ true → 0 ≡ ownBy s m x y
-  unfolding ownBy
-  own-strict true e = refl
-  own-strict false e = absurd (true≢false (sym e))
+  pub own_strict : (s : Bool) → s ≡ true → 0 ≡ own_by s m x y
+  unfolding own_by
+  own_strict true e = refl
+  own_strict false e = absurd (true≢false (sym e))
 
   module _ (s : Bool) (f : s ≡ false) where
-    own-plain : ownBy s m x y ≡ elim (sameHandle x m && sameHandle y m) [ true ↦ 0 | false ↦ 2 ]
-    unfolding ownBy
-    own-plain = rw (f, ownBy)
+    own_plain : own_by s m x y ≡ elim (same_handle x m && same_handle y m) [ true ↦ 0 | false ↦ 2 ]
+    unfolding own_by
+    own_plain = rw (f, own_by)
 
-    pub own_first : sameHandle x m ≡ false → 2 ≡ ownBy s m x y
-    own_first e = sym (own-plain ∙ rw e)
+    pub own_first : same_handle x m ≡ false → 2 ≡ own_by s m x y
+    own_first e = sym (own_plain ∙ rw e)
 
-    pub own-second : sameHandle x m ≡ true → sameHandle y m ≡ false → 2 ≡ ownBy s m x y
-    own-second e g = sym (own-plain ∙ rw (e, g))
+    pub own_second : same_handle x m ≡ true → same_handle y m ≡ false → 2 ≡ own_by s m x y
+    own_second e g = sym (own_plain ∙ rw (e, g))
 
-    pub own-both : sameHandle x m ≡ true → sameHandle y m ≡ true → 0 ≡ ownBy s m x y
-    own-both e g = sym (own-plain ∙ rw (e, g))
+    pub own_both : same_handle x m ≡ true → same_handle y m ≡ true → 0 ≡ own_by s m x y
+    own_both e g = sym (own_plain ∙ rw (e, g))
 
 -- ---- a touching handle
 module _ (b : Bench) (o t : Handle) where
-  pub touch-gone : nodeNamed b t ≡ none → 4 ≡ touchVerdict b o t
-  unfolding touchVerdict
-  touch-gone e = rw (ap (λ (x : Option Node). not (is_some x)) e, touchVerdict)
+  pub touch_gone : node_named b t ≡ none → 4 ≡ touch_verdict b o t
+  unfolding touch_verdict
+  touch_gone e = rw (ap (λ (x : Option Node). not (is_some x)) e, touch_verdict)
 
-  module _ (n : Node) (e : nodeNamed b t ≡ some n) where
-    pub touch-near : sameHandle (outermost b t) o ≡ true → 0 ≡ touchVerdict b o t
-    unfolding touchVerdict
-    touch-near f = rw (ap (λ (x : Option Node). not (is_some x)) e, f, touchVerdict)
+  module _ (n : Node) (e : node_named b t ≡ some n) where
+    pub touch_near : same_handle (outermost b t) o ≡ true → 0 ≡ touch_verdict b o t
+    unfolding touch_verdict
+    touch_near f = rw (ap (λ (x : Option Node). not (is_some x)) e, f, touch_verdict)
 
-    pub touch-far : sameHandle (outermost b t) o ≡ false → 3 ≡ touchVerdict b o t
-    unfolding touchVerdict
-    touch-far f = rw (ap (λ (x : Option Node). not (is_some x)) e, f, touchVerdict)
+    pub touch_far : same_handle (outermost b t) o ≡ false → 3 ≡ touch_verdict b o t
+    unfolding touch_verdict
+    touch_far f = rw (ap (λ (x : Option Node). not (is_some x)) e, f, touch_verdict)
 
 -- ---- either
 module _ (b : Bench) (m o t : Handle) where
-  pub by-strict : (s : Bool) → s ≡ true → touchBy s b m o t ≡ underVerdict b m t
-  unfolding touchBy
-  by-strict s e = rw (e, touchBy)
+  pub by_strict : (s : Bool) → s ≡ true → touch_by s b m o t ≡ under_verdict b m t
+  unfolding touch_by
+  by_strict s e = rw (e, touch_by)
 
-  pub by-plain : (s : Bool) → s ≡ false → touchBy s b m o t ≡ touchVerdict b o t
-  unfolding touchBy
-  by-plain s e = rw (e, touchBy)
+  pub by_plain : (s : Bool) → s ≡ false → touch_by s b m o t ≡ touch_verdict b o t
+  unfolding touch_by
+  by_plain s e = rw (e, touch_by)
 
 -- ---- the larger of two
-pub larger-second : (x y : ℕ) → x < y → y ≡ larger x y
-larger-second x y l = rw (lt-ltb x y l, larger)
+pub larger_second : (x y : ℕ) → x < y → y ≡ larger x y
+larger_second x y l = rw (lt-ltb x y l, larger)
 
-pub larger-first : (x y : ℕ) → y ≤ x → x ≡ larger x y
-larger-first x y l = rw (le-ltb x y l, larger)
+pub larger_first : (x y : ℕ) → y ≤ x → x ≡ larger x y
+larger_first x y l = rw (le-ltb x y l, larger)
 
 abbrev six : Bool → ℕ
 six c = elim c [ true ↦ 0 | false ↦ 6 ]
@@ -105,19 +105,19 @@ fours false false false false = refl
 
 -- ---- a member
 module _ (b : Bench) (m : Member) where
-  pub member-own : isDefect (nodeNamed b m.node) ≡ true → (s : Bool) → ownBy s m.node m.touch.0 m.touch.1 ≡ memberBy s b m
-  unfolding ownBy memberBy
-  member-own d true = sym (ap six (strict-defect b m d))
-  member-own d false = go (sameHandle m.touch.0 m.node && sameHandle m.touch.1 m.node) refl
+  pub member_own : is_defect (node_named b m.node) ≡ true → (s : Bool) → own_by s m.node m.touch.0 m.touch.1 ≡ member_by s b m
+  unfolding own_by member_by
+  member_own d true = sym (ap six (strict_defect b m d))
+  member_own d false = go (same_handle m.touch.0 m.node && same_handle m.touch.1 m.node) refl
     where
-      go : (c : Bool) → (sameHandle m.touch.0 m.node && sameHandle m.touch.1 m.node) ≡ c → elim c [ true ↦ 0 | false ↦ 2 ] ≡ memberVerdict b m
-      go true e = sym (member-defect b m d e)
-      go false e = sym (member-two b m d e)
+      go : (c : Bool) → (same_handle m.touch.0 m.node && same_handle m.touch.1 m.node) ≡ c → elim c [ true ↦ 0 | false ↦ 2 ] ≡ member_verdict b m
+      go true e = sym (member_defect b m d e)
+      go false e = sym (member_two b m d e)
 
-  pub member-larger : isDefect (nodeNamed b m.node) ≡ false → (s : Bool) (o : Handle) → o ≡ outermost b m.node
-      → larger (touchBy s b m.node o m.touch.0) (touchBy s b m.node o m.touch.1) ≡ memberBy s b m
-  unfolding touchBy memberBy underVerdict touchVerdict memberVerdict
-  member-larger d true o e = sixes (isUnder b m.touch.0 m.node) (isUnder b m.touch.1 m.node) ∙ sym (ap six (strict-blossom b m d))
-  member-larger d false o e = ap (λ (x : Handle). larger (touchVerdict b x m.touch.0) (touchVerdict b x m.touch.1)) e
-      ∙ fours (stale b m.touch.0) (stale b m.touch.1) (sameHandle (outermost b m.touch.0) (outermost b m.node)) (sameHandle (outermost b m.touch.1) (outermost b m.node))
-      ∙ rw (d, memberVerdict)
+  pub member_larger : is_defect (node_named b m.node) ≡ false → (s : Bool) (o : Handle) → o ≡ outermost b m.node
+      → larger (touch_by s b m.node o m.touch.0) (touch_by s b m.node o m.touch.1) ≡ member_by s b m
+  unfolding touch_by member_by under_verdict touch_verdict member_verdict
+  member_larger d true o e = sixes (is_under b m.touch.0 m.node) (is_under b m.touch.1 m.node) ∙ sym (ap six (strict_blossom b m d))
+  member_larger d false o e = ap (λ (x : Handle). larger (touch_verdict b x m.touch.0) (touch_verdict b x m.touch.1)) e
+      ∙ fours (stale b m.touch.0) (stale b m.touch.1) (same_handle (outermost b m.touch.0) (outermost b m.node)) (same_handle (outermost b m.touch.1) (outermost b m.node))
+      ∙ rw (d, member_verdict)

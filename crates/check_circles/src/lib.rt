@@ -2,16 +2,16 @@
 // (else 3), and strictly by nodes under it, from which parents lead to it (else 6). A lent table says where each node lies in its nest, so that a handle
 // costs no walk up, but for one that is not under its member. Everything here only reads. Assumes nothing.
 ghost use Rattle.std.specs.Prelude.{◌≡◌, ◌<◌};
-ghost use Rattle.bench_words.specs.Store.{nodeAt};
+ghost use Rattle.bench_words.specs.Store.{node_at};
 ghost use Rattle.kinds.specs.declared.Class.TheVariants.{Blossom};
-ghost use Rattle.ledger_spec.specs.Named.{handleNamed};
+ghost use Rattle.ledger_spec.specs.Named.{handle_named};
 ghost use Rattle.ledger_spec.specs.Walk.{outermost};
 ghost use Rattle.bench_views.specs.Fit.{Fit};
-ghost use Rattle.bench_views.specs.View.{view, handleAt, memberAt};
+ghost use Rattle.bench_views.specs.View.{view, handle_at, member_at};
 ghost use Rattle.bench_links.specs.Find.{Stands};
 ghost use Rattle.bench_vertices.specs.Under.{Placed};
 ghost use Rattle.check_nests.specs.Nest.{Nests};
-ghost use Rattle.check_circles.specs.Found.{larger, ownBy, touchVerdict, underVerdict, touchBy, memberBy, Circled};
+ghost use Rattle.check_circles.specs.Found.{larger, own_by, touch_verdict, under_verdict, touch_by, member_by, Circled};
 
 use bench_links::Found;
 use bench_words::WORDS;
@@ -40,7 +40,7 @@ fn larger_of(x: u8, y: u8) -> u8
 
 // A defect's two touching handles.
 fn own_verdict(own: Handle, left: Handle, right: Handle, strict: bool) -> u8
-    ensures { result ≡ ownBy strict (handleNamed own) (handleNamed left) (handleNamed right) }
+    ensures { result ≡ own_by strict (handle_named own) (handle_named left) (handle_named right) }
 {
     if strict {
         return 0;
@@ -58,7 +58,7 @@ fn own_verdict(own: Handle, left: Handle, right: Handle, strict: bool) -> u8
 fn touch_verdict(b: &[u64; WORDS], t: &[u64; SLOTS], outer: Handle, h: Handle) -> u8
     requires fit { Fit b.now }
     requires nests { Nests b.now t.now }
-    ensures { result ≡ touchVerdict (view b.now) (handleNamed outer) (handleNamed h) }
+    ensures { result ≡ touch_verdict (view b.now) (handle_named outer) (handle_named h) }
 {
     let found = bench_links::find(b, h);
     match found {
@@ -76,8 +76,8 @@ fn touch_verdict(b: &[u64; WORDS], t: &[u64; SLOTS], outer: Handle, h: Handle) -
 // Strictly: from a present node up by its parents, until the member is met or there is no parent. The loop's own count is the fuel of the definition.
 fn rise(b: &[u64; WORDS], own: Handle, h: Handle) -> u8
     requires fit { Fit b.now }
-    requires stands { Stands b.now (handleNamed h) }
-    ensures { result ≡ underVerdict (view b.now) (handleNamed own) (handleNamed h) }
+    requires stands { Stands b.now (handle_named h) }
+    ensures { result ≡ under_verdict (view b.now) (handle_named own) (handle_named h) }
 {
     let mut at = h;
     let mut links: u64 = 0;
@@ -109,7 +109,7 @@ fn under_verdict(b: &[u64; WORDS], t: &[u64; SLOTS], k: usize, h: Handle) -> u8
     requires fit { Fit b.now }
     requires nests { Nests b.now t.now }
     requires placed { Placed b.now k }
-    ensures { result ≡ underVerdict (view b.now) (handleAt (nodeAt b.now) k) (handleNamed h) }
+    ensures { result ≡ under_verdict (view b.now) (handle_at (node_at b.now) k) (handle_named h) }
 {
     let own = check_nests::handle_at(b, k);
     if h.same(own) {
@@ -131,7 +131,7 @@ fn touch(b: &[u64; WORDS], t: &[u64; SLOTS], k: usize, outer: Handle, h: Handle,
     requires fit { Fit b.now }
     requires nests { Nests b.now t.now }
     requires placed { Placed b.now k }
-    ensures { result ≡ touchBy strict (view b.now) (handleAt (nodeAt b.now) k) (handleNamed outer) (handleNamed h) }
+    ensures { result ≡ touch_by strict (view b.now) (handle_at (node_at b.now) k) (handle_named outer) (handle_named h) }
 {
     if strict {
         return under_verdict(b, t, k, h);
@@ -144,8 +144,8 @@ fn member_verdict(b: &[u64; WORDS], t: &[u64; SLOTS], k: usize, outer: Handle, s
     requires fit { Fit b.now }
     requires nests { Nests b.now t.now }
     requires placed { Placed b.now k }
-    requires outer_value { handleNamed outer ≡ outermost (view b.now) (handleAt (nodeAt b.now) k) }
-    ensures { result ≡ memberBy strict (view b.now) (memberAt (nodeAt b.now) k) }
+    requires outer_value { handle_named outer ≡ outermost (view b.now) (handle_at (node_at b.now) k) }
+    ensures { result ≡ member_by strict (view b.now) (member_at (node_at b.now) k) }
 {
     let n = bench_words::load_node(b, k);
     let class = n.class;
@@ -173,7 +173,7 @@ pub fn circle_verdict(b: &[u64; WORDS], k: usize, t: &[u64; SLOTS], strict: bool
     requires fit { Fit b.now }
     requires nests { Nests b.now t.now }
     requires placed { Placed b.now k }
-    requires k_value { (nodeAt b.now k).class ≡ Blossom }
+    requires k_value { (node_at b.now k).class ≡ Blossom }
     ensures { Circled b.now k strict result }
 {
     let n = bench_words::load_node(b, k);

@@ -8,147 +8,147 @@ use mathlib.Core.Option.{Option, none, some}
 use mathlib.Core.List.{List, [], ◌∷◌}
 use native.Mathlib.Omega.{arith}
 use Rattle.ledger_spec.specs.Bench.{Handle, Node, Bench}
-use Rattle.ledger_spec.specs.Look.{nodeNamed, slot_of, top, sameHandle}
+use Rattle.ledger_spec.specs.Look.{node_named, slot_of, top, same_handle}
 use Rattle.ledger_spec.specs.Deeds.{size_of, sizes, members}
 use Rattle.ledger_spec.specs.Walk.{parent_in, outermost}
 use Rattle.ledger_spec.specs.SoundTree.{tally}
 use Rattle.ledger_spec.specs.Knit.{mk, nodes, In, Has, Up}
 use Rattle.ledger_spec.specs.Facts.{Sound}
-use Rattle.ledger_spec.proofs.Lists.{not-in-nil, in-cases}
-use Rattle.ledger_spec.proofs.Knit.{some-eq, none-some, same-handle, same_self, tally-in}
-use Rattle.ledger_spec.proofs.Passed.{node-has, has-node}
-use Rattle.ledger_spec.proofs.Walks.{size-least}
-use Rattle.ledger_spec.proofs.Chains.{outer-none, outer-some, outer-more}
+use Rattle.ledger_spec.proofs.Lists.{not_in_nil, in_cases}
+use Rattle.ledger_spec.proofs.Knit.{some_eq, none_some, same_handle_lem, same_self, tally_in}
+use Rattle.ledger_spec.proofs.Passed.{node_has, has_node}
+use Rattle.ledger_spec.proofs.Walks.{size_least}
+use Rattle.ledger_spec.proofs.Chains.{outer_none, outer_some, outer_more}
 use Rattle.ledger_laws.specs.Clean.{Descends, itself, inside}
 use Rattle.check_nests.specs.Nest.{before, Lies, outer, inner}
 
 -- ---- a circle's members one after the other
 module _ (b : Bench) where
   abbrev size : Handle → ℕ
-  size h = size_of (nodeNamed b h)
+  size h = size_of (node_named b h)
 
-  pub before_here : (h g : Handle) (gs : List Handle) → sameHandle h g ≡ true → before b h (g ∷ gs) ≡ 0
+  pub before_here : (h g : Handle) (gs : List Handle) → same_handle h g ≡ true → before b h (g ∷ gs) ≡ 0
   unfolding before
   before_here h g gs e = rw (e, before)
 
-  pub before-past : (h g : Handle) (gs : List Handle) → sameHandle h g ≡ false → before b h (g ∷ gs) ≡ size g + before b h gs
+  pub before_past : (h g : Handle) (gs : List Handle) → same_handle h g ≡ false → before b h (g ∷ gs) ≡ size g + before b h gs
   unfolding before
-  before-past h g gs e = rw (e, before)
+  before_past h g gs e = rw (e, before)
 
-  sizes-more : (g : Handle) (gs : List Handle) → sizes b (g ∷ gs) ≡ size g + sizes b gs
+  sizes_more : (g : Handle) (gs : List Handle) → sizes b (g ∷ gs) ≡ size g + sizes b gs
   unfolding sizes
-  sizes-more g gs = refl
+  sizes_more g gs = refl
 
-  later : (h g : Handle) (gs : List Handle) → sameHandle h g ≡ false → In h (g ∷ gs) → In h gs
-  later h g gs e i = go (in-cases i)
+  later : (h g : Handle) (gs : List Handle) → same_handle h g ≡ false → In h (g ∷ gs) → In h gs
+  later h g gs e i = go (in_cases i)
     where
       go : (h ≡ g) ⊎ In h gs → In h gs
-      go (inl q) = absurd (true≢false (sym (same_self h) ∙ ap (sameHandle h) q ∙ e))
+      go (inl q) = absurd (true≢false (sym (same_self h) ∙ ap (same_handle h) q ∙ e))
       go (inr j) = j
 
-  before-in : (h : Handle) (hs : List Handle) → In h hs → before b h hs + size h ≤ sizes b hs
-  before-in h [] i = absurd (not-in-nil i)
-  before-in h (g ∷ gs) i = go (sameHandle h g) refl (before-in h gs)
+  before_in : (h : Handle) (hs : List Handle) → In h hs → before b h hs + size h ≤ sizes b hs
+  before_in h [] i = absurd (not_in_nil i)
+  before_in h (g ∷ gs) i = go (same_handle h g) refl (before_in h gs)
     where
-      go : (c : Bool) → sameHandle h g ≡ c → (In h gs → before b h gs + size h ≤ sizes b gs) → before b h (g ∷ gs) + size h ≤ sizes b (g ∷ gs)
-      go true e ih = omega (arith, before_here h g gs e, sizes-more g gs, ap size (same-handle h g e))
-      go false e ih = omega (arith, before-past h g gs e, sizes-more g gs, ih (later h g gs e i))
+      go : (c : Bool) → same_handle h g ≡ c → (In h gs → before b h gs + size h ≤ sizes b gs) → before b h (g ∷ gs) + size h ≤ sizes b (g ∷ gs)
+      go true e ih = omega (arith, before_here h g gs e, sizes_more g gs, ap size (same_handle_lem h g e))
+      go false e ih = omega (arith, before_past h g gs e, sizes_more g gs, ih (later h g gs e i))
 
   -- what is before z in two of them is one
   apart : (c m : Handle) (hs : List Handle) (z : ℕ) → In c hs → In m hs → before b c hs ≤ z → z < before b c hs + size c → before b m hs ≤ z → z < before b m hs + size m → c ≡ m
-  apart c m [] z i j p q s t = absurd (not-in-nil i)
-  apart c m (g ∷ gs) z i j p q s t = go (sameHandle c g) refl (sameHandle m g) refl (apart c m gs (z - size g))
+  apart c m [] z i j p q s t = absurd (not_in_nil i)
+  apart c m (g ∷ gs) z i j p q s t = go (same_handle c g) refl (same_handle m g) refl (apart c m gs (z - size g))
     where
-      go : (x : Bool) → sameHandle c g ≡ x → (y : Bool) → sameHandle m g ≡ y
+      go : (x : Bool) → same_handle c g ≡ x → (y : Bool) → same_handle m g ≡ y
           → (In c gs → In m gs → before b c gs ≤ z - size g → z - size g < before b c gs + size c → before b m gs ≤ z - size g → z - size g < before b m gs + size m → c ≡ m) → c ≡ m
-      go true x true y ih = same-handle c g x ∙ sym (same-handle m g y)
-      go true x false y ih = absurd (omega (arith, q, s, before_here c g gs x, before-past m g gs y, ap size (same-handle c g x)))
-      go false x true y ih = absurd (omega (arith, p, t, before_here m g gs y, before-past c g gs x, ap size (same-handle m g y)))
+      go true x true y ih = same_handle_lem c g x ∙ sym (same_handle_lem m g y)
+      go true x false y ih = absurd (omega (arith, q, s, before_here c g gs x, before_past m g gs y, ap size (same_handle_lem c g x)))
+      go false x true y ih = absurd (omega (arith, p, t, before_here m g gs y, before_past c g gs x, ap size (same_handle_lem m g y)))
       go false x false y ih =
-          let d = before-past c g gs x in
-          let e = before-past m g gs y in
+          let d = before_past c g gs x in
+          let e = before_past m g gs y in
           ih (later c g gs x i) (later m g gs y j) (omega (arith, d, p)) (omega (arith, d, p, q)) (omega (arith, e, s)) (omega (arith, e, s, t))
 
 -- ---- a node and its parent
 pub record Part (b : Bench) (h p : Handle) : Type 0 where
-  pub listed : In h (members (nodeNamed b p))
-  pub once : tally (sameHandle h) (members (nodeNamed b p)) ≡ 1
-  pub within : before b h (members (nodeNamed b p)) + size_of (nodeNamed b h) ≤ size_of (nodeNamed b p)
+  pub listed : In h (members (node_named b p))
+  pub once : tally (same_handle h) (members (node_named b p)) ≡ 1
+  pub within : before b h (members (node_named b p)) + size_of (node_named b h) ≤ size_of (node_named b p)
   pub older : h.serial < p.serial
 
 module _ (b : Bench) (S : Sound b) where
-  pub part : (h p : Handle) → parent_in (nodeNamed b h) ≡ some p → Part b h p
-  part h p f = go (nodeNamed b h) refl
+  pub part : (h p : Handle) → parent_in (node_named b h) ≡ some p → Part b h p
+  part h p f = go (node_named b h) refl
     where
-      go : (o : Option Node) → nodeNamed b h ≡ o → Part b h p
-      go none e = absurd (none-some (ap parent_in e) f)
+      go : (o : Option Node) → node_named b h ≡ o → Part b h p
+      go none e = absurd (none_some (ap parent_in e) f)
       go (some n) e = record {
-        listed = tally-in h (members (nodeNamed b p)) 0 once;
+        listed = tally_in h (members (node_named b p)) 0 once;
         once = once;
-        within = omega (arith, before-in b h (members (nodeNamed b p)) (tally-in h (members (nodeNamed b p)) 0 once), ap (sizes b) circle, ap size_of over, ((S.rings p.unit p.slot U.over U.has.stands).circle U.ms U.ring).size);
+        within = omega (arith, before_in b h (members (node_named b p)) (tally_in h (members (node_named b p)) 0 once), ap (sizes b) circle, ap size_of over, ((S.rings p.unit p.slot U.over U.has.stands).circle U.ms U.ring).size);
         older = omega (arith, U.older, H.serial);
       }
         where
           H : Has (slot_of b) h n
-          H = node-has b h n e
+          H = node_has b h n e
 
           U : Up (slot_of b) (top b) h.unit h.slot n p
           U = S.sewn.knit.up h.unit h.slot n p H.stands (sym (ap parent_in e) ∙ f)
 
-          over : nodeNamed b p ≡ some U.over
-          over = has-node b p U.over U.has
+          over : node_named b p ≡ some U.over
+          over = has_node b p U.over U.has
 
-          circle : members (nodeNamed b p) ≡ nodes U.ms
+          circle : members (node_named b p) ≡ nodes U.ms
           circle = rw (over, U.ring, members)
 
           self : mk h.unit h.slot n ≡ h
           self = ap (λ (z : ℕ). record { unit = h.unit; slot = h.slot; serial = z }) H.serial
 
-          once : tally (sameHandle h) (members (nodeNamed b p)) ≡ 1
-          once = ap (tally (sameHandle h)) circle ∙ subst (λ (x : Handle). tally (sameHandle x) (nodes U.ms) ≡ 1) self U.once
+          once : tally (same_handle h) (members (node_named b p)) ≡ 1
+          once = ap (tally (same_handle h)) circle ∙ subst (λ (x : Handle). tally (same_handle x) (nodes U.ms) ≡ 1) self U.once
 
   -- ---- where a node lies: in one place, within its outermost blossom
-  lies-one : {r q h : Handle} {x y : ℕ} → Lies b r h x → Lies b q h y → x ≡ y
-  lies-one (outer f e) (outer g d) = e ∙ sym d
-  lies-one (outer f e) (inner p g M d) = absurd (none-some f g)
-  lies-one (inner p f L e) (outer g d) = absurd (none-some g f)
-  lies-one {r} {q} {h} (inner {y = u} p f L e) (inner {y = v} s g M d) =
-      let w : s ≡ p = some-eq g f in
-      omega (arith, e, d, lies-one L (subst (λ (k : Handle). Lies b q k v) w M), ap (λ (k : Handle). before b h (members (nodeNamed b k))) w)
+  lies_one : {r q h : Handle} {x y : ℕ} → Lies b r h x → Lies b q h y → x ≡ y
+  lies_one (outer f e) (outer g d) = e ∙ sym d
+  lies_one (outer f e) (inner p g M d) = absurd (none_some f g)
+  lies_one (inner p f L e) (outer g d) = absurd (none_some g f)
+  lies_one {r} {q} {h} (inner {y = u} p f L e) (inner {y = v} s g M d) =
+      let w : s ≡ p = some_eq g f in
+      omega (arith, e, d, lies_one L (subst (λ (k : Handle). Lies b q k v) w M), ap (λ (k : Handle). before b h (members (node_named b k))) w)
 
-  pub lies_within : {r h : Handle} {x : ℕ} → Lies b r h x → x + size_of (nodeNamed b h) ≤ size_of (nodeNamed b r)
+  pub lies_within : {r h : Handle} {x : ℕ} → Lies b r h x → x + size_of (node_named b h) ≤ size_of (node_named b r)
   lies_within (outer f e) = omega (arith, e)
   lies_within (inner {h} p f L e) = omega (arith, e, (part h p f).within, lies_within L)
 
-  lies-descends : {r h : Handle} {x : ℕ} → Lies b r h x → Descends b r h
-  lies-descends (outer f e) = itself
-  lies-descends (inner p f L e) = inside p f (lies-descends L)
+  lies_descends : {r h : Handle} {x : ℕ} → Lies b r h x → Descends b r h
+  lies_descends (outer f e) = itself
+  lies_descends (inner p f L e) = inside p f (lies_descends L)
 
-  pub lies-outer : {r h : Handle} {x : ℕ} → Lies b r h x → outermost b h ≡ r
-  lies-outer {r} (outer f e) = outer-none b 512 r f
-  lies-outer (inner {h} p f L e) = up (nodeNamed b h) refl ∙ lies-outer L
+  pub lies_outer : {r h : Handle} {x : ℕ} → Lies b r h x → outermost b h ≡ r
+  lies_outer {r} (outer f e) = outer_none b 512 r f
+  lies_outer (inner {h} p f L e) = up (node_named b h) refl ∙ lies_outer L
     where
-      up : (o : Option Node) → nodeNamed b h ≡ o → outermost b h ≡ outermost b p
-      up none q = absurd (none-some (ap parent_in q) f)
-      up (some n) q = sym (outer-more b S h n q 513 (omega arith)) ∙ outer-some b 512 h p f
+      up : (o : Option Node) → node_named b h ≡ o → outermost b h ≡ outermost b p
+      up none q = absurd (none_some (ap parent_in q) f)
+      up (some n) q = sym (outer_more b S h n q 513 (omega arith)) ∙ outer_some b 512 h p f
 
   -- ---- t under p by the member c, with the vertex z
   record Through (r p t : Handle) (z : ℕ) : Type 0 where
     c : Handle
     at : ℕ
-    parent : parent_in (nodeNamed b c) ≡ some p
+    parent : parent_in (node_named b c) ≡ some p
     lies : Lies b r c at
     low : at ≤ z
-    high : z < at + size_of (nodeNamed b c)
+    high : z < at + size_of (node_named b c)
     under : Descends b c t
 
-  through : {r p t : Handle} {x : ℕ} (z : ℕ) → Descends b p t → Lies b r t x → x ≤ z → z < x + size_of (nodeNamed b t) → (t ≡ p) ⊎ Through r p t z
+  through : {r p t : Handle} {x : ℕ} (z : ℕ) → Descends b p t → Lies b r t x → x ≤ z → z < x + size_of (node_named b t) → (t ≡ p) ⊎ Through r p t z
   through z itself L l h = inl refl
-  through z (inside q f d) (outer g e) l h = absurd (none-some g f)
-  through {r} {p} {t} {x} z (inside q f d) (inner {y = y} s g L e) l h = go (through z d lies (omega (arith, e, l)) (omega (arith, e, h, (part t q f).within, ap (λ (k : Handle). before b t (members (nodeNamed b k))) w)))
+  through z (inside q f d) (outer g e) l h = absurd (none_some g f)
+  through {r} {p} {t} {x} z (inside q f d) (inner {y = y} s g L e) l h = go (through z d lies (omega (arith, e, l)) (omega (arith, e, h, (part t q f).within, ap (λ (k : Handle). before b t (members (node_named b k))) w)))
     where
       w : s ≡ q
-      w = some-eq g f
+      w = some_eq g f
 
       lies : Lies b r q y
       lies = subst (λ (k : Handle). Lies b r k y) w L
@@ -158,20 +158,20 @@ module _ (b : Bench) (S : Sound b) where
       go (inr T) = inr (record { c = T.c; at = T.at; parent = T.parent; lies = T.lies; low = T.low; high = T.high; under = inside q f T.under })
 
   -- ---- nodes that share the vertex z
-  shared : {r m t : Handle} {x y : ℕ} (z : ℕ) → Lies b r m y → Lies b r t x → x ≤ z → z < x + size_of (nodeNamed b t) → y ≤ z → z < y + size_of (nodeNamed b m) → Descends b m t ⊎ Descends b t m
-  shared z (outer f e) L l h i j = inl (lies-descends L)
+  shared : {r m t : Handle} {x y : ℕ} (z : ℕ) → Lies b r m y → Lies b r t x → x ≤ z → z < x + size_of (node_named b t) → y ≤ z → z < y + size_of (node_named b m) → Descends b m t ⊎ Descends b t m
+  shared z (outer f e) L l h i j = inl (lies_descends L)
   shared {r} {m} {t} z (inner {y = v} p f M e) L l h i j = go (shared z M L l h (omega (arith, e, i)) (omega (arith, e, j, P.within)))
     where
       P : Part b m p
       P = part m p f
 
-      ring : {c : Handle} {a : ℕ} → parent_in (nodeNamed b c) ≡ some p → Lies b r c a → a ≤ z → z < a + size_of (nodeNamed b c) → c ≡ m
-      ring q (outer g d) k n = absurd (none-some g q)
+      ring : {c : Handle} {a : ℕ} → parent_in (node_named b c) ≡ some p → Lies b r c a → a ≤ z → z < a + size_of (node_named b c) → c ≡ m
+      ring q (outer g d) k n = absurd (none_some g q)
       ring {c} q (inner {y = u} s g K d) k n =
-          let w : s ≡ p = some-eq g q in
-          let one : u ≡ v = lies-one K (subst (λ (x : Handle). Lies b r x v) (sym w) M) in
-          let same = ap (λ (x : Handle). before b c (members (nodeNamed b x))) w in
-          apart b c m (members (nodeNamed b p)) (z - v) (part c p q).listed P.listed
+          let w : s ≡ p = some_eq g q in
+          let one : u ≡ v = lies_one K (subst (λ (x : Handle). Lies b r x v) (sym w) M) in
+          let same = ap (λ (x : Handle). before b c (members (node_named b x))) w in
+          apart b c m (members (node_named b p)) (z - v) (part c p q).listed P.listed
           (omega (arith, d, k, one, same)) (omega (arith, d, k, n, one, same)) (omega (arith, e, i)) (omega (arith, e, i, j))
 
       go : Descends b p t ⊎ Descends b t p → Descends b m t ⊎ Descends b t m
@@ -190,8 +190,8 @@ module _ (b : Bench) (S : Sound b) where
       go (inl q) = omega (arith, (part m p f).older, ap (λ (k : Handle). k.serial) q)
       go (inr l) = omega (arith, (part m p f).older, l)
 
-  pub lies-under : {r m t : Handle} {x y : ℕ} (n : Node) → nodeNamed b t ≡ some n → Lies b r m y → Lies b r t x → y ≤ x → x < y + size_of (nodeNamed b m) → t.serial ≤ m.serial → Descends b m t
-  lies-under {r} {m} {t} {x} {y} n e M L l h s = go (shared x M L (omega arith) (omega (arith, ap size_of e, size-least b S t n e)) l h)
+  pub lies_under : {r m t : Handle} {x y : ℕ} (n : Node) → node_named b t ≡ some n → Lies b r m y → Lies b r t x → y ≤ x → x < y + size_of (node_named b m) → t.serial ≤ m.serial → Descends b m t
+  lies_under {r} {m} {t} {x} {y} n e M L l h s = go (shared x M L (omega arith) (omega (arith, ap size_of e, size_least b S t n e)) l h)
     where
       go : Descends b m t ⊎ Descends b t m → Descends b m t
       go (inl d) = d

@@ -3,13 +3,13 @@
 // Only the lent table is written. A slot's word is 0 where nothing is noted, and then the walk up tells. Assumes nothing.
 ghost use Rattle.std.specs.Prelude.{◌≡◌, true, ◌<◌, ◌≤◌};
 ghost use Rattle.std.proofs.Math.Option.{none};
-ghost use Rattle.bench_words.specs.Store.{nodeAt};
-ghost use Rattle.ledger_spec.specs.Look.{nodeNamed};
-ghost use Rattle.ledger_spec.specs.Named.{handleNamed};
+ghost use Rattle.bench_words.specs.Store.{node_at};
+ghost use Rattle.ledger_spec.specs.Look.{node_named};
+ghost use Rattle.ledger_spec.specs.Named.{handle_named};
 ghost use Rattle.ledger_spec.specs.Walk.{parent_in, outermost};
 ghost use Rattle.ledger_laws.specs.Clean.{Descends};
 ghost use Rattle.bench_views.specs.Fit.{Fit};
-ghost use Rattle.bench_views.specs.View.{view, handleAt};
+ghost use Rattle.bench_views.specs.View.{view, handle_at};
 ghost use Rattle.bench_links.specs.Find.{Stands};
 ghost use Rattle.bench_vertices.specs.Under.{Placed};
 ghost use Rattle.check_nests.specs.Nest.{Nests};
@@ -26,7 +26,7 @@ const SPAN: u64 = 512;
 // The handle of the node at a position.
 pub fn handle_at(b: &[u64; WORDS], k: usize) -> Handle
     requires { k < 512 }
-    ensures { handleNamed result ≡ handleAt (nodeAt b.now) k }
+    ensures { handle_named result ≡ handle_at (node_at b.now) k }
 {
     let n = bench_words::load_node(b, k);
     let serial = n.serial;
@@ -99,7 +99,7 @@ fn after(b: &[u64; WORDS], k: usize) -> usize
 fn spread(b: &[u64; WORDS], k: usize, t: &mut [u64; SLOTS])
     requires fit { Fit b.now }
     requires placed { Placed b.now k }
-    requires k_value { parent_in (nodeNamed (view b.now) (handleAt (nodeAt b.now) k)) ≡ none }
+    requires k_value { parent_in (node_named (view b.now) (handle_at (node_at b.now) k)) ≡ none }
     requires nests { Nests b.now t.old }
     ensures { Nests b.now t.new }
 {
@@ -140,7 +140,7 @@ pub fn outer(b: &[u64; WORDS], k: usize, t: &[u64; SLOTS]) -> Handle
     requires fit { Fit b.now }
     requires placed { Placed b.now k }
     requires nests { Nests b.now t.now }
-    ensures { (handleNamed result ≡ outermost (view b.now) (handleAt (nodeAt b.now) k)) × Stands b.now (handleNamed result) }
+    ensures { (handle_named result ≡ outermost (view b.now) (handle_at (node_at b.now) k)) × Stands b.now (handle_named result) }
 {
     let w = t[k];
     if w == 0 {
@@ -156,7 +156,7 @@ pub fn is_within(b: &[u64; WORDS], m: usize, k: usize, t: &[u64; SLOTS]) -> bool
     requires placed { Placed b.now m }
     requires placed_2 { Placed b.now k }
     requires nests { Nests b.now t.now }
-    ensures { result ≡ true → Descends (view b.now) (handleAt (nodeAt b.now) m) (handleAt (nodeAt b.now) k) }
+    ensures { result ≡ true → Descends (view b.now) (handle_at (node_at b.now) m) (handle_at (node_at b.now) k) }
 {
     let v = t[m];
     let w = t[k];

@@ -17,17 +17,17 @@ or_right true = refl
 or_right false = refl
 
 -- ---- among those known
-pub known-yes : (t : List ℕ) (v n j : ℕ) → j < n → vertex t j ≡ v → any (eqb v) (known t n) ≡ true
+pub known_yes : (t : List ℕ) (v n j : ℕ) → j < n → vertex t j ≡ v → any (eqb v) (known t n) ≡ true
 unfolding any known
-known-yes t v zero j l e = absurd (omega arith)
-known-yes t v (suc n) j l e = by_cases (ℕ_discrete j n)
+known_yes t v zero j l e = absurd (omega arith)
+known_yes t v (suc n) j l e = by_cases (ℕ_discrete j n)
     (λ (q : j ≡ n). ap (λ (c : Bool). c || any (eqb v) (known t n)) (eq-eqb v (vertex t n) (sym e ∙ ap (vertex t) q)))
-    (λ (q : j ≡ n → ⊥). ap (λ (c : Bool). eqb v (vertex t n) || c) (known-yes t v n j (omega arith) e) ∙ or_right (eqb v (vertex t n)))
+    (λ (q : j ≡ n → ⊥). ap (λ (c : Bool). eqb v (vertex t n) || c) (known_yes t v n j (omega arith) e) ∙ or_right (eqb v (vertex t n)))
 
-pub known-no : (t : List ℕ) (v n : ℕ) → ((j : ℕ) → j < n → vertex t j ≡ v → ⊥) → any (eqb v) (known t n) ≡ false
+pub known_no : (t : List ℕ) (v n : ℕ) → ((j : ℕ) → j < n → vertex t j ≡ v → ⊥) → any (eqb v) (known t n) ≡ false
 unfolding any known
-known-no t v zero h = refl
-known-no t v (suc n) h = ap₂ ◌||◌ (ne_eqb v (vertex t n) (λ e. h n (omega arith) (sym e))) (known-no t v n (λ j l. h j (omega arith)))
+known_no t v zero h = refl
+known_no t v (suc n) h = ap₂ ◌||◌ (ne_eqb v (vertex t n) (λ e. h n (omega arith) (sym e))) (known_no t v n (λ j l. h j (omega arith)))
 
 -- ---- a word that names no entry leads nowhere, and one that names entry q to q or on from there
 stuck : {t : List ℕ} {c r j : ℕ} → get_or t c 0 ≡ 0 → Leads t c r j → ⊥
@@ -51,8 +51,8 @@ pub record Looked (t : List ℕ) (n v cell rest p : ℕ) : Type 0 where
   pub way : (u : List ℕ) → Grown t u → (j : ℕ) → Leads u cell rest j → Leads u (v % 512) (v / 512) j
 
 module _ (t : List ℕ) (n v : ℕ) (K : Keeps t n) where
-  pub look-starts : Looked t n v (v % 512) (v / 512) (get_or t (v % 512) 0)
-  look-starts = record {
+  pub look_starts : Looked t n v (v % 512) (v / 512) (get_or t (v % 512) 0)
+  look_starts = record {
     read = refl;
     low = omega arith;
     names = λ j e. omega arith;
@@ -61,8 +61,8 @@ module _ (t : List ℕ) (n v : ℕ) (K : Keeps t n) where
   }
 
   module _ (cell rest p : ℕ) (L : Looked t n v cell rest p) where
-    pub look-ends : p ≡ 0 → false ≡ any (eqb v) (known t n)
-    look-ends z = sym (known-no t v n (λ j l e. stuck (sym L.read ∙ z) (L.older j l e)))
+    pub look_ends : p ≡ 0 → false ≡ any (eqb v) (known t n)
+    look_ends z = sym (known_no t v n (λ j l e. stuck (sym L.read ∙ z) (L.older j l e)))
 
     module _ (l : 0 < p) where
       abbrev q : ℕ
@@ -77,17 +77,17 @@ module _ (t : List ℕ) (n v : ℕ) (K : Keeps t n) where
       at : 509 + 3 * p ≡ 512 + 3 * q
       at = omega arith
 
-      pub look-few : p ≤ n
-      look-few = omega (arith, on.0)
+      pub look_few : p ≤ n
+      look_few = omega (arith, on.0)
 
-      pub look-falls : cell < 509 + 3 * p + 1 + rest % 2
-      look-falls = omega (arith, on.1)
+      pub look_falls : cell < 509 + 3 * p + 1 + rest % 2
+      look_falls = omega (arith, on.1)
 
-      pub look-found : get_or t (509 + 3 * p) 0 ≡ v → true ≡ any (eqb v) (known t n)
-      look-found e = sym (known-yes t v n q on.0 (ap (λ (x : ℕ). get_or t x 0) (sym at) ∙ e))
+      pub look_found : get_or t (509 + 3 * p) 0 ≡ v → true ≡ any (eqb v) (known t n)
+      look_found e = sym (known_yes t v n q on.0 (ap (λ (x : ℕ). get_or t x 0) (sym at) ∙ e))
 
-      pub look-on : (get_or t (509 + 3 * p) 0 ≡ v → ⊥) → Looked t n v (509 + 3 * p + 1 + rest % 2) (rest / 2) (get_or t (509 + 3 * p + 1 + rest % 2) 0)
-      look-on ne = subst (λ (x : ℕ). Looked t n v (x + 1 + rest % 2) (rest / 2) (get_or t (x + 1 + rest % 2) 0)) (sym at) (record {
+      pub look_on : (get_or t (509 + 3 * p) 0 ≡ v → ⊥) → Looked t n v (509 + 3 * p + 1 + rest % 2) (rest / 2) (get_or t (509 + 3 * p + 1 + rest % 2) 0)
+      look_on ne = subst (λ (x : ℕ). Looked t n v (x + 1 + rest % 2) (rest / 2) (get_or t (x + 1 + rest % 2) 0)) (sym at) (record {
         read = refl;
         low = omega (arith, on.0);
         names = λ j e. omega arith;
@@ -99,12 +99,12 @@ module _ (t : List ℕ) (n v : ℕ) (K : Keeps t n) where
 pub fresh : Keeps (replicate 2048 0) 0
 fresh = record {
   long = length-replicate {A = ℕ} 2048 0;
-  ahead = λ c q a e. absurd (omega (arith, e, zero-at c));
+  ahead = λ c q a e. absurd (omega (arith, e, zero_at c));
   led = λ j l. absurd (omega arith);
-  blank = λ c l. zero-at c;
+  blank = λ c l. zero_at c;
 }
   where
-    zero-at : (c : ℕ) → get_or {A = ℕ} (replicate 2048 0) c 0 ≡ 0
-    zero-at c = by_cases (dec_lt c 2048)
+    zero_at : (c : ℕ) → get_or {A = ℕ} (replicate 2048 0) c 0 ≡ 0
+    zero_at c = by_cases (dec_lt c 2048)
         (λ (l : c < 2048). get_or-replicate {A = ℕ} 2048 c 0 0 l)
         (λ (l : c < 2048 → ⊥). get_or-eq_default {A = ℕ} (replicate 2048 0) 0 {n = c} (omega (arith, length-replicate {A = ℕ} 2048 0)))

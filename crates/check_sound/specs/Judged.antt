@@ -2,22 +2,22 @@
 use Rattle.std.specs.Prelude.{ℕ, ◌≡◌, Bool, true, false, List}
 use Rattle.ledger_spec.specs.Bench.{Bench}
 use Rattle.ledger_spec.specs.Tests.{first}
-use Rattle.ledger_spec.specs.Refuse.{unitTests}
+use Rattle.ledger_spec.specs.Refuse.{unit_tests}
 use Rattle.ledger_spec.specs.Reads.{said}
-use Rattle.ledger_spec.specs.Check.{verdict, strictVerdict}
+use Rattle.ledger_spec.specs.Check.{verdict, strict_verdict}
 use Rattle.bench_views.specs.View.{view}
 use Rattle.check_walks.specs.declared.Judged.{Judged}
 use Rattle.check_sound.specs.declared.Checked.{Checked}
 
-abbrev pub shownCheck : Checked → ℕ × (ℕ × ℕ)
-shownCheck r = (r.number, (r.verdict, r.index.0))
+abbrev pub shown_check : Checked → ℕ × (ℕ × ℕ)
+shown_check r = (r.number, (r.verdict, r.index.0))
 
-unfoldable pub verdictBy : Bool → Bench → ℕ → ℕ × ℕ
-verdictBy true b u = strictVerdict b u
-verdictBy false b u = verdict b u
+unfoldable pub verdict_by : Bool → Bench → ℕ → ℕ × ℕ
+verdict_by true b u = strict_verdict b u
+verdict_by false b u = verdict b u
 
-abbrev pub judgedBy : Bool → Bench → ℕ → ℕ × (ℕ × ℕ)
-judgedBy s b u = said (first (unitTests b u)) (verdictBy s b u) (0, 0)
+abbrev pub judged_by : Bool → Bench → ℕ → ℕ × (ℕ × ℕ)
+judged_by s b u = said (first (unit_tests b u)) (verdict_by s b u) (0, 0)
 
 abbrev pub Judges : List ℕ → ℕ → Bool → Judged → Type 0
-Judges b unit s r = (r.verdict, r.index.0) ≡ verdictBy s (view b) unit
+Judges b unit s r = (r.verdict, r.index.0) ≡ verdict_by s (view b) unit

@@ -3,10 +3,10 @@
 ghost use Rattle.std.specs.Prelude.{◌≡◌, ◌<◌};
 ghost use Rattle.std.proofs.Math.Option.{none};
 ghost use Rattle.ledger_spec.specs.Look.{interface};
-ghost use Rattle.ledger_spec.specs.Check.{checkOf, strictOf};
+ghost use Rattle.ledger_spec.specs.Check.{check_of, strict_of};
 ghost use Rattle.bench_views.specs.Fit.{Fit};
 ghost use Rattle.bench_views.specs.View.{view};
-ghost use Rattle.check_sound.specs.Judged.{shownCheck, judgedBy, Judges};
+ghost use Rattle.check_sound.specs.Judged.{shown_check, judged_by, Judges};
 
 use bench_words::WORDS;
 use check_walks::Judged;
@@ -53,7 +53,7 @@ fn judge(b: &[u64; WORDS], unit: usize, strict: bool) -> Judged
 
 fn check(b: &[u64; WORDS], unit: u8, strict: bool) -> Checked
     requires { Fit b.now }
-    ensures { shownCheck result ≡ judgedBy strict (view b.now) unit }
+    ensures { shown_check result ≡ judged_by strict (view b.now) unit }
 {
     let number = read_sound::unit_number(b, unit);
     if number != 0 {
@@ -74,14 +74,14 @@ fn check(b: &[u64; WORDS], unit: u8, strict: bool) -> Checked
 
 pub fn sanity_check(b: &[u64; WORDS], unit: u8) -> Checked
     requires { Fit b.now }
-    ensures { shownCheck result ≡ checkOf (view b.now) unit }
+    ensures { shown_check result ≡ check_of (view b.now) unit }
 {
     check(b, unit, false)
 }
 
 pub fn strict_check(b: &[u64; WORDS], unit: u8) -> Checked
     requires { Fit b.now }
-    ensures { shownCheck result ≡ strictOf (view b.now) unit }
+    ensures { shown_check result ≡ strict_of (view b.now) unit }
 {
     check(b, unit, true)
 }

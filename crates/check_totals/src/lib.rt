@@ -1,11 +1,11 @@
 // The total of the values of a tree's present nodes, 2^62 higher than it is, as a stored sum stands. Everything here only reads. Assumes nothing.
 ghost use Rattle.std.specs.Prelude.{◌≡◌, ◌/◌, ◌%◌, ◌<◌, ◌≤◌};
-ghost use Rattle.bench_words.specs.Store.{interfaceAt};
+ghost use Rattle.bench_words.specs.Store.{interface_at};
 ghost use Rattle.ledger_spec.specs.Reads.{slots_of};
 ghost use Rattle.ledger_spec.specs.Check.{total_of};
 ghost use Rattle.bench_views.specs.Fit.{Fit};
 ghost use Rattle.bench_views.specs.Records.{Steady};
-ghost use Rattle.bench_views.specs.View.{off, sumUp, view};
+ghost use Rattle.bench_views.specs.View.{off, sum_up, view};
 ghost use Rattle.check_places.specs.Places.{Places};
 ghost use Rattle.check_totals.specs.Total.{Added};
 
@@ -15,8 +15,8 @@ use bench_words::{Interface, Node, WORDS};
 fn progress(b: &[u64; WORDS], u: usize, last: usize, t: u64) -> u64
     requires steady { Steady b.now }
     requires u_bound { u < 8 }
-    requires t_value { t ≡ sumUp 8 (interfaceAt b.now) last }
-    ensures { result ≡ sumUp 8 (interfaceAt b.now) u }
+    requires t_value { t ≡ sum_up 8 (interface_at b.now) last }
+    ensures { result ≡ sum_up 8 (interface_at b.now) u }
 {
     if u == last {
         return t;
@@ -29,8 +29,8 @@ fn progress(b: &[u64; WORDS], u: usize, last: usize, t: u64) -> u64
 fn add(b: &[u64; WORDS], k: usize, t: u64, sum: u64) -> u64
     requires fit { Fit b.now }
     requires k_bound { k / 64 < 8 }
-    requires k_bound_2 { k % 64 < (interfaceAt b.now (k / 64)).used }
-    requires t_value { t ≡ sumUp 8 (interfaceAt b.now) (k / 64) }
+    requires k_bound_2 { k % 64 < (interface_at b.now (k / 64)).used }
+    requires t_value { t ≡ sum_up 8 (interface_at b.now) (k / 64) }
     requires le_sum { 2305843009213693952 ≤ sum }
     requires sum_bound { sum ≤ 6917529027641081856 }
     ensures { Added b.now k sum result }

@@ -2,7 +2,7 @@
 // where nodes lie in their nests is noted in a lent table, for this walk and a later one. Assumes nothing.
 ghost use Rattle.std.specs.Prelude.{◌≡◌, ◌<◌, ◌≤◌};
 ghost use Rattle.std.proofs.Math.Option.{none};
-ghost use Rattle.bench_words.specs.Store.{nodeAt};
+ghost use Rattle.bench_words.specs.Store.{node_at};
 ghost use Rattle.kinds.specs.declared.Class.TheVariants.{Blossom};
 ghost use Rattle.ledger_spec.specs.Look.{interface};
 ghost use Rattle.bench_views.specs.Fit.{Fit};
@@ -56,7 +56,7 @@ fn look_circle(
     requires unit_bound { unit < 8 }
     requires unit_value { (interface (view b.now) unit).parent ≡ none }
     requires placed { Placed b.now p }
-    requires p_value { (nodeAt b.now p).class ≡ Blossom }
+    requires p_value { (node_at b.now p).class ≡ Blossom }
     requires nests { Nests b.now t.old }
     ensures { Ringed b.now unit p strict result × Nests b.now t.new }
 {

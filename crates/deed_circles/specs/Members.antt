@@ -7,23 +7,23 @@ use Rattle.kinds.specs.declared.Parent.TheVariants.{Inside}
 use Rattle.bench_words.specs.Codec.{handle_of}
 use Rattle.bench_words.specs.declared.Node.{Node}
 use Rattle.bench_words.specs.declared.Interface.{Interface}
-use Rattle.bench_views.specs.View.{sumUp}
-use Rattle.deed_nodes.specs.Steps.{noSeat, newNode, remarked}
+use Rattle.bench_views.specs.View.{sum_up}
+use Rattle.deed_nodes.specs.Steps.{no_seat, new_node, remarked}
 use Rattle.deed_nodes.specs.declared.Seat.{Seat}
-use Rattle.deed_circles.specs.Given.{nextSpot, touchWord}
+use Rattle.deed_circles.specs.Given.{next_spot, touch_word}
 
 -- member i in the circle of q
-abbrev pub seatOf : List ℕ → List ℕ → Packed → ℕ → Seat
-seatOf ms ts q i = record { parent = Inside q; place = i; next = nextSpot ms i; left = handle_of (touchWord ms ts i 0); right = handle_of (touchWord ms ts i 1) }
+abbrev pub seat_of : List ℕ → List ℕ → Packed → ℕ → Seat
+seat_of ms ts q i = record { parent = Inside q; place = i; next = next_spot ms i; left = handle_of (touch_word ms ts i 0); right = handle_of (touch_word ms ts i 1) }
 
 -- the node at position k stays, in a seat
-abbrev pub takenNode : (ℕ → Interface) → (ℕ → Node) → ℕ → Seat → Node
-takenNode U A k s = remarked (A k) (sumUp 8 U (k / 64)) Stay s
+abbrev pub taken_node : (ℕ → Interface) → (ℕ → Node) → ℕ → Seat → Node
+taken_node U A k s = remarked (A k) (sum_up 8 U (k / 64)) Stay s
 
 -- the node at position k grows, without a seat
-abbrev pub freedNode : (ℕ → Interface) → (ℕ → Node) → ℕ → Node
-freedNode U A k = remarked (A k) (sumUp 8 U (k / 64)) Growing noSeat
+abbrev pub freed_node : (ℕ → Interface) → (ℕ → Node) → ℕ → Node
+freed_node U A k = remarked (A k) (sum_up 8 U (k / 64)) Growing no_seat
 
 -- a new blossom
-abbrev pub blossomNode : (serial first count size t : ℕ) → Node
-blossomNode serial first count size t = newNode serial Blossom size first count t
+abbrev pub blossom_node : (serial first count size t : ℕ) → Node
+blossom_node serial first count size t = new_node serial Blossom size first count t

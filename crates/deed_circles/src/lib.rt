@@ -3,16 +3,16 @@
 ghost use Rattle.std.specs.Prelude.{◌≡◌, false, ◌+◌, ◌*◌, ◌/◌, ◌%◌, ◌<◌, ◌≤◌, length};
 ghost use Rattle.slot_map.specs.Slots.{put};
 ghost use Rattle.bench_words.specs.Codec.{handle_of};
-ghost use Rattle.bench_words.specs.Store.{nodeAt, interfaceAt, storeNode, mapAt, storeMap};
+ghost use Rattle.bench_words.specs.Store.{node_at, interface_at, store_node, map_at, store_map};
 ghost use Rattle.ledger_spec.specs.Tests.{first};
-ghost use Rattle.ledger_spec.specs.Refuse.{blossomTests, expandTests};
-ghost use Rattle.ledger_spec.specs.Deeds.{newHandle, addBlossom, removeBlossom};
-ghost use Rattle.ledger_spec.specs.Named.{handleNamed};
-ghost use Rattle.bench_views.specs.Records.{Steady, Ranged, rateOf};
-ghost use Rattle.bench_views.specs.View.{sumUp, view};
+ghost use Rattle.ledger_spec.specs.Refuse.{blossom_tests, expand_tests};
+ghost use Rattle.ledger_spec.specs.Deeds.{new_handle, add_blossom, remove_blossom};
+ghost use Rattle.ledger_spec.specs.Named.{handle_named};
+ghost use Rattle.bench_views.specs.Records.{Steady, Ranged, rate_of};
+ghost use Rattle.bench_views.specs.View.{sum_up, view};
 ghost use Rattle.bench_views.specs.Fit.{Fit, Done};
-ghost use Rattle.deed_circles.specs.Given.{spot_of, handsGiven, pairsGiven, nextSpot, touchWord};
-ghost use Rattle.deed_circles.specs.Members.{seatOf, takenNode, freedNode};
+ghost use Rattle.deed_circles.specs.Given.{spot_of, hands_given, pairs_given, next_spot, touch_word};
+ghost use Rattle.deed_circles.specs.Members.{seat_of, taken_node, freed_node};
 
 use bench_words::WORDS;
 use deed_nodes::Seat;
@@ -35,7 +35,7 @@ pub fn spot(w: u64) -> usize
 // The position of the member after member i, or 0.
 fn following(members: &[u64], i: usize) -> u64
     requires { i < length members.now }
-    ensures { result ≡ nextSpot members.now i }
+    ensures { result ≡ next_spot members.now i }
 {
     if i + 1 < members.len() {
         return spot(members[i + 1]) as u64;
@@ -46,7 +46,7 @@ fn following(members: &[u64], i: usize) -> u64
 // A touching handle of member i, the first or the second: itself where none are given.
 fn touch(members: &[u64], touching: &[u64], i: usize, d: usize) -> Handle
     requires { (i < length members.now) × (d < 2) × (length members.now ≤ 64) × ((length touching.now ≡ 0 → ⊥) → length touching.now ≡ length members.now * 2) }
-    ensures { result ≡ handle_of (touchWord members.now touching.now i d) }
+    ensures { result ≡ handle_of (touch_word members.now touching.now i d) }
 {
     if touching.len() == 0 {
         return bench_words::handle_of(members[i]);
@@ -57,7 +57,7 @@ fn touch(members: &[u64], touching: &[u64], i: usize, d: usize) -> Handle
 // The seat of member i in the circle of q.
 fn seat(members: &[u64], touching: &[u64], i: usize, q: Handle) -> Seat
     requires { (i < length members.now) × (length members.now ≤ 64) × ((length touching.now ≡ 0 → ⊥) → length touching.now ≡ length members.now * 2) }
-    ensures { result ≡ seatOf members.now touching.now q i }
+    ensures { result ≡ seat_of members.now touching.now q i }
 {
     let next = following(members, i);
     let left = touch(members, touching, i, 0);
@@ -73,8 +73,8 @@ fn seat(members: &[u64], touching: &[u64], i: usize, q: Handle) -> Seat
 
 // T of an interface, where t is that of `unit`, in which most members of a circle stand.
 fn total_of(b: &[u64; WORDS], home: usize, unit: usize, t: u64) -> u64
-    requires { Steady b.now × (home < 8) × (t ≡ sumUp 8 (interfaceAt b.now) unit) }
-    ensures { (result ≡ sumUp 8 (interfaceAt b.now) home) × (result ≤ 8796093022208) }
+    requires { Steady b.now × (home < 8) × (t ≡ sum_up 8 (interface_at b.now) unit) }
+    ensures { (result ≡ sum_up 8 (interface_at b.now) home) × (result ≤ 8796093022208) }
 {
     if home == unit {
         return t;
@@ -85,8 +85,8 @@ fn total_of(b: &[u64; WORDS], home: usize, unit: usize, t: u64) -> u64
 
 // The member that word w names stays, in its seat; what it adds. T of `unit` is t.
 fn take_in(b: &mut [u64; WORDS], w: u64, unit: usize, t: u64, seat: Seat) -> Share
-    requires { Steady b.old × Ranged (nodeAt b.old (spot_of w)) × (t ≡ sumUp 8 (interfaceAt b.old) unit) }
-    ensures { (b.new ≡ storeNode b.old (spot_of w) (takenNode (interfaceAt b.old) (nodeAt b.old) (spot_of w) seat)) × (result.size ≡ (nodeAt b.old (spot_of w)).size) × (result.rate ≡ rateOf (nodeAt b.old (spot_of w)).state) × (result.rate ≤ 2) }
+    requires { Steady b.old × Ranged (node_at b.old (spot_of w)) × (t ≡ sum_up 8 (interface_at b.old) unit) }
+    ensures { (b.new ≡ store_node b.old (spot_of w) (taken_node (interface_at b.old) (node_at b.old) (spot_of w) seat)) × (result.size ≡ (node_at b.old (spot_of w)).size) × (result.rate ≡ rate_of (node_at b.old (spot_of w)).state) × (result.rate ≤ 2) }
 {
     let k = spot(w);
     let total = total_of(b, k / 64, unit, t);
@@ -100,8 +100,8 @@ fn take_in(b: &mut [u64; WORDS], w: u64, unit: usize, t: u64, seat: Seat) -> Sha
 
 // Adds a blossom: its members stay and get their seats; then the blossom, growing from value 0. Gives its handle.
 pub fn add_blossom(b: &mut [u64; WORDS], unit: usize, members: &[u64], touching: &[u64]) -> Handle
-    requires { Fit b.old × (first (blossomTests (view b.old) unit (handsGiven members.now) (pairsGiven touching.now)) ≡ 0) }
-    ensures { Done b.new (addBlossom (view b.old) unit (handsGiven members.now) (pairsGiven touching.now)) × (handleNamed result ≡ newHandle (view b.old) unit) }
+    requires { Fit b.old × (first (blossom_tests (view b.old) unit (hands_given members.now) (pairs_given touching.now)) ≡ 0) }
+    ensures { Done b.new (add_blossom (view b.old) unit (hands_given members.now) (pairs_given touching.now)) × (handle_named result ≡ new_handle (view b.old) unit) }
 {
     let f = bench_words::load_interface(b, unit);
     let t = bench_trees::lag(f.marks.plain, f.progress);
@@ -130,8 +130,8 @@ pub fn add_blossom(b: &mut [u64; WORDS], unit: usize, members: &[u64], touching:
 
 // The member at a position loses its seat and grows; the position of the next. T of `unit` is t.
 fn release(b: &mut [u64; WORDS], at: u64, unit: usize, t: u64) -> u64
-    requires { (at < 512) × Steady b.old × Ranged (nodeAt b.old at) × (t ≡ sumUp 8 (interfaceAt b.old) unit) }
-    ensures { (b.new ≡ storeNode b.old at (freedNode (interfaceAt b.old) (nodeAt b.old) at)) × (result ≡ (nodeAt b.old at).next) }
+    requires { (at < 512) × Steady b.old × Ranged (node_at b.old at) × (t ≡ sum_up 8 (interface_at b.old) unit) }
+    ensures { (b.new ≡ store_node b.old at (freed_node (interface_at b.old) (node_at b.old) at)) × (result ≡ (node_at b.old at).next) }
 {
     let k = at as usize;
     let total = total_of(b, k / 64, unit, t);
@@ -144,7 +144,7 @@ fn release(b: &mut [u64; WORDS], at: u64, unit: usize, t: u64) -> u64
 // Takes a slot out of the map of its interface.
 fn unmark(b: &mut [u64; WORDS], unit: usize, slot: u8)
     requires { (unit < 8) × (slot < 64) }
-    ensures { b.new ≡ storeMap b.old unit (put (mapAt b.old unit) slot false) }
+    ensures { b.new ≡ store_map b.old unit (put (map_at b.old unit) slot false) }
 {
     let map = bench_words::load_map(b, unit);
     bench_words::store_map(b, unit, slot_map::without(map, slot));
@@ -152,8 +152,8 @@ fn unmark(b: &mut [u64; WORDS], unit: usize, slot: u8)
 
 // Expands a blossom: it leaves, and its members, which stayed, grow. The sum of its tree, whose top is `unit`, stays.
 pub fn remove_blossom(b: &mut [u64; WORDS], unit: usize, h: Handle)
-    requires { Fit b.old × (first (expandTests (view b.old) unit (handleNamed h)) ≡ 0) }
-    ensures { Done b.new (removeBlossom (view b.old) (handleNamed h)) }
+    requires { Fit b.old × (first (expand_tests (view b.old) unit (handle_named h)) ≡ 0) }
+    ensures { Done b.new (remove_blossom (view b.old) (handle_named h)) }
 {
     let k = (h.unit as usize) * 64 + (h.slot as usize);
     let n = bench_words::load_node(b, k);

@@ -3,7 +3,7 @@
 ghost use Rattle.std.specs.Prelude.{◌≡◌};
 ghost use Rattle.ledger_spec.specs.Bench.{filling, floor};
 ghost use Rattle.ledger_spec.specs.Tests.{first};
-ghost use Rattle.ledger_spec.specs.Refuse.{markTests};
+ghost use Rattle.ledger_spec.specs.Refuse.{mark_tests};
 ghost use Rattle.ledger_spec.specs.Deeds.{choose};
 ghost use Rattle.bench_views.specs.View.{view};
 ghost use Rattle.bench_views.specs.Fit.{Fit, Done};
@@ -12,7 +12,7 @@ use bench_words::WORDS;
 
 // From now on, and until it is cleared, the interface gives a new node its lowest empty slot.
 pub fn mark_filling(b: &mut [u64; WORDS], unit: usize)
-    requires { Fit b.old × (first (markTests (view b.old) unit) ≡ 0) }
+    requires { Fit b.old × (first (mark_tests (view b.old) unit) ≡ 0) }
     ensures { Done b.new (choose (view b.old) unit filling) }
 {
     let mut f = bench_words::load_interface(b, unit);
@@ -22,7 +22,7 @@ pub fn mark_filling(b: &mut [u64; WORDS], unit: usize)
 
 // From now on, and until it is cleared, no growth takes a value of the interface's tree below zero.
 pub fn mark_floored(b: &mut [u64; WORDS], unit: usize)
-    requires { Fit b.old × (first (markTests (view b.old) unit) ≡ 0) }
+    requires { Fit b.old × (first (mark_tests (view b.old) unit) ≡ 0) }
     ensures { Done b.new (choose (view b.old) unit floor) }
 {
     let mut f = bench_words::load_interface(b, unit);

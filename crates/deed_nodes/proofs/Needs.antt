@@ -11,7 +11,7 @@ use lib.IntN.{pos, nat_abs, ◌+ℤ◌}
 use lib.Signed.{lt_z}
 use lib.ListN.{get_or}
 use borrow.Author.Tests.{ltb-false}
-use Rattle.bench_words.specs.Store.{nodeAt, interfaceAt}
+use Rattle.bench_words.specs.Store.{node_at, interface_at}
 use Rattle.kinds.specs.declared.Class.{Class}
 use Rattle.kinds.specs.declared.Class.TheVariants.{Absent, Blossom, Defect}
 use Rattle.kinds.specs.declared.Parent.{Parent}
@@ -22,22 +22,22 @@ use Rattle.bench_words.specs.declared.Up.{Up}
 use Rattle.bench_words.specs.declared.Up.TheVariants.{Top, Under}
 use Rattle.ledger_spec.specs.Bench.{Handle, Member, defect, blossom}
 use Rattle.ledger_spec.specs.Bench as plain
-use Rattle.ledger_spec.specs.Look.{climb, freeSlot}
+use Rattle.ledger_spec.specs.Look.{climb, free_slot}
 use Rattle.ledger_spec.specs.Look as look
 use Rattle.ledger_spec.specs.Tests.{first}
-use Rattle.ledger_spec.specs.Refuse.{defectTests, stateTests, growTests}
-use Rattle.ledger_spec.specs.Named.{parentNamed}
-use Rattle.ledger_spec.proofs.Knit.{none-some, some-eq}
+use Rattle.ledger_spec.specs.Refuse.{defect_tests, state_tests, grow_tests}
+use Rattle.ledger_spec.specs.Named.{parent_named}
+use Rattle.ledger_spec.proofs.Knit.{none_some, some_eq}
 use Rattle.ledger_spec.proofs.Passed.{Open}
-use Rattle.ledger_spec.proofs.Accepted.{Named, grow-passed, state-passed, defect-passed}
-use Rattle.bench_views.specs.View.{lagOf, view, upSeen, slotIn, slotSeen, sumUp, circleOf}
+use Rattle.ledger_spec.proofs.Accepted.{Named, grow_passed, state_passed, defect_passed}
+use Rattle.bench_views.specs.View.{lag_of, view, up_seen, slot_in, slot_seen, sum_up, circle_of}
 use Rattle.bench_views.specs.Records.{Ranged}
 use Rattle.bench_views.specs.Fit.{Fit}
-use Rattle.bench_views.proofs.Sums.{sumUp-step}
-use Rattle.bench_views.proofs.Views.{interface-in, view-slot, view-past, view_out, view-parent, view-next}
-use Rattle.bench_views.proofs.Rings.{Shows, slot-shows}
-use Rattle.bench_views.proofs.Ranges.{off-range, ranged}
-use Rattle.bench_slots.proofs.Free.{free-low, free-bare}
+use Rattle.bench_views.proofs.Sums.{sum_up_step}
+use Rattle.bench_views.proofs.Views.{interface_in_lem, view_slot, view_past, view_out, view_parent, view_next}
+use Rattle.bench_views.proofs.Rings.{Shows, slot_shows}
+use Rattle.bench_views.proofs.Ranges.{off_range, ranged}
+use Rattle.bench_slots.proofs.Free.{free_low, free_bare}
 
 -- ---- an interface that may be named
 pub record Paced (f : Interface) : Type 0 where
@@ -49,62 +49,62 @@ pub record Paced (f : Interface) : Type 0 where
 -- a slot that a new node can take
 pub record Vacant (b : List ℕ) (u s : ℕ) : Type 0 where
   pub room : s < 64
-  pub low : s ≤ (interfaceAt b u).used
-  pub bare : (nodeAt b (u * 64 + s)).class ≡ Absent
+  pub low : s ≤ (interface_at b u).used
+  pub bare : (node_at b (u * 64 + s)).class ≡ Absent
 
-up_none : (p : Up) → upSeen p ≡ none → p ≡ Top
+up_none : (p : Up) → up_seen p ≡ none → p ≡ Top
 up_none Top e = refl
-up_none (Under p) e = absurd (none-some e refl)
+up_none (Under p) e = absurd (none_some e refl)
 
 module _ (b : List ℕ) (F : Fit b) (u : ℕ) (o : Open (view b) u) where
-  pub open-top : (interfaceAt b u).parent ≡ Top
-  open-top = up_none (interfaceAt b u).parent (sym (view-parent (get_or b 0 0) (interfaceAt b) (nodeAt b) u o.low) ∙ o.free)
+  pub open_top : (interface_at b u).parent ≡ Top
+  open_top = up_none (interface_at b u).parent (sym (view_parent (get_or b 0 0) (interface_at b) (node_at b) u o.low) ∙ o.free)
 
   -- T of a top is its own progress
-  pub open-total : sumUp 8 (interfaceAt b) u ≡ lagOf (interfaceAt b u)
-  open-total =
-      let e : sumUp 8 (interfaceAt b) u ≡ lagOf (interfaceAt b u) + 0 = sumUp-step 8 (interfaceAt b) u (omega arith) ∙ rw open-top in
+  pub open_total : sum_up 8 (interface_at b) u ≡ lag_of (interface_at b u)
+  open_total =
+      let e : sum_up 8 (interface_at b) u ≡ lag_of (interface_at b u) + 0 = sum_up_step 8 (interface_at b) u (omega arith) ∙ rw open_top in
       omega arith
 
-  pub open-paced : Paced (interfaceAt b u)
-  open-paced =
-      let seen = interface-in (get_or b 0 0) (interfaceAt b) (nodeAt b) u o.low in
-      let v = off-range 1023 (interfaceAt b u).speed 512 (subst (λ (f : plain.Interface). nat_abs f.speed ≤ 512) seen (F.speed u o.low o.free)) in
-      let s = off-range 4611686018427387903 (interfaceAt b u).sum 4503599627370496 (subst (λ (f : plain.Interface). nat_abs f.sum ≤ 4503599627370496) seen (F.sum u o.low o.free)) in
+  pub open_paced : Paced (interface_at b u)
+  open_paced =
+      let seen = interface_in_lem (get_or b 0 0) (interface_at b) (node_at b) u o.low in
+      let v = off_range 1023 (interface_at b u).speed 512 (subst (λ (f : plain.Interface). nat_abs f.speed ≤ 512) seen (F.speed u o.low o.free)) in
+      let s = off_range 4611686018427387903 (interface_at b u).sum 4503599627370496 (subst (λ (f : plain.Interface). nat_abs f.sum ≤ 4503599627370496) seen (F.sum u o.low o.free)) in
       record { slow = omega arith; fast = omega arith; low = omega arith; high = omega arith }
 
   -- the slot for one more node, and a serial for it
-  pub open-slot : freeSlot (view b) u < 64 → Vacant b u (freeSlot (view b) u)
-  open-slot l = record { room = l; low = free-low b F.canon u o.low; bare = free-bare b F.canon u o.low l }
+  pub open_slot : free_slot (view b) u < 64 → Vacant b u (free_slot (view b) u)
+  open_slot l = record { room = l; low = free_low b F.canon u o.low; bare = free_bare b F.canon u o.low l }
 
   pub open_next : (view b).next < 4294967296 → get_or b 0 0 < 4294967296
-  open_next l = omega (arith, l, view-next (get_or b 0 0) (interfaceAt b) (nodeAt b))
+  open_next l = omega (arith, l, view_next (get_or b 0 0) (interface_at b) (node_at b))
 
 -- ---- a handle that names a node
 pub record Stands (b : List ℕ) (h : Handle) : Type 0 where
   pub unit : h.unit < 8
-  pub slot : h.slot < (interfaceAt b h.unit).used
+  pub slot : h.slot < (interface_at b h.unit).used
   pub low : h.unit * 64 + h.slot < 512
   pub node : plain.Node
-  pub named : look.nodeNamed (view b) h ≡ some node
-  pub seen : slotIn (interfaceAt b) (nodeAt b) h.unit h.slot ≡ some node
-  pub shows : Shows (nodeAt b (h.unit * 64 + h.slot)) node
-  pub serial : (nodeAt b (h.unit * 64 + h.slot)).serial.0 ≡ h.serial
-  pub size : (nodeAt b (h.unit * 64 + h.slot)).size ≤ 512
-  pub ranged : Ranged (nodeAt b (h.unit * 64 + h.slot))
+  pub named : look.node_named (view b) h ≡ some node
+  pub seen : slot_in (interface_at b) (node_at b) h.unit h.slot ≡ some node
+  pub shows : Shows (node_at b (h.unit * 64 + h.slot)) node
+  pub serial : (node_at b (h.unit * 64 + h.slot)).serial.0 ≡ h.serial
+  pub size : (node_at b (h.unit * 64 + h.slot)).size ≤ 512
+  pub ranged : Ranged (node_at b (h.unit * 64 + h.slot))
 
 module _ (b : List ℕ) (F : Fit b) {u : ℕ} (h : Handle) where
   pub stands : Named (view b) u h → Stands b h
-  stands N = go (dec_lt h.unit 8) (dec_lt h.slot (interfaceAt b h.unit).used)
+  stands N = go (dec_lt h.unit 8) (dec_lt h.slot (interface_at b h.unit).used)
     where
-      go : Dec (h.unit < 8) → Dec (h.slot < (interfaceAt b h.unit).used) → Stands b h
-      go (no q) w = absurd (none-some (view_out (get_or b 0 0) (interfaceAt b) (nodeAt b) h.unit h.slot (omega arith)) N.has.stands)
-      go (yes q) (no w) = absurd (none-some (view-past (get_or b 0 0) (interfaceAt b) (nodeAt b) h.unit h.slot q (omega arith)) N.has.stands)
+      go : Dec (h.unit < 8) → Dec (h.slot < (interface_at b h.unit).used) → Stands b h
+      go (no q) w = absurd (none_some (view_out (get_or b 0 0) (interface_at b) (node_at b) h.unit h.slot (omega arith)) N.has.stands)
+      go (yes q) (no w) = absurd (none_some (view_past (get_or b 0 0) (interface_at b) (node_at b) h.unit h.slot q (omega arith)) N.has.stands)
       go (yes q) (yes w) =
           let k = h.unit * 64 + h.slot in
           let n = N.node in
-          let seen : slotIn (interfaceAt b) (nodeAt b) h.unit h.slot ≡ some n = sym (view-slot (get_or b 0 0) (interfaceAt b) (nodeAt b) h.unit h.slot q w) ∙ N.has.stands in
-          let sh : Shows (nodeAt b k) n = slot-shows (nodeAt b k) (sumUp 8 (interfaceAt b) h.unit) (circleOf (nodeAt b) k) n seen in
+          let seen : slot_in (interface_at b) (node_at b) h.unit h.slot ≡ some n = sym (view_slot (get_or b 0 0) (interface_at b) (node_at b) h.unit h.slot q w) ∙ N.has.stands in
+          let sh : Shows (node_at b k) n = slot_shows (node_at b k) (sum_up 8 (interface_at b) h.unit) (circle_of (node_at b) k) n seen in
           record {
             unit = q;
             slot = w;
@@ -118,64 +118,64 @@ module _ (b : List ℕ) (F : Fit b) {u : ℕ} (h : Handle) where
             ranged = ranged b F.canon.steady F.within h.unit h.slot q w sh.present;
           }
 
-parent-none : (p : Parent) → parentNamed p ≡ none → p ≡ Outermost
-parent-none Outermost e = refl
-parent-none (Inside q) e = absurd (none-some e refl)
+parent_none : (p : Parent) → parent_named p ≡ none → p ≡ Outermost
+parent_none Outermost e = refl
+parent_none (Inside q) e = absurd (none_some e refl)
 
-pub stands-free : {b : List ℕ} {h : Handle} {n : plain.Node} → Stands b h → look.nodeNamed (view b) h ≡ some n → n.parent ≡ none → (nodeAt b (h.unit * 64 + h.slot)).parent ≡ Outermost
-stands-free {b} {h} s e o = parent-none (nodeAt b (h.unit * 64 + h.slot)).parent (sym s.shows.parent ∙ ap (λ (x : plain.Node). x.parent) (some-eq s.named e) ∙ o)
+pub stands_free : {b : List ℕ} {h : Handle} {n : plain.Node} → Stands b h → look.node_named (view b) h ≡ some n → n.parent ≡ none → (node_at b (h.unit * 64 + h.slot)).parent ≡ Outermost
+stands_free {b} {h} s e o = parent_none (node_at b (h.unit * 64 + h.slot)).parent (sym s.shows.parent ∙ ap (λ (x : plain.Node). x.parent) (some_eq s.named e) ∙ o)
 
-not-both : {c : plain.Class} {v : ℕ} {ms : List Member} → c ≡ defect v → c ≡ blossom ms → ⊥
-not-both {v = v} {ms = ms} p q = let z : defect v ≡ blossom ms = sym p ∙ q in let z2 : ◌≡◌ {A = ℕ} 0 1 = cc in omega arith
+not_both : {c : plain.Class} {v : ℕ} {ms : List Member} → c ≡ defect v → c ≡ blossom ms → ⊥
+not_both {v = v} {ms = ms} p q = let z : defect v ≡ blossom ms = sym p ∙ q in let z2 : ◌≡◌ {A = ℕ} 0 1 = cc in omega arith
 
-kind : (n : Node) (t : ℕ) (ms ns : List Member) (m : plain.Node) → slotSeen n t ms ≡ some m → m.class ≡ blossom ns → n.class ≡ Blossom
-unfolding slotSeen
+kind : (n : Node) (t : ℕ) (ms ns : List Member) (m : plain.Node) → slot_seen n t ms ≡ some m → m.class ≡ blossom ns → n.class ≡ Blossom
+unfolding slot_seen
 kind n t ms ns m h q = go n.class refl
   where
     go : (c : Class) → n.class ≡ c → n.class ≡ Blossom
-    go Absent e = absurd (none-some refl (rw e at h))
+    go Absent e = absurd (none_some refl (rw e at h))
     go Blossom e = e
     go (Defect v) e =
         let h2 = rw e at h in
         let d : m.class ≡ defect v.0 = cc in
-        absurd (not-both d q)
+        absurd (not_both d q)
 
-pub stands-blossom : {b : List ℕ} {h : Handle} {n : plain.Node} {ms : List Member} → Stands b h → look.nodeNamed (view b) h ≡ some n → n.class ≡ blossom ms → (nodeAt b (h.unit * 64 + h.slot)).class ≡ Blossom
-stands-blossom {b} {h} {ms = ms} s e r =
-    kind (nodeAt b (h.unit * 64 + h.slot)) (sumUp 8 (interfaceAt b) h.unit) (circleOf (nodeAt b) (h.unit * 64 + h.slot)) ms s.node s.seen (ap (λ (x : plain.Node). x.class) (some-eq s.named e) ∙ r)
+pub stands_blossom : {b : List ℕ} {h : Handle} {n : plain.Node} {ms : List Member} → Stands b h → look.node_named (view b) h ≡ some n → n.class ≡ blossom ms → (node_at b (h.unit * 64 + h.slot)).class ≡ Blossom
+stands_blossom {b} {h} {ms = ms} s e r =
+    kind (node_at b (h.unit * 64 + h.slot)) (sum_up 8 (interface_at b) h.unit) (circle_of (node_at b) (h.unit * 64 + h.slot)) ms s.node s.seen (ap (λ (x : plain.Node). x.class) (some_eq s.named e) ∙ r)
 
 -- ---- the tests of each call, passed
 pub record Growable (b : List ℕ) (u l : ℕ) : Type 0 where
   pub root : Open (view b) u
-  pub short : (interfaceAt b u).progress + l ≤ 1099511627776
+  pub short : (interface_at b u).progress + l ≤ 1099511627776
 
-pub growable : (b : List ℕ) (u l : ℕ) → first (growTests (view b) u (pos l)) ≡ 0 → Growable b u l
+pub growable : (b : List ℕ) (u l : ℕ) → first (grow_tests (view b) u (pos l)) ≡ 0 → Growable b u l
 growable b u l e =
-    let P = grow-passed (view b) u (pos l) e in
-    let seen = interface-in (get_or b 0 0) (interfaceAt b) (nodeAt b) u P.here.low in
+    let P = grow_passed (view b) u (pos l) e in
+    let seen = interface_in_lem (get_or b 0 0) (interface_at b) (node_at b) u P.here.low in
     record {
       root = P.here;
-      short = ltb-false 1099511627776 ((interfaceAt b u).progress + l) (subst (λ (f : plain.Interface). lt_z (pos 1099511627776) (f.progress +ℤ pos l) ≡ false) seen P.limit);
+      short = ltb-false 1099511627776 ((interface_at b u).progress + l) (subst (λ (f : plain.Interface). lt_z (pos 1099511627776) (f.progress +ℤ pos l) ≡ false) seen P.limit);
     }
 
 pub record Settable (b : List ℕ) (u : ℕ) (h : Handle) : Type 0 where
   pub root : Open (view b) u
   pub stands : Stands b h
   pub under : climb 8 (view b) h.unit ≡ u
-  pub free : (nodeAt b (h.unit * 64 + h.slot)).parent ≡ Outermost
+  pub free : (node_at b (h.unit * 64 + h.slot)).parent ≡ Outermost
 
-pub settable : (b : List ℕ) (u : ℕ) (h : Handle) → Fit b → first (stateTests (view b) u h) ≡ 0 → Settable b u h
+pub settable : (b : List ℕ) (u : ℕ) (h : Handle) → Fit b → first (state_tests (view b) u h) ≡ 0 → Settable b u h
 settable b u h F e =
-    let P = state-passed (view b) u h e in
+    let P = state_passed (view b) u h e in
     let s = stands b F h P.named in
-    record { root = P.here; stands = s; under = P.named.near; free = stands-free s P.named.is P.orphan }
+    record { root = P.here; stands = s; under = P.named.near; free = stands_free s P.named.is P.orphan }
 
 pub record Pushable (b : List ℕ) (u : ℕ) : Type 0 where
   pub root : Open (view b) u
-  pub slot : Vacant b u (freeSlot (view b) u)
+  pub slot : Vacant b u (free_slot (view b) u)
   pub next : get_or b 0 0 < 4294967296
 
-pub pushable : (b : List ℕ) (u : ℕ) → Fit b → first (defectTests (view b) u) ≡ 0 → Pushable b u
+pub pushable : (b : List ℕ) (u : ℕ) → Fit b → first (defect_tests (view b) u) ≡ 0 → Pushable b u
 pushable b u F e =
-    let P = defect-passed (view b) u e in
-    record { root = P.here; slot = open-slot b F u P.here P.room; next = open_next b F u P.here P.unworn }
+    let P = defect_passed (view b) u e in
+    record { root = P.here; slot = open_slot b F u P.here P.room; next = open_next b F u P.here P.unworn }

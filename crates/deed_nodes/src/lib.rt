@@ -2,16 +2,16 @@
 // that blossoms need too. No refusal is left: each asks that its tests pass on words that fit. Assumes nothing.
 ghost use Rattle.std.specs.Prelude.{◌≡◌, suc, max, ◌+◌, ◌-◌, ◌*◌, ◌<◌, ◌≤◌, pos, length, get_or};
 ghost use Rattle.std.proofs.Math.Option.{none};
-ghost use Rattle.bench_words.specs.Store.{interfaceAt};
+ghost use Rattle.bench_words.specs.Store.{interface_at};
 ghost use Rattle.ledger_spec.specs.Tests.{first};
-ghost use Rattle.ledger_spec.specs.Refuse.{defectTests, stateTests, growTests};
+ghost use Rattle.ledger_spec.specs.Refuse.{defect_tests, state_tests, grow_tests};
 ghost use Rattle.ledger_spec.specs.Change.{mark};
-ghost use Rattle.ledger_spec.specs.Deeds.{newHandle, addDefect, growBy};
-ghost use Rattle.ledger_spec.specs.Named.{stateNamed, handleNamed};
+ghost use Rattle.ledger_spec.specs.Deeds.{new_handle, add_defect, grow_by};
+ghost use Rattle.ledger_spec.specs.Named.{state_named, handle_named};
 ghost use Rattle.bench_views.specs.Records.{Ranged, no_node};
 ghost use Rattle.bench_views.specs.View.{view};
 ghost use Rattle.bench_views.specs.Fit.{Fit, Done};
-ghost use Rattle.deed_nodes.specs.Steps.{noSeat, newNode, remarked, paced, noted, Room, pushed};
+ghost use Rattle.deed_nodes.specs.Steps.{no_seat, new_node, remarked, paced, noted, Room, pushed};
 
 use bench_words::{Node, WORDS};
 use kinds::{Class, GrowState, Handle, Parent, Serial, Vertex};
@@ -28,7 +28,7 @@ pub struct Seat {
 
 // The seat of a node without a parent.
 pub fn no_seat() -> Seat
-    ensures { result ≡ noSeat }
+    ensures { result ≡ no_seat }
 {
     let nobody = Handle::nobody();
     Seat {
@@ -64,7 +64,7 @@ pub fn no_node() -> Node
 // A new node, growing from value 0 at T = t. The first position and the count are of its circle: both 0 for a defect.
 pub fn new_node(serial: Serial, class: Class, size: u64, first: u64, count: u64, t: u64) -> Node
     requires { t ≤ 1099511627776 }
-    ensures { result ≡ newNode serial.0 class size first count t }
+    ensures { result ≡ new_node serial.0 class size first count t }
 {
     let nobody = Handle::nobody();
     Node {
@@ -151,7 +151,7 @@ pub fn push(b: &mut [u64; WORDS], unit: usize, slot: u8, n: Node, speed: u64)
 // Counts a growth of an interface: its progress and its sum.
 fn note_growth(b: &mut [u64; WORDS], unit: usize, length: u64)
     requires unit_bound { unit < 8 }
-    requires room { Room (interfaceAt b.old unit) length }
+    requires room { Room (interface_at b.old unit) length }
     ensures { b.new ≡ noted b.old unit length }
 {
     let mut f = bench_words::load_interface(b, unit);
@@ -162,8 +162,8 @@ fn note_growth(b: &mut [u64; WORDS], unit: usize, length: u64)
 
 // Grows a tree by a length, at its top: in the plain engine every node of it first.
 pub fn grow_by(b: &mut [u64; WORDS], unit: usize, length: u64)
-    requires { Fit b.old × (first (growTests (view b.old) unit (pos length)) ≡ 0) }
-    ensures { Done b.new (growBy (view b.old) unit (pos length)) }
+    requires { Fit b.old × (first (grow_tests (view b.old) unit (pos length)) ≡ 0) }
+    ensures { Done b.new (grow_by (view b.old) unit (pos length)) }
 {
     let f = bench_words::load_interface(b, unit);
     if f.marks.plain {
@@ -176,8 +176,8 @@ pub fn grow_by(b: &mut [u64; WORDS], unit: usize, length: u64)
 
 // Sets the state of a node without a parent; the speed of its tree, whose top is `unit`, follows.
 pub fn set_state(b: &mut [u64; WORDS], unit: usize, h: Handle, state: GrowState)
-    requires { Fit b.old × (first (stateTests (view b.old) unit (handleNamed h)) ≡ 0) }
-    ensures { Done b.new (mark (view b.old) (handleNamed h) (stateNamed state) none) }
+    requires { Fit b.old × (first (state_tests (view b.old) unit (handle_named h)) ≡ 0) }
+    ensures { Done b.new (mark (view b.old) (handle_named h) (state_named state) none) }
 {
     let home = h.unit as usize;
     let k = home * 64 + (h.slot as usize);
@@ -194,8 +194,8 @@ pub fn set_state(b: &mut [u64; WORDS], unit: usize, h: Handle, state: GrowState)
 
 // Adds a defect, growing from value 0, and gives its handle. (The casts of the vertex tell the proof its range.)
 pub fn add_defect(b: &mut [u64; WORDS], unit: usize, vertex: Vertex) -> Handle
-    requires { Fit b.old × (first (defectTests (view b.old) unit) ≡ 0) }
-    ensures { Done b.new (addDefect (view b.old) unit vertex.0) × (handleNamed result ≡ newHandle (view b.old) unit) }
+    requires { Fit b.old × (first (defect_tests (view b.old) unit) ≡ 0) }
+    ensures { Done b.new (add_defect (view b.old) unit vertex.0) × (handle_named result ≡ new_handle (view b.old) unit) }
 {
     let v = vertex.0 as u64;
     let f = bench_words::load_interface(b, unit);

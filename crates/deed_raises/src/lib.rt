@@ -1,10 +1,10 @@
 // The plain engine's growth: every node of a tree is touched, and its value moves by the length, by its state. An empty slot stays, so that all
 // used slots can be walked. Assumes nothing.
 ghost use Rattle.std.specs.Prelude.{◌≡◌, ◌<◌};
-ghost use Rattle.bench_words.specs.Store.{nodeAt, interfaceAt, storeBias};
+ghost use Rattle.bench_words.specs.Store.{node_at, interface_at, store_bias};
 ghost use Rattle.bench_views.specs.Records.{Steady};
 ghost use Rattle.bench_views.specs.Canon.{Coded};
-ghost use Rattle.bench_views.specs.View.{valueBy};
+ghost use Rattle.bench_views.specs.View.{value_by};
 ghost use Rattle.deed_raises.specs.Raises.{Movable, AllMovable, TreeMovable, Bare, RaisedIn, RaisedUnder, Raised};
 
 use bench_words::WORDS;
@@ -13,7 +13,7 @@ use kinds::GrowState;
 // A value moved by a length, by its node's state.
 fn moved(g: GrowState, value: u64, length: u64) -> u64
     requires { Movable g value length }
-    ensures { result ≡ valueBy g value length }
+    ensures { result ≡ value_by g value length }
 {
     match g {
         GrowState::Grow => value + length,
@@ -25,8 +25,8 @@ fn moved(g: GrowState, value: u64, length: u64) -> u64
 // Moves the value of one slot.
 fn raise_slot(b: &mut [u64; WORDS], k: usize, length: u64)
     requires k_bound { k < 512 }
-    requires movable { Movable (nodeAt b.old k).state (nodeAt b.old k).bias length }
-    ensures { b.new ≡ storeBias b.old k (valueBy (nodeAt b.old k).state (nodeAt b.old k).bias length) }
+    requires movable { Movable (node_at b.old k).state (node_at b.old k).bias length }
+    ensures { b.new ≡ store_bias b.old k (value_by (node_at b.old k).state (node_at b.old k).bias length) }
 {
     let g = bench_words::biases::load_state(b, k);
     let value = bench_words::biases::load_bias(b, k);
@@ -39,7 +39,7 @@ fn raise_interface(b: &mut [u64; WORDS], unit: usize, length: u64)
     requires steady { Steady b.old }
     requires coded { Coded b.old }
     requires all_movable { AllMovable b.old length unit }
-    ensures { RaisedIn b.old unit length b.new (interfaceAt b.old unit).used }
+    ensures { RaisedIn b.old unit length b.new (interface_at b.old unit).used }
 {
     let f = bench_words::load_interface(b, unit);
     let used = f.used as usize;

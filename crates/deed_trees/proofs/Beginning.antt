@@ -10,26 +10,26 @@ use lib.IntN.{pos}
 use lib.ListN.{length, get_or, set, length-set, replicate, length-replicate, get_or-replicate, get_or-eq_default}
 use lib.Seq.{get_or-set_same, get_or-set_other}
 use Rattle.kinds.specs.declared.Class.TheVariants.{Absent}
-use Rattle.bench_words.specs.Codec.{marksWord}
-use Rattle.bench_words.specs.Store.{base, ibase, nodeAt, interfaceAt, storeInterface, mapAt, interfaceOf, interfaceWords, nodeWords, noInterface}
-use Rattle.bench_words.proofs.Laws.{interface-same, interface-other, store-interface-node, length-store-interface, interface-first, node-first}
-use Rattle.bench_words.proofs.Maps.{store-interface-map, map_first}
+use Rattle.bench_words.specs.Codec.{marks_word}
+use Rattle.bench_words.specs.Store.{base, ibase, node_at, interface_at, store_interface, map_at, interface_of, interface_words, node_words, no_interface}
+use Rattle.bench_words.proofs.Laws.{interface_same, interface_other, store_interface_node, length_store_interface, interface_first, node_first}
+use Rattle.bench_words.proofs.Maps.{store_interface_map, map_first}
 use Rattle.bench_words.specs.declared.Node.{Node}
 use Rattle.bench_words.specs.declared.Interface.{Interface}
 use Rattle.bench_words.specs.declared.Up.{Up}
 use Rattle.bench_words.specs.declared.Up.TheVariants.{Top, Under}
-use Rattle.ledger_spec.specs.Bench.{fresh, setUpIn}
+use Rattle.ledger_spec.specs.Bench.{fresh, set_up_in}
 use Rattle.bench_views.specs.Records.{no_node}
 use Rattle.bench_views.specs.Tab.{tab}
-use Rattle.bench_views.specs.View.{off, upSeen, halvesSeen, marksSeen, slotIn, interfaceIn}
+use Rattle.bench_views.specs.View.{off, up_seen, halves_seen, marks_seen, slot_in, interface_in}
 use Rattle.bench_views.specs.Canon.{Coded}
 use Rattle.bench_views.specs.Fit.{Done}
 use Rattle.bench_views.proofs.Offsets.{off_zero}
-use Rattle.bench_views.proofs.Views.{interface-is, view-is}
-use Rattle.bench_views.proofs.Codes.{coded-interface, coded-first}
-use Rattle.bench_views.proofs.Maps.{map-bare}
-use Rattle.deed_nodes.proofs.Keeps.{not-blossom}
-use Rattle.deed_trees.proofs.Cleared.{not-inside}
+use Rattle.bench_views.proofs.Views.{interface_is, view_is}
+use Rattle.bench_views.proofs.Codes.{coded_interface, coded_first}
+use Rattle.bench_views.proofs.Maps.{map_bare}
+use Rattle.deed_nodes.proofs.Keeps.{not_blossom}
+use Rattle.deed_trees.proofs.Cleared.{not_inside}
 
 -- ---- words erased one by one
 pub record Erasing (b : List ℕ) (n : ℕ) : Type 0 where
@@ -37,8 +37,8 @@ pub record Erasing (b : List ℕ) (n : ℕ) : Type 0 where
   pub within : n ≤ 6273
   pub zeros : (m : ℕ) → m < n → get_or b m 0 ≡ 0
 
-pub erasing-more : (b b' : List ℕ) (n : ℕ) → Erasing b n → n < 6273 → b' ≡ set b n 0 → Erasing b' (n + 1)
-erasing-more b b' n E l e =
+pub erasing_more : (b b' : List ℕ) (n : ℕ) → Erasing b n → n < 6273 → b' ≡ set b n 0 → Erasing b' (n + 1)
+erasing_more b b' n E l e =
     rw e
     (record {
       len = length-set b n 0 ∙ E.len;
@@ -61,32 +61,32 @@ blank zero j = refl
 blank (suc n) zero = refl
 blank (suc n) (suc j) = blank n j
 
-blank-interface : (j : ℕ) → get_or (interfaceWords (interfaceOf 0 0 0 0 0 0 0 0)) j 0 ≡ 0
-blank-interface j = blank 7 j
+blank_interface : (j : ℕ) → get_or (interface_words (interface_of 0 0 0 0 0 0 0 0)) j 0 ≡ 0
+blank_interface j = blank 7 j
 
-blank-node : (j : ℕ) → get_or (nodeWords no_node) j 0 ≡ 0
-blank-node j = blank 12 j
+blank_node : (j : ℕ) → get_or (node_words no_node) j 0 ≡ 0
+blank_node j = blank 12 j
 
 module _ (b : List ℕ) (zeros : (m : ℕ) → get_or b m 0 ≡ 0) where
-  zero-node : (k : ℕ) → nodeAt b k ≡ no_node
-  unfolding nodeAt
-  zero-node k = simp zeros
+  zero_node : (k : ℕ) → node_at b k ≡ no_node
+  unfolding node_at
+  zero_node k = simp zeros
 
-  zero-interface : (u : ℕ) → interfaceAt b u ≡ interfaceOf 0 0 0 0 0 0 0 0
-  unfolding interfaceAt
-  zero-interface u = simp zeros
+  zero_interface : (u : ℕ) → interface_at b u ≡ interface_of 0 0 0 0 0 0 0 0
+  unfolding interface_at
+  zero_interface u = simp zeros
 
-  zero-map : (u : ℕ) → mapAt b u ≡ 0
-  unfolding mapAt
-  zero-map u = zeros (ibase u + 8)
+  zero_map : (u : ℕ) → map_at b u ≡ 0
+  unfolding map_at
+  zero_map u = zeros (ibase u + 8)
 
-  zero-coded : Coded b
-  zero-coded =
+  zero_coded : Coded b
+  zero_coded =
       record {
         spare = λ m z l h. zeros m;
-        units = λ u lu j lj. zeros (ibase u + (1 + j)) ∙ sym (ap (λ (f : Interface). get_or (interfaceWords f) j 0) (zero-interface u) ∙ blank-interface j);
-        marks = λ u lu. zeros (ibase u + 9) ∙ sym (ap (λ (f : Interface). marksWord f.marks) (zero-interface u));
-        nodes = λ k lk j lj. zeros (base k + (1 + j)) ∙ sym (ap (λ (n : Node). get_or (nodeWords n) j 0) (zero-node k) ∙ blank-node j);
+        units = λ u lu j lj. zeros (ibase u + (1 + j)) ∙ sym (ap (λ (f : Interface). get_or (interface_words f) j 0) (zero_interface u) ∙ blank_interface j);
+        marks = λ u lu. zeros (ibase u + 9) ∙ sym (ap (λ (f : Interface). marks_word f.marks) (zero_interface u));
+        nodes = λ k lk j lj. zeros (base k + (1 + j)) ∙ sym (ap (λ (n : Node). get_or (node_words n) j 0) (zero_node k) ∙ blank_node j);
       }
 
 -- ---- interfaces stored one by one
@@ -94,78 +94,78 @@ pub record Filling (m : Bool) (b : List ℕ) (n : ℕ) : Type 0 where
   pub len : length b ≡ 6273
   pub within : n ≤ 8
   pub coded : Coded b
-  pub interfaces : (u : ℕ) → u < n → interfaceAt b u ≡ noInterface m
-  pub maps : (u : ℕ) → mapAt b u ≡ 0
-  pub nodes : (k : ℕ) → nodeAt b k ≡ no_node
+  pub interfaces : (u : ℕ) → u < n → interface_at b u ≡ no_interface m
+  pub maps : (u : ℕ) → map_at b u ≡ 0
+  pub nodes : (k : ℕ) → node_at b k ≡ no_node
 
-pub filling-begins : (m : Bool) (b : List ℕ) → (length b ≡ 6273) × ((m : ℕ) → get_or b m 0 ≡ 0) → Filling m b 0
-filling-begins m b z = record { len = z.0; within = omega arith; coded = zero-coded b z.1; interfaces = λ u l. absurd (omega arith); maps = zero-map b z.1; nodes = zero-node b z.1 }
+pub filling_begins : (m : Bool) (b : List ℕ) → (length b ≡ 6273) × ((m : ℕ) → get_or b m 0 ≡ 0) → Filling m b 0
+filling_begins m b z = record { len = z.0; within = omega arith; coded = zero_coded b z.1; interfaces = λ u l. absurd (omega arith); maps = zero_map b z.1; nodes = zero_node b z.1 }
 
-pub filling-more : (m : Bool) (b b' : List ℕ) (n : ℕ) {f : Interface} → Filling m b n → n < 8 → f ≡ noInterface m → b' ≡ storeInterface b n f → Filling m b' (n + 1)
-filling-more m b b' n I l ef e =
-    let none = noInterface m in
-    let q : b' ≡ storeInterface b n none = e ∙ ap (storeInterface b n) ef in
+pub filling_more : (m : Bool) (b b' : List ℕ) (n : ℕ) {f : Interface} → Filling m b n → n < 8 → f ≡ no_interface m → b' ≡ store_interface b n f → Filling m b' (n + 1)
+filling_more m b b' n I l ef e =
+    let none = no_interface m in
+    let q : b' ≡ store_interface b n none = e ∙ ap (store_interface b n) ef in
     rw q
     (record {
-      len = length-store-interface b n none I.len l;
+      len = length_store_interface b n none I.len l;
       within = omega arith;
-      coded = coded-interface b n none I.len l tt I.coded;
+      coded = coded_interface b n none I.len l tt I.coded;
       interfaces = λ u lu. by_cases (ℕ_discrete u n)
-          (λ (z : u ≡ n). rw z (interface-same b n none I.len l tt))
-          (λ (ne : u ≡ n → ⊥). interface-other b n none I.len l u ne ∙ I.interfaces u (omega arith));
-      maps = λ u. store-interface-map b n none I.len l u ∙ I.maps u;
-      nodes = λ k. store-interface-node b n none I.len l k ∙ I.nodes k;
+          (λ (z : u ≡ n). rw z (interface_same b n none I.len l tt))
+          (λ (ne : u ≡ n → ⊥). interface_other b n none I.len l u ne ∙ I.interfaces u (omega arith));
+      maps = λ u. store_interface_map b n none I.len l u ∙ I.maps u;
+      nodes = λ k. store_interface_node b n none I.len l k ∙ I.nodes k;
     })
 
 -- ---- the empty bench
-not-under : {o : Up} {p : ℕ} → o ≡ Top → o ≡ Under p → ⊥
-not-under {p = p} z e = let y : Under p ≡ Top = sym e ∙ z in let y2 : ◌≡◌ {A = ℕ} 0 1 = cc in omega arith
+not_under : {o : Up} {p : ℕ} → o ≡ Top → o ≡ Under p → ⊥
+not_under {p = p} z e = let y : Under p ≡ Top = sym e ∙ z in let y2 : ◌≡◌ {A = ℕ} 0 1 = cc in omega arith
 
 module _ (m : Bool) (b : List ℕ) (first : ℕ) (next : get_or b 0 0 ≡ first) (len : length b ≡ 6273) (coded : Coded b)
-    (interfaces : (u : ℕ) → u < 8 → interfaceAt b u ≡ noInterface m) (maps : (u : ℕ) → mapAt b u ≡ 0) (bare : (k : ℕ) → nodeAt b k ≡ no_node) where
-  interface-seen : (v : ℕ) → v < 8 → interfaceIn (interfaceAt b) (nodeAt b) v ≡ fresh
+    (interfaces : (u : ℕ) → u < 8 → interface_at b u ≡ no_interface m) (maps : (u : ℕ) → map_at b u ≡ 0) (bare : (k : ℕ) → node_at b k ≡ no_node) where
+  interface_seen : (v : ℕ) → v < 8 → interface_in (interface_at b) (node_at b) v ≡ fresh
   unfolding tab
-  interface-seen v lv =
+  interface_seen v lv =
       let e = interfaces v lv in
-      interface-is (interfaceIn (interfaceAt b) (nodeAt b) v) fresh
-      (ap (λ (f : Interface). tab (slotIn (interfaceAt b) (nodeAt b) v) 0 f.used) e)
+      interface_is (interface_in (interface_at b) (node_at b) v) fresh
+      (ap (λ (f : Interface). tab (slot_in (interface_at b) (node_at b) v) 0 f.used) e)
       (ap (λ (f : Interface). pos f.progress) e) (ap (λ (f : Interface). off 4611686018427387904 f.sum) e ∙ off_zero 4611686018427387904) (ap (λ (f : Interface). off 1024 f.speed) e ∙ off_zero 1024)
-      (ap (λ (f : Interface). upSeen f.parent) e) (ap (λ (f : Interface). halvesSeen f.left f.right) e) (ap (λ (f : Interface). marksSeen f.marks) e)
+      (ap (λ (f : Interface). up_seen f.parent) e) (ap (λ (f : Interface). halves_seen f.left f.right) e) (ap (λ (f : Interface). marks_seen f.marks) e)
 
-  engine : (v : ℕ) → v < 8 → (interfaceAt b v).marks.plain ≡ m
+  engine : (v : ℕ) → v < 8 → (interface_at b v).marks.plain ≡ m
   engine v lv = ap (λ (f : Interface). f.marks.plain) (interfaces v lv)
 
-  class-none : (k : ℕ) → (nodeAt b k).class ≡ Absent
-  class-none k = ap (λ (n : Node). n.class) (bare k)
+  class_none : (k : ℕ) → (node_at b k).class ≡ Absent
+  class_none k = ap (λ (n : Node). n.class) (bare k)
 
-  begun : Done b (setUpIn m first)
+  begun : Done b (set_up_in m first)
   begun =
       record {
-        seen = view-is (get_or b 0 0) (interfaceAt b) (nodeAt b) (setUpIn m first) (sym next) (length-replicate 8 fresh) (sym (engine 0 (omega arith))) (λ v lv. interface-seen v lv ∙ sym (get_or-replicate 8 v fresh fresh lv));
+        seen = view_is (get_or b 0 0) (interface_at b) (node_at b) (set_up_in m first) (sym next) (length-replicate 8 fresh) (sym (engine 0 (omega arith))) (λ v lv. interface_seen v lv ∙ sym (get_or-replicate 8 v fresh fresh lv));
         canon = record {
           steady = record {
             len = len;
             slots = λ u lu. rw (interfaces u lu) (omega arith);
             progress = λ u lu. rw (interfaces u lu) (omega arith);
-            rising = λ u p lu e. absurd (not-under (ap (λ (f : Interface). f.parent) (interfaces u lu)) e);
+            rising = λ u p lu e. absurd (not_under (ap (λ (f : Interface). f.parent) (interfaces u lu)) e);
           };
           coded = coded;
           modes = λ u lu. engine u lu ∙ sym (engine 0 (omega arith));
           whole = λ u lu e. ap (λ (f : Interface). f.right) (interfaces u lu);
           both = λ u lu ne. absurd (ne (ap (λ (f : Interface). f.left) (interfaces u lu)));
           past = λ u s lu l h. bare (u * 64 + s);
-          map = λ u lu. maps u ∙ sym (map-bare (nodeAt b) u (λ s ls. class-none (u * 64 + s)));
+          map = λ u lu. maps u ∙ sym (map_bare (node_at b) u (λ s ls. class_none (u * 64 + s)));
           empty = λ k lk e. bare k;
           defect = λ k v lk e. rw (bare k) (refl, refl);
-          ring = λ k lk e. absurd (not-blossom (class-none k) e);
-          chain = λ k i lk e l. absurd (not-blossom (class-none k) e);
+          ring = λ k lk e. absurd (not_blossom (class_none k) e);
+          chain = λ k i lk e l. absurd (not_blossom (class_none k) e);
           alone = λ k lk e. rw (bare k) (record { place = refl; next = refl; left = refl; right = refl });
-          inside = λ k q lk e. absurd (not-inside (ap (λ (n : Node). n.parent) (bare k)) e);
+          inside = λ k q lk e. absurd (not_inside (ap (λ (n : Node). n.parent) (bare k)) e);
         };
       }
 
-pub filled : (m : Bool) (b b' : List ℕ) (n first : ℕ) → Filling m b n → 8 ≤ n → b' ≡ set b 0 first → Done b' (setUpIn m first)
+pub filled : (m : Bool) (b b' : List ℕ) (n first : ℕ) → Filling m b n → 8 ≤ n → b' ≡ set b 0 first → Done b' (set_up_in m first)
 filled m b b' n first I l e =
     rw e
-    (begun m (set b 0 first) first (get_or-set_same b 0 first 0 (omega (arith, I.len))) (length-set b 0 first ∙ I.len) (coded-first b first I.coded)
-    (λ u lu. interface-first b first u ∙ I.interfaces u (omega arith)) (λ u. map_first b first u ∙ I.maps u) (λ k. node-first b first k ∙ I.nodes k))
+    (begun m (set b 0 first) first (get_or-set_same b 0 first 0 (omega (arith, I.len))) (length-set b 0 first ∙ I.len) (coded_first b first I.coded)
+    (λ u lu. interface_first b first u ∙ I.interfaces u (omega arith)) (λ u. map_first b first u ∙ I.maps u) (λ k. node_first b first k ∙ I.nodes k))

@@ -8,33 +8,33 @@ use lib.IntN.{ℤ, pos, neg_ℤ, ◌+ℤ◌, ◌-ℤ◌, +ℤ_assoc}
 use Rattle.bench_words.specs.declared.Interface.{Interface}
 use Rattle.bench_words.specs.declared.Up.{Up}
 use Rattle.bench_words.specs.declared.Up.TheVariants.{Top, Under}
-use Rattle.bench_views.specs.View.{lagOf, off, over, sumUp}
-use Rattle.bench_views.proofs.Offsets.{off-sub, off-add}
+use Rattle.bench_views.specs.View.{lag_of, off, over, sum_up}
+use Rattle.bench_views.proofs.Offsets.{off_sub, off_add}
 
-pub off-join : (c a b : ℕ) → c ≤ a + b → off c (a + b - c) ≡ off c a +ℤ off c b
+pub off_join : (c a b : ℕ) → c ≤ a + b → off c (a + b - c) ≡ off c a +ℤ off c b
 unfolding off
-off-join c a b l = off-sub c (a + b) c l ∙ ap (λ (z : ℤ). z -ℤ pos c) (off-add c a b) ∙ +ℤ_assoc (off c a) (pos b) (neg_ℤ (pos c))
+off_join c a b l = off_sub c (a + b) c l ∙ ap (λ (z : ℤ). z -ℤ pos c) (off_add c a b) ∙ +ℤ_assoc (off c a) (pos b) (neg_ℤ (pos c))
 
 -- ---- the sums stay
-module _ (A A' : ℕ → Interface) (p l r : ℕ) (top-l : (A l).parent ≡ Top) (top-r : (A r).parent ≡ Top) (bare : lagOf (A p) ≡ 0)
+module _ (A A' : ℕ → Interface) (p l r : ℕ) (top-l : (A l).parent ≡ Top) (top-r : (A r).parent ≡ Top) (bare : lag_of (A p) ≡ 0)
     (at_p : (A' p).parent ≡ Top) (at-l : (A' l).parent ≡ Under p) (at-r : (A' r).parent ≡ Under p)
-    (other : (v : ℕ) → v ≢ l → v ≢ r → (A' v).parent ≡ (A v).parent) (progress : (v : ℕ) → lagOf (A' v) ≡ lagOf (A v)) where
-  sum-p : (n : ℕ) → sumUp n A' p ≡ 0
-  unfolding sumUp
-  sum-p zero = refl
-  sum-p (suc n) = rw (at_p, progress p, bare)
+    (other : (v : ℕ) → v ≢ l → v ≢ r → (A' v).parent ≡ (A v).parent) (progress : (v : ℕ) → lag_of (A' v) ≡ lag_of (A v)) where
+  sum_p : (n : ℕ) → sum_up n A' p ≡ 0
+  unfolding sum_up
+  sum_p zero = refl
+  sum_p (suc n) = rw (at_p, progress p, bare)
 
-  over-same : (q : Up) (n : ℕ) → ((w : ℕ) → sumUp n A' w ≡ sumUp n A w) → over q 0 (sumUp n A') ≡ over q 0 (sumUp n A)
-  over-same Top n h = refl
-  over-same (Under q) n h = h q
+  over_same : (q : Up) (n : ℕ) → ((w : ℕ) → sum_up n A' w ≡ sum_up n A w) → over q 0 (sum_up n A') ≡ over q 0 (sum_up n A)
+  over_same Top n h = refl
+  over_same (Under q) n h = h q
 
-  pub fuse-sums : (n v : ℕ) → sumUp n A' v ≡ sumUp n A v
-  unfolding sumUp
-  fuse-sums zero v = refl
-  fuse-sums (suc n) v =
+  pub fuse_sums : (n v : ℕ) → sum_up n A' v ≡ sum_up n A v
+  unfolding sum_up
+  fuse_sums zero v = refl
+  fuse_sums (suc n) v =
       by_cases (ℕ_discrete v l)
-      (λ (e : v ≡ l). rw (e, progress l, at-l, top-l, sum-p n))
+      (λ (e : v ≡ l). rw (e, progress l, at-l, top-l, sum_p n))
       (λ (nl : v ≡ l → ⊥).
       by_cases (ℕ_discrete v r)
-      (λ (e : v ≡ r). rw (e, progress r, at-r, top-r, sum-p n))
-      (λ (nr : v ≡ r → ⊥). rw (progress v, other v nl nr) (ap (λ (x : ℕ). lagOf (A v) + x) (over-same (A v).parent n (fuse-sums n)))))
+      (λ (e : v ≡ r). rw (e, progress r, at-r, top-r, sum_p n))
+      (λ (nr : v ≡ r → ⊥). rw (progress v, other v nl nr) (ap (λ (x : ℕ). lag_of (A v) + x) (over_same (A v).parent n (fuse_sums n)))))

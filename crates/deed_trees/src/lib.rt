@@ -1,22 +1,22 @@
-// The work of fuse, clear and set-up, over the words that the caller lends, against the plain ledger's own definitions. A fuse touches no node; a
+// The work of fuse, clear and set_up_lem, over the words that the caller lends, against the plain ledger's own definitions. A fuse touches no node; a
 // clear touches the slots used in its tree. No refusal is left: each asks that its tests pass on words that fit. Assumes nothing.
 ghost use Rattle.std.specs.Prelude.{◌≡◌, ℕ, ◌+◌, ◌*◌, ◌<◌, ◌≤◌, length, get_or};
-ghost use Rattle.bench_words.specs.Store.{interfaceAt, storeInterface, noInterface};
-ghost use Rattle.ledger_spec.specs.Bench.{setUp, setUpIn};
+ghost use Rattle.bench_words.specs.Store.{interface_at, store_interface, no_interface};
+ghost use Rattle.ledger_spec.specs.Bench.{set_up, set_up_in};
 ghost use Rattle.ledger_spec.specs.Tests.{first as number_of};
-ghost use Rattle.ledger_spec.specs.Refuse.{fuseTests, unitTests};
+ghost use Rattle.ledger_spec.specs.Refuse.{fuse_tests, unit_tests};
 ghost use Rattle.ledger_spec.specs.Deeds.{join as joined, wipe as wiped};
 ghost use Rattle.bench_views.specs.Records.{Steady};
 ghost use Rattle.bench_views.specs.View.{view};
 ghost use Rattle.bench_views.specs.Canon.{Coded};
 ghost use Rattle.bench_views.specs.Fit.{Fit, Done};
-ghost use Rattle.deed_trees.specs.Empty.{withUp, Emptied, Reset};
+ghost use Rattle.deed_trees.specs.Empty.{with_up, Emptied, Reset};
 
 use bench_words::{Interface, Marks, Up, WORDS};
 
-// An interface as set-up leaves it, in either engine.
+// An interface as set_up_lem leaves it, in either engine.
 fn no_interface(plain: bool) -> Interface
-    ensures { result ≡ noInterface plain }
+    ensures { result ≡ no_interface plain }
 {
     Interface {
         used: 0,
@@ -37,7 +37,7 @@ fn no_interface(plain: bool) -> Interface
 // Puts an interface under a parent.
 fn put_under(b: &mut [u64; WORDS], unit: usize, parent: usize)
     requires { (unit < 8) × (parent < 8) }
-    ensures { b.new ≡ storeInterface b.old unit (withUp (interfaceAt b.old unit) parent) }
+    ensures { b.new ≡ store_interface b.old unit (with_up (interface_at b.old unit) parent) }
 {
     let f = bench_words::load_interface(b, unit);
     let marks = f.marks;
@@ -59,7 +59,7 @@ fn put_under(b: &mut [u64; WORDS], unit: usize, parent: usize)
 
 // Fuses two interfaces under a parent, which gets both sums and both speeds, and is floored as its halves are. Each of the three keeps its way to fill.
 pub fn join(b: &mut [u64; WORDS], parent: usize, left: usize, right: usize)
-    requires { Fit b.old × (number_of (fuseTests (view b.old) parent left right) ≡ 0) }
+    requires { Fit b.old × (number_of (fuse_tests (view b.old) parent left right) ≡ 0) }
     ensures { Done b.new (joined (view b.old) parent left right) }
 {
     let l = bench_words::load_interface(b, left);
@@ -115,7 +115,7 @@ fn reset(b: &mut [u64; WORDS], unit: usize)
 // Clears a tree at its top, which is reset last. Parents have higher numbers, so each climb goes over interfaces that are not reset yet, and none above the top is
 // of its tree.
 pub fn wipe(b: &mut [u64; WORDS], unit: usize)
-    requires { Fit b.old × (number_of (unitTests (view b.old) unit) ≡ 0) }
+    requires { Fit b.old × (number_of (unit_tests (view b.old) unit) ≡ 0) }
     ensures { Done b.new (wiped (view b.old) unit) }
 {
     let mut w: usize = 0;
@@ -143,7 +143,7 @@ fn erase(b: &mut [u64; WORDS])
 
 // Makes any words the empty bench of an engine, whose first node will have serial `first`.
 pub fn set_up_in(b: &mut [u64; WORDS], plain: bool, first: u32)
-    ensures { Done b.new (setUpIn plain first) }
+    ensures { Done b.new (set_up_in plain first) }
 {
     bench_words::full(b);
     erase(b);
@@ -157,14 +157,14 @@ pub fn set_up_in(b: &mut [u64; WORDS], plain: bool, first: u32)
 
 // The same in the lazy engine.
 pub fn set_up(b: &mut [u64; WORDS], first: u32)
-    ensures { Done b.new (setUp first) }
+    ensures { Done b.new (set_up first) }
 {
     set_up_in(b, false, first);
 }
 
 // The empty bench, handed out whole.
 pub fn new_bench(first: u32) -> [u64; WORDS]
-    ensures { Done result (setUp first) }
+    ensures { Done result (set_up first) }
 {
     let mut b: [u64; WORDS] = [0; WORDS];
     set_up(&mut b, first);

@@ -8,18 +8,18 @@ use Rattle.ledger_spec.specs.Answers.{answer}
 use Rattle.ledger_spec.specs.Calls.{Call}
 use Rattle.bench_views.specs.View.{view}
 use Rattle.bench_views.specs.Fit.{SoundWords}
-use Rattle.sound_bench.proofs.Theorem.{sound-holds}
-use Rattle.outcomes.proofs.Outcomes.{judged-with}
+use Rattle.sound_bench.proofs.Theorem.{sound_holds}
+use Rattle.outcomes.proofs.Outcomes.{judged_with}
 use Rattle.link_told.specs.Answers.{answerOver}
-use Rattle.link_told.proofs.Back.{said-first}
+use Rattle.link_told.proofs.Back.{said_first}
 use Rattle.dual_ledger.specs.Linked.{Settled, node_of, ToldBy, CalledBy}
 
 module _ {b : List ℕ} {c : Call} {n : ℕ} {b' : List ℕ} (ws : List ℕ) {ws' : List ℕ} where
-  pub called-told : SoundWords b → CalledBy b c n ws ws' b' → ToldBy b c n ws ws' b'
-  called-told W C = judged-with (answerOver ws) (sound-holds b W) C
+  pub called_told : SoundWords b → CalledBy b c n ws ws' b' → ToldBy b c n ws ws' b'
+  called_told W C = judged_with (answerOver ws) (sound_holds b W) C
 
-  pub told-settled : ToldBy b c n ws ws' b' → Settled b c n b'
-  told-settled T = T.0
+  pub told_settled : ToldBy b c n ws ws' b' → Settled b c n b'
+  told_settled T = T.0
 
-  pub told-node : 0 < length ws → ToldBy b c n ws ws' b' → get_or ws' 0 0 ≡ node_of b c
-  told-node l T = ap (λ (v : List ℕ). get_or v 0 0) T.1 ∙ said-first ws l (answer (view b) c)
+  pub told_node : 0 < length ws → ToldBy b c n ws ws' b' → get_or ws' 0 0 ≡ node_of b c
+  told_node l T = ap (λ (v : List ℕ). get_or v 0 0) T.1 ∙ said_first ws l (answer (view b) c)

@@ -9,23 +9,23 @@ use mathlib.Core.List.{List}
 use lib.IntN.{ℤ}
 use Rattle.ledger_spec.specs.Bench.{Handle, State, filling, floor}
 use Rattle.ledger_spec.specs.Calls.{Call, Defect, Blossom, Expand, SetState, Grow, Fuse, Clear, Mark}
-use Rattle.ledger_spec.specs.Reads.{sum_of, speedOf, count_of, fillsOf, flooredOf, handleAtIndex, value_of, belongs}
-use Rattle.ledger_spec.specs.Walk.{outerOf, belowOf, firstVertex, verticesInto}
-use Rattle.ledger_spec.specs.Check.{checkOf, strictOf}
-use Rattle.ledger_spec.specs.GroupCalls.{is_empty, isActive, growthOf}
+use Rattle.ledger_spec.specs.Reads.{sum_of, speed_of, count_of, fills_of, floored_of, handle_at_index, value_of, belongs}
+use Rattle.ledger_spec.specs.Walk.{outer_of, below_of, first_vertex, vertices_into}
+use Rattle.ledger_spec.specs.Check.{check_of, strict_of}
+use Rattle.ledger_spec.specs.GroupCalls.{is_empty, is_active, growth_of}
 use Rattle.ledger_spec.specs.Answers.{sumRead, speedRead, countRead, fillsRead, flooredRead, indexRead, belongsRead, valueRead, outerRead, belowRead, firstRead, verticesRead, checkRead, strictRead}
 use Rattle.bench_views.specs.View.{view}
-use Rattle.sound_bench.specs.Sound.{soundWords}
-use Rattle.sound_lent.specs.Verdict.{Verdict, readWords}
-use Rattle.link_answers.specs.Forms.{nodeWord, indexed, flagWord, signedWord, outerWords, lengthWords, worded}
-use Rattle.read_present.specs.Present.{presentOf, next_of, presentRead, nextRead}
-use Rattle.group_lent.specs.Place.{groupIn}
+use Rattle.sound_bench.specs.Sound.{sound_words}
+use Rattle.sound_lent.specs.Verdict.{Verdict, read_words}
+use Rattle.link_answers.specs.Forms.{node_word, indexed, flag_word, signed_word, outer_words, length_words, worded}
+use Rattle.read_present.specs.Present.{present_of, next_of, present_read, next_read}
+use Rattle.group_lent.specs.Place.{group_in}
 use Rattle.group_lent_takes.specs.Made.{Emptied}
-use Rattle.group_lent_sound.specs.Test.{soundIn}
+use Rattle.group_lent_sound.specs.Test.{sound_in}
 use Rattle.group_lent_any.specs.Any.{asked_of}
 use Rattle.dual_ledger.specs.Linked.{Settled, node_of, ToldBy, Left, CalledBy}
-use Rattle.dual_ledger.specs.Nexts.{nextWords}
-use Rattle.dual_ledger.proofs.Once.{settled-once, told-once, left-once, called-once}
+use Rattle.dual_ledger.specs.Nexts.{next_words}
+use Rattle.dual_ledger.proofs.Once.{settled_once, told_once, left_once, called_once}
 
 -- what is equal to z is one
 abbrev pub Only : {A : Type 0} → A → Type 0
@@ -36,18 +36,18 @@ one z x y p q = p ∙ sym q
 
 -- ---- the tests
 module _ (b : List ℕ) where
-  pub only-is-sound : Only (flagWord (soundWords b))
-  only-is-sound = one (flagWord (soundWords b))
+  pub only_is_sound : Only (flag_word (sound_words b))
+  only_is_sound = one (flag_word (sound_words b))
 
   -- of crate sound_bench, and of sound_lent
-  pub only-sound-test : Only (soundWords b)
-  only-sound-test = one (soundWords b)
+  pub only_sound_test : Only (sound_words b)
+  only_sound_test = one (sound_words b)
 
-  pub only-is-bench : (s t : Bool) → Verdict b s → Verdict b t → s ≡ t
-  only-is-bench s t x y = x.is ∙ sym y.is
+  pub only_is_bench : (s t : Bool) → Verdict b s → Verdict b t → s ≡ t
+  only_is_bench s t x y = x.is ∙ sym y.is
 
-  pub only-group-is-sound : Only (flagWord (soundIn b))
-  only-group-is-sound = one (flagWord (soundIn b))
+  pub only_group_is_sound : Only (flag_word (sound_in b))
+  only_group_is_sound = one (flag_word (sound_in b))
 
 -- ---- the calls, on words b: on any words, with notices; on any words, without; on sound words, with notices; on sound words, without
 module _ (b : List ℕ) where
@@ -64,207 +64,207 @@ module _ (b : List ℕ) where
   SettledOnce c = (n m : ℕ) (b' b'' : List ℕ) → Settled b c n b' → Settled b c m b'' → (n ≡ m) × (b' ≡ b'')
 
   called : (c : Call) → CalledOnce c
-  called c n m ws ws' ws'' b' b'' x y = called-once ws x y
+  called c n m ws ws' ws'' b' b'' x y = called_once ws x y
 
   left : (c : Call) → LeftOnce c
-  left c n m b' b'' x y = left-once x y
+  left c n m b' b'' x y = left_once x y
 
   told : (c : Call) → ToldOnce c
-  told c n m ws ws' ws'' b' b'' x y = told-once ws x y
+  told c n m ws ws' ws'' b' b'' x y = told_once ws x y
 
   settled : (c : Call) → SettledOnce c
-  settled c n m b' b'' x y = settled-once x y
+  settled c n m b' b'' x y = settled_once x y
 
   module _ (u : ℕ) where
-    pub only-create-defect-node : (v : ℕ) → CalledOnce (Defect u v)
-    only-create-defect-node v = called (Defect u v)
+    pub only_create_defect_node : (v : ℕ) → CalledOnce (Defect u v)
+    only_create_defect_node v = called (Defect u v)
 
-    pub only-create-blossom : (hs : List Handle) (ts : List (Handle × Handle)) → CalledOnce (Blossom u hs ts)
-    only-create-blossom hs ts = called (Blossom u hs ts)
+    pub only_create_blossom : (hs : List Handle) (ts : List (Handle × Handle)) → CalledOnce (Blossom u hs ts)
+    only_create_blossom hs ts = called (Blossom u hs ts)
 
-    pub only-expand-blossom : (h : Handle) → CalledOnce (Expand u h)
-    only-expand-blossom h = called (Expand u h)
+    pub only_expand_blossom : (h : Handle) → CalledOnce (Expand u h)
+    only_expand_blossom h = called (Expand u h)
 
-    pub only-set-grow-state : (h : Handle) (s : State) → CalledOnce (SetState u h s)
-    only-set-grow-state h s = called (SetState u h s)
+    pub only_set_grow_state : (h : Handle) (s : State) → CalledOnce (SetState u h s)
+    only_set_grow_state h s = called (SetState u h s)
 
-    pub only-grow : (l : ℤ) → CalledOnce (Grow u l)
-    only-grow l = called (Grow u l)
+    pub only_grow : (l : ℤ) → CalledOnce (Grow u l)
+    only_grow l = called (Grow u l)
 
-    pub only-fuse : (l r : ℕ) → LeftOnce (Fuse u l r)
-    only-fuse l r = left (Fuse u l r)
+    pub only_fuse : (l r : ℕ) → LeftOnce (Fuse u l r)
+    only_fuse l r = left (Fuse u l r)
 
-    pub only-clear : LeftOnce (Clear u)
-    only-clear = left (Clear u)
+    pub only_clear : LeftOnce (Clear u)
+    only_clear = left (Clear u)
 
-    pub only-mark-filling : LeftOnce (Mark u filling)
-    only-mark-filling = left (Mark u filling)
+    pub only_mark_filling : LeftOnce (Mark u filling)
+    only_mark_filling = left (Mark u filling)
 
-    pub only-mark-floored : LeftOnce (Mark u floor)
-    only-mark-floored = left (Mark u floor)
+    pub only_mark_floored : LeftOnce (Mark u floor)
+    only_mark_floored = left (Mark u floor)
 
-    pub only-told-create-defect-node : (v : ℕ) → ToldOnce (Defect u v)
-    only-told-create-defect-node v = told (Defect u v)
+    pub only_told_create_defect_node : (v : ℕ) → ToldOnce (Defect u v)
+    only_told_create_defect_node v = told (Defect u v)
 
-    pub only-told-create-blossom : (hs : List Handle) (ts : List (Handle × Handle)) → ToldOnce (Blossom u hs ts)
-    only-told-create-blossom hs ts = told (Blossom u hs ts)
+    pub only_told_create_blossom : (hs : List Handle) (ts : List (Handle × Handle)) → ToldOnce (Blossom u hs ts)
+    only_told_create_blossom hs ts = told (Blossom u hs ts)
 
-    pub only-told-expand-blossom : (h : Handle) → ToldOnce (Expand u h)
-    only-told-expand-blossom h = told (Expand u h)
+    pub only_told_expand_blossom : (h : Handle) → ToldOnce (Expand u h)
+    only_told_expand_blossom h = told (Expand u h)
 
-    pub only-told-set-grow-state : (h : Handle) (s : State) → ToldOnce (SetState u h s)
-    only-told-set-grow-state h s = told (SetState u h s)
+    pub only_told_set_grow_state : (h : Handle) (s : State) → ToldOnce (SetState u h s)
+    only_told_set_grow_state h s = told (SetState u h s)
 
-    pub only-told-grow : (l : ℤ) → ToldOnce (Grow u l)
-    only-told-grow l = told (Grow u l)
+    pub only_told_grow : (l : ℤ) → ToldOnce (Grow u l)
+    only_told_grow l = told (Grow u l)
 
-    pub only-trusted-create-defect-node : (v : ℕ) → SettledOnce (Defect u v) × Only (node_of b (Defect u v))
-    only-trusted-create-defect-node v = (settled (Defect u v), one (node_of b (Defect u v)))
+    pub only_trusted_create_defect_node : (v : ℕ) → SettledOnce (Defect u v) × Only (node_of b (Defect u v))
+    only_trusted_create_defect_node v = (settled (Defect u v), one (node_of b (Defect u v)))
 
-    pub only-trusted-create-blossom : (hs : List Handle) (ts : List (Handle × Handle)) → SettledOnce (Blossom u hs ts) × Only (node_of b (Blossom u hs ts))
-    only-trusted-create-blossom hs ts = (settled (Blossom u hs ts), one (node_of b (Blossom u hs ts)))
+    pub only_trusted_create_blossom : (hs : List Handle) (ts : List (Handle × Handle)) → SettledOnce (Blossom u hs ts) × Only (node_of b (Blossom u hs ts))
+    only_trusted_create_blossom hs ts = (settled (Blossom u hs ts), one (node_of b (Blossom u hs ts)))
 
-    pub only-trusted-expand-blossom : (h : Handle) → SettledOnce (Expand u h)
-    only-trusted-expand-blossom h = settled (Expand u h)
+    pub only_trusted_expand_blossom : (h : Handle) → SettledOnce (Expand u h)
+    only_trusted_expand_blossom h = settled (Expand u h)
 
-    pub only-trusted-set-grow-state : (h : Handle) (s : State) → SettledOnce (SetState u h s)
-    only-trusted-set-grow-state h s = settled (SetState u h s)
+    pub only_trusted_set_grow_state : (h : Handle) (s : State) → SettledOnce (SetState u h s)
+    only_trusted_set_grow_state h s = settled (SetState u h s)
 
-    pub only-trusted-grow : (l : ℤ) → SettledOnce (Grow u l)
-    only-trusted-grow l = settled (Grow u l)
+    pub only_trusted_grow : (l : ℤ) → SettledOnce (Grow u l)
+    only_trusted_grow l = settled (Grow u l)
 
-    pub only-trusted-fuse : (l r : ℕ) → SettledOnce (Fuse u l r)
-    only-trusted-fuse l r = settled (Fuse u l r)
+    pub only_trusted_fuse : (l r : ℕ) → SettledOnce (Fuse u l r)
+    only_trusted_fuse l r = settled (Fuse u l r)
 
-    pub only-trusted-clear : SettledOnce (Clear u)
-    only-trusted-clear = settled (Clear u)
+    pub only_trusted_clear : SettledOnce (Clear u)
+    only_trusted_clear = settled (Clear u)
 
-    pub only-trusted-mark-filling : SettledOnce (Mark u filling)
-    only-trusted-mark-filling = settled (Mark u filling)
+    pub only_trusted_mark_filling : SettledOnce (Mark u filling)
+    only_trusted_mark_filling = settled (Mark u filling)
 
-    pub only-trusted-mark-floored : SettledOnce (Mark u floor)
-    only-trusted-mark-floored = settled (Mark u floor)
+    pub only_trusted_mark_floored : SettledOnce (Mark u floor)
+    only_trusted_mark_floored = settled (Mark u floor)
 
 -- ---- the reads of an interface: on any words, on sound ones
 module _ (b : List ℕ) (u : ℕ) where
-  pub only-sum-dual-variables : Only (worded signedWord (readWords b (sumRead (view b) u)))
-  only-sum-dual-variables = one (worded signedWord (readWords b (sumRead (view b) u)))
+  pub only_sum_dual_variables : Only (worded signed_word (read_words b (sumRead (view b) u)))
+  only_sum_dual_variables = one (worded signed_word (read_words b (sumRead (view b) u)))
 
-  pub only-trusted-sum-dual-variables : Only (worded signedWord (sum_of (view b) u))
-  only-trusted-sum-dual-variables = one (worded signedWord (sum_of (view b) u))
+  pub only_trusted_sum_dual_variables : Only (worded signed_word (sum_of (view b) u))
+  only_trusted_sum_dual_variables = one (worded signed_word (sum_of (view b) u))
 
-  pub only-sum-grow-speed : Only (worded signedWord (readWords b (speedRead (view b) u)))
-  only-sum-grow-speed = one (worded signedWord (readWords b (speedRead (view b) u)))
+  pub only_sum_grow_speed : Only (worded signed_word (read_words b (speedRead (view b) u)))
+  only_sum_grow_speed = one (worded signed_word (read_words b (speedRead (view b) u)))
 
-  pub only-trusted-sum-grow-speed : Only (worded signedWord (speedOf (view b) u))
-  only-trusted-sum-grow-speed = one (worded signedWord (speedOf (view b) u))
+  pub only_trusted_sum_grow_speed : Only (worded signed_word (speed_of (view b) u))
+  only_trusted_sum_grow_speed = one (worded signed_word (speed_of (view b) u))
 
-  pub only-nodes-count : Only (readWords b (countRead (view b) u))
-  only-nodes-count = one (readWords b (countRead (view b) u))
+  pub only_nodes_count : Only (read_words b (countRead (view b) u))
+  only_nodes_count = one (read_words b (countRead (view b) u))
 
-  pub only-trusted-nodes-count : Only (count_of (view b) u)
-  only-trusted-nodes-count = one (count_of (view b) u)
+  pub only_trusted_nodes_count : Only (count_of (view b) u)
+  only_trusted_nodes_count = one (count_of (view b) u)
 
-  pub only-is-filling : Only (worded flagWord (readWords b (fillsRead (view b) u)))
-  only-is-filling = one (worded flagWord (readWords b (fillsRead (view b) u)))
+  pub only_is_filling : Only (worded flag_word (read_words b (fillsRead (view b) u)))
+  only_is_filling = one (worded flag_word (read_words b (fillsRead (view b) u)))
 
-  pub only-trusted-is-filling : Only (worded flagWord (fillsOf (view b) u))
-  only-trusted-is-filling = one (worded flagWord (fillsOf (view b) u))
+  pub only_trusted_is_filling : Only (worded flag_word (fills_of (view b) u))
+  only_trusted_is_filling = one (worded flag_word (fills_of (view b) u))
 
-  pub only-is-floored : Only (worded flagWord (readWords b (flooredRead (view b) u)))
-  only-is-floored = one (worded flagWord (readWords b (flooredRead (view b) u)))
+  pub only_is_floored : Only (worded flag_word (read_words b (flooredRead (view b) u)))
+  only_is_floored = one (worded flag_word (read_words b (flooredRead (view b) u)))
 
-  pub only-trusted-is-floored : Only (worded flagWord (flooredOf (view b) u))
-  only-trusted-is-floored = one (worded flagWord (flooredOf (view b) u))
+  pub only_trusted_is_floored : Only (worded flag_word (floored_of (view b) u))
+  only_trusted_is_floored = one (worded flag_word (floored_of (view b) u))
 
-  pub only-get-node : (k : ℕ) → Only (indexed (readWords b (indexRead (view b) u k)))
-  only-get-node k = one (indexed (readWords b (indexRead (view b) u k)))
+  pub only_get_node : (k : ℕ) → Only (indexed (read_words b (indexRead (view b) u k)))
+  only_get_node k = one (indexed (read_words b (indexRead (view b) u k)))
 
-  pub only-trusted-get-node : (k : ℕ) → Only (indexed (handleAtIndex (view b) u k))
-  only-trusted-get-node k = one (indexed (handleAtIndex (view b) u k))
+  pub only_trusted_get_node : (k : ℕ) → Only (indexed (handle_at_index (view b) u k))
+  only_trusted_get_node k = one (indexed (handle_at_index (view b) u k))
 
-  pub only-present-count : Only (readWords b (presentRead (view b) u))
-  only-present-count = one (readWords b (presentRead (view b) u))
+  pub only_present_count : Only (read_words b (present_read (view b) u))
+  only_present_count = one (read_words b (present_read (view b) u))
 
-  pub only-trusted-present-count : Only (presentOf (view b) u)
-  only-trusted-present-count = one (presentOf (view b) u)
+  pub only_trusted_present_count : Only (present_of (view b) u)
+  only_trusted_present_count = one (present_of (view b) u)
 
-  pub only-next-present : (k : ℕ) → Only (nextWords (readWords b (nextRead (view b) u k)))
-  only-next-present k = one (nextWords (readWords b (nextRead (view b) u k)))
+  pub only_next_present : (k : ℕ) → Only (next_words (read_words b (next_read (view b) u k)))
+  only_next_present k = one (next_words (read_words b (next_read (view b) u k)))
 
-  pub only-trusted-next-present : (k : ℕ) → Only (nextWords (next_of (view b) u k))
-  only-trusted-next-present k = one (nextWords (next_of (view b) u k))
+  pub only_trusted_next_present : (k : ℕ) → Only (next_words (next_of (view b) u k))
+  only_trusted_next_present k = one (next_words (next_of (view b) u k))
 
-  pub only-check-ptr-belonging : (h : Handle) → Only (worded flagWord (readWords b (belongsRead (view b) u h)))
-  only-check-ptr-belonging h = one (worded flagWord (readWords b (belongsRead (view b) u h)))
+  pub only_check_ptr_belonging : (h : Handle) → Only (worded flag_word (read_words b (belongsRead (view b) u h)))
+  only_check_ptr_belonging h = one (worded flag_word (read_words b (belongsRead (view b) u h)))
 
-  pub only-trusted-check-ptr-belonging : (h : Handle) → Only (worded flagWord (belongs (view b) u h))
-  only-trusted-check-ptr-belonging h = one (worded flagWord (belongs (view b) u h))
+  pub only_trusted_check_ptr_belonging : (h : Handle) → Only (worded flag_word (belongs (view b) u h))
+  only_trusted_check_ptr_belonging h = one (worded flag_word (belongs (view b) u h))
 
-  pub only-sanity-check : Only (readWords b (checkRead (view b) u))
-  only-sanity-check = one (readWords b (checkRead (view b) u))
+  pub only_sanity_check : Only (read_words b (checkRead (view b) u))
+  only_sanity_check = one (read_words b (checkRead (view b) u))
 
-  pub only-trusted-sanity-check : Only (checkOf (view b) u)
-  only-trusted-sanity-check = one (checkOf (view b) u)
+  pub only_trusted_sanity_check : Only (check_of (view b) u)
+  only_trusted_sanity_check = one (check_of (view b) u)
 
-  pub only-strict-check : Only (readWords b (strictRead (view b) u))
-  only-strict-check = one (readWords b (strictRead (view b) u))
+  pub only_strict_check : Only (read_words b (strictRead (view b) u))
+  only_strict_check = one (read_words b (strictRead (view b) u))
 
-  pub only-trusted-strict-check : Only (strictOf (view b) u)
-  only-trusted-strict-check = one (strictOf (view b) u)
+  pub only_trusted_strict_check : Only (strict_of (view b) u)
+  only_trusted_strict_check = one (strict_of (view b) u)
 
 -- ---- the reads of a node
 module _ (b : List ℕ) (h : Handle) where
-  pub only-get-dual-variable : Only (worded signedWord (readWords b (valueRead (view b) h)))
-  only-get-dual-variable = one (worded signedWord (readWords b (valueRead (view b) h)))
+  pub only_get_dual_variable : Only (worded signed_word (read_words b (valueRead (view b) h)))
+  only_get_dual_variable = one (worded signed_word (read_words b (valueRead (view b) h)))
 
-  pub only-trusted-get-dual-variable : Only (worded signedWord (value_of (view b) h))
-  only-trusted-get-dual-variable = one (worded signedWord (value_of (view b) h))
+  pub only_trusted_get_dual_variable : Only (worded signed_word (value_of (view b) h))
+  only_trusted_get_dual_variable = one (worded signed_word (value_of (view b) h))
 
-  pub only-get-ancestor-blossom : Only (worded outerWords (readWords b (outerRead (view b) h)))
-  only-get-ancestor-blossom = one (worded outerWords (readWords b (outerRead (view b) h)))
+  pub only_get_ancestor_blossom : Only (worded outer_words (read_words b (outerRead (view b) h)))
+  only_get_ancestor_blossom = one (worded outer_words (read_words b (outerRead (view b) h)))
 
-  pub only-trusted-get-ancestor-blossom : Only (worded outerWords (outerOf (view b) h))
-  only-trusted-get-ancestor-blossom = one (worded outerWords (outerOf (view b) h))
+  pub only_trusted_get_ancestor_blossom : Only (worded outer_words (outer_of (view b) h))
+  only_trusted_get_ancestor_blossom = one (worded outer_words (outer_of (view b) h))
 
-  pub only-get-secondary-ancestor-blossom : Only (worded nodeWord (readWords b (belowRead (view b) h)))
-  only-get-secondary-ancestor-blossom = one (worded nodeWord (readWords b (belowRead (view b) h)))
+  pub only_get_secondary_ancestor_blossom : Only (worded node_word (read_words b (belowRead (view b) h)))
+  only_get_secondary_ancestor_blossom = one (worded node_word (read_words b (belowRead (view b) h)))
 
-  pub only-trusted-get-secondary-ancestor-blossom : Only (worded nodeWord (belowOf (view b) h))
-  only-trusted-get-secondary-ancestor-blossom = one (worded nodeWord (belowOf (view b) h))
+  pub only_trusted_get_secondary_ancestor_blossom : Only (worded node_word (below_of (view b) h))
+  only_trusted_get_secondary_ancestor_blossom = one (worded node_word (below_of (view b) h))
 
-  pub only-get-representative-vertex : Only (readWords b (firstRead (view b) h))
-  only-get-representative-vertex = one (readWords b (firstRead (view b) h))
+  pub only_get_representative_vertex : Only (read_words b (firstRead (view b) h))
+  only_get_representative_vertex = one (read_words b (firstRead (view b) h))
 
-  pub only-trusted-get-representative-vertex : Only (firstVertex (view b) h)
-  only-trusted-get-representative-vertex = one (firstVertex (view b) h)
+  pub only_trusted_get_representative_vertex : Only (first_vertex (view b) h)
+  only_trusted_get_representative_vertex = one (first_vertex (view b) h)
 
   -- the count and the whole slice
-  pub only-get-all-vertices : (out : List ℕ) → Only (readWords b (verticesRead (view b) h out))
-  only-get-all-vertices out = one (readWords b (verticesRead (view b) h out))
+  pub only_get_all_vertices : (out : List ℕ) → Only (read_words b (verticesRead (view b) h out))
+  only_get_all_vertices out = one (read_words b (verticesRead (view b) h out))
 
-  pub only-trusted-get-all-vertices : (out : List ℕ) → Only (verticesInto (view b) h out)
-  only-trusted-get-all-vertices out = one (verticesInto (view b) h out)
+  pub only_trusted_get_all_vertices : (out : List ℕ) → Only (vertices_into (view b) h out)
+  only_trusted_get_all_vertices out = one (vertices_into (view b) h out)
 
 -- ---- groups: what is asked, and the empty one; the others in group_lent_any (Once)
 module _ (ws : List ℕ) where
-  pub only-empty-group : (after later : List ℕ) → Emptied ws after → Emptied ws later → after ≡ later
-  only-empty-group after later x y = x.words ∙ sym y.words
+  pub only_empty_group : (after later : List ℕ) → Emptied ws after → Emptied ws later → after ≡ later
+  only_empty_group after later x y = x.words ∙ sym y.words
 
-  pub only-group-is-empty : Only (worded flagWord (asked_of ws false is_empty))
-  only-group-is-empty = one (worded flagWord (asked_of ws false is_empty))
+  pub only_group_is_empty : Only (worded flag_word (asked_of ws false is_empty))
+  only_group_is_empty = one (worded flag_word (asked_of ws false is_empty))
 
-  pub only-trusted-group-is-empty : Only (worded flagWord (is_empty (groupIn ws)))
-  only-trusted-group-is-empty = one (worded flagWord (is_empty (groupIn ws)))
+  pub only_trusted_group_is_empty : Only (worded flag_word (is_empty (group_in ws)))
+  only_trusted_group_is_empty = one (worded flag_word (is_empty (group_in ws)))
 
-  pub only-group-is-active : Only (worded flagWord (asked_of ws false isActive))
-  only-group-is-active = one (worded flagWord (asked_of ws false isActive))
+  pub only_group_is_active : Only (worded flag_word (asked_of ws false is_active))
+  only_group_is_active = one (worded flag_word (asked_of ws false is_active))
 
-  pub only-trusted-group-is-active : Only (worded flagWord (isActive (groupIn ws)))
-  only-trusted-group-is-active = one (worded flagWord (isActive (groupIn ws)))
+  pub only_trusted_group_is_active : Only (worded flag_word (is_active (group_in ws)))
+  only_trusted_group_is_active = one (worded flag_word (is_active (group_in ws)))
 
-  pub only-group-get-none-zero-growth : Only (worded lengthWords (asked_of ws none growthOf))
-  only-group-get-none-zero-growth = one (worded lengthWords (asked_of ws none growthOf))
+  pub only_group_get_none_zero_growth : Only (worded length_words (asked_of ws none growth_of))
+  only_group_get_none_zero_growth = one (worded length_words (asked_of ws none growth_of))
 
-  pub only-trusted-group-get-none-zero-growth : Only (worded lengthWords (growthOf (groupIn ws)))
-  only-trusted-group-get-none-zero-growth = one (worded lengthWords (growthOf (groupIn ws)))
+  pub only_trusted_group_get_none_zero_growth : Only (worded length_words (growth_of (group_in ws)))
+  only_trusted_group_get_none_zero_growth = one (worded length_words (growth_of (group_in ws)))

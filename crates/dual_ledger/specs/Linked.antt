@@ -4,9 +4,9 @@ use Rattle.std.specs.Prelude.{ℕ, ◌≡◌, Bool, true, List}
 use Rattle.ledger_spec.specs.Calls.{Call}
 use Rattle.ledger_spec.specs.Answers.{answer}
 use Rattle.bench_views.specs.View.{view}
-use Rattle.sound_bench.specs.Sound.{soundWords}
-use Rattle.outcomes.specs.Outcome.{answerOn, Outcome}
-use Rattle.link_answers.specs.Forms.{nodeWord}
+use Rattle.sound_bench.specs.Sound.{sound_words}
+use Rattle.outcomes.specs.Outcome.{answer_on, Outcome}
+use Rattle.link_answers.specs.Forms.{node_word}
 use Rattle.link_told.specs.Answers.{answerOver}
 
 -- on sound words b, call c answers n and leaves the words b'
@@ -15,13 +15,13 @@ Settled b c n b' = Outcome true b c n b'
 
 -- the node made or named, as a word; 0 where there is none
 abbrev pub node_of : List ℕ → Call → ℕ
-node_of b c = nodeWord (answer (view b) c).node
+node_of b c = node_word (answer (view b) c).node
 
 -- ---- with the notices
 
 -- on words b of verdict s, call c answers n, writes its answer over ws, which makes them ws', and leaves the words b'
 abbrev pub Wrote : Bool → List ℕ → Call → ℕ → List ℕ → List ℕ → List ℕ → Type 0
-Wrote s b c n ws ws' b' = Outcome s b c n b' × (ws' ≡ answerOver ws (answerOn s b c))
+Wrote s b c n ws ws' b' = Outcome s b c n b' × (ws' ≡ answerOver ws (answer_on s b c))
 
 -- on sound words
 abbrev pub ToldBy : List ℕ → Call → ℕ → List ℕ → List ℕ → List ℕ → Type 0
@@ -30,7 +30,7 @@ ToldBy b c n ws ws' b' = Wrote true b c n ws ws' b'
 -- ---- on any words: BROKEN where they hold no sound bench
 
 abbrev pub Left : List ℕ → Call → ℕ → List ℕ → Type 0
-Left b c n b' = Outcome (soundWords b) b c n b'
+Left b c n b' = Outcome (sound_words b) b c n b'
 
 abbrev pub CalledBy : List ℕ → Call → ℕ → List ℕ → List ℕ → List ℕ → Type 0
-CalledBy b c n ws ws' b' = Wrote (soundWords b) b c n ws ws' b'
+CalledBy b c n ws ws' b' = Wrote (sound_words b) b c n ws ws' b'

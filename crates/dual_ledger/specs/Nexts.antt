@@ -2,7 +2,7 @@
 use Rattle.std.specs.Prelude.{ℕ}
 use Rattle.std.proofs.Math.Option.{Option}
 use Rattle.ledger_spec.specs.Bench.{Handle}
-use Rattle.link_answers.specs.Forms.{indexedWord}
+use Rattle.link_answers.specs.Forms.{indexed_word}
 
-abbrev pub nextWords : ℕ × (ℕ × Option Handle) → ℕ × (ℕ × ℕ)
-nextWords r = (r.0, (r.1.0, indexedWord r.0 r.1.1))
+abbrev pub next_words : ℕ × (ℕ × Option Handle) → ℕ × (ℕ × ℕ)
+next_words r = (r.0, (r.1.0, indexed_word r.0 r.1.1))

@@ -17,8 +17,8 @@ mod trusted_reads; // the reads and checks on sound words
 
 ghost use Rattle.std.specs.Prelude.{◌≡◌, true};
 ghost use Rattle.call_set_up.specs.Opened.{OpenedBy, OpenedInBy};
-ghost use Rattle.sound_bench.specs.Sound.{soundWords};
-ghost use Rattle.link_answers.specs.Forms.{flagWord};
+ghost use Rattle.sound_bench.specs.Sound.{sound_words};
+ghost use Rattle.link_answers.specs.Forms.{flag_word};
 
 use bench_words::WORDS;
 
@@ -38,7 +38,7 @@ pub extern "C" fn dual_ledger_set_up_plain(bench: &mut [u64; WORDS], first: u32)
 
 #[unsafe(no_mangle)]
 pub extern "C" fn dual_ledger_is_sound(bench: &[u64; WORDS]) -> u8
-    ensures { result ≡ flagWord (soundWords bench.now) }
+    ensures { result ≡ flag_word (sound_words bench.now) }
 {
     if sound_lent::is_bench(bench) {
         return 1;

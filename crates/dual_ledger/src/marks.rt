@@ -2,12 +2,12 @@
 ghost use Rattle.std.specs.Prelude.{◌≡◌};
 ghost use Rattle.ledger_spec.specs.Bench.{filling, floor};
 ghost use Rattle.ledger_spec.specs.Calls.{Mark};
-ghost use Rattle.ledger_spec.specs.Reads.{fillsOf, flooredOf};
+ghost use Rattle.ledger_spec.specs.Reads.{fills_of, floored_of};
 ghost use Rattle.ledger_spec.specs.Answers.{fillsRead, flooredRead};
 ghost use Rattle.bench_views.specs.Fit.{SoundWords};
 ghost use Rattle.bench_views.specs.View.{view};
-ghost use Rattle.sound_lent.specs.Verdict.{readWords};
-ghost use Rattle.link_answers.specs.Forms.{flagWord, worded};
+ghost use Rattle.sound_lent.specs.Verdict.{read_words};
+ghost use Rattle.link_answers.specs.Forms.{flag_word, worded};
 ghost use Rattle.dual_ledger.specs.Linked.{Settled, Left};
 
 use bench_words::WORDS;
@@ -35,7 +35,7 @@ pub extern "C" fn dual_ledger_trusted_mark_filling(bench: &mut [u64; WORDS], uni
 
 #[unsafe(no_mangle)]
 pub extern "C" fn dual_ledger_is_filling(bench: &[u64; WORDS], unit: u8, filling: &mut u64) -> u8
-    ensures { (result, filling.new) ≡ worded flagWord (readWords bench.now (fillsRead (view bench.now) unit)) }
+    ensures { (result, filling.new) ≡ worded flag_word (read_words bench.now (fillsRead (view bench.now) unit)) }
 {
     let a = read_any::is_filling(bench, unit);
     *filling = link_answers::flag_word(a.marked);
@@ -49,7 +49,7 @@ pub extern "C" fn dual_ledger_trusted_is_filling(
     filling: &mut u64,
 ) -> u8
     requires { SoundWords bench.now }
-    ensures { (result, filling.new) ≡ worded flagWord (fillsOf (view bench.now) unit) }
+    ensures { (result, filling.new) ≡ worded flag_word (fills_of (view bench.now) unit) }
 {
     let a = read_marks::is_filling(bench, unit);
     *filling = link_answers::flag_word(a.marked);
@@ -78,7 +78,7 @@ pub extern "C" fn dual_ledger_trusted_mark_floored(bench: &mut [u64; WORDS], uni
 
 #[unsafe(no_mangle)]
 pub extern "C" fn dual_ledger_is_floored(bench: &[u64; WORDS], unit: u8, floored: &mut u64) -> u8
-    ensures { (result, floored.new) ≡ worded flagWord (readWords bench.now (flooredRead (view bench.now) unit)) }
+    ensures { (result, floored.new) ≡ worded flag_word (read_words bench.now (flooredRead (view bench.now) unit)) }
 {
     let a = read_any::is_floored(bench, unit);
     *floored = link_answers::flag_word(a.marked);
@@ -92,7 +92,7 @@ pub extern "C" fn dual_ledger_trusted_is_floored(
     floored: &mut u64,
 ) -> u8
     requires { SoundWords bench.now }
-    ensures { (result, floored.new) ≡ worded flagWord (flooredOf (view bench.now) unit) }
+    ensures { (result, floored.new) ≡ worded flag_word (floored_of (view bench.now) unit) }
 {
     let a = read_marks::is_floored(bench, unit);
     *floored = link_answers::flag_word(a.marked);

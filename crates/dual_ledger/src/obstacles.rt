@@ -2,11 +2,11 @@
 // Assumes nothing.
 ghost use Rattle.std.specs.Prelude.{◌≡◌, false};
 ghost use Rattle.std.proofs.Math.Option.{none};
-ghost use Rattle.ledger_spec.specs.GroupCalls.{is_empty, isActive, growthOf};
+ghost use Rattle.ledger_spec.specs.GroupCalls.{is_empty, is_active, growth_of};
 ghost use Rattle.group_lent_takes.specs.Made.{Emptied};
-ghost use Rattle.group_lent_sound.specs.Test.{soundIn};
+ghost use Rattle.group_lent_sound.specs.Test.{sound_in};
 ghost use Rattle.group_lent_any.specs.Any.{asked_of, PeekedAny, PoppedAny, SparedAny, AddedAny, ExtendedAny};
-ghost use Rattle.link_answers.specs.Forms.{flagWord, lengthWords, worded};
+ghost use Rattle.link_answers.specs.Forms.{flag_word, length_words, worded};
 
 use bench_words::WORDS;
 use group_lent::{GROUP, OBSTACLE};
@@ -20,7 +20,7 @@ pub extern "C" fn dual_ledger_empty_group(group: &mut [u64; GROUP])
 
 #[unsafe(no_mangle)]
 pub extern "C" fn dual_ledger_group_is_sound(group: &[u64; GROUP]) -> u8
-    ensures { result ≡ flagWord (soundIn group.now) }
+    ensures { result ≡ flag_word (sound_in group.now) }
 {
     if group_lent_any::is_group(group) {
         return 1;
@@ -30,7 +30,7 @@ pub extern "C" fn dual_ledger_group_is_sound(group: &[u64; GROUP]) -> u8
 
 #[unsafe(no_mangle)]
 pub extern "C" fn dual_ledger_group_is_empty(group: &[u64; GROUP], yes: &mut u64) -> u8
-    ensures { (result, yes.new) ≡ worded flagWord (asked_of group.now false is_empty) }
+    ensures { (result, yes.new) ≡ worded flag_word (asked_of group.now false is_empty) }
 {
     let a = group_lent_any::is_empty(group);
     *yes = link_answers::flag_word(a.yes);
@@ -39,7 +39,7 @@ pub extern "C" fn dual_ledger_group_is_empty(group: &[u64; GROUP], yes: &mut u64
 
 #[unsafe(no_mangle)]
 pub extern "C" fn dual_ledger_group_is_active(group: &[u64; GROUP], yes: &mut u64) -> u8
-    ensures { (result, yes.new) ≡ worded flagWord (asked_of group.now false isActive) }
+    ensures { (result, yes.new) ≡ worded flag_word (asked_of group.now false is_active) }
 {
     let a = group_lent_any::is_active(group);
     *yes = link_answers::flag_word(a.yes);
@@ -52,7 +52,7 @@ pub extern "C" fn dual_ledger_group_get_none_zero_growth(
     asked: &mut u64,
     length: &mut u64,
 ) -> u8
-    ensures { (result, (asked.new, length.new)) ≡ worded lengthWords (asked_of group.now none growthOf) }
+    ensures { (result, (asked.new, length.new)) ≡ worded length_words (asked_of group.now none growth_of) }
 {
     let a = group_lent_any::get_none_zero_growth(group);
     let l = a.length;

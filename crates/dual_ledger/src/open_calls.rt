@@ -1,9 +1,9 @@
 // The calls on any words: BROKEN (2) where they hold no sound bench, with every word as it was; else the call on sound words, whose answer is written over the
 // caller's words. Assumes nothing.
 ghost use Rattle.ledger_spec.specs.Calls.{Defect, Blossom, Expand, SetState, Grow, Fuse, Clear};
-ghost use Rattle.bench_views.specs.Given.{handGiven};
-ghost use Rattle.deed_circles.specs.Given.{handsGiven, pairsGiven};
-ghost use Rattle.link_answers.specs.Forms.{stateGiven};
+ghost use Rattle.bench_views.specs.Given.{hand_given};
+ghost use Rattle.deed_circles.specs.Given.{hands_given, pairs_given};
+ghost use Rattle.link_answers.specs.Forms.{state_given};
 ghost use Rattle.dual_ledger.specs.Linked.{CalledBy, Left};
 
 use crate::{told_calls, trusted_calls};
@@ -34,7 +34,7 @@ pub extern "C" fn dual_ledger_create_blossom(
     touching: &[u64],
     answer: &mut [u64; ANSWER],
 ) -> u8
-    ensures { CalledBy bench.old (Blossom unit (handsGiven members.now) (pairsGiven touching.now)) result answer.old answer.new bench.new }
+    ensures { CalledBy bench.old (Blossom unit (hands_given members.now) (pairs_given touching.now)) result answer.old answer.new bench.new }
 {
     if !sound_lent::is_bench(bench) {
         return link_told::refused(numbers::BROKEN, answer);
@@ -49,7 +49,7 @@ pub extern "C" fn dual_ledger_expand_blossom(
     node: u64,
     answer: &mut [u64; ANSWER],
 ) -> u8
-    ensures { CalledBy bench.old (Expand unit (handGiven node)) result answer.old answer.new bench.new }
+    ensures { CalledBy bench.old (Expand unit (hand_given node)) result answer.old answer.new bench.new }
 {
     if !sound_lent::is_bench(bench) {
         return link_told::refused(numbers::BROKEN, answer);
@@ -66,7 +66,7 @@ pub extern "C" fn dual_ledger_set_grow_state(
     state: i8,
     answer: &mut [u64; ANSWER],
 ) -> u8
-    ensures { CalledBy bench.old (SetState unit (handGiven node) (stateGiven state)) result answer.old answer.new bench.new }
+    ensures { CalledBy bench.old (SetState unit (hand_given node) (state_given state)) result answer.old answer.new bench.new }
 {
     if !sound_lent::is_bench(bench) {
         return link_told::refused(numbers::BROKEN, answer);

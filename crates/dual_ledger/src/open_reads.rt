@@ -1,10 +1,10 @@
 // The reads and checks on any words: BROKEN (2) where they hold no sound bench; else a number, and values as words, 0 or none where refused. A signed value
 // is the word of the same bits. None changes the bench. Assumes nothing.
 ghost use Rattle.std.specs.Prelude.{◌≡◌};
-ghost use Rattle.bench_views.specs.Given.{handGiven};
+ghost use Rattle.bench_views.specs.Given.{hand_given};
 ghost use Rattle.bench_views.specs.View.{view};
-ghost use Rattle.link_answers.specs.Forms.{nodeWord, indexed, flagWord, signedWord, outerWords, worded};
-ghost use Rattle.sound_lent.specs.Verdict.{readWords};
+ghost use Rattle.link_answers.specs.Forms.{node_word, indexed, flag_word, signed_word, outer_words, worded};
+ghost use Rattle.sound_lent.specs.Verdict.{read_words};
 ghost use Rattle.ledger_spec.specs.Answers.{sumRead, speedRead, countRead, indexRead, belongsRead, valueRead, outerRead, belowRead, firstRead, verticesRead, checkRead, strictRead};
 
 use bench_words::WORDS;
@@ -16,7 +16,7 @@ pub extern "C" fn dual_ledger_sum_dual_variables(
     unit: u8,
     sum: &mut u64,
 ) -> u8
-    ensures { (result, sum.new) ≡ worded signedWord (readWords bench.now (sumRead (view bench.now) unit)) }
+    ensures { (result, sum.new) ≡ worded signed_word (read_words bench.now (sumRead (view bench.now) unit)) }
 {
     let a = read_any::sum_dual_variables(bench, unit);
     *sum = link_answers::signed_word(a.weight);
@@ -25,7 +25,7 @@ pub extern "C" fn dual_ledger_sum_dual_variables(
 
 #[unsafe(no_mangle)]
 pub extern "C" fn dual_ledger_sum_grow_speed(bench: &[u64; WORDS], unit: u8, speed: &mut u64) -> u8
-    ensures { (result, speed.new) ≡ worded signedWord (readWords bench.now (speedRead (view bench.now) unit)) }
+    ensures { (result, speed.new) ≡ worded signed_word (read_words bench.now (speedRead (view bench.now) unit)) }
 {
     let a = read_any::sum_grow_speed(bench, unit);
     *speed = link_answers::signed_word(a.weight);
@@ -34,7 +34,7 @@ pub extern "C" fn dual_ledger_sum_grow_speed(bench: &[u64; WORDS], unit: u8, spe
 
 #[unsafe(no_mangle)]
 pub extern "C" fn dual_ledger_nodes_count(bench: &[u64; WORDS], unit: u8, count: &mut u64) -> u8
-    ensures { (result, count.new) ≡ readWords bench.now (countRead (view bench.now) unit) }
+    ensures { (result, count.new) ≡ read_words bench.now (countRead (view bench.now) unit) }
 {
     let a = read_any::nodes_count(bench, unit);
     *count = a.count;
@@ -48,7 +48,7 @@ pub extern "C" fn dual_ledger_get_node(
     index: u32,
     node: &mut u64,
 ) -> u8
-    ensures { (result, node.new) ≡ indexed (readWords bench.now (indexRead (view bench.now) unit index)) }
+    ensures { (result, node.new) ≡ indexed (read_words bench.now (indexRead (view bench.now) unit index)) }
 {
     let a = read_any::get_node(bench, unit, NodeIndex(index));
     let found = a.node;
@@ -63,7 +63,7 @@ pub extern "C" fn dual_ledger_check_ptr_belonging(
     node: u64,
     inside: &mut u64,
 ) -> u8
-    ensures { (result, inside.new) ≡ worded flagWord (readWords bench.now (belongsRead (view bench.now) unit (handGiven node))) }
+    ensures { (result, inside.new) ≡ worded flag_word (read_words bench.now (belongsRead (view bench.now) unit (hand_given node))) }
 {
     let h = link_answers::hand(node);
     let a = read_any::check_ptr_belonging(bench, unit, h);
@@ -77,7 +77,7 @@ pub extern "C" fn dual_ledger_get_dual_variable(
     node: u64,
     value: &mut u64,
 ) -> u8
-    ensures { (result, value.new) ≡ worded signedWord (readWords bench.now (valueRead (view bench.now) (handGiven node))) }
+    ensures { (result, value.new) ≡ worded signed_word (read_words bench.now (valueRead (view bench.now) (hand_given node))) }
 {
     let h = link_answers::hand(node);
     let a = read_any::get_dual_variable(bench, h);
@@ -92,7 +92,7 @@ pub extern "C" fn dual_ledger_get_ancestor_blossom(
     ancestor: &mut u64,
     links: &mut u64,
 ) -> u8
-    ensures { (result, (ancestor.new, links.new)) ≡ worded outerWords (readWords bench.now (outerRead (view bench.now) (handGiven node))) }
+    ensures { (result, (ancestor.new, links.new)) ≡ worded outer_words (read_words bench.now (outerRead (view bench.now) (hand_given node))) }
 {
     let h = link_answers::hand(node);
     let a = read_any::get_ancestor_blossom(bench, h);
@@ -108,7 +108,7 @@ pub extern "C" fn dual_ledger_get_secondary_ancestor_blossom(
     node: u64,
     second: &mut u64,
 ) -> u8
-    ensures { (result, second.new) ≡ worded nodeWord (readWords bench.now (belowRead (view bench.now) (handGiven node))) }
+    ensures { (result, second.new) ≡ worded node_word (read_words bench.now (belowRead (view bench.now) (hand_given node))) }
 {
     let h = link_answers::hand(node);
     let a = read_any::get_secondary_ancestor_blossom(bench, h);
@@ -123,7 +123,7 @@ pub extern "C" fn dual_ledger_get_representative_vertex(
     node: u64,
     vertex: &mut u32,
 ) -> u8
-    ensures { (result, vertex.new) ≡ readWords bench.now (firstRead (view bench.now) (handGiven node)) }
+    ensures { (result, vertex.new) ≡ read_words bench.now (firstRead (view bench.now) (hand_given node)) }
 {
     let h = link_answers::hand(node);
     let a = read_any::get_representative_vertex(bench, h);
@@ -138,7 +138,7 @@ pub extern "C" fn dual_ledger_get_all_vertices(
     out: &mut [u32],
     count: &mut u64,
 ) -> u8
-    ensures { (result, (count.new, out.new)) ≡ readWords bench.now (verticesRead (view bench.now) (handGiven node) out.old) }
+    ensures { (result, (count.new, out.new)) ≡ read_words bench.now (verticesRead (view bench.now) (hand_given node) out.old) }
 {
     let h = link_answers::hand(node);
     let a = read_any::get_all_vertices(bench, h, out);
@@ -153,7 +153,7 @@ pub extern "C" fn dual_ledger_sanity_check(
     verdict: &mut u64,
     index: &mut u64,
 ) -> u8
-    ensures { (result, (verdict.new, index.new)) ≡ readWords bench.now (checkRead (view bench.now) unit) }
+    ensures { (result, (verdict.new, index.new)) ≡ read_words bench.now (checkRead (view bench.now) unit) }
 {
     let a = check_any::sanity_check(bench, unit);
     *verdict = a.verdict as u64;
@@ -168,7 +168,7 @@ pub extern "C" fn dual_ledger_strict_check(
     verdict: &mut u64,
     index: &mut u64,
 ) -> u8
-    ensures { (result, (verdict.new, index.new)) ≡ readWords bench.now (strictRead (view bench.now) unit) }
+    ensures { (result, (verdict.new, index.new)) ≡ read_words bench.now (strictRead (view bench.now) unit) }
 {
     let a = check_any::strict_check(bench, unit);
     *verdict = a.verdict as u64;

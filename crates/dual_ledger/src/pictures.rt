@@ -3,8 +3,8 @@
 ghost use Rattle.std.specs.Prelude.{◌≡◌};
 ghost use Rattle.bench_views.specs.View.{view};
 ghost use Rattle.bench_views.specs.Fit.{SoundWords};
-ghost use Rattle.sound_lent.specs.Verdict.{readWords};
-ghost use Rattle.picture_spec.specs.Picture.{pictureInto, pictureRead};
+ghost use Rattle.sound_lent.specs.Verdict.{read_words};
+ghost use Rattle.picture_spec.specs.Picture.{picture_into, picture_read};
 ghost use Rattle.picture_any.specs.Chosen.{chosen};
 
 use bench_words::WORDS;
@@ -17,7 +17,7 @@ pub extern "C" fn dual_ledger_snapshot(
     out: &mut [u8],
     length: &mut u64,
 ) -> u8
-    ensures { (result, (length.new, out.new)) ≡ readWords bench.now (pictureRead (view bench.now) unit (chosen abbreviated) out.old) }
+    ensures { (result, (length.new, out.new)) ≡ read_words bench.now (picture_read (view bench.now) unit (chosen abbreviated) out.old) }
 {
     let a = picture_any::snapshot(bench, unit, abbreviated != 0, out);
     *length = a.count;
@@ -33,7 +33,7 @@ pub extern "C" fn dual_ledger_trusted_snapshot(
     length: &mut u64,
 ) -> u8
     requires { SoundWords bench.now }
-    ensures { (result, (length.new, out.new)) ≡ pictureInto (view bench.now) unit (chosen abbreviated) out.old }
+    ensures { (result, (length.new, out.new)) ≡ picture_into (view bench.now) unit (chosen abbreviated) out.old }
 {
     let a = picture_sound::snapshot(bench, unit, abbreviated != 0, out);
     *length = a.count;

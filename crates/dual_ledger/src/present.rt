@@ -3,16 +3,16 @@
 ghost use Rattle.std.specs.Prelude.{◌≡◌};
 ghost use Rattle.bench_views.specs.Fit.{SoundWords};
 ghost use Rattle.bench_views.specs.View.{view};
-ghost use Rattle.sound_lent.specs.Verdict.{readWords};
-ghost use Rattle.read_present.specs.Present.{presentOf, next_of, presentRead, nextRead};
-ghost use Rattle.dual_ledger.specs.Nexts.{nextWords};
+ghost use Rattle.sound_lent.specs.Verdict.{read_words};
+ghost use Rattle.read_present.specs.Present.{present_of, next_of, present_read, next_read};
+ghost use Rattle.dual_ledger.specs.Nexts.{next_words};
 
 use bench_words::WORDS;
 use kinds::NodeIndex;
 
 #[unsafe(no_mangle)]
 pub extern "C" fn dual_ledger_present_count(bench: &[u64; WORDS], unit: u8, count: &mut u64) -> u8
-    ensures { (result, count.new) ≡ readWords bench.now (presentRead (view bench.now) unit) }
+    ensures { (result, count.new) ≡ read_words bench.now (present_read (view bench.now) unit) }
 {
     let a = read_present_any::present_count(bench, unit);
     *count = a.count;
@@ -27,7 +27,7 @@ pub extern "C" fn dual_ledger_next_present(
     next: &mut u32,
     node: &mut u64,
 ) -> u8
-    ensures { (result, (next.new, node.new)) ≡ nextWords (readWords bench.now (nextRead (view bench.now) unit index)) }
+    ensures { (result, (next.new, node.new)) ≡ next_words (read_words bench.now (next_read (view bench.now) unit index)) }
 {
     let a = read_present_any::next_present(bench, unit, NodeIndex(index));
     let found = a.node;
@@ -43,7 +43,7 @@ pub extern "C" fn dual_ledger_trusted_present_count(
     count: &mut u64,
 ) -> u8
     requires { SoundWords bench.now }
-    ensures { (result, count.new) ≡ presentOf (view bench.now) unit }
+    ensures { (result, count.new) ≡ present_of (view bench.now) unit }
 {
     let a = read_present::present_count(bench, unit);
     *count = a.count;
@@ -59,7 +59,7 @@ pub extern "C" fn dual_ledger_trusted_next_present(
     node: &mut u64,
 ) -> u8
     requires { SoundWords bench.now }
-    ensures { (result, (next.new, node.new)) ≡ nextWords (next_of (view bench.now) unit index) }
+    ensures { (result, (next.new, node.new)) ≡ next_words (next_of (view bench.now) unit index) }
 {
     let a = read_present::next_present(bench, unit, NodeIndex(index));
     let found = a.node;

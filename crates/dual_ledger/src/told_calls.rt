@@ -1,10 +1,10 @@
 // The calls on words that hold a sound bench, with notices: the number, and the answer written over the caller's words. No scan of the slots, and no value of
 // notices on the way. Assumes nothing.
 ghost use Rattle.ledger_spec.specs.Calls.{Defect, Blossom, Expand, SetState, Grow};
-ghost use Rattle.bench_views.specs.Given.{handGiven};
-ghost use Rattle.deed_circles.specs.Given.{handsGiven, pairsGiven};
+ghost use Rattle.bench_views.specs.Given.{hand_given};
+ghost use Rattle.deed_circles.specs.Given.{hands_given, pairs_given};
 ghost use Rattle.bench_views.specs.Fit.{SoundWords};
-ghost use Rattle.link_answers.specs.Forms.{stateGiven};
+ghost use Rattle.link_answers.specs.Forms.{state_given};
 ghost use Rattle.dual_ledger.specs.Linked.{ToldBy};
 
 use bench_words::WORDS;
@@ -38,7 +38,7 @@ pub extern "C" fn dual_ledger_told_create_blossom(
     answer: &mut [u64; ANSWER],
 ) -> u8
     requires { SoundWords bench.old }
-    ensures { ToldBy bench.old (Blossom unit (handsGiven members.now) (pairsGiven touching.now)) result answer.old answer.new bench.new }
+    ensures { ToldBy bench.old (Blossom unit (hands_given members.now) (pairs_given touching.now)) result answer.old answer.new bench.new }
 {
     let made = call_sound_blossom::create_blossom(bench, unit, members, touching);
     if made.number != 0 {
@@ -57,7 +57,7 @@ pub extern "C" fn dual_ledger_told_expand_blossom(
     answer: &mut [u64; ANSWER],
 ) -> u8
     requires { SoundWords bench.old }
-    ensures { ToldBy bench.old (Expand unit (handGiven node)) result answer.old answer.new bench.new }
+    ensures { ToldBy bench.old (Expand unit (hand_given node)) result answer.old answer.new bench.new }
 {
     let h = link_answers::hand(node);
     let number = refuse_calls::expand_number(bench, unit, h);
@@ -79,7 +79,7 @@ pub extern "C" fn dual_ledger_told_set_grow_state(
     answer: &mut [u64; ANSWER],
 ) -> u8
     requires { SoundWords bench.old }
-    ensures { ToldBy bench.old (SetState unit (handGiven node) (stateGiven state)) result answer.old answer.new bench.new }
+    ensures { ToldBy bench.old (SetState unit (hand_given node) (state_given state)) result answer.old answer.new bench.new }
 {
     let h = link_answers::hand(node);
     let to = link_answers::state_given(state);

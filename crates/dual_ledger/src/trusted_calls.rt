@@ -1,10 +1,10 @@
 // The calls on words that hold a sound bench, without notices: the number, and the node made as a word. No scan of the slots. Assumes nothing.
 ghost use Rattle.std.specs.Prelude.{◌≡◌};
 ghost use Rattle.ledger_spec.specs.Calls.{Defect, Blossom, Expand, SetState, Grow, Fuse, Clear};
-ghost use Rattle.bench_views.specs.Given.{handGiven};
-ghost use Rattle.deed_circles.specs.Given.{handsGiven, pairsGiven};
+ghost use Rattle.bench_views.specs.Given.{hand_given};
+ghost use Rattle.deed_circles.specs.Given.{hands_given, pairs_given};
 ghost use Rattle.bench_views.specs.Fit.{SoundWords};
-ghost use Rattle.link_answers.specs.Forms.{stateGiven};
+ghost use Rattle.link_answers.specs.Forms.{state_given};
 ghost use Rattle.dual_ledger.specs.Linked.{Settled, node_of};
 
 use bench_words::WORDS;
@@ -35,8 +35,8 @@ pub extern "C" fn dual_ledger_trusted_create_blossom(
     node: &mut u64,
 ) -> u8
     requires { SoundWords bench.old }
-    ensures settled { Settled bench.old (Blossom unit (handsGiven members.now) (pairsGiven touching.now)) result bench.new }
-    ensures node_after { node.new ≡ node_of bench.old (Blossom unit (handsGiven members.now) (pairsGiven touching.now)) }
+    ensures settled { Settled bench.old (Blossom unit (hands_given members.now) (pairs_given touching.now)) result bench.new }
+    ensures node_after { node.new ≡ node_of bench.old (Blossom unit (hands_given members.now) (pairs_given touching.now)) }
 {
     let made = call_sound_blossom::create_blossom(bench, unit, members, touching);
     *node = link_answers::node_word(made.node);
@@ -50,7 +50,7 @@ pub extern "C" fn dual_ledger_trusted_expand_blossom(
     node: u64,
 ) -> u8
     requires { SoundWords bench.old }
-    ensures { Settled bench.old (Expand unit (handGiven node)) result bench.new }
+    ensures { Settled bench.old (Expand unit (hand_given node)) result bench.new }
 {
     let h = link_answers::hand(node);
     let made = call_sound::expand_blossom(bench, unit, h);
@@ -66,7 +66,7 @@ pub extern "C" fn dual_ledger_trusted_set_grow_state(
     state: i8,
 ) -> u8
     requires { SoundWords bench.old }
-    ensures { Settled bench.old (SetState unit (handGiven node) (stateGiven state)) result bench.new }
+    ensures { Settled bench.old (SetState unit (hand_given node) (state_given state)) result bench.new }
 {
     let h = link_answers::hand(node);
     let to = link_answers::state_given(state);

@@ -1,11 +1,11 @@
 // Groups of obstacles on words that hold a sound group, and for add and extend a sound bench: nothing is tested but what the manual refuses. Assumes nothing.
 ghost use Rattle.std.specs.Prelude.{◌≡◌, true};
-ghost use Rattle.ledger_spec.specs.GroupCalls.{is_empty, isActive, growthOf};
+ghost use Rattle.ledger_spec.specs.GroupCalls.{is_empty, is_active, growth_of};
 ghost use Rattle.bench_views.specs.Fit.{SoundWords};
-ghost use Rattle.group_lent.specs.Forms.{isForm, fiveAt};
-ghost use Rattle.group_lent.specs.Place.{groupIn, SoundGroup};
+ghost use Rattle.group_lent.specs.Forms.{is_form, five_at};
+ghost use Rattle.group_lent.specs.Place.{group_in, SoundGroup};
 ghost use Rattle.group_lent_calls.specs.Calls.{Peeked, Popped, Spared, Added, Extended};
-ghost use Rattle.link_answers.specs.Forms.{flagWord, lengthWords, worded};
+ghost use Rattle.link_answers.specs.Forms.{flag_word, length_words, worded};
 
 use bench_words::WORDS;
 use group_lent::{GROUP, OBSTACLE};
@@ -13,7 +13,7 @@ use group_lent::{GROUP, OBSTACLE};
 #[unsafe(no_mangle)]
 pub extern "C" fn dual_ledger_trusted_group_is_empty(group: &[u64; GROUP], yes: &mut u64) -> u8
     requires { SoundGroup group.now }
-    ensures { (result, yes.new) ≡ worded flagWord (is_empty (groupIn group.now)) }
+    ensures { (result, yes.new) ≡ worded flag_word (is_empty (group_in group.now)) }
 {
     let a = group_lent_takes::is_empty(group);
     *yes = link_answers::flag_word(a);
@@ -23,7 +23,7 @@ pub extern "C" fn dual_ledger_trusted_group_is_empty(group: &[u64; GROUP], yes: 
 #[unsafe(no_mangle)]
 pub extern "C" fn dual_ledger_trusted_group_is_active(group: &[u64; GROUP], yes: &mut u64) -> u8
     requires { SoundGroup group.now }
-    ensures { (result, yes.new) ≡ worded flagWord (isActive (groupIn group.now)) }
+    ensures { (result, yes.new) ≡ worded flag_word (is_active (group_in group.now)) }
 {
     let a = group_lent_takes::is_active(group);
     *yes = link_answers::flag_word(a);
@@ -37,7 +37,7 @@ pub extern "C" fn dual_ledger_trusted_group_get_none_zero_growth(
     length: &mut u64,
 ) -> u8
     requires { SoundGroup group.now }
-    ensures { (result, (asked.new, length.new)) ≡ worded lengthWords (growthOf (groupIn group.now)) }
+    ensures { (result, (asked.new, length.new)) ≡ worded length_words (growth_of (group_in group.now)) }
 {
     let a = group_lent_takes::get_none_zero_growth(group);
     let l = a.length;
@@ -86,8 +86,8 @@ pub extern "C" fn dual_ledger_trusted_group_add(
     obstacle: &[u64; OBSTACLE],
 ) -> u8
     requires sound_words { SoundWords bench.now × SoundGroup group.old }
-    requires obstacle_value { isForm (fiveAt obstacle.now 0) ≡ true }
-    ensures { Added bench.now group.old (fiveAt obstacle.now 0) result group.new }
+    requires obstacle_value { is_form (five_at obstacle.now 0) ≡ true }
+    ensures { Added bench.now group.old (five_at obstacle.now 0) result group.new }
 {
     group_lent_calls::add(bench, group, obstacle)
 }

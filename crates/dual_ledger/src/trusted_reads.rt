@@ -1,13 +1,13 @@
 // The reads on words that hold a sound bench: a number, and values as words, 0 or none where refused. A signed
 // value is the word of the same bits. None changes the bench. Assumes nothing.
 ghost use Rattle.std.specs.Prelude.{◌≡◌};
-ghost use Rattle.ledger_spec.specs.Reads.{sum_of, speedOf, count_of, handleAtIndex, value_of, belongs};
-ghost use Rattle.ledger_spec.specs.Walk.{outerOf, belowOf, firstVertex, verticesInto};
-ghost use Rattle.ledger_spec.specs.Check.{checkOf, strictOf};
-ghost use Rattle.bench_views.specs.Given.{handGiven};
+ghost use Rattle.ledger_spec.specs.Reads.{sum_of, speed_of, count_of, handle_at_index, value_of, belongs};
+ghost use Rattle.ledger_spec.specs.Walk.{outer_of, below_of, first_vertex, vertices_into};
+ghost use Rattle.ledger_spec.specs.Check.{check_of, strict_of};
+ghost use Rattle.bench_views.specs.Given.{hand_given};
 ghost use Rattle.bench_views.specs.Fit.{SoundWords};
 ghost use Rattle.bench_views.specs.View.{view};
-ghost use Rattle.link_answers.specs.Forms.{nodeWord, indexed, flagWord, signedWord, outerWords, worded};
+ghost use Rattle.link_answers.specs.Forms.{node_word, indexed, flag_word, signed_word, outer_words, worded};
 
 use bench_words::WORDS;
 use kinds::NodeIndex;
@@ -19,7 +19,7 @@ pub extern "C" fn dual_ledger_trusted_sum_dual_variables(
     sum: &mut u64,
 ) -> u8
     requires { SoundWords bench.now }
-    ensures { (result, sum.new) ≡ worded signedWord (sum_of (view bench.now) unit) }
+    ensures { (result, sum.new) ≡ worded signed_word (sum_of (view bench.now) unit) }
 {
     let a = read_sound::sum_dual_variables(bench, unit);
     *sum = link_answers::signed_word(a.weight);
@@ -33,7 +33,7 @@ pub extern "C" fn dual_ledger_trusted_sum_grow_speed(
     speed: &mut u64,
 ) -> u8
     requires { SoundWords bench.now }
-    ensures { (result, speed.new) ≡ worded signedWord (speedOf (view bench.now) unit) }
+    ensures { (result, speed.new) ≡ worded signed_word (speed_of (view bench.now) unit) }
 {
     let a = read_sound::sum_grow_speed(bench, unit);
     *speed = link_answers::signed_word(a.weight);
@@ -62,7 +62,7 @@ pub extern "C" fn dual_ledger_trusted_get_node(
     node: &mut u64,
 ) -> u8
     requires { SoundWords bench.now }
-    ensures { (result, node.new) ≡ indexed (handleAtIndex (view bench.now) unit index) }
+    ensures { (result, node.new) ≡ indexed (handle_at_index (view bench.now) unit index) }
 {
     let a = read_sound::get_node(bench, unit, NodeIndex(index));
     let found = a.node;
@@ -78,7 +78,7 @@ pub extern "C" fn dual_ledger_trusted_check_ptr_belonging(
     inside: &mut u64,
 ) -> u8
     requires { SoundWords bench.now }
-    ensures { (result, inside.new) ≡ worded flagWord (belongs (view bench.now) unit (handGiven node)) }
+    ensures { (result, inside.new) ≡ worded flag_word (belongs (view bench.now) unit (hand_given node)) }
 {
     let h = link_answers::hand(node);
     let a = read_sound::check_ptr_belonging(bench, unit, h);
@@ -93,7 +93,7 @@ pub extern "C" fn dual_ledger_trusted_get_dual_variable(
     value: &mut u64,
 ) -> u8
     requires { SoundWords bench.now }
-    ensures { (result, value.new) ≡ worded signedWord (value_of (view bench.now) (handGiven node)) }
+    ensures { (result, value.new) ≡ worded signed_word (value_of (view bench.now) (hand_given node)) }
 {
     let h = link_answers::hand(node);
     let a = read_sound::get_dual_variable(bench, h);
@@ -109,7 +109,7 @@ pub extern "C" fn dual_ledger_trusted_get_ancestor_blossom(
     links: &mut u64,
 ) -> u8
     requires { SoundWords bench.now }
-    ensures { (result, (ancestor.new, links.new)) ≡ worded outerWords (outerOf (view bench.now) (handGiven node)) }
+    ensures { (result, (ancestor.new, links.new)) ≡ worded outer_words (outer_of (view bench.now) (hand_given node)) }
 {
     let h = link_answers::hand(node);
     let a = read_sound::get_ancestor_blossom(bench, h);
@@ -126,7 +126,7 @@ pub extern "C" fn dual_ledger_trusted_get_secondary_ancestor_blossom(
     second: &mut u64,
 ) -> u8
     requires { SoundWords bench.now }
-    ensures { (result, second.new) ≡ worded nodeWord (belowOf (view bench.now) (handGiven node)) }
+    ensures { (result, second.new) ≡ worded node_word (below_of (view bench.now) (hand_given node)) }
 {
     let h = link_answers::hand(node);
     let a = read_sound::get_secondary_ancestor_blossom(bench, h);
@@ -142,7 +142,7 @@ pub extern "C" fn dual_ledger_trusted_get_representative_vertex(
     vertex: &mut u32,
 ) -> u8
     requires { SoundWords bench.now }
-    ensures { (result, vertex.new) ≡ firstVertex (view bench.now) (handGiven node) }
+    ensures { (result, vertex.new) ≡ first_vertex (view bench.now) (hand_given node) }
 {
     let h = link_answers::hand(node);
     let a = read_sound::get_representative_vertex(bench, h);
@@ -158,7 +158,7 @@ pub extern "C" fn dual_ledger_trusted_get_all_vertices(
     count: &mut u64,
 ) -> u8
     requires { SoundWords bench.now }
-    ensures { (result, (count.new, out.new)) ≡ verticesInto (view bench.now) (handGiven node) out.old }
+    ensures { (result, (count.new, out.new)) ≡ vertices_into (view bench.now) (hand_given node) out.old }
 {
     let h = link_answers::hand(node);
     let a = read_sound::get_all_vertices(bench, h, out);
@@ -174,7 +174,7 @@ pub extern "C" fn dual_ledger_trusted_sanity_check(
     index: &mut u64,
 ) -> u8
     requires { SoundWords bench.now }
-    ensures { (result, (verdict.new, index.new)) ≡ checkOf (view bench.now) unit }
+    ensures { (result, (verdict.new, index.new)) ≡ check_of (view bench.now) unit }
 {
     let a = check_sound::sanity_check(bench, unit);
     *verdict = a.verdict as u64;
@@ -190,7 +190,7 @@ pub extern "C" fn dual_ledger_trusted_strict_check(
     index: &mut u64,
 ) -> u8
     requires { SoundWords bench.now }
-    ensures { (result, (verdict.new, index.new)) ≡ strictOf (view bench.now) unit }
+    ensures { (result, (verdict.new, index.new)) ≡ strict_of (view bench.now) unit }
 {
     let a = check_sound::strict_check(bench, unit);
     *verdict = a.verdict as u64;

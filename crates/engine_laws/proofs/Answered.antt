@@ -7,21 +7,21 @@ use Rattle.ledger_spec.specs.Calls.{Call, perform}
 use Rattle.ledger_spec.specs.Notices.{tells}
 use Rattle.ledger_spec.specs.Sound.{sound}
 use Rattle.ledger_spec.specs.Answers.{Answer, whole, broken, answer}
-use Rattle.engine_laws.specs.Engines.{inEngine, replyIn, answer_in}
-use Rattle.engine_laws.proofs.Calls.{perform-engine, tells-engine}
-use Rattle.engine_laws.proofs.Sound.{sound-engine}
+use Rattle.engine_laws.specs.Engines.{in_engine, reply_in, answer_in}
+use Rattle.engine_laws.proofs.Calls.{perform_engine, tells_engine}
+use Rattle.engine_laws.proofs.Sound.{sound_engine}
 
 module _ (m : Bool) (b : Bench) (c : Call) where
-  pub answer-engine : answer (inEngine m b) c ≡ answer_in m (answer b c)
+  pub answer_engine : answer (in_engine m b) c ≡ answer_in m (answer b c)
   unfolding answer whole broken
-  answer-engine = (λ i. pick (sound-engine m b i) (whole (perform-engine m b c i) (tells-engine m b c i))) ∙ picked (sound b)
+  answer_engine = (λ i. pick (sound_engine m b i) (whole (perform_engine m b c i) (tells_engine m b c i))) ∙ picked (sound b)
     where
       pick : Bool → Answer → Answer
-      pick s a = elim s [ true ↦ a | false ↦ broken (inEngine m b) ]
+      pick s a = elim s [ true ↦ a | false ↦ broken (in_engine m b) ]
 
-      picked : (s : Bool) → pick s (whole (replyIn m (perform b c)) (tells b c)) ≡ answer_in m (elim s [ true ↦ whole (perform b c) (tells b c) | false ↦ broken b ])
+      picked : (s : Bool) → pick s (whole (reply_in m (perform b c)) (tells b c)) ≡ answer_in m (elim s [ true ↦ whole (perform b c) (tells b c) | false ↦ broken b ])
       picked true = refl
       picked false = refl
 
-pub engine-kept : (b : Bench) (c : Call) → (answer b c).bench.plain ≡ b.plain
-engine-kept b c = ap (λ (a : Answer). a.bench.plain) (answer-engine b.plain b c)
+pub engine_kept : (b : Bench) (c : Call) → (answer b c).bench.plain ≡ b.plain
+engine_kept b c = ap (λ (a : Answer). a.bench.plain) (answer_engine b.plain b c)

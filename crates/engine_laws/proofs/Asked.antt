@@ -8,101 +8,101 @@ use lib.Dec.{eqb, leb, ltb}
 use lib.ListN.{length, get_or, drop}
 use Rattle.ledger_spec.specs.Numbers.{BROKEN, UNIT, CHILD, RANGE, UNSOUND, SMALL}
 use Rattle.ledger_spec.specs.Bench.{Handle, Bench}
-use Rattle.ledger_spec.specs.Look.{interface, nodeNamed}
+use Rattle.ledger_spec.specs.Look.{interface, node_named}
 use Rattle.ledger_spec.specs.Tests.{first, outside, child}
-use Rattle.ledger_spec.specs.Refuse.{unitTests}
-use Rattle.ledger_spec.specs.Reads.{said, asHandle, sum_of, speedOf, count_of, fillsOf, flooredOf, indexTests, handleAtIndex, nodeTests, value_of, belongs}
-use Rattle.ledger_spec.specs.Check.{indexIn}
+use Rattle.ledger_spec.specs.Refuse.{unit_tests}
+use Rattle.ledger_spec.specs.Reads.{said, as_handle, sum_of, speed_of, count_of, fills_of, floored_of, index_tests, handle_at_index, node_tests, value_of, belongs}
+use Rattle.ledger_spec.specs.Check.{index_in}
 use Rattle.ledger_spec.specs.Answers.{ask, read}
-use Rattle.picture_spec.specs.Sketch.{seenOf, sketchOf}
-use Rattle.picture_spec.specs.Text.{namesBy, text_of}
-use Rattle.picture_spec.specs.Picture.{picture, pictureTests, pictureInto}
-use Rattle.engine_laws.specs.Engines.{inEngine}
+use Rattle.picture_spec.specs.Sketch.{seen_of, sketch_of}
+use Rattle.picture_spec.specs.Text.{names_by, text_of}
+use Rattle.picture_spec.specs.Picture.{picture, picture_tests, picture_into}
+use Rattle.engine_laws.specs.Engines.{in_engine}
 use Rattle.engine_laws.specs.Questions.{Question, Sum, Speed, Count, Fills, Floored, Check, Strict, At, Belongs, Value, Outer, Below, First, Vertices, Picture, Add, Extend, asking}
-use Rattle.engine_laws.proofs.Looks.{slots-in}
-use Rattle.engine_laws.proofs.Tests.{stale-in, foreign-in, unit-tests}
-use Rattle.engine_laws.proofs.Walks.{outer-in, below_in, first-in, vertices-into}
-use Rattle.engine_laws.proofs.Checks.{verdict-in, check-in, strict_in}
-use Rattle.engine_laws.proofs.Sound.{sound-engine}
-use Rattle.engine_laws.proofs.Groups.{add-engine, extend-engine}
+use Rattle.engine_laws.proofs.Looks.{slots_in}
+use Rattle.engine_laws.proofs.Tests.{stale_in, foreign_in, unit_tests_lem}
+use Rattle.engine_laws.proofs.Walks.{outer_in, below_in, first_in, vertices_into_lem}
+use Rattle.engine_laws.proofs.Checks.{verdict_in, check_in, strict_in}
+use Rattle.engine_laws.proofs.Sound.{sound_engine}
+use Rattle.engine_laws.proofs.Groups.{add_engine, extend_engine}
 
 module _ (m : Bool) (b : Bench) where
   -- ---- reads of an interface
-  sum-in : (u : ℕ) → sum_of (inEngine m b) u ≡ sum_of b u
-  unfolding sum_of unitTests
-  sum-in u = refl
+  sum_in : (u : ℕ) → sum_of (in_engine m b) u ≡ sum_of b u
+  unfolding sum_of unit_tests
+  sum_in u = refl
 
-  speed-in : (u : ℕ) → speedOf (inEngine m b) u ≡ speedOf b u
-  unfolding speedOf unitTests
-  speed-in u = refl
+  speed_in : (u : ℕ) → speed_of (in_engine m b) u ≡ speed_of b u
+  unfolding speed_of unit_tests
+  speed_in u = refl
 
-  count-in : (u : ℕ) → count_of (inEngine m b) u ≡ count_of b u
+  count_in : (u : ℕ) → count_of (in_engine m b) u ≡ count_of b u
   unfolding count_of
-  count-in u = λ i. said (first (unit-tests m b u i)) (length (slots-in m b u i)) 0
+  count_in u = λ i. said (first (unit_tests_lem m b u i)) (length (slots_in m b u i)) 0
 
-  fills-in : (u : ℕ) → fillsOf (inEngine m b) u ≡ fillsOf b u
-  unfolding fillsOf unitTests
-  fills-in u = refl
+  fills_in : (u : ℕ) → fills_of (in_engine m b) u ≡ fills_of b u
+  unfolding fills_of unit_tests
+  fills_in u = refl
 
-  floored-in : (u : ℕ) → flooredOf (inEngine m b) u ≡ flooredOf b u
-  unfolding flooredOf unitTests
-  floored-in u = refl
+  floored_in : (u : ℕ) → floored_of (in_engine m b) u ≡ floored_of b u
+  unfolding floored_of unit_tests
+  floored_in u = refl
 
-  pub index-tests : (u k : ℕ) → indexTests (inEngine m b) u k ≡ indexTests b u k
-  unfolding indexTests
-  index-tests u k = λ i. (outside u, UNIT) ∷ (child b u, CHILD) ∷ (leb (length (slots-in m b u i)) k, RANGE) ∷ []
+  pub index_tests_lem : (u k : ℕ) → index_tests (in_engine m b) u k ≡ index_tests b u k
+  unfolding index_tests
+  index_tests_lem u k = λ i. (outside u, UNIT) ∷ (child b u, CHILD) ∷ (leb (length (slots_in m b u i)) k, RANGE) ∷ []
 
-  index_in : (u k : ℕ) → handleAtIndex (inEngine m b) u k ≡ handleAtIndex b u k
-  unfolding handleAtIndex
-  index_in u k = λ i. said (first (index-tests u k i)) (asHandle (get_or (slots-in m b u i) k (0, 0, none))) none
+  index_in_lem : (u k : ℕ) → handle_at_index (in_engine m b) u k ≡ handle_at_index b u k
+  unfolding handle_at_index
+  index_in_lem u k = λ i. said (first (index_tests_lem u k i)) (as_handle (get_or (slots_in m b u i) k (0, 0, none))) none
 
   -- ---- reads of a node
-  belongs-in : (u : ℕ) (h : Handle) → belongs (inEngine m b) u h ≡ belongs b u h
+  belongs_in : (u : ℕ) (h : Handle) → belongs (in_engine m b) u h ≡ belongs b u h
   unfolding belongs
-  belongs-in u h = λ i. said (first (unit-tests m b u i)) (not (stale-in m b h i) && not (foreign-in m b u h i)) false
+  belongs_in u h = λ i. said (first (unit_tests_lem m b u i)) (not (stale_in m b h i) && not (foreign_in m b u h i)) false
 
-  value_in : (h : Handle) → value_of (inEngine m b) h ≡ value_of b h
-  unfolding value_of nodeTests nodeNamed
+  value_in : (h : Handle) → value_of (in_engine m b) h ≡ value_of b h
+  unfolding value_of node_tests node_named
   value_in h = refl
 
   -- ---- the picture
-  sketch-in : (u : ℕ) → sketchOf (inEngine m b) u ≡ sketchOf b u
-  unfolding sketchOf
-  sketch-in u = λ i. record { speed = (interface b u).speed; sum = (interface b u).sum; nodes = map (λ t. seenOf (λ h. indexIn (slots-in m b u i) 0 h) t.2) (slots-in m b u i) }
+  sketch_in : (u : ℕ) → sketch_of (in_engine m b) u ≡ sketch_of b u
+  unfolding sketch_of
+  sketch_in u = λ i. record { speed = (interface b u).speed; sum = (interface b u).sum; nodes = map (λ t. seen_of (λ h. index_in (slots_in m b u i) 0 h) t.2) (slots_in m b u i) }
 
-  picture-in : (u : ℕ) (a : Bool) → picture (inEngine m b) u a ≡ picture b u a
+  picture_in : (u : ℕ) (a : Bool) → picture (in_engine m b) u a ≡ picture b u a
   unfolding picture
-  picture-in u a = λ i. text_of (namesBy a) (sketch-in u i)
+  picture_in u a = λ i. text_of (names_by a) (sketch_in u i)
 
-  picture-into : (u : ℕ) (a : Bool) (out : List ℕ) → pictureInto (inEngine m b) u a out ≡ pictureInto b u a out
-  unfolding pictureInto pictureTests
-  picture-into u a out = λ i.
+  picture_into_lem : (u : ℕ) (a : Bool) (out : List ℕ) → picture_into (in_engine m b) u a out ≡ picture_into b u a out
+  unfolding picture_into picture_tests
+  picture_into_lem u a out = λ i.
       said
-      (first ((outside u, UNIT) ∷ (child b u, CHILD) ∷ (not (eqb (verdict-in m b u i).0 0), UNSOUND) ∷ (ltb (length out) (length (picture-in u a i)), SMALL) ∷ []))
-      (length (picture-in u a i), picture-in u a i ++ drop (length (picture-in u a i)) out)
+      (first ((outside u, UNIT) ∷ (child b u, CHILD) ∷ (not (eqb (verdict_in m b u i).0 0), UNSOUND) ∷ (ltb (length out) (length (picture_in u a i)), SMALL) ∷ []))
+      (length (picture_in u a i), picture_in u a i ++ drop (length (picture_in u a i)) out)
       (0, out)
 
   -- ---- every question
-  own_in : (q : Question) → (asking (inEngine m b) q).own ≡ (asking b q).own
-  own_in (Sum u) = sum-in u
-  own_in (Speed u) = speed-in u
-  own_in (Count u) = count-in u
-  own_in (Fills u) = fills-in u
-  own_in (Floored u) = floored-in u
-  own_in (Check u) = check-in m b u
+  own_in : (q : Question) → (asking (in_engine m b) q).own ≡ (asking b q).own
+  own_in (Sum u) = sum_in u
+  own_in (Speed u) = speed_in u
+  own_in (Count u) = count_in u
+  own_in (Fills u) = fills_in u
+  own_in (Floored u) = floored_in u
+  own_in (Check u) = check_in m b u
   own_in (Strict u) = strict_in m b u
-  own_in (At u k) = index_in u k
-  own_in (Belongs u h) = belongs-in u h
+  own_in (At u k) = index_in_lem u k
+  own_in (Belongs u h) = belongs_in u h
   own_in (Value h) = value_in h
-  own_in (Outer h) = outer-in m b h
+  own_in (Outer h) = outer_in m b h
   own_in (Below h) = below_in m b h
-  own_in (First h) = first-in m b h
-  own_in (Vertices h out) = vertices-into m b h out
-  own_in (Picture u a out) = picture-into u a out
-  own_in (Add g o) = add-engine m b g o
-  own_in (Extend g h) = extend-engine m b g h
+  own_in (First h) = first_in m b h
+  own_in (Vertices h out) = vertices_into_lem m b h out
+  own_in (Picture u a out) = picture_into_lem u a out
+  own_in (Add g o) = add_engine m b g o
+  own_in (Extend g h) = extend_engine m b g h
 
-  zero_in : (q : Question) → (asking (inEngine m b) q).zero ≡ (asking b q).zero
+  zero_in : (q : Question) → (asking (in_engine m b) q).zero ≡ (asking b q).zero
   zero_in (Sum u) = refl
   zero_in (Speed u) = refl
   zero_in (Count u) = refl
@@ -122,9 +122,9 @@ module _ (m : Bool) (b : Bench) where
   zero_in (Extend g h) = refl
 
   -- of a sound bench and of one that is not; of any words, what their contracts speak of
-  pub asking-engine : (q : Question) → asking (inEngine m b) q ≡ asking b q
-  asking-engine q = λ i. record { own = own_in q i; zero = zero_in q i }
+  pub asking_engine : (q : Question) → asking (in_engine m b) q ≡ asking b q
+  asking_engine q = λ i. record { own = own_in q i; zero = zero_in q i }
 
-  pub read-engine : (q : Question) → read (inEngine m b) (asking (inEngine m b) q) ≡ read b (asking b q)
+  pub read_engine : (q : Question) → read (in_engine m b) (asking (in_engine m b) q) ≡ read b (asking b q)
   unfolding ask
-  read-engine q = λ i. elim (sound-engine m b i) [ true ↦ own_in q i | false ↦ (BROKEN, zero_in q i) ]
+  read_engine q = λ i. elim (sound_engine m b i) [ true ↦ own_in q i | false ↦ (BROKEN, zero_in q i) ]

@@ -1,76 +1,76 @@
--- THEOREM. The same calls from set-up in both engines: the same answers, and benches that nobody can tell apart; the same lines: the same bytes. Assumes nothing.
+-- THEOREM. The same calls from set_up_lem in both engines: the same answers, and benches that nobody can tell apart; the same lines: the same bytes. Assumes nothing.
 use Prim.Native.Nat.{ℕ}
 use mathlib.Core.Path.{◌≡◌, refl, sym, ap, subst, ◌∙◌}
 use mathlib.Core.Bool.{Bool, true, false}
 use mathlib.Core.List.{List, [], ◌∷◌}
 use lib.Dec.{eqb}
-use Rattle.ledger_spec.specs.Bench.{Bench, setUpIn}
-use Rattle.ledger_spec.specs.Look.{nodeNamed}
+use Rattle.ledger_spec.specs.Bench.{Bench, set_up_in}
+use Rattle.ledger_spec.specs.Look.{node_named}
 use Rattle.ledger_spec.specs.Calls.{Call, Defect, Blossom, Expand, SetState, Grow, Fuse, Clear, Mark}
 use Rattle.ledger_spec.specs.Answers.{Answer, answer}
 use Rattle.ledger_spec.specs.Grammar.{Line}
 use Rattle.ledger_spec.specs.Program.{answers, texts}
 use Rattle.ledger_spec.specs.Book.{Gone, wrote, writes, Book, turn, turns}
-use Rattle.engine_laws.specs.Engines.{inEngine, bookIn}
+use Rattle.engine_laws.specs.Engines.{in_engine, book_in}
 use Rattle.engine_laws.specs.Alike.{Heard, heard, after, Lookalikes, BothEngines}
 use Rattle.engine_laws.proofs.Looks.{top_in}
-use Rattle.engine_laws.proofs.Answered.{answer-engine}
-use Rattle.engine_laws.proofs.Asked.{read-engine}
-use Rattle.engine_laws.proofs.Lines.{texts-engine}
+use Rattle.engine_laws.proofs.Answered.{answer_engine}
+use Rattle.engine_laws.proofs.Asked.{read_engine}
+use Rattle.engine_laws.proofs.Lines.{texts_engine}
 
 module _ (m : Bool) where
   -- ---- any calls on any bench
-  pub heard-engine : (b : Bench) (cs : List Call) → heard (inEngine m b) cs ≡ heard b cs
+  pub heard_engine : (b : Bench) (cs : List Call) → heard (in_engine m b) cs ≡ heard b cs
   unfolding heard
-  heard-engine b [] = refl
-  heard-engine b (c ∷ cs) = ap (λ (a : Answer). one a ∷ heard a.bench cs) (answer-engine m b c) ∙ ap (◌∷◌ (one (answer b c))) (heard-engine (answer b c).bench cs)
+  heard_engine b [] = refl
+  heard_engine b (c ∷ cs) = ap (λ (a : Answer). one a ∷ heard a.bench cs) (answer_engine m b c) ∙ ap (◌∷◌ (one (answer b c))) (heard_engine (answer b c).bench cs)
     where
       one : Answer → Heard
       one a = record { number = a.number; node = a.node; notices = a.notices }
 
-  pub after-engine : (b : Bench) (cs : List Call) → after (inEngine m b) cs ≡ inEngine m (after b cs)
+  pub after_engine : (b : Bench) (cs : List Call) → after (in_engine m b) cs ≡ in_engine m (after b cs)
   unfolding after
-  after-engine b [] = refl
-  after-engine b (c ∷ cs) = (λ i. after (answer-engine m b c i).bench cs) ∙ after-engine (answer b c).bench cs
+  after_engine b [] = refl
+  after_engine b (c ∷ cs) = (λ i. after (answer_engine m b c i).bench cs) ∙ after_engine (answer b c).bench cs
 
   -- ---- the book of what went
-  wrote-in : (g : Gone) (b : Bench) (c : Call) → wrote g (inEngine m b) c ≡ wrote g b c
-  unfolding wrote nodeNamed
-  wrote-in g b (Defect u v) = refl
-  wrote-in g b (Blossom u hs ts) = refl
-  wrote-in g b (Expand u h) = refl
-  wrote-in g b (SetState u h s) = refl
-  wrote-in g b (Grow u l) = refl
-  wrote-in g b (Fuse p l r) = refl
-  wrote-in g b (Clear u) = λ i w. elim (eqb (top_in m b w i) u) [ true ↦ [] | false ↦ g w ]
-  wrote-in g b (Mark u k) = refl
+  wrote_in : (g : Gone) (b : Bench) (c : Call) → wrote g (in_engine m b) c ≡ wrote g b c
+  unfolding wrote node_named
+  wrote_in g b (Defect u v) = refl
+  wrote_in g b (Blossom u hs ts) = refl
+  wrote_in g b (Expand u h) = refl
+  wrote_in g b (SetState u h s) = refl
+  wrote_in g b (Grow u l) = refl
+  wrote_in g b (Fuse p l r) = refl
+  wrote_in g b (Clear u) = λ i w. elim (eqb (top_in m b w i) u) [ true ↦ [] | false ↦ g w ]
+  wrote_in g b (Mark u k) = refl
 
-  pub turn-engine : (k : Book) (c : Call) → turn (bookIn m k) c ≡ bookIn m (turn k c)
+  pub turn_engine : (k : Book) (c : Call) → turn (book_in m k) c ≡ book_in m (turn k c)
   unfolding turn
-  turn-engine k c = λ i. record { bench = (answer-engine m k.bench c i).bench; gone = writes (answer-engine m k.bench c i).number k.gone (wrote-in k.gone k.bench c i) }
+  turn_engine k c = λ i. record { bench = (answer_engine m k.bench c i).bench; gone = writes (answer_engine m k.bench c i).number k.gone (wrote_in k.gone k.bench c i) }
 
-  pub turns-engine : (k : Book) (cs : List Call) → turns (bookIn m k) cs ≡ bookIn m (turns k cs)
+  pub turns_engine : (k : Book) (cs : List Call) → turns (book_in m k) cs ≡ book_in m (turns k cs)
   unfolding turns
-  turns-engine k [] = refl
-  turns-engine k (c ∷ cs) = ap (λ (j : Book). turns j cs) (turn-engine k c) ∙ turns-engine (turn k c) cs
+  turns_engine k [] = refl
+  turns_engine k (c ∷ cs) = ap (λ (j : Book). turns j cs) (turn_engine k c) ∙ turns_engine (turn k c) cs
 
--- ---- from set-up
-pub kept-through : (b : Bench) (cs : List Call) → (after b cs).plain ≡ b.plain
-kept-through b cs = ap (λ (d : Bench). d.plain) (after-engine b.plain b cs)
+-- ---- from set_up_lem
+pub kept_through : (b : Bench) (cs : List Call) → (after b cs).plain ≡ b.plain
+kept_through b cs = ap (λ (d : Bench). d.plain) (after_engine b.plain b cs)
 
 module _ (n : ℕ) (cs : List Call) where
   abbrev lazy : Bench
-  lazy = after (setUpIn false n) cs
+  lazy = after (set_up_in false n) cs
 
-  other : after (setUpIn true n) cs ≡ inEngine true lazy
-  other = after-engine true (setUpIn false n) cs
+  other : after (set_up_in true n) cs ≡ in_engine true lazy
+  other = after_engine true (set_up_in false n) cs
 
-  twins : Lookalikes (inEngine true lazy) lazy
-  twins = record { plain = refl; lazy = kept-through (setUpIn false n) cs; next = refl; interfaces = refl; asked = read-engine true lazy }
+  twins : Lookalikes (in_engine true lazy) lazy
+  twins = record { plain = refl; lazy = kept_through (set_up_in false n) cs; next = refl; interfaces = refl; asked = read_engine true lazy }
 
-  pub both-engines : BothEngines n cs
-  both-engines = record { answers = heard-engine true (setUpIn false n) cs; benches = subst (λ (d : Bench). Lookalikes d lazy) (sym other) twins }
+  pub both_engines : BothEngines n cs
+  both_engines = record { answers = heard_engine true (set_up_in false n) cs; benches = subst (λ (d : Bench). Lookalikes d lazy) (sym other) twins }
 
 -- ---- lines
-pub both-texts : (n : ℕ) (ls : List Line) → texts (answers (setUpIn true n) ls) ≡ texts (answers (setUpIn false n) ls)
-both-texts n ls = texts-engine true (setUpIn false n) ls
+pub both_texts : (n : ℕ) (ls : List Line) → texts (answers (set_up_in true n) ls) ≡ texts (answers (set_up_in false n) ls)
+both_texts n ls = texts_engine true (set_up_in false n) ls

@@ -7,79 +7,79 @@ use mathlib.Core.List.{List, [], ◌∷◌, map}
 use lib.Dec.{eqb}
 use lib.ListN.{set}
 use lib.IntN.{ℤ, pos, ◌-ℤ◌}
-use Rattle.ledger_spec.specs.Bench.{Handle, State, grows, stays, blossom, Node, Marking, Interface, Bench, fresh, withSlots}
-use Rattle.ledger_spec.specs.Look.{interface, slot_of, freeSlot, nodeNamed}
-use Rattle.ledger_spec.specs.Change.{share, withInterface, faster, place, push, restate, mark, markAll}
-use Rattle.ledger_spec.specs.Deeds.{newHandle, addDefect, circle, sizes, addBlossom, members, removeBlossom, growSlot, across, booked, growBy, join, choose, wipe}
-use Rattle.engine_laws.specs.Engines.{inEngine}
-use Rattle.engine_laws.proofs.Looks.{top_in, node_in, sizes-in}
+use Rattle.ledger_spec.specs.Bench.{Handle, State, grows, stays, blossom, Node, Marking, Interface, Bench, fresh, with_slots}
+use Rattle.ledger_spec.specs.Look.{interface, slot_of, free_slot, node_named}
+use Rattle.ledger_spec.specs.Change.{share, with_interface, faster, place, push, restate, mark, mark_all}
+use Rattle.ledger_spec.specs.Deeds.{new_handle, add_defect, circle, sizes, add_blossom, members, remove_blossom, grow_slot, across, booked, grow_by, join, choose, wipe}
+use Rattle.engine_laws.specs.Engines.{in_engine}
+use Rattle.engine_laws.proofs.Looks.{top_in, node_in, sizes_in}
 
 -- ---- the changes that deeds are made of
 module _ (m : Bool) where
-  faster-in : (b : Bench) (u : ℕ) (v : ℤ) → faster (inEngine m b) u v ≡ inEngine m (faster b u v)
+  faster_in : (b : Bench) (u : ℕ) (v : ℤ) → faster (in_engine m b) u v ≡ in_engine m (faster b u v)
   unfolding faster
-  faster-in b u v = refl
+  faster_in b u v = refl
 
-  place_in : (b : Bench) (u s : ℕ) (y : Option Node) → place (inEngine m b) u s y ≡ inEngine m (place b u s y)
+  place_in : (b : Bench) (u s : ℕ) (y : Option Node) → place (in_engine m b) u s y ≡ in_engine m (place b u s y)
   unfolding place faster
-  place_in b u s y = λ i. inEngine m (faster (withInterface b u (withSlots (interface b u) (set (interface b u).slots s y))) (top_in m b u i) (share y -ℤ share (slot_of b u s)))
+  place_in b u s y = λ i. in_engine m (faster (with_interface b u (with_slots (interface b u) (set (interface b u).slots s y))) (top_in m b u i) (share y -ℤ share (slot_of b u s)))
 
-  push-in : (b : Bench) (u s : ℕ) (n : Node) → push (inEngine m b) u s n ≡ inEngine m (push b u s n)
+  push_in : (b : Bench) (u s : ℕ) (n : Node) → push (in_engine m b) u s n ≡ in_engine m (push b u s n)
   unfolding push faster
-  push-in b u s n = refl
+  push_in b u s n = refl
 
-  pub mark-in : (b : Bench) (h : Handle) (s : State) (p : Option Handle) → mark (inEngine m b) h s p ≡ inEngine m (mark b h s p)
+  pub mark_in : (b : Bench) (h : Handle) (s : State) (p : Option Handle) → mark (in_engine m b) h s p ≡ in_engine m (mark b h s p)
   unfolding mark
-  mark-in b h s p = place_in b h.unit h.slot (restate (slot_of b h.unit h.slot) s p)
+  mark_in b h s p = place_in b h.unit h.slot (restate (slot_of b h.unit h.slot) s p)
 
-  mark-all-in : (b : Bench) (hs : List Handle) (s : State) (p : Option Handle) → markAll (inEngine m b) hs s p ≡ inEngine m (markAll b hs s p)
-  unfolding markAll
-  mark-all-in b [] s p = refl
-  mark-all-in b (h ∷ hs) s p = ap (λ x. markAll x hs s p) (mark-in b h s p) ∙ mark-all-in (mark b h s p) hs s p
+  mark_all_in : (b : Bench) (hs : List Handle) (s : State) (p : Option Handle) → mark_all (in_engine m b) hs s p ≡ in_engine m (mark_all b hs s p)
+  unfolding mark_all
+  mark_all_in b [] s p = refl
+  mark_all_in b (h ∷ hs) s p = ap (λ x. mark_all x hs s p) (mark_in b h s p) ∙ mark_all_in (mark b h s p) hs s p
 
-  across-in : (f : Interface → Interface) (b : Bench) (u k : ℕ) (xs : List Interface) → across f (inEngine m b) u k xs ≡ across f b u k xs
+  across_in : (f : Interface → Interface) (b : Bench) (u k : ℕ) (xs : List Interface) → across f (in_engine m b) u k xs ≡ across f b u k xs
   unfolding across
-  across-in f b u k [] = refl
-  across-in f b u k (x ∷ xs) = λ i. elim (eqb (top_in m b k i) u) [ true ↦ f x | false ↦ x ] ∷ across-in f b u (suc k) xs i
+  across_in f b u k [] = refl
+  across_in f b u k (x ∷ xs) = λ i. elim (eqb (top_in m b k i) u) [ true ↦ f x | false ↦ x ] ∷ across_in f b u (suc k) xs i
 
 -- ---- the deeds
 module _ (m : Bool) (b : Bench) where
-  pub handle-in : (u : ℕ) → newHandle (inEngine m b) u ≡ newHandle b u
-  unfolding freeSlot
-  handle-in u = refl
+  pub handle_in : (u : ℕ) → new_handle (in_engine m b) u ≡ new_handle b u
+  unfolding free_slot
+  handle_in u = refl
 
-  pub defect-in : (u v : ℕ) → addDefect (inEngine m b) u v ≡ inEngine m (addDefect b u v)
-  unfolding addDefect freeSlot push faster
-  defect-in u v = refl
+  pub defect_in : (u v : ℕ) → add_defect (in_engine m b) u v ≡ in_engine m (add_defect b u v)
+  unfolding add_defect free_slot push faster
+  defect_in u v = refl
 
-  pub blossom-in : (u : ℕ) (hs : List Handle) (ts : List (Handle × Handle)) → addBlossom (inEngine m b) u hs ts ≡ inEngine m (addBlossom b u hs ts)
-  unfolding addBlossom freeSlot
-  blossom-in u hs ts = (λ i. push (mark-all-in m b hs stays (some (newHandle b u)) i) u (freeSlot b u) (made (sizes-in m b hs i)))
-      ∙ push-in m (markAll b hs stays (some (newHandle b u))) u (freeSlot b u) (made (sizes b hs))
+  pub blossom_in : (u : ℕ) (hs : List Handle) (ts : List (Handle × Handle)) → add_blossom (in_engine m b) u hs ts ≡ in_engine m (add_blossom b u hs ts)
+  unfolding add_blossom free_slot
+  blossom_in u hs ts = (λ i. push (mark_all_in m b hs stays (some (new_handle b u)) i) u (free_slot b u) (made (sizes_in m b hs i)))
+      ∙ push_in m (mark_all b hs stays (some (new_handle b u))) u (free_slot b u) (made (sizes b hs))
     where
       made : ℕ → Node
       made n = record { serial = b.next; class = blossom (circle hs ts); state = grows; parent = none; value = pos 0; size = n }
 
-  pub expand-in : (h : Handle) → removeBlossom (inEngine m b) h ≡ inEngine m (removeBlossom b h)
-  unfolding removeBlossom
-  expand-in h = (λ i. markAll (place_in m b h.unit h.slot none i) (members (node_in m b h i)) grows none)
-      ∙ mark-all-in m (place b h.unit h.slot none) (members (nodeNamed b h)) grows none
+  pub expand_in : (h : Handle) → remove_blossom (in_engine m b) h ≡ in_engine m (remove_blossom b h)
+  unfolding remove_blossom
+  expand_in h = (λ i. mark_all (place_in m b h.unit h.slot none i) (members (node_in m b h i)) grows none)
+      ∙ mark_all_in m (place b h.unit h.slot none) (members (node_named b h)) grows none
 
-  pub grow-in : (u : ℕ) (l : ℤ) → growBy (inEngine m b) u l ≡ inEngine m (growBy b u l)
-  unfolding growBy
-  grow-in u l = λ i. inEngine m (stepped (across-in m (λ f. withSlots f (map (growSlot l) f.slots)) b u 0 b.interfaces i))
+  pub grow_in : (u : ℕ) (l : ℤ) → grow_by (in_engine m b) u l ≡ in_engine m (grow_by b u l)
+  unfolding grow_by
+  grow_in u l = λ i. in_engine m (stepped (across_in m (λ f. with_slots f (map (grow_slot l) f.slots)) b u 0 b.interfaces i))
     where
       stepped : List Interface → Bench
-      stepped fs = let b₁ : Bench = record { next = b.next; interfaces = fs; plain = b.plain } in withInterface b₁ u (booked (interface b₁ u) l)
+      stepped fs = let b₁ : Bench = record { next = b.next; interfaces = fs; plain = b.plain } in with_interface b₁ u (booked (interface b₁ u) l)
 
-  pub fuse-in : (p l r : ℕ) → join (inEngine m b) p l r ≡ inEngine m (join b p l r)
+  pub fuse_in : (p l r : ℕ) → join (in_engine m b) p l r ≡ in_engine m (join b p l r)
   unfolding join
-  fuse-in p l r = refl
+  fuse_in p l r = refl
 
-  pub clear_in : (u : ℕ) → wipe (inEngine m b) u ≡ inEngine m (wipe b u)
+  pub clear_in : (u : ℕ) → wipe (in_engine m b) u ≡ in_engine m (wipe b u)
   unfolding wipe
-  clear_in u = λ i. record { next = b.next; interfaces = across-in m (λ f. fresh) b u 0 b.interfaces i; plain = m }
+  clear_in u = λ i. record { next = b.next; interfaces = across_in m (λ f. fresh) b u 0 b.interfaces i; plain = m }
 
-  pub choose-in : (u : ℕ) (k : Marking) → choose (inEngine m b) u k ≡ inEngine m (choose b u k)
+  pub choose_in : (u : ℕ) (k : Marking) → choose (in_engine m b) u k ≡ in_engine m (choose b u k)
   unfolding choose
-  choose-in u k = refl
+  choose_in u k = refl

@@ -11,57 +11,57 @@ use Rattle.ledger_spec.specs.Answers.{Answer, answer}
 use Rattle.ledger_spec.specs.Operations.{D, B, E, S, G, F, C, K}
 use Rattle.ledger_spec.specs.Grammar.{Line}
 use Rattle.ledger_spec.specs.Lines.{LineAnswer, seek, named, shown, calls, checks, says}
-use Rattle.ledger_spec.specs.Program.{answers, afterLines, texts}
-use Rattle.engine_laws.specs.Engines.{inEngine, lineIn}
-use Rattle.engine_laws.proofs.Looks.{gather-in}
+use Rattle.ledger_spec.specs.Program.{answers, after_lines, texts}
+use Rattle.engine_laws.specs.Engines.{in_engine, line_in}
+use Rattle.engine_laws.proofs.Looks.{gather_in}
 use Rattle.engine_laws.specs.Questions.{Check}
-use Rattle.engine_laws.proofs.Answered.{answer-engine}
-use Rattle.engine_laws.proofs.Asked.{read-engine}
+use Rattle.engine_laws.proofs.Answered.{answer_engine}
+use Rattle.engine_laws.proofs.Asked.{read_engine}
 
 module _ (m : Bool) where
-  pub shown-in : (n k : ℕ) (b : Bench) (u : ℕ) → shown n k (inEngine m b) u ≡ shown n k b u
+  pub shown_in : (n k : ℕ) (b : Bench) (u : ℕ) → shown n k (in_engine m b) u ≡ shown n k b u
   unfolding shown
-  shown-in n k b u = refl
+  shown_in n k b u = refl
 
   module _ (b : Bench) where
-    pub named_in : (k : ℕ) → named (inEngine m b) k ≡ named b k
+    pub named_in : (k : ℕ) → named (in_engine m b) k ≡ named b k
     unfolding named
-    named_in k = λ i. seek k (gather-in m b units i)
+    named_in k = λ i. seek k (gather_in m b units i)
 
-    pub calls-in : (u : ℕ) (c c' : Call) → c ≡ c' → calls (inEngine m b) u c ≡ lineIn m (calls b u c')
+    pub calls_in : (u : ℕ) (c c' : Call) → c ≡ c' → calls (in_engine m b) u c ≡ line_in m (calls b u c')
     unfolding calls shown
-    calls-in u c c' e = (λ i. wrote (answer (inEngine m b) (e i))) ∙ ap wrote (answer-engine m b c')
+    calls_in u c c' e = (λ i. wrote (answer (in_engine m b) (e i))) ∙ ap wrote (answer_engine m b c')
       where
         wrote : Answer → LineAnswer
         wrote a = record { numbers = shown a.number a.node.serial a.bench u; bench = a.bench }
 
-    pub checks-in : (u : ℕ) → checks (inEngine m b) u ≡ lineIn m (checks b u)
+    pub checks_in : (u : ℕ) → checks (in_engine m b) u ≡ line_in m (checks b u)
     unfolding checks shown
-    checks-in u = λ i. record { numbers = shown (read-engine m b (Check u) i).0 (read-engine m b (Check u) i).1.0 b u; bench = inEngine m b }
+    checks_in u = λ i. record { numbers = shown (read_engine m b (Check u) i).0 (read_engine m b (Check u) i).1.0 b u; bench = in_engine m b }
 
-    pub says-engine : (l : Line) → says (inEngine m b) l ≡ lineIn m (says b l)
+    pub says_engine : (l : Line) → says (in_engine m b) l ≡ line_in m (says b l)
     unfolding says
-    says-engine (some (D u v)) = calls-in u (Defect u v) (Defect u v) refl
-    says-engine (some (B u ks)) = calls-in u (Blossom u (map (named (inEngine m b)) ks) []) (Blossom u (map (named b) ks) []) (λ i. Blossom u (map (λ k. named_in k i) ks) [])
-    says-engine (some (E u k)) = calls-in u (Expand u (named (inEngine m b) k)) (Expand u (named b k)) (λ i. Expand u (named_in k i))
-    says-engine (some (S u k s)) = calls-in u (SetState u (named (inEngine m b) k) s) (SetState u (named b k) s) (λ i. SetState u (named_in k i) s)
-    says-engine (some (G u l)) = calls-in u (Grow u l) (Grow u l) refl
-    says-engine (some (F p l r)) = calls-in p (Fuse p l r) (Fuse p l r) refl
-    says-engine (some (C u)) = calls-in u (Clear u) (Clear u) refl
-    says-engine (some (K u)) = checks-in u
-    says-engine none = refl
+    says_engine (some (D u v)) = calls_in u (Defect u v) (Defect u v) refl
+    says_engine (some (B u ks)) = calls_in u (Blossom u (map (named (in_engine m b)) ks) []) (Blossom u (map (named b) ks) []) (λ i. Blossom u (map (λ k. named_in k i) ks) [])
+    says_engine (some (E u k)) = calls_in u (Expand u (named (in_engine m b) k)) (Expand u (named b k)) (λ i. Expand u (named_in k i))
+    says_engine (some (S u k s)) = calls_in u (SetState u (named (in_engine m b) k) s) (SetState u (named b k) s) (λ i. SetState u (named_in k i) s)
+    says_engine (some (G u l)) = calls_in u (Grow u l) (Grow u l) refl
+    says_engine (some (F p l r)) = calls_in p (Fuse p l r) (Fuse p l r) refl
+    says_engine (some (C u)) = calls_in u (Clear u) (Clear u) refl
+    says_engine (some (K u)) = checks_in u
+    says_engine none = refl
 
   -- the four numbers of each line, and the bench after all
-  pub lines-engine : (b : Bench) (ls : List Line) → answers (inEngine m b) ls ≡ answers b ls
+  pub lines_engine : (b : Bench) (ls : List Line) → answers (in_engine m b) ls ≡ answers b ls
   unfolding answers
-  lines-engine b [] = refl
-  lines-engine b (l ∷ ls) = (λ i. (says-engine b l i).numbers ∷ answers (says-engine b l i).bench ls) ∙ ap (◌∷◌ (says b l).numbers) (lines-engine (says b l).bench ls)
+  lines_engine b [] = refl
+  lines_engine b (l ∷ ls) = (λ i. (says_engine b l i).numbers ∷ answers (says_engine b l i).bench ls) ∙ ap (◌∷◌ (says b l).numbers) (lines_engine (says b l).bench ls)
 
-  pub after-lines : (b : Bench) (ls : List Line) → afterLines (inEngine m b) ls ≡ inEngine m (afterLines b ls)
-  unfolding afterLines
-  after-lines b [] = refl
-  after-lines b (l ∷ ls) = (λ i. afterLines (says-engine b l i).bench ls) ∙ after-lines (says b l).bench ls
+  pub after_lines_lem : (b : Bench) (ls : List Line) → after_lines (in_engine m b) ls ≡ in_engine m (after_lines b ls)
+  unfolding after_lines
+  after_lines_lem b [] = refl
+  after_lines_lem b (l ∷ ls) = (λ i. after_lines (says_engine b l i).bench ls) ∙ after_lines_lem (says b l).bench ls
 
   -- the bytes
-  pub texts-engine : (b : Bench) (ls : List Line) → texts (answers (inEngine m b) ls) ≡ texts (answers b ls)
-  texts-engine b ls = ap texts (lines-engine b ls)
+  pub texts_engine : (b : Bench) (ls : List Line) → texts (answers (in_engine m b) ls) ≡ texts (answers b ls)
+  texts_engine b ls = ap texts (lines_engine b ls)

@@ -7,7 +7,7 @@ use Rattle.ledger_spec.specs.Bench.{Handle, Bench}
 use Rattle.ledger_spec.specs.Groups.{Group}
 use Rattle.ledger_spec.specs.GroupCalls.{add, extend}
 use Rattle.ledger_spec.specs.Answers.{Read, sumRead, speedRead, countRead, fillsRead, flooredRead, indexRead, belongsRead, valueRead, outerRead, belowRead, firstRead, verticesRead, checkRead, strictRead}
-use Rattle.picture_spec.specs.Picture.{pictureRead}
+use Rattle.picture_spec.specs.Picture.{picture_read}
 
 pub data Question : Type 0 where
   Sum Speed Count Fills Floored Check Strict : (unit : ℕ) → Question
@@ -55,6 +55,6 @@ asking b (Outer h) = outerRead b h
 asking b (Below h) = belowRead b h
 asking b (First h) = firstRead b h
 asking b (Vertices h out) = verticesRead b h out
-asking b (Picture u a out) = pictureRead b u a out
+asking b (Picture u a out) = picture_read b u a out
 asking b (Add g o) = record { own = add b g o; zero = g }
 asking b (Extend g h) = record { own = extend b g h; zero = g }

@@ -8,12 +8,12 @@ use lib.ListN.{length}
 use lib.IntN.{ℤ, nat_abs}
 use Rattle.ledger_spec.specs.Bench.{Bench}
 use Rattle.bench_views.specs.View.{view}
-use Rattle.recorded_spec.specs.Recorded.{Steps, growRecorded}
-use Rattle.recorded_groups.specs.Recording.{recordingOf}
+use Rattle.recorded_spec.specs.Recorded.{Steps, grow_recorded}
+use Rattle.recorded_groups.specs.Recording.{recording_of}
 use Rattle.recorded_steps.specs.declared.Passed.{Passed}
 use Rattle.recorded_sound.specs.Answers.{recordedOn, RecordedAs}
-use Rattle.engine_laws.specs.Engines.{inEngine, stepsIn}
-use Rattle.engine_laws.proofs.Recorded.{recorded-engine}
+use Rattle.engine_laws.specs.Engines.{in_engine, steps_in}
+use Rattle.engine_laws.proofs.Recorded.{recorded_engine}
 use Rattle.engine_runs.specs.Alike.{Twins}
 
 module _ {m : Bool} {p l : List ℕ} (T : Twins m p l) {u : ℕ} {by : ℤ} {ws out : List ℕ} {r s : Passed} {p' o l' o' : List ℕ}
@@ -21,8 +21,8 @@ module _ {m : Bool} {p l : List ℕ} (T : Twins m p l) {u : ℕ} {by : ℤ} {ws 
   abbrev lazy : Steps
   lazy = recordedOn l u by ws (length out)
 
-  steps_alike : recordedOn p u by ws (length out) ≡ stepsIn m lazy
-  steps_alike = ap (λ (d : Bench). growRecorded d u by (recordingOf ws) (length out)) T.seen ∙ recorded-engine m u (view l) by (recordingOf ws) (length out)
+  steps_alike : recordedOn p u by ws (length out) ≡ steps_in m lazy
+  steps_alike = ap (λ (d : Bench). grow_recorded d u by (recording_of ws) (length out)) T.seen ∙ recorded_engine m u (view l) by (recording_of ws) (length out)
 
   numbers : r.number ≡ s.number
   numbers = x.number ∙ ap (λ (a : Steps). a.number) steps_alike ∙ sym y.number
@@ -30,8 +30,8 @@ module _ {m : Bool} {p l : List ℕ} (T : Twins m p l) {u : ℕ} {by : ℤ} {ws 
   counts : r.taken ≡ s.taken
   counts = x.taken ∙ ap (λ (a : Steps). length a.lengths) steps_alike ∙ sym y.taken
 
-  pub recorded-alike : (r ≡ s) × (o ≡ o')
-  recorded-alike = ((λ i. record { number = numbers i; taken = counts i }), x.lengths ∙ ap (λ (a : Steps). sets out 0 (map nat_abs a.lengths)) steps_alike ∙ sym y.lengths)
+  pub recorded_alike : (r ≡ s) × (o ≡ o')
+  recorded_alike = ((λ i. record { number = numbers i; taken = counts i }), x.lengths ∙ ap (λ (a : Steps). sets out 0 (map nat_abs a.lengths)) steps_alike ∙ sym y.lengths)
 
-  pub recorded-twins : Twins m p' l'
-  recorded-twins = record { one = x.words; other = y.words; seen = x.seen ∙ ap (λ (a : Steps). a.bench) steps_alike ∙ sym (ap (inEngine m) y.seen) }
+  pub recorded_twins : Twins m p' l'
+  recorded_twins = record { one = x.words; other = y.words; seen = x.seen ∙ ap (λ (a : Steps). a.bench) steps_alike ∙ sym (ap (in_engine m) y.seen) }

@@ -4,8 +4,8 @@ use Rattle.std.proofs.Math.Option.{Option}
 use Rattle.ledger_spec.specs.Bench.{Handle, Bench}
 use Rattle.ledger_spec.specs.Answers.{Read}
 use Rattle.bench_views.specs.View.{view}
-use Rattle.sound_lent.specs.Verdict.{readWords}
-use Rattle.read_present.specs.Present.{presentRead, nextRead}
+use Rattle.sound_lent.specs.Verdict.{read_words}
+use Rattle.read_present.specs.Present.{present_read, next_read}
 use Rattle.engine_laws.specs.Questions as plain
 
 pub data Question : Type 0 where
@@ -20,9 +20,9 @@ Given (Next u k) = ℕ × Option Handle
 
 abbrev pub asking : Bench → (q : Question) → Read (Given q)
 asking b (plainly q) = plain.asking b q
-asking b (Present u) = presentRead b u
-asking b (Next u k) = nextRead b u k
+asking b (Present u) = present_read b u
+asking b (Next u k) = next_read b u k
 
 -- the answer by contract, of any words: BROKEN where they hold no sound bench
 abbrev pub asked : List ℕ → (q : Question) → ℕ × Given q
-asked b q = readWords b (asking (view b) q)
+asked b q = read_words b (asking (view b) q)

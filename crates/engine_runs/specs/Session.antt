@@ -2,7 +2,7 @@
 -- the one before left, and meets its contract. Assumes nothing.
 use Rattle.std.specs.Prelude.{ℕ, List, [], ◌∷◌, ℤ}
 use Rattle.ledger_spec.specs.Calls.{Call}
-use Rattle.sound_bench.specs.Sound.{soundWords}
+use Rattle.sound_bench.specs.Sound.{sound_words}
 use Rattle.call_told.specs.declared.Answer.{Answer}
 use Rattle.call_told.specs.Told.{Called}
 use Rattle.recorded_steps.specs.declared.Passed.{Passed}
@@ -28,7 +28,7 @@ pub data Seen : Type 0 where
 pub data Session : List ℕ → List Step → List Seen → List ℕ → Type 0 where
   stop : {b : List ℕ} → Session b [] [] b
   calls : {b b' b'' : List ℕ} {c : Call} {r : Answer} {xs : List Step} {ys : List Seen}
-      → Called (soundWords b) b c r b' → Session b' xs ys b'' → Session b (call c ∷ xs) (called r ∷ ys) b''
+      → Called (sound_words b) b c r b' → Session b' xs ys b'' → Session b (call c ∷ xs) (called r ∷ ys) b''
   grows : {b b' b'' : List ℕ} {u : ℕ} {by : ℤ} {recording room room' : List ℕ} {r : Passed} {xs : List Step} {ys : List Seen}
       → RecordedAs b u by recording room r b' room' → Session b' xs ys b'' → Session b (grow u by recording room ∷ xs) (grown r room' ∷ ys) b''
   files : {b b' b'' : List ℕ} {bytes : List ℕ} {room room' : List ℤ} {r : Ran} {xs : List Step} {ys : List Seen}

@@ -9,20 +9,20 @@ use Rattle.ledger_spec.specs.Groups.{Group, added}
 use Rattle.ledger_spec.specs.GroupCalls.{or_else}
 use Rattle.groups.specs.View.{group_of}
 use Rattle.groups.specs.declared.Group.{Group as Code}
-use Rattle.groups.proofs.View.{view-laid}
+use Rattle.groups.proofs.View.{view_laid}
 use Rattle.group_adds.specs.Adds.{changed}
 use Rattle.group_adds.specs.declared.Changed.{Changed}
 
 module _ (g : Code) where
-  pub changed-number : (o : Option Group) → (changed o g).number ≡ cond (is_some o) 0 20
+  pub changed_number : (o : Option Group) → (changed o g).number ≡ cond (is_some o) 0 20
   unfolding changed
-  changed-number none = refl
-  changed-number (some q) = refl
+  changed_number none = refl
+  changed_number (some q) = refl
 
-  pub changed-view : (o : Option Group) → group_of (changed o g).group ≡ or_else o (group_of g)
+  pub changed_view : (o : Option Group) → group_of (changed o g).group ≡ or_else o (group_of g)
   unfolding changed
-  changed-view none = refl
-  changed-view (some q) = view-laid q g
+  changed_view none = refl
+  changed_view (some q) = view_laid q g
 
-pub only-add : (g : Code) (o : Obstacle) (v : Vertex) (r s : Changed) → r ≡ changed (added (group_of g) o v.0) g → s ≡ changed (added (group_of g) o v.0) g → r ≡ s
-only-add g o v r s p q = p ∙ sym q
+pub only_add : (g : Code) (o : Obstacle) (v : Vertex) (r s : Changed) → r ≡ changed (added (group_of g) o v.0) g → s ≡ changed (added (group_of g) o v.0) g → r ≡ s
+only_add g o v r s p q = p ∙ sym q

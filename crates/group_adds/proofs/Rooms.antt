@@ -19,29 +19,29 @@ done g = record { number = 0; group = g }
 abbrev pub full : Code → Changed
 full g = record { number = 20; group = g }
 
-pub changed-some : (o : Option Group) (q : Group) (g : Code) → o ≡ some q → changed o g ≡ done (laid q g)
+pub changed_some : (o : Option Group) (q : Group) (g : Code) → o ≡ some q → changed o g ≡ done (laid q g)
 unfolding changed
-changed-some o q g e = ap (λ (i : Option Group). changed i g) e
+changed_some o q g e = ap (λ (i : Option Group). changed i g) e
 
 module _ (l : List Entry) (s : List Stop) where
-  pub room-yes : length l ≤ 128 → length s ≤ 128 → room_for l s ≡ some (l, s)
+  pub room_yes : length l ≤ 128 → length s ≤ 128 → room_for l s ≡ some (l, s)
   unfolding room_for
-  room-yes h k = rw (le-leb _ _ h, le-leb _ _ k)
+  room_yes h k = rw (le-leb _ _ h, le-leb _ _ k)
 
-  pub room-list : 128 < length l → room_for l s ≡ none
+  pub room_list : 128 < length l → room_for l s ≡ none
   unfolding room_for
-  room-list h = rw (lt-leb _ _ h)
+  room_list h = rw (lt-leb _ _ h)
 
-  pub room-stops : length l ≤ 128 → 128 < length s → room_for l s ≡ none
+  pub room_stops : length l ≤ 128 → 128 < length s → room_for l s ≡ none
   unfolding room_for
-  room-stops h k = rw (le-leb _ _ h, lt-leb _ _ k)
+  room_stops h k = rw (le-leb _ _ h, lt-leb _ _ k)
 
 -- an outcome in the call's answer
 module _ (o : Option Lists) (g : Code) where
-  pub answers-room : o ≡ none → full g ≡ changed (grouped o) g
+  pub answers_room : o ≡ none → full g ≡ changed (grouped o) g
   unfolding changed
-  answers-room e = sym (ap (λ (i : Option Lists). changed (grouped i) g) e)
+  answers_room e = sym (ap (λ (i : Option Lists). changed (grouped i) g) e)
 
-  pub answers-lists : (l : List Entry) (s : List Stop) (r : Code) → o ≡ some (l, s) → r ≡ laid (conflicts l s) g → done r ≡ changed (grouped o) g
+  pub answers_lists : (l : List Entry) (s : List Stop) (r : Code) → o ≡ some (l, s) → r ≡ laid (conflicts l s) g → done r ≡ changed (grouped o) g
   unfolding changed
-  answers-lists l s r e f = ap done f ∙ sym (ap (λ (i : Option Lists). changed (grouped i) g) e)
+  answers_lists l s r e f = ap done f ∙ sym (ap (λ (i : Option Lists). changed (grouped i) g) e)

@@ -2,9 +2,9 @@
 // trusted part of the public add. ROOM (20) hands back the very group. Assumes nothing.
 ghost use Rattle.std.specs.Prelude.{◌≡◌, true, ◌||◌, [], ◌∷◌, ◌++◌, ◌≤◌, ◌<◌, take};
 ghost use Rattle.kinds.specs.Obstacles.{pair_of};
-ghost use Rattle.ledger_spec.specs.Groups.{growth, conflicts, soundGroup, smaller, grouped, room_for, meet, addStop, addToGrowth, addToConflicts, added};
-ghost use Rattle.groups.specs.View.{list_of, stopsOf, group_of, laid};
-ghost use Rattle.group_stops.specs.Places.{after_at, removedAt};
+ghost use Rattle.ledger_spec.specs.Groups.{growth, conflicts, sound_group, smaller, grouped, room_for, meet, add_stop, add_to_growth, add_to_conflicts, added};
+ghost use Rattle.groups.specs.View.{list_of, stops_of, group_of, laid};
+ghost use Rattle.group_stops.specs.Places.{after_at, removed_at};
 ghost use Rattle.group_adds.specs.Adds.{changed};
 
 use group_stops::{Meeting, Spot};
@@ -20,7 +20,7 @@ pub struct Changed {
 
 fn add_listed(g: Group, e: Entry) -> Changed
     requires { (g.kind ≡ Kind.Conflicts) × ((g.listed ≤ 128) × (g.stopped ≤ 128)) }
-    ensures { result ≡ changed (grouped (room_for (list_of g ++ e ∷ []) (stopsOf g))) g }
+    ensures { result ≡ changed (grouped (room_for (list_of g ++ e ∷ []) (stops_of g))) g }
 {
     let at = g.listed;
     if Group::MOST <= at {
@@ -42,7 +42,7 @@ fn add_listed(g: Group, e: Entry) -> Changed
 fn moved(g: Group, p: usize, e: Entry) -> Changed
     requires kind_value { (g.kind ≡ Kind.Conflicts) × ((g.listed ≤ 128) × (g.stopped ≤ 128)) }
     requires p_lt_stopped { p < g.stopped }
-    ensures { result ≡ changed (grouped (room_for (list_of g ++ e ∷ []) (removedAt p (stopsOf g)))) g }
+    ensures { result ≡ changed (grouped (room_for (list_of g ++ e ∷ []) (removed_at p (stops_of g)))) g }
 {
     let n = g.listed;
     if Group::MOST <= n {
@@ -68,8 +68,8 @@ fn moved(g: Group, p: usize, e: Entry) -> Changed
 // x comes to the vertex of the stop y, which is pending at p.
 fn met(g: Group, p: usize, x: Stop, y: Stop) -> Changed
     requires kind_value { (g.kind ≡ Kind.Conflicts) × ((g.listed ≤ 128) × (g.stopped ≤ 128)) }
-    requires p_lt_stopped { (p < g.stopped) × (stopsOf g ≡ take p (stopsOf g) ++ y ∷ after_at p (stopsOf g)) }
-    ensures { result ≡ changed (grouped (meet (pair_of x.obstacle) (pair_of y.obstacle) x y (list_of g) (take p (stopsOf g)) (after_at p (stopsOf g)))) g }
+    requires p_lt_stopped { (p < g.stopped) × (stops_of g ≡ take p (stops_of g) ++ y ∷ after_at p (stops_of g)) }
+    ensures { result ≡ changed (grouped (meet (pair_of x.obstacle) (pair_of y.obstacle) x y (list_of g) (take p (stops_of g)) (after_at p (stops_of g)))) g }
 {
     let m = group_stops::meeting_of(x, y);
     match m {
@@ -96,7 +96,7 @@ fn met(g: Group, p: usize, x: Stop, y: Stop) -> Changed
 
 fn add_stop(g: Group, x: Stop) -> Changed
     requires { (g.kind ≡ Kind.Conflicts) × ((g.listed ≤ 128) × (g.stopped ≤ 128)) }
-    ensures { result ≡ changed (grouped (addStop x (list_of g) (stopsOf g))) g }
+    ensures { result ≡ changed (grouped (add_stop x (list_of g) (stops_of g))) g }
 {
     let v = x.vertex;
     let count = g.stopped;
@@ -186,7 +186,7 @@ fn either(a: bool, b: bool) -> bool
 }
 
 fn add_to_growth(g: Group, length: i64, flag: bool, o: Obstacle, first: Vertex) -> Changed
-    ensures { result ≡ changed (addToGrowth length flag o first.0) g }
+    ensures { result ≡ changed (add_to_growth length flag o first.0) g }
 {
     match o {
         Obstacle::NonZeroGrow(other, on) => {
@@ -220,7 +220,7 @@ fn add_to_growth(g: Group, length: i64, flag: bool, o: Obstacle, first: Vertex) 
 
 fn add_to_conflicts(g: Group, o: Obstacle, first: Vertex) -> Changed
     requires { (g.kind ≡ Kind.Conflicts) × ((g.listed ≤ 128) × (g.stopped ≤ 128)) }
-    ensures { result ≡ changed (addToConflicts (list_of g) (stopsOf g) o first.0) g }
+    ensures { result ≡ changed (add_to_conflicts (list_of g) (stops_of g) o first.0) g }
 {
     match o {
         Obstacle::NonZeroGrow(_, _) => Changed {
@@ -242,7 +242,7 @@ fn add_to_conflicts(g: Group, o: Obstacle, first: Vertex) -> Changed
 
 // `first` is the first vertex of a stop's node. Of any other obstacle it says nothing.
 pub fn add(g: Group, o: Obstacle, first: Vertex) -> Changed
-    requires { soundGroup (group_of g) ≡ true }
+    requires { sound_group (group_of g) ≡ true }
     ensures { result ≡ changed (added (group_of g) o first.0) g }
 {
     let kind = g.kind;

@@ -5,7 +5,7 @@ use mathlib.Core.List.{List, [], ◌∷◌, ◌++◌}
 use Rattle.kinds.specs.declared.Handle.{Handle}
 use Rattle.kinds.specs.declared.Obstacle.{Obstacle}
 use Rattle.ledger_spec.specs.Tests.{any}
-use Rattle.ledger_spec.specs.GroupCalls.{handlesOf}
+use Rattle.ledger_spec.specs.GroupCalls.{handles_of}
 use Rattle.group_handles.specs.Named.{named_by}
 use Rattle.group_handles.specs.declared.Nodes.{Nodes}
 use Rattle.group_handles.proofs.Handles.{any_append}
@@ -30,21 +30,21 @@ module _ (p : Handle → Bool) where
       go false = refl
 
   module _ (xs ys : List Handle) where
-    pub front-has : any p xs ≡ true → true ≡ any p (xs ++ ys)
-    front-has e = or_yes (any p ys) e ∙ sym (any_append p xs ys)
+    pub front_has : any p xs ≡ true → true ≡ any p (xs ++ ys)
+    front_has e = or_yes (any p ys) e ∙ sym (any_append p xs ys)
 
-    pub back-has : any p xs ≡ false → any p ys ≡ any p (xs ++ ys)
-    back-has e = or_no (any p ys) e ∙ sym (any_append p xs ys)
+    pub back_has : any p xs ≡ false → any p ys ≡ any p (xs ++ ys)
+    back_has e = or_no (any p ys) e ∙ sym (any_append p xs ys)
 
   module _ (x : Handle) (ys : List Handle) where
-    pub first-has : p x ≡ true → true ≡ any p (x ∷ ys)
+    pub first_has : p x ≡ true → true ≡ any p (x ∷ ys)
     unfolding any
-    first-has e = or_yes (any p ys) e
+    first_has e = or_yes (any p ys) e
 
     pub rest_has : p x ≡ false → any p ys ≡ any p (x ∷ ys)
     unfolding any
     rest_has e = or_no (any p ys) e
 
 -- ---- by what nodes_of finds
-pub named-has : (p : Handle → Bool) {t : Bool} (o : Obstacle) (r x : Nodes) → named_by r ≡ handlesOf o → r ≡ x → t ≡ any p (named_by x) → t ≡ any p (handlesOf o)
-named-has p o r x n q e = e ∙ ap (any p) (ap named_by (sym q) ∙ n)
+pub named_has : (p : Handle → Bool) {t : Bool} (o : Obstacle) (r x : Nodes) → named_by r ≡ handles_of o → r ≡ x → t ≡ any p (named_by x) → t ≡ any p (handles_of o)
+named_has p o r x n q e = e ∙ ap (any p) (ap named_by (sym q) ∙ n)

@@ -6,9 +6,9 @@ use Rattle.groups.specs.declared.Group.{Group as Code}
 use Rattle.group_adds.specs.declared.Changed.{Changed}
 
 -- accepted, the ledger's group laid into h, whose bytes past the counts stay; refused, the number and the very group g
-unfoldable pub wholeBy : ℕ → Group → Code → Code → Changed
-wholeBy zero q g h = record { number = 0; group = laid q h }
-wholeBy (suc k) q g h = record { number = suc k; group = g }
+unfoldable pub whole_by : ℕ → Group → Code → Code → Changed
+whole_by zero q g h = record { number = 0; group = laid q h }
+whole_by (suc k) q g h = record { number = suc k; group = g }
 
 abbrev pub whole : ℕ × Group → Code → Code → Changed
-whole a g h = wholeBy a.0 a.1 g h
+whole a g h = whole_by a.0 a.1 g h

@@ -2,8 +2,8 @@
 // arrays are passed once, not for each entry. Assumes nothing.
 ghost use Rattle.std.specs.Prelude.{◌≡◌, true, [], ◌∷◌, ◌≤◌, take};
 ghost use Rattle.ledger_spec.specs.Tests.{any};
-ghost use Rattle.ledger_spec.specs.Groups.{soundGroup};
-ghost use Rattle.ledger_spec.specs.GroupCalls.{staleCode, handlesOf, listHandles, stopHandles, groupHandles, vertexOf};
+ghost use Rattle.ledger_spec.specs.Groups.{sound_group};
+ghost use Rattle.ledger_spec.specs.GroupCalls.{stale_code, handles_of, list_handles, stop_handles, group_handles, vertex_of};
 ghost use Rattle.bench_views.specs.Canon.{Canon};
 ghost use Rattle.bench_views.specs.Fit.{Fit};
 ghost use Rattle.bench_views.specs.View.{view};
@@ -17,7 +17,7 @@ use kinds::{Entry, Handle, Obstacle, Stop, Vertex};
 
 fn is_gone(b: &[u64; WORDS], h: Handle) -> bool
     requires { Canon b.now }
-    ensures { result ≡ staleCode (view b.now) h }
+    ensures { result ≡ stale_code (view b.now) h }
 {
     let found = bench_links::find(b, h);
     match found {
@@ -28,7 +28,7 @@ fn is_gone(b: &[u64; WORDS], h: Handle) -> bool
 
 fn either_gone(b: &[u64; WORDS], x: Handle, y: Handle) -> bool
     requires { Canon b.now }
-    ensures { result ≡ any (staleCode (view b.now)) (x ∷ y ∷ []) }
+    ensures { result ≡ any (stale_code (view b.now)) (x ∷ y ∷ []) }
 {
     if is_gone(b, x) {
         return true;
@@ -38,7 +38,7 @@ fn either_gone(b: &[u64; WORDS], x: Handle, y: Handle) -> bool
 
 pub fn names_gone(b: &[u64; WORDS], o: Obstacle) -> bool
     requires { Canon b.now }
-    ensures { result ≡ any (staleCode (view b.now)) (handlesOf o) }
+    ensures { result ≡ any (stale_code (view b.now)) (handles_of o) }
 {
     let nodes = group_handles::nodes_of(o);
     match nodes {
@@ -63,7 +63,7 @@ pub fn names_gone(b: &[u64; WORDS], o: Obstacle) -> bool
 fn list_gone(b: &[u64; WORDS], list: [Entry; Group::MOST], n: usize) -> bool
     requires canon { Canon b.now }
     requires n_bound { n ≤ 128 }
-    ensures { result ≡ any (staleCode (view b.now)) (listHandles (take n list)) }
+    ensures { result ≡ any (stale_code (view b.now)) (list_handles (take n list)) }
 {
     let mut i: usize = 0;
     while i < n {
@@ -80,7 +80,7 @@ fn list_gone(b: &[u64; WORDS], list: [Entry; Group::MOST], n: usize) -> bool
 fn stops_gone(b: &[u64; WORDS], stops: [Stop; Group::MOST], n: usize) -> bool
     requires canon { Canon b.now }
     requires n_bound { n ≤ 128 }
-    ensures { result ≡ any (staleCode (view b.now)) (stopHandles (take n stops)) }
+    ensures { result ≡ any (stale_code (view b.now)) (stop_handles (take n stops)) }
 {
     let mut i: usize = 0;
     while i < n {
@@ -96,8 +96,8 @@ fn stops_gone(b: &[u64; WORDS], stops: [Stop; Group::MOST], n: usize) -> bool
 
 pub fn group_gone(b: &[u64; WORDS], g: Group) -> bool
     requires canon { Canon b.now }
-    requires g_value { soundGroup (group_of g) ≡ true }
-    ensures { result ≡ any (staleCode (view b.now)) (groupHandles (group_of g)) }
+    requires g_value { sound_group (group_of g) ≡ true }
+    ensures { result ≡ any (stale_code (view b.now)) (group_handles (group_of g)) }
 {
     let kind = g.kind;
     match kind {
@@ -116,7 +116,7 @@ pub fn group_gone(b: &[u64; WORDS], g: Group) -> bool
 // Of any other obstacle than a stop it says 0.
 pub fn vertex_of(b: &[u64; WORDS], o: Obstacle) -> Vertex
     requires { Fit b.now }
-    ensures { result.0 ≡ vertexOf (view b.now) o }
+    ensures { result.0 ≡ vertex_of (view b.now) o }
 {
     match o {
         Obstacle::NonZeroGrow(_, _) => Vertex(0),

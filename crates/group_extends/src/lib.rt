@@ -1,10 +1,10 @@
 // One sound group extended by another, as docs/MANUAL.md, Obstacle groups, has it, once the other's handles are known to name nodes: the trusted part of the public extend.
 // ROOM (20) hands back the very group. Assumes nothing.
 ghost use Rattle.std.specs.Prelude.{◌≡◌, true, ◌&&◌, ◌≤◌};
-ghost use Rattle.ledger_spec.specs.Groups.{growth, soundGroup, risingFrom, grouped, room_for, and_then, addStops, extended};
-ghost use Rattle.groups.specs.View.{stopsOf, group_of};
+ghost use Rattle.ledger_spec.specs.Groups.{growth, sound_group, rising_from, grouped, room_for, and_then, add_stops, extended};
+ghost use Rattle.groups.specs.View.{stops_of, group_of};
 ghost use Rattle.group_adds.specs.Adds.{changed};
-ghost use Rattle.group_extends.specs.Extends.{appendList, leastOf, whole_of};
+ghost use Rattle.group_extends.specs.Extends.{append_list, least_of, whole_of};
 
 use group_adds::Changed;
 use groups::{Group, Kind};
@@ -25,7 +25,7 @@ fn both(a: bool, b: bool) -> bool
 
 // A growth (a, f) extended by (b, h): a largest weight has no effect; else the smaller pair, length first, then no before yes.
 fn smaller_pair(a: i64, f: bool, b: i64, h: bool) -> Least
-    ensures { growth result.length result.flag ≡ leastOf a f b h }
+    ensures { growth result.length result.flag ≡ least_of a f b h }
 {
     if b == Obstacle::LARGEST {
         return Least { length: a, flag: f };
@@ -42,8 +42,8 @@ fn smaller_pair(a: i64, f: bool, b: i64, h: bool) -> Least
 
 fn extend_conflicts(g: Group, h: Group) -> Changed
     requires listed_bound { (g.listed ≤ 128) × (g.stopped ≤ 128) }
-    requires listed_bound_2 { (h.listed ≤ 128) × ((h.stopped ≤ 128) × (risingFrom 0 (stopsOf h) ≡ true)) }
-    ensures { result ≡ changed (grouped (and_then (room_for (appendList g h) (stopsOf g)) (addStops (stopsOf h)))) g }
+    requires listed_bound_2 { (h.listed ≤ 128) × ((h.stopped ≤ 128) × (rising_from 0 (stops_of h) ≡ true)) }
+    ensures { result ≡ changed (grouped (and_then (room_for (append_list g h) (stops_of g)) (add_stops (stops_of h)))) g }
 {
     let free = Group::MOST - g.listed;
     if free < h.listed {
@@ -60,8 +60,8 @@ fn extend_conflicts(g: Group, h: Group) -> Changed
 }
 
 pub fn extend(g: Group, h: Group) -> Changed
-    requires g_value { soundGroup (group_of g) ≡ true }
-    requires h_value { soundGroup (group_of h) ≡ true }
+    requires g_value { sound_group (group_of g) ≡ true }
+    requires h_value { sound_group (group_of h) ≡ true }
     ensures { result ≡ changed (extended (group_of g) (group_of h)) (whole_of g h) }
 {
     let kind = g.kind;

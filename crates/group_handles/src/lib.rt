@@ -1,7 +1,7 @@
 // The nodes that an obstacle names, in order, for a caller that has to look each up: add asks it of the obstacle, extend of every entry and stop of the
 // other group. proofs/Handles.antt has the turns and the end of such a loop over a group. Assumes nothing.
 ghost use Rattle.std.specs.Prelude.{◌≡◌};
-ghost use Rattle.ledger_spec.specs.GroupCalls.{handlesOf};
+ghost use Rattle.ledger_spec.specs.GroupCalls.{handles_of};
 ghost use Rattle.group_handles.specs.Named.{named_by};
 
 use kinds::{Handle, MaybePair, Obstacle};
@@ -17,7 +17,7 @@ pub enum Nodes {
 }
 
 pub fn nodes_of(o: Obstacle) -> Nodes
-    ensures { named_by result ≡ handlesOf o }
+    ensures { named_by result ≡ handles_of o }
 {
     match o {
         Obstacle::NonZeroGrow(_, _) => Nodes::None,

@@ -18,11 +18,11 @@ pub read_plain : (w : ℕ) → w < 9223372036854775808 → to_z w64 w ≡ length
 read_plain w h = rw (to_z_pos w64 {n = w} h, lt-ltb w 9223372036854775808 h)
 
 module _ (w : ℕ) (h : 9223372036854775808 ≤ w) (k : w < 18446744073709551616) where
-  turned-word : negsuc 0 -ℤ to_z w64 (18446744073709551615 - w) ≡ negsuc (18446744073709551615 - w)
-  turned-word = rw (to_z_pos w64 {n = 18446744073709551615 - w} (omega arith), below)
+  turned_word : negsuc 0 -ℤ to_z w64 (18446744073709551615 - w) ≡ negsuc (18446744073709551615 - w)
+  turned_word = rw (to_z_pos w64 {n = 18446744073709551615 - w} (omega arith), below)
 
   pub read_fits : SFits w64 (negsuc 0 -ℤ to_z w64 (18446744073709551615 - w))
-  read_fits = rw turned-word (record { sfits = omega arith })
+  read_fits = rw turned_word (record { sfits = omega arith })
 
-  pub read-turned : to_z w64 (of_z w64 (negsuc 0 -ℤ to_z w64 (18446744073709551615 - w))) ≡ length_of w
-  read-turned = to_z-of_z read_fits ∙ turned-word ∙ rw (le-ltb w 9223372036854775808 h)
+  pub read_turned : to_z w64 (of_z w64 (negsuc 0 -ℤ to_z w64 (18446744073709551615 - w))) ≡ length_of w
+  read_turned = to_z-of_z read_fits ∙ turned_word ∙ rw (le-ltb w 9223372036854775808 h)

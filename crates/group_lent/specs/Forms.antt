@@ -1,12 +1,12 @@
 -- An obstacle's five words, as include/dual_ledger.h has them: which five words are an obstacle's, and which one they say. In them every word of 2^41
 -- and more is one and the same handle, which names no node. Assumes nothing.
 use Rattle.std.specs.Prelude.{ℕ, ◌+◌, ◌-◌, ◌%◌, Bool, true, false, ◌&&◌, ◌||◌, List, [], ◌∷◌, eqb, leb, ltb, ℤ, pos, negsuc, get_or}
-use Rattle.kinds.specs.Names.{noCode}
+use Rattle.kinds.specs.Names.{no_code}
 use Rattle.kinds.specs.declared.Pair.{Pair}
 use Rattle.kinds.specs.declared.MaybePair.TheVariants.{NoPair, WithPair}
 use Rattle.kinds.specs.declared.Obstacle.{Obstacle}
 use Rattle.kinds.specs.declared.Obstacle.TheVariants.{NonZeroGrow, Conflicting, TouchingVirtual, BlossomNeedExpand, VertexShrinkStop}
-use Rattle.bench_words.specs.Codec.{pastHandles, pick, handOf}
+use Rattle.bench_words.specs.Codec.{past_handles, pick, hand_of}
 use Rattle.group_lent.specs.declared.Five.{Five}
 
 -- ---- single words
@@ -16,19 +16,19 @@ abbrev pub length_of : ℕ → ℤ
 length_of w = pick (ltb w 9223372036854775808) (pos w) (negsuc (18446744073709551615 - w))
 
 -- two words of the same handle
-abbrev pub sameHand : ℕ → ℕ → Bool
-sameHand a b = eqb a b || (leb pastHandles a && leb pastHandles b)
+abbrev pub same_hand : ℕ → ℕ → Bool
+same_hand a b = eqb a b || (leb past_handles a && leb past_handles b)
 
 abbrev pub pair_of : ℕ → ℕ → Pair
-pair_of a b = record { node = handOf a; touching = handOf b }
+pair_of a b = record { node = hand_of a; touching = hand_of b }
 
 -- ---- five words
 
 abbrev pub five : ℕ → ℕ → ℕ → ℕ → ℕ → Five
 five k a b c d = record { kind = k; a = a; b = b; c = c; d = d }
 
-abbrev pub fiveWords : Five → List ℕ
-fiveWords f = f.kind ∷ f.a ∷ f.b ∷ f.c ∷ f.d ∷ []
+abbrev pub five_words : Five → List ℕ
+five_words f = f.kind ∷ f.a ∷ f.b ∷ f.c ∷ f.d ∷ []
 
 abbrev pub is_zero : ℕ → Bool
 is_zero w = eqb w 0
@@ -43,8 +43,8 @@ by_kind k grow conflict virtual expand stop pair other =
     (pick (eqb k 6) pair other)))))
 
 -- the words are those of an obstacle: no other kind, a flag 0 or 1, a vertex below 2^32, 0 where nothing is said; any word is a handle
-unfoldable pub isForm : Five → Bool
-isForm f =
+unfoldable pub is_form : Five → Bool
+is_form f =
     by_kind f.kind
     (leb f.b 1 && (is_zero f.c && is_zero f.d))
     true
@@ -55,17 +55,17 @@ isForm f =
     false
 
 -- what they say; only where they are an obstacle's does it count
-unfoldable pub obstacleOf : Five → Obstacle
-obstacleOf f =
+unfoldable pub obstacle_of : Five → Obstacle
+obstacle_of f =
     by_kind f.kind
     (NonZeroGrow (length_of f.a) (eqb f.b 1))
     (Conflicting (pair_of f.a f.b) (pair_of f.c f.d))
     (TouchingVirtual (pair_of f.a f.b) (record { 0 = f.c % 4294967296 }) (eqb f.d 1))
-    (BlossomNeedExpand (handOf f.a))
-    (VertexShrinkStop (handOf f.a) NoPair)
-    (VertexShrinkStop (handOf f.a) (WithPair (pair_of f.b f.c)))
-    (BlossomNeedExpand noCode)
+    (BlossomNeedExpand (hand_of f.a))
+    (VertexShrinkStop (hand_of f.a) NoPair)
+    (VertexShrinkStop (hand_of f.a) (WithPair (pair_of f.b f.c)))
+    (BlossomNeedExpand no_code)
 
 -- the five words from place m on
-unfoldable pub fiveAt : List ℕ → ℕ → Five
-fiveAt ws m = five (get_or ws m 0) (get_or ws (m + 1) 0) (get_or ws (m + 2) 0) (get_or ws (m + 3) 0) (get_or ws (m + 4) 0)
+unfoldable pub five_at : List ℕ → ℕ → Five
+five_at ws m = five (get_or ws m 0) (get_or ws (m + 1) 0) (get_or ws (m + 2) 0) (get_or ws (m + 3) 0) (get_or ws (m + 4) 0)

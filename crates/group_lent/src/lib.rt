@@ -2,7 +2,7 @@
 // five words, and nothing is decoded. Assumes nothing.
 ghost use Rattle.std.specs.Prelude.{◌≡◌, ◌+◌, ◌≤◌, length};
 ghost use Rattle.std.proofs.lemmas.List.Edits.{sets};
-ghost use Rattle.group_lent.specs.Forms.{length_of, sameHand, five, fiveWords, isForm, fiveAt};
+ghost use Rattle.group_lent.specs.Forms.{length_of, same_hand, five, five_words, is_form, five_at};
 ghost use Rattle.group_lent.specs.Moves.{slid};
 
 use bench_words::PAST_HANDLES;
@@ -49,13 +49,13 @@ pub fn length_of(w: u64) -> i64
 
 // Whether two words are the same handle: those that name no node are all one.
 pub fn same_node(a: u64, b: u64) -> bool
-    ensures { result ≡ sameHand a b }
+    ensures { result ≡ same_hand a b }
 {
     (a == b) | ((PAST_HANDLES <= a) & (PAST_HANDLES <= b))
 }
 
 pub fn is_form(f: Five) -> bool
-    ensures { result ≡ isForm f }
+    ensures { result ≡ is_form f }
 {
     let kind = f.kind;
     match kind {
@@ -85,7 +85,7 @@ pub fn no_obstacle() -> Five
 // Five words from `at` on.
 pub fn five_of(w: &[u64], at: usize) -> Five
     requires { at + 5 ≤ length w.now }
-    ensures { result ≡ fiveAt w.now at }
+    ensures { result ≡ five_at w.now at }
 {
     Five {
         kind: w[at],
@@ -97,13 +97,13 @@ pub fn five_of(w: &[u64], at: usize) -> Five
 }
 
 pub fn five_in(w: &[u64; OBSTACLE]) -> Five
-    ensures { result ≡ fiveAt w.now 0 }
+    ensures { result ≡ five_at w.now 0 }
 {
     five_of(w, 0)
 }
 
 pub fn put_in(w: &mut [u64; OBSTACLE], f: Five)
-    ensures { w.new ≡ fiveWords f }
+    ensures { w.new ≡ five_words f }
 {
     all_five(w);
     w[0] = f.kind;
@@ -117,14 +117,14 @@ pub fn put_in(w: &mut [u64; OBSTACLE], f: Five)
 
 pub fn five_at(w: &[u64; GROUP], at: usize) -> Five
     requires { at + 5 ≤ 1413 }
-    ensures { result ≡ fiveAt w.now at }
+    ensures { result ≡ five_at w.now at }
 {
     five_of(w, at)
 }
 
 pub fn put_five(w: &mut [u64; GROUP], at: usize, f: Five)
     requires { at + 5 ≤ 1413 }
-    ensures { w.new ≡ sets w.old at (fiveWords f) }
+    ensures { w.new ≡ sets w.old at (five_words f) }
 {
     w[at] = f.kind;
     w[at + 1] = f.a;

@@ -2,9 +2,9 @@
 // bench or no obstacle; refused, every word of the group stays. Assumes nothing.
 ghost use Rattle.std.specs.Prelude.{◌≡◌, false};
 ghost use Rattle.std.proofs.Math.Option.{none};
-ghost use Rattle.ledger_spec.specs.GroupCalls.{is_empty, isActive, growthOf};
-ghost use Rattle.groups.specs.Shown.{shownTold, shownAsked};
-ghost use Rattle.group_lent_any.specs.Any.{Judged, Ready, asked_of, noObstacle, PeekedAny, PoppedAny, SparedAny, AddedAny, ExtendedAny};
+ghost use Rattle.ledger_spec.specs.GroupCalls.{is_empty, is_active, growth_of};
+ghost use Rattle.groups.specs.Shown.{shown_told, shown_asked};
+ghost use Rattle.group_lent_any.specs.Any.{Judged, Ready, asked_of, no_obstacle, PeekedAny, PoppedAny, SparedAny, AddedAny, ExtendedAny};
 
 use bench_words::WORDS;
 use group_lent::{GROUP, OBSTACLE};
@@ -20,7 +20,7 @@ pub fn is_group(w: &[u64; GROUP]) -> bool
 }
 
 pub fn is_empty(w: &[u64; GROUP]) -> Told
-    ensures { shownTold result ≡ asked_of w.now false is_empty }
+    ensures { shown_told result ≡ asked_of w.now false is_empty }
 {
     if !is_group(w) {
         let number = numbers::BROKEN;
@@ -31,7 +31,7 @@ pub fn is_empty(w: &[u64; GROUP]) -> Told
 }
 
 pub fn is_active(w: &[u64; GROUP]) -> Told
-    ensures { shownTold result ≡ asked_of w.now false isActive }
+    ensures { shown_told result ≡ asked_of w.now false is_active }
 {
     if !is_group(w) {
         let number = numbers::BROKEN;
@@ -42,7 +42,7 @@ pub fn is_active(w: &[u64; GROUP]) -> Told
 }
 
 pub fn get_none_zero_growth(w: &[u64; GROUP]) -> Asked
-    ensures { shownAsked result ≡ asked_of w.now none growthOf }
+    ensures { shown_asked result ≡ asked_of w.now none growth_of }
 {
     if !is_group(w) {
         return Asked {
@@ -55,7 +55,7 @@ pub fn get_none_zero_growth(w: &[u64; GROUP]) -> Asked
 
 // No group to take from: BROKEN, and no obstacle.
 fn broken(o: &mut [u64; OBSTACLE]) -> u8
-    ensures { (result ≡ 2) × (o.new ≡ noObstacle) }
+    ensures { (result ≡ 2) × (o.new ≡ no_obstacle) }
 {
     group_lent::put_in(o, group_lent::no_obstacle());
     numbers::BROKEN

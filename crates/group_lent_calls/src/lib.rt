@@ -2,7 +2,7 @@
 // Assumes nothing.
 ghost use Rattle.std.specs.Prelude.{◌≡◌, true};
 ghost use Rattle.bench_views.specs.Fit.{SoundWords};
-ghost use Rattle.group_lent.specs.Forms.{isForm, fiveAt};
+ghost use Rattle.group_lent.specs.Forms.{is_form, five_at};
 ghost use Rattle.group_lent.specs.Place.{SoundGroup};
 ghost use Rattle.group_lent_calls.specs.Calls.{Peeked, Popped, Spared, Added, Extended};
 
@@ -45,8 +45,8 @@ pub fn pop_sparing_stops(w: &mut [u64; GROUP], o: &mut [u64; OBSTACLE]) -> u8
 // A growth names no node. STALE (8) where a node that the obstacle names is not present.
 pub fn add(b: &[u64; WORDS], w: &mut [u64; GROUP], o: &[u64; OBSTACLE]) -> u8
     requires sound_words { SoundWords b.now × SoundGroup w.old }
-    requires o_value { isForm (fiveAt o.now 0) ≡ true }
-    ensures { Added b.now w.old (fiveAt o.now 0) result w.new }
+    requires o_value { is_form (five_at o.now 0) ≡ true }
+    ensures { Added b.now w.old (five_at o.now 0) result w.new }
 {
     if o[0] == 1 {
         let g = group_lent::five_in(o);

@@ -7,35 +7,35 @@ use native.Mathlib.Numerals.{add-one}
 use native.Mathlib.Omega.{arith}
 use lib.ListN.{length, take, drop, get_or, set, length-drop}
 use lib.Seq.{sets, length-sets, length-take-le, take-suc, get_or-take, get_or-drop}
-use Rattle.group_lent.specs.Groups.{entryForm, entry_at}
+use Rattle.group_lent.specs.Groups.{entry_form, entry_at}
 use Rattle.group_lent.specs.Place.{run}
-use Rattle.group_lent.proofs.Stores.{sets-append, sets-in}
-use Rattle.group_lent.proofs.Seen.{Reads, out_reads, five-reads}
+use Rattle.group_lent.proofs.Stores.{sets_append, sets_in}
+use Rattle.group_lent.proofs.Seen.{Reads, out_reads, five_reads}
 use Rattle.group_lent_extends.specs.Extends.{copied}
 
 module _ (ws : List ℕ) (at : ℕ) (vs : List ℕ) (from k : ℕ) (h : at + k ≤ length ws) (g : from + k ≤ length vs) where
-  rest-long : length (take k (drop from vs)) ≡ k
-  rest-long = length-take-le k (drop from vs) (rw (length-drop from vs) (omega arith))
+  rest_long : length (take k (drop from vs)) ≡ k
+  rest_long = length-take-le k (drop from vs) (rw (length-drop from vs) (omega arith))
 
-  pub copied-long : length (copied ws at vs from k) ≡ length ws
+  pub copied_long : length (copied ws at vs from k) ≡ length ws
   unfolding copied
-  copied-long = length-sets ws at (take k (drop from vs))
+  copied_long = length-sets ws at (take k (drop from vs))
 
   -- a window of the copy, and one that is not touched
-  pub copied-reads : (m m' c : ℕ) → m' + from ≡ m + at → at ≤ m' → m' + c ≤ at + k → Reads vs m (copied ws at vs from k) m' c
+  pub copied_reads : (m m' c : ℕ) → m' + from ≡ m + at → at ≤ m' → m' + c ≤ at + k → Reads vs m (copied ws at vs from k) m' c
   unfolding copied
-  copied-reads m m' c z a b = λ x j j' l e e'.
+  copied_reads m m' c z a b = λ x j j' l e e'.
       let t = j' - at in
       let y : from + t ≡ j = omega arith in
-      let r = rest-long in
-      sets-in ws at (take k (drop from vs)) t j' (omega arith) (omega arith) (omega arith)
+      let r = rest_long in
+      sets_in ws at (take k (drop from vs)) t j' (omega arith) (omega arith) (omega arith)
       ∙ get_or-take k (drop from vs) t 0 (omega arith)
       ∙ get_or-drop from vs t 0
       ∙ ap (λ (n : ℕ). get_or vs n 0) y
 
-  pub copied-apart : (m c : ℕ) → (at < m + c → at + k ≤ m) → Reads ws m (copied ws at vs from k) m c
+  pub copied_apart : (m c : ℕ) → (at < m + c → at + k ≤ m) → Reads ws m (copied ws at vs from k) m c
   unfolding copied
-  copied-apart m c d = out_reads ws at (take k (drop from vs)) m c (λ l. omega (arith, rest-long, d l))
+  copied_apart m c d = out_reads ws at (take k (drop from vs)) m c (λ l. omega (arith, rest_long, d l))
 
 -- ---- the loop
 
@@ -43,25 +43,25 @@ pub copy_begin : (ws : List ℕ) (at : ℕ) (vs : List ℕ) (from : ℕ) → ws 
 unfolding copied
 copy_begin ws at vs from = refl
 
-pub copy-turn : (ws w : List ℕ) (at : ℕ) (vs : List ℕ) (from k j : ℕ) → at + k ≤ length ws → from + k ≤ length vs → j < k → w ≡ copied ws at vs from j → set w (at + j) (get_or vs (from + j) 0) ≡ copied ws at vs from (j + 1)
+pub copy_turn : (ws w : List ℕ) (at : ℕ) (vs : List ℕ) (from k j : ℕ) → at + k ≤ length ws → from + k ≤ length vs → j < k → w ≡ copied ws at vs from j → set w (at + j) (get_or vs (from + j) 0) ≡ copied ws at vs from (j + 1)
 unfolding copied
-copy-turn ws w at vs from k j h g l e =
+copy_turn ws w at vs from k j h g l e =
     let rest = drop from vs in
-    let n : length (take j rest) ≡ j = rest-long ws at vs from j (omega arith) (omega arith) in
+    let n : length (take j rest) ≡ j = rest_long ws at vs from j (omega arith) (omega arith) in
     let read : get_or vs (from + j) 0 ≡ get_or rest j 0 = sym (get_or-drop from vs j 0) in
     let more : take (j + 1) rest ≡ take j rest ++ get_or rest j 0 ∷ [] = ap (λ (i : ℕ). take i rest) (add-one j) ∙ take-suc rest j 0 (rw (length-drop from vs) (omega arith)) in
-    rw (read, e) (sym (ap (sets ws at) more ∙ sets-append ws at (take j rest) (get_or rest j 0 ∷ []) ∙ ap (λ (i : ℕ). set (sets ws at (take j rest)) (at + i) (get_or rest j 0)) n))
+    rw (read, e) (sym (ap (sets ws at) more ∙ sets_append ws at (take j rest) (get_or rest j 0 ∷ []) ∙ ap (λ (i : ℕ). set (sets ws at (take j rest)) (at + i) (get_or rest j 0)) n))
 
 -- ---- entries at other places
 
 module _ (ws ws' : List ℕ) (i k : ℕ) where
-  pub entry-moved : Reads ws (5 + i * 5) ws' (5 + k * 5) 5 → entry_at ws' k ≡ entry_at ws i
+  pub entry_moved : Reads ws (5 + i * 5) ws' (5 + k * 5) 5 → entry_at ws' k ≡ entry_at ws i
   unfolding entry_at
-  entry-moved r = rw (five-reads ws (5 + i * 5) ws' (5 + k * 5) r)
+  entry_moved r = rw (five_reads ws (5 + i * 5) ws' (5 + k * 5) r)
 
-  pub form-moved : Reads ws (5 + i * 5) ws' (5 + k * 5) 5 → entryForm ws i ≡ true → entryForm ws' k ≡ true
-  unfolding entryForm
-  form-moved r e = rw (five-reads ws (5 + i * 5) ws' (5 + k * 5) r) e
+  pub form_moved : Reads ws (5 + i * 5) ws' (5 + k * 5) 5 → entry_form ws i ≡ true → entry_form ws' k ≡ true
+  unfolding entry_form
+  form_moved r e = rw (five_reads ws (5 + i * 5) ws' (5 + k * 5) r) e
 
 module _ {A : Type 0} where
   pub run_moved : (f g : ℕ → A) (a b n : ℕ) → ((i : ℕ) → i < n → f (a + i) ≡ g (b + i)) → run f a n ≡ run g b n

@@ -11,84 +11,84 @@ use borrow.Author.Tests.{eq-eqb, ne_eqb}
 use lib.Dec.{eqb}
 use Rattle.bench_words.specs.Codec.{pick}
 use Rattle.ledger_spec.specs.Tests.{is_some}
-use Rattle.ledger_spec.specs.Groups.{Group, growth, conflicts, Lists, largest, eqZ, smallerPair, grouped, and_then, addStops, extended}
+use Rattle.ledger_spec.specs.Groups.{Group, growth, conflicts, Lists, largest, eq_z, smaller_pair, grouped, and_then, add_stops, extended}
 use Rattle.ledger_spec.specs.GroupCalls.{or_else}
 use Rattle.group_lent.specs.Forms.{length_of}
-use Rattle.group_lent.specs.Place.{kindIn, lengthIn, flagIn, listed, stopped, listIn, stopsIn, groupIn, Listing, SoundGroup}
+use Rattle.group_lent.specs.Place.{kind_in, length_in, flag_in, listed, stopped, list_in, stops_in, group_in, Listing, SoundGroup}
 use Rattle.group_lent.proofs.Stores.{run_long}
 use Rattle.group_lent.specs.Groups.{stop_at}
-use Rattle.group_lent.proofs.Seen.{seen-growth, seen-conflicts, is-growing, is-listing}
-use Rattle.group_lent_room.proofs.Counting.{count-full, room-yes, given-grouped, both_long}
-use Rattle.group_lent_extends.specs.Extends.{pairedWords, takenWords, appendedWords, stopsAdded, extendedWords, Extended}
+use Rattle.group_lent.proofs.Seen.{seen_growth, seen_conflicts, is_growing, is_listing}
+use Rattle.group_lent_room.proofs.Counting.{count_full, room_yes, given_grouped, both_long}
+use Rattle.group_lent_extends.specs.Extends.{paired_words, taken_words, appended_words, stops_added, extended_words, Extended}
 use Rattle.group_lent_extends.specs.Stages.{Roomy, Ended}
-use Rattle.group_lent_extends.proofs.Pairs.{paired-seen, paired-sound}
-use Rattle.group_lent_extends.proofs.Takes.{taken-seen, taken-sound}
-use Rattle.group_lent_extends.proofs.Appends.{appended-kind, appended-list, appended-stops, appended-sound}
+use Rattle.group_lent_extends.proofs.Pairs.{paired_seen, paired_sound}
+use Rattle.group_lent_extends.proofs.Takes.{taken_seen, taken_sound}
+use Rattle.group_lent_extends.proofs.Appends.{appended_kind, appended_list, appended_stops, appended_sound}
 
 -- the promise, by the ledger's answer q
-made : (ws vs : List ℕ) (r : ℕ) (after : List ℕ) → ((r ≡ 0 → ⊥) → after ≡ ws) → (q : Option Group) → extended (groupIn ws) (groupIn vs) ≡ q → r ≡ pick (is_some q) 0 20 → after ≡ extendedWords ws vs
-    → groupIn after ≡ or_else q (groupIn ws) → SoundGroup after → Extended ws vs r after
+made : (ws vs : List ℕ) (r : ℕ) (after : List ℕ) → ((r ≡ 0 → ⊥) → after ≡ ws) → (q : Option Group) → extended (group_in ws) (group_in vs) ≡ q → r ≡ pick (is_some q) 0 20 → after ≡ extended_words ws vs
+    → group_in after ≡ or_else q (group_in ws) → SoundGroup after → Extended ws vs r after
 made ws vs r after k q e n w s d =
     record {
       number = n ∙ sym (ap (λ (o : Option Group). pick (is_some o) 0 20) e);
       words = w;
-      seen = s ∙ sym (ap (λ (o : Option Group). or_else o (groupIn ws)) e);
+      seen = s ∙ sym (ap (λ (o : Option Group). or_else o (group_in ws)) e);
       sound = d;
       refused = k;
     }
 
 module _ (ws vs : List ℕ) (s : SoundGroup ws) (t : SoundGroup vs) where
   abbrev mine : Group
-  mine = growth (length_of (lengthIn ws)) (eqb (flagIn ws) 1)
+  mine = growth (length_of (length_in ws)) (eqb (flag_in ws) 1)
 
   abbrev theirs : Group
-  theirs = growth (length_of (lengthIn vs)) (eqb (flagIn vs) 1)
+  theirs = growth (length_of (length_in vs)) (eqb (flag_in vs) 1)
 
   -- ---- by a growth
-  module _ (e : kindIn vs ≡ 1) where
-    pub by-pair : kindIn ws ≡ 1 → (after : List ℕ) → after ≡ pairedWords ws vs → Extended ws vs 0 after
-    unfolding extended extendedWords
-    by-pair d after w =
-        let least = cond (eqZ (length_of (lengthIn vs)) largest) mine (smallerPair (length_of (lengthIn ws)) (eqb (flagIn ws) 1) (length_of (lengthIn vs)) (eqb (flagIn vs) 1)) in
-        made ws vs 0 after (λ n. absurd (n refl)) (some least) (ap₂ extended (seen-growth ws d) (seen-growth vs e)) refl
-        (w ∙ rw (eq-eqb (kindIn vs) 1 e, eq-eqb (kindIn ws) 1 d))
-        (ap groupIn w ∙ paired-seen ws vs s.long (is-growing ws s d) (is-growing vs t e))
-        (subst SoundGroup (sym w) (paired-sound ws vs s.long (is-growing ws s d) (is-growing vs t e)))
+  module _ (e : kind_in vs ≡ 1) where
+    pub by_pair_lem : kind_in ws ≡ 1 → (after : List ℕ) → after ≡ paired_words ws vs → Extended ws vs 0 after
+    unfolding extended extended_words
+    by_pair_lem d after w =
+        let least = cond (eq_z (length_of (length_in vs)) largest) mine (smaller_pair (length_of (length_in ws)) (eqb (flag_in ws) 1) (length_of (length_in vs)) (eqb (flag_in vs) 1)) in
+        made ws vs 0 after (λ n. absurd (n refl)) (some least) (ap₂ extended (seen_growth ws d) (seen_growth vs e)) refl
+        (w ∙ rw (eq-eqb (kind_in vs) 1 e, eq-eqb (kind_in ws) 1 d))
+        (ap group_in w ∙ paired_seen ws vs s.long (is_growing ws s d) (is_growing vs t e))
+        (subst SoundGroup (sym w) (paired_sound ws vs s.long (is_growing ws s d) (is_growing vs t e)))
 
-    pub by-none : (kindIn ws ≡ 1 → ⊥) → Extended ws vs 0 ws
-    unfolding extended extendedWords
-    by-none n =
-        let l = is-listing ws s n in
-        made ws vs 0 ws (λ n. absurd (n refl)) (some (conflicts (listIn ws) (stopsIn ws))) (ap₂ extended (seen-conflicts ws l.kind) (seen-growth vs e)) refl
-        (rw (eq-eqb (kindIn vs) 1 e, ne_eqb (kindIn ws) 1 n)) (seen-conflicts ws l.kind) s
+    pub by_none : (kind_in ws ≡ 1 → ⊥) → Extended ws vs 0 ws
+    unfolding extended extended_words
+    by_none n =
+        let l = is_listing ws s n in
+        made ws vs 0 ws (λ n. absurd (n refl)) (some (conflicts (list_in ws) (stops_in ws))) (ap₂ extended (seen_conflicts ws l.kind) (seen_growth vs e)) refl
+        (rw (eq-eqb (kind_in vs) 1 e, ne_eqb (kind_in ws) 1 n)) (seen_conflicts ws l.kind) s
 
   -- ---- by conflicts
-  module _ (m : kindIn vs ≡ 1 → ⊥) where
+  module _ (m : kind_in vs ≡ 1 → ⊥) where
     abbrev b : Listing vs
-    b = is-listing vs t m
+    b = is_listing vs t m
 
-    pub by-taking : kindIn ws ≡ 1 → (after : List ℕ) → after ≡ takenWords ws vs → Extended ws vs 0 after
-    unfolding extended extendedWords
-    by-taking d after w =
-        made ws vs 0 after (λ n. absurd (n refl)) (some (conflicts (listIn vs) (stopsIn vs))) (ap₂ extended (seen-growth ws d) (seen-conflicts vs b.kind)) refl
-        (w ∙ rw (ne_eqb (kindIn vs) 1 m, eq-eqb (kindIn ws) 1 d))
-        (ap groupIn w ∙ taken-seen ws vs s.long t.long b)
-        (subst SoundGroup (sym w) (taken-sound ws vs s.long t.long b))
+    pub by_taking : kind_in ws ≡ 1 → (after : List ℕ) → after ≡ taken_words ws vs → Extended ws vs 0 after
+    unfolding extended extended_words
+    by_taking d after w =
+        made ws vs 0 after (λ n. absurd (n refl)) (some (conflicts (list_in vs) (stops_in vs))) (ap₂ extended (seen_growth ws d) (seen_conflicts vs b.kind)) refl
+        (w ∙ rw (ne_eqb (kind_in vs) 1 m, eq-eqb (kind_in ws) 1 d))
+        (ap group_in w ∙ taken_seen ws vs s.long t.long b)
+        (subst SoundGroup (sym w) (taken_sound ws vs s.long t.long b))
 
-    module _ (n : kindIn ws ≡ 1 → ⊥) where
+    module _ (n : kind_in ws ≡ 1 → ⊥) where
       abbrev a : Listing ws
-      a = is-listing ws s n
+      a = is_listing ws s n
 
       abbrev whole : Option Group
-      whole = extended (groupIn ws) (groupIn vs)
+      whole = extended (group_in ws) (group_in vs)
 
-      words_are : (r : Bool) → is_some whole ≡ r → extendedWords ws vs ≡ pick r (stopsAdded (appendedWords ws vs) vs 0 (stopped vs)) ws
-      unfolding extendedWords
-      words_are r g = rw (ne_eqb (kindIn vs) 1 m, ne_eqb (kindIn ws) 1 n) (ap (λ (q : Bool). pick q (stopsAdded (appendedWords ws vs) vs 0 (stopped vs)) ws) g)
+      words_are : (r : Bool) → is_some whole ≡ r → extended_words ws vs ≡ pick r (stops_added (appended_words ws vs) vs 0 (stopped vs)) ws
+      unfolding extended_words
+      words_are r g = rw (ne_eqb (kind_in vs) 1 m, ne_eqb (kind_in ws) 1 n) (ap (λ (q : Bool). pick q (stops_added (appended_words ws vs) vs 0 (stopped vs)) ws) g)
 
       -- no room
-      pub by-room : (r : Bool) → r ≡ is_some whole → r ≡ false → Extended ws vs 20 ws
-      by-room r e f = go whole refl (sym e ∙ f)
+      pub by_room : (r : Bool) → r ≡ is_some whole → r ≡ false → Extended ws vs 20 ws
+      by_room r e f = go whole refl (sym e ∙ f)
         where
           go : (o : Option Group) → whole ≡ o → is_some whole ≡ false → Extended ws vs 20 ws
           go none p g = made ws vs 20 ws (λ n. refl) none p refl (sym (words_are false g)) refl s
@@ -101,35 +101,35 @@ module _ (ws vs : List ℕ) (s : SoundGroup ws) (t : SoundGroup vs) where
         pub fits : listed ws + listed vs ≤ 128
         fits =
             by_cases (dec_lt 128 (listed ws + listed vs))
-            (λ (h : 128 < listed ws + listed vs). absurd (false≢true (count-full ws vs a b h ∙ yes)))
+            (λ (h : 128 < listed ws + listed vs). absurd (false≢true (count_full ws vs a b h ∙ yes)))
             (λ (h : 128 < listed ws + listed vs → ⊥). omega (arith, h))
 
         abbrev more : List ℕ
-        more = appendedWords ws vs
+        more = appended_words ws vs
 
-        whole-adds : whole ≡ grouped (addStops (stopsIn vs) (listIn ws ++ listIn vs) (stopsIn ws))
+        whole_adds : whole ≡ grouped (add_stops (stops_in vs) (list_in ws ++ list_in vs) (stops_in ws))
         unfolding extended
-        whole-adds =
-            ap₂ extended (seen-conflicts ws a.kind) (seen-conflicts vs b.kind)
-            ∙ ap (λ (o : Option Lists). grouped (and_then o (addStops (stopsIn vs))))
-            (room-yes (listIn ws ++ listIn vs) (stopsIn ws) (omega (arith, both_long ws vs a b, fits)) (omega (arith, run_long (stop_at ws) 0 (stopped ws), a.fewer)))
+        whole_adds =
+            ap₂ extended (seen_conflicts ws a.kind) (seen_conflicts vs b.kind)
+            ∙ ap (λ (o : Option Lists). grouped (and_then o (add_stops (stops_in vs))))
+            (room_yes (list_in ws ++ list_in vs) (stops_in ws) (omega (arith, both_long ws vs a b, fits)) (omega (arith, run_long (stop_at ws) 0 (stopped ws), a.fewer)))
 
-        adds : grouped (addStops (stopsIn vs) (listIn more) (stopsIn more)) ≡ whole
+        adds : grouped (add_stops (stops_in vs) (list_in more) (stops_in more)) ≡ whole
         adds =
-            ap₂ (λ l t. grouped (addStops (stopsIn vs) l t)) (appended-list ws vs s.long t.long a b fits) (appended-stops ws vs s.long t.long a b fits)
-            ∙ sym whole-adds
+            ap₂ (λ l t. grouped (add_stops (stops_in vs) l t)) (appended_list ws vs s.long t.long a b fits) (appended_stops ws vs s.long t.long a b fits)
+            ∙ sym whole_adds
 
-        pub by-roomy : (w : List ℕ) → w ≡ more → Roomy w vs
-        by-roomy w q =
+        pub by_roomy : (w : List ℕ) → w ≡ more → Roomy w vs
+        by_roomy w q =
             subst (λ (u : List ℕ). Roomy u vs) (sym q)
             (record {
-              sound = appended-sound ws vs s.long t.long a b fits;
-              kind = appended-kind ws vs s.long t.long a b fits;
-              room = sym (given-grouped (addStops (stopsIn vs) (listIn more) (stopsIn more))) ∙ ap is_some adds ∙ yes;
+              sound = appended_sound ws vs s.long t.long a b fits;
+              kind = appended_kind ws vs s.long t.long a b fits;
+              room = sym (given_grouped (add_stops (stops_in vs) (list_in more) (stops_in more))) ∙ ap is_some adds ∙ yes;
             })
 
-        pub by-adding : (w after : List ℕ) → w ≡ more → Ended w vs after → Extended ws vs 0 after
-        by-adding w after q E =
+        pub by_adding : (w after : List ℕ) → w ≡ more → Ended w vs after → Extended ws vs 0 after
+        by_adding w after q E =
             let end : Ended more vs after = subst (λ (u : List ℕ). Ended u vs after) q E in
-            let says : whole ≡ some (groupIn after) = sym adds ∙ end.seen in
-            made ws vs 0 after (λ n. absurd (n refl)) (some (groupIn after)) says refl (end.words ∙ sym (words_are true yes)) refl end.sound
+            let says : whole ≡ some (group_in after) = sym adds ∙ end.seen in
+            made ws vs 0 after (λ n. absurd (n refl)) (some (group_in after)) says refl (end.words ∙ sym (words_are true yes)) refl end.sound

@@ -2,17 +2,17 @@
 use Rattle.std.specs.Prelude.{ℕ, ◌≡◌, true, List}
 use Rattle.std.proofs.Math.Option.{some}
 use Rattle.ledger_spec.specs.Tests.{is_some}
-use Rattle.ledger_spec.specs.Groups.{grouped, addStops}
-use Rattle.group_lent.specs.Place.{kindIn, stopped, listIn, stopsIn, groupIn, SoundGroup}
-use Rattle.group_lent_extends.specs.Extends.{stopsAdded}
+use Rattle.ledger_spec.specs.Groups.{grouped, add_stops}
+use Rattle.group_lent.specs.Place.{kind_in, stopped, list_in, stops_in, group_in, SoundGroup}
+use Rattle.group_lent_extends.specs.Extends.{stops_added}
 
 -- there is room for each of them
 pub record Roomy (ws vs : List ℕ) : Type 0 where
   pub sound : SoundGroup ws
-  pub kind : kindIn ws ≡ 2
-  pub room : is_some (addStops (stopsIn vs) (listIn ws) (stopsIn ws)) ≡ true
+  pub kind : kind_in ws ≡ 2
+  pub room : is_some (add_stops (stops_in vs) (list_in ws) (stops_in ws)) ≡ true
 
 pub record Ended (ws vs after : List ℕ) : Type 0 where
-  pub words : after ≡ stopsAdded ws vs 0 (stopped vs)
-  pub seen : grouped (addStops (stopsIn vs) (listIn ws) (stopsIn ws)) ≡ some (groupIn after)
+  pub words : after ≡ stops_added ws vs 0 (stopped vs)
+  pub seen : grouped (add_stops (stops_in vs) (list_in ws) (stops_in ws)) ≡ some (group_in after)
   pub sound : SoundGroup after

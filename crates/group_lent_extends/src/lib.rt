@@ -2,7 +2,7 @@
 // stops are added where they stand. Both hold a sound group, and so does what is left. Assumes nothing.
 ghost use Rattle.std.specs.Prelude.{◌≡◌, ◌+◌, ◌≤◌, length};
 ghost use Rattle.group_lent.specs.Place.{listed, Listing, SoundGroup};
-ghost use Rattle.group_lent_extends.specs.Extends.{lengthAfter, flagAfter, pairedWords, copied, takenWords, appendedWords, Extended};
+ghost use Rattle.group_lent_extends.specs.Extends.{length_after, flag_after, paired_words, copied, taken_words, appended_words, Extended};
 ghost use Rattle.group_lent_extends.specs.Stages.{Roomy, Ended};
 
 use group_lent::{Five, GROUP};
@@ -13,7 +13,7 @@ const LARGEST: u64 = 9223372036854775807;
 // ---- a growth by a growth
 
 fn length_after(a: u64, b: u64) -> u64
-    ensures { result ≡ lengthAfter a b }
+    ensures { result ≡ length_after a b }
 {
     if b == LARGEST {
         return a;
@@ -22,7 +22,7 @@ fn length_after(a: u64, b: u64) -> u64
 }
 
 fn flag_after(a: u64, f: u64, b: u64, h: u64) -> u64
-    ensures { result ≡ flagAfter a f b h }
+    ensures { result ≡ flag_after a f b h }
 {
     if b == LARGEST {
         return f;
@@ -42,7 +42,7 @@ fn flag_after(a: u64, f: u64, b: u64, h: u64) -> u64
 }
 
 fn pair(w: &mut [u64; GROUP], other: &[u64; GROUP])
-    ensures { w.new ≡ pairedWords w.old other.now }
+    ensures { w.new ≡ paired_words w.old other.now }
 {
     let l = length_after(w[1], other[1]);
     let h = flag_after(w[1], w[2], other[1], other[2]);
@@ -68,7 +68,7 @@ fn copy(w: &mut [u64; GROUP], at: usize, other: &[u64; GROUP], from: usize, k: u
 fn take_over(w: &mut [u64; GROUP], other: &[u64; GROUP])
     requires w_len { (length w.old ≡ 1413) × (length other.now ≡ 1413) }
     requires listing { Listing other.now }
-    ensures { w.new ≡ takenWords w.old other.now }
+    ensures { w.new ≡ taken_words w.old other.now }
 {
     let n = other[3] as usize;
     let m = other[4] as usize;
@@ -87,7 +87,7 @@ fn take_over(w: &mut [u64; GROUP], other: &[u64; GROUP])
 fn append(w: &mut [u64; GROUP], other: &[u64; GROUP])
     requires w_len { (length w.old ≡ 1413) × (length other.now ≡ 1413) }
     requires other_bound { listed w.old + listed other.now ≤ 128 }
-    ensures { w.new ≡ appendedWords w.old other.now }
+    ensures { w.new ≡ appended_words w.old other.now }
 {
     let n = w[3] as usize;
     let k = other[3] as usize;

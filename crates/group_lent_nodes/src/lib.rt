@@ -2,13 +2,13 @@
 // no obstacle is decoded. Assumes nothing.
 ghost use Rattle.std.specs.Prelude.{◌≡◌, true, [], ◌∷◌, ◌<◌};
 ghost use Rattle.ledger_spec.specs.Tests.{any};
-ghost use Rattle.ledger_spec.specs.GroupCalls.{staleCode, handlesOf, listHandles, stopHandles, groupHandles, vertexOf};
+ghost use Rattle.ledger_spec.specs.GroupCalls.{stale_code, handles_of, list_handles, stop_handles, group_handles, vertex_of};
 ghost use Rattle.bench_views.specs.Canon.{Canon};
 ghost use Rattle.bench_views.specs.Fit.{Fit};
 ghost use Rattle.bench_views.specs.View.{view};
-ghost use Rattle.bench_words.specs.Codec.{handOf};
-ghost use Rattle.group_lent.specs.Forms.{isForm, obstacleOf};
-ghost use Rattle.group_lent.specs.Place.{listIn, stopsIn, groupIn, Listing, SoundGroup};
+ghost use Rattle.bench_words.specs.Codec.{hand_of};
+ghost use Rattle.group_lent.specs.Forms.{is_form, obstacle_of};
+ghost use Rattle.group_lent.specs.Place.{list_in, stops_in, group_in, Listing, SoundGroup};
 
 use bench_links::Found;
 use bench_words::WORDS;
@@ -17,7 +17,7 @@ use kinds::Handle;
 
 fn is_gone(b: &[u64; WORDS], w: u64) -> bool
     requires { Canon b.now }
-    ensures { result ≡ staleCode (view b.now) (handOf w) }
+    ensures { result ≡ stale_code (view b.now) (hand_of w) }
 {
     let found = bench_links::find_word(b, w);
     match found {
@@ -28,7 +28,7 @@ fn is_gone(b: &[u64; WORDS], w: u64) -> bool
 
 fn two_gone(b: &[u64; WORDS], x: u64, y: u64) -> bool
     requires { Canon b.now }
-    ensures { result ≡ any (staleCode (view b.now)) (handOf x ∷ handOf y ∷ []) }
+    ensures { result ≡ any (stale_code (view b.now)) (hand_of x ∷ hand_of y ∷ []) }
 {
     if is_gone(b, x) {
         return true;
@@ -38,8 +38,8 @@ fn two_gone(b: &[u64; WORDS], x: u64, y: u64) -> bool
 
 pub fn names_gone(b: &[u64; WORDS], f: Five) -> bool
     requires canon { Canon b.now }
-    requires f_value { isForm f ≡ true }
-    ensures { result ≡ any (staleCode (view b.now)) (handlesOf (obstacleOf f)) }
+    requires f_value { is_form f ≡ true }
+    ensures { result ≡ any (stale_code (view b.now)) (handles_of (obstacle_of f)) }
 {
     if f.kind == 1 {
         return false;
@@ -65,7 +65,7 @@ pub fn names_gone(b: &[u64; WORDS], f: Five) -> bool
 fn list_gone(b: &[u64; WORDS], w: &[u64; GROUP]) -> bool
     requires canon { Canon b.now }
     requires listing { Listing w.now }
-    ensures { result ≡ any (staleCode (view b.now)) (listHandles (listIn w.now)) }
+    ensures { result ≡ any (stale_code (view b.now)) (list_handles (list_in w.now)) }
 {
     let n = w[3] as usize;
     let mut i: usize = 0;
@@ -82,7 +82,7 @@ fn list_gone(b: &[u64; WORDS], w: &[u64; GROUP]) -> bool
 fn stops_gone(b: &[u64; WORDS], w: &[u64; GROUP]) -> bool
     requires canon { Canon b.now }
     requires listing { Listing w.now }
-    ensures { result ≡ any (staleCode (view b.now)) (stopHandles (stopsIn w.now)) }
+    ensures { result ≡ any (stale_code (view b.now)) (stop_handles (stops_in w.now)) }
 {
     let n = w[4] as usize;
     let mut i: usize = 0;
@@ -99,7 +99,7 @@ fn stops_gone(b: &[u64; WORDS], w: &[u64; GROUP]) -> bool
 pub fn group_gone(b: &[u64; WORDS], w: &[u64; GROUP]) -> bool
     requires canon { Canon b.now }
     requires sound_group { SoundGroup w.now }
-    ensures { result ≡ any (staleCode (view b.now)) (groupHandles (groupIn w.now)) }
+    ensures { result ≡ any (stale_code (view b.now)) (group_handles (group_in w.now)) }
 {
     if w[0] == 1 {
         return false;
@@ -113,8 +113,8 @@ pub fn group_gone(b: &[u64; WORDS], w: &[u64; GROUP]) -> bool
 // Of any other obstacle than a stop it says 0.
 pub fn vertex_of(b: &[u64; WORDS], f: Five) -> u64
     requires fit { Fit b.now }
-    requires f_value { isForm f ≡ true }
-    ensures { (result ≡ vertexOf (view b.now) (obstacleOf f)) × (result < 4294967296) }
+    requires f_value { is_form f ≡ true }
+    ensures { (result ≡ vertex_of (view b.now) (obstacle_of f)) × (result < 4294967296) }
 {
     if f.kind < 5 {
         return 0;

@@ -2,15 +2,15 @@
 ghost use Rattle.std.specs.Prelude.{◌≡◌, ◌≤◌};
 ghost use Rattle.ledger_spec.specs.Tests.{is_some};
 ghost use Rattle.ledger_spec.specs.Groups.{extended};
-ghost use Rattle.group_lent.specs.Place.{Listing, groupIn};
-ghost use Rattle.group_lent_room.specs.Coming.{listedBy, stoppedBy, comingIn};
+ghost use Rattle.group_lent.specs.Place.{Listing, group_in};
+ghost use Rattle.group_lent_room.specs.Coming.{listed_by, stopped_by, coming_in};
 
 use group_lent::{Five, GROUP};
 
 // 0: the counts stay; 1: a stop more; 2: it becomes an entry with the stop at its vertex.
 fn coming(w: &[u64; GROUP], f: Five, v: u64) -> u8
     requires { Listing w.now }
-    ensures { result ≡ comingIn w.now f v }
+    ensures { result ≡ coming_in w.now f v }
 {
     let p = group_lent_stops::place_of(w, v);
     if !group_lent_stops::is_held(w, p, v) {
@@ -31,7 +31,7 @@ fn coming(w: &[u64; GROUP], f: Five, v: u64) -> u8
 
 fn listed_by(d: u8, n: u64) -> u64
     requires { n ≤ 128 }
-    ensures { result ≡ listedBy d n }
+    ensures { result ≡ listed_by d n }
 {
     if d == 2 {
         return n + 1;
@@ -41,7 +41,7 @@ fn listed_by(d: u8, n: u64) -> u64
 
 fn stopped_by(d: u8, n: u64) -> u64
     requires { n ≤ 128 }
-    ensures { result ≡ stoppedBy d n }
+    ensures { result ≡ stopped_by d n }
 {
     if d == 1 {
         return n + 1;
@@ -59,7 +59,7 @@ fn stopped_by(d: u8, n: u64) -> u64
 pub fn has_room(w: &[u64; GROUP], other: &[u64; GROUP]) -> bool
     requires listing { Listing w.now }
     requires listing_2 { Listing other.now }
-    ensures { result ≡ is_some (extended (groupIn w.now) (groupIn other.now)) }
+    ensures { result ≡ is_some (extended (group_in w.now) (group_in other.now)) }
 {
     let m = other[4] as usize;
     let mut l = w[3] + other[3];

@@ -2,8 +2,8 @@
 -- the exported call. Assumes nothing.
 use Rattle.std.specs.Prelude.{ℕ, List, [], ◌∷◌}
 use Rattle.ledger_sparing.specs.Drain.{Answer}
-use Rattle.group_lent.specs.Forms.{fiveAt}
-use Rattle.group_lent_takes.specs.Made.{maybeSeen}
+use Rattle.group_lent.specs.Forms.{five_at}
+use Rattle.group_lent_takes.specs.Made.{maybe_seen}
 use Rattle.group_lent_any.specs.Any.{SparedAny}
 
 -- a call's number and the words of its obstacle
@@ -15,6 +15,6 @@ pub data Drawn : List ℕ → List Reply → List ℕ → Type 0 where
   next : {ws mid after : List ℕ} {n : ℕ} {os : List ℕ} {rs : List Reply} → SparedAny ws n os mid → Drawn mid rs after → Drawn ws ((n, os) ∷ rs) after
 
 -- what the replies say in the ledger's terms
-unfoldable pub shownReplies : List Reply → List Answer
-shownReplies [] = []
-shownReplies (r ∷ rs) = (r.0, maybeSeen (fiveAt r.1 0)) ∷ shownReplies rs
+unfoldable pub shown_replies : List Reply → List Answer
+shown_replies [] = []
+shown_replies (r ∷ rs) = (r.0, maybe_seen (five_at r.1 0)) ∷ shown_replies rs

@@ -8,15 +8,15 @@ use borrow.Author.Tests.{ne_eqb, ltb-true}
 use mathlib.Core.List.{List}
 use lib.Dec.{eqb, leb, ltb}
 use lib.ListN.{get_or}
-use Rattle.kinds.specs.Obstacles.{listable, isStop}
-use Rattle.group_lent.specs.Forms.{five, fiveAt, isForm, obstacleOf}
-use Rattle.group_lent.specs.Groups.{entryForm, entry_at, stopRead, stopForm, stop_at}
+use Rattle.kinds.specs.Obstacles.{listable, is_stop}
+use Rattle.group_lent.specs.Forms.{five, five_at, is_form, obstacle_of}
+use Rattle.group_lent.specs.Groups.{entry_form, entry_at, stop_read, stop_form, stop_at}
 use Rattle.group_lent.specs.declared.Five.{Five}
-use Rattle.group_lent_sound.specs.Test.{entryFits, stopFits, entriesFit, stopsFit}
+use Rattle.group_lent_sound.specs.Test.{entry_fits, stop_fits, entries_fit, stops_fit}
 
 -- no kind above 6
-past : (k a b c d : ℕ) → 6 < k → isForm (five k a b c d) ≡ false
-unfolding isForm
+past : (k a b c d : ℕ) → 6 < k → is_form (five k a b c d) ≡ false
+unfolding is_form
 past k a b c d h =
     rw (
       ne_eqb k 1 (λ e. omega arith),
@@ -27,8 +27,8 @@ past k a b c d h =
       ne_eqb k 6 (λ e. omega arith),
     )
 
-listing : (k a b c d : ℕ) → isForm (five k a b c d) ≡ true → (not (eqb k 1) && ltb k 5) ≡ listable (obstacleOf (five k a b c d))
-unfolding isForm obstacleOf
+listing : (k a b c d : ℕ) → is_form (five k a b c d) ≡ true → (not (eqb k 1) && ltb k 5) ≡ listable (obstacle_of (five k a b c d))
+unfolding is_form obstacle_of
 listing zero a b c d e = absurd (false≢true e)
 listing (suc zero) a b c d e = refl
 listing (suc (suc zero)) a b c d e = refl
@@ -38,8 +38,8 @@ listing (suc (suc (suc (suc (suc zero))))) a b c d e = refl
 listing (suc (suc (suc (suc (suc (suc zero)))))) a b c d e = refl
 listing (suc (suc (suc (suc (suc (suc (suc k))))))) a b c d e = absurd (false≢true (sym (past (suc (suc (suc (suc (suc (suc (suc k))))))) a b c d (omega arith)) ∙ e))
 
-stopping : (k a b c d : ℕ) → isForm (five k a b c d) ≡ true → leb 5 k ≡ isStop (obstacleOf (five k a b c d))
-unfolding isForm obstacleOf
+stopping : (k a b c d : ℕ) → is_form (five k a b c d) ≡ true → leb 5 k ≡ is_stop (obstacle_of (five k a b c d))
+unfolding is_form obstacle_of
 stopping zero a b c d e = absurd (false≢true e)
 stopping (suc zero) a b c d e = refl
 stopping (suc (suc zero)) a b c d e = refl
@@ -54,23 +54,23 @@ and_same : (a b c : Bool) → (a ≡ true → b ≡ c) → (a && b) ≡ (a && c)
 and_same true b c e = e refl
 and_same false b c e = refl
 
-pub entry-fits : (ws : List ℕ) (i : ℕ) (f : Five) (ok : Bool) → f ≡ fiveAt ws (5 + i * 5) → ok ≡ isForm f → (ok && (not (eqb f.kind 1) && ltb f.kind 5)) ≡ entryFits ws i
-unfolding entryForm entry_at
-entry-fits ws i f ok e d =
+pub entry_fits_lem : (ws : List ℕ) (i : ℕ) (f : Five) (ok : Bool) → f ≡ five_at ws (5 + i * 5) → ok ≡ is_form f → (ok && (not (eqb f.kind 1) && ltb f.kind 5)) ≡ entry_fits ws i
+unfolding entry_form entry_at
+entry_fits_lem ws i f ok e d =
     ap (λ (b : Bool). b && (not (eqb f.kind 1) && ltb f.kind 5)) d
-    ∙ and_same (isForm f) (not (eqb f.kind 1) && ltb f.kind 5) (listable (obstacleOf f)) (listing f.kind f.a f.b f.c f.d)
-    ∙ ap (λ (g : Five). isForm g && listable (obstacleOf g)) e
+    ∙ and_same (is_form f) (not (eqb f.kind 1) && ltb f.kind 5) (listable (obstacle_of f)) (listing f.kind f.a f.b f.c f.d)
+    ∙ ap (λ (g : Five). is_form g && listable (obstacle_of g)) e
 
-pub stop-fits : (ws : List ℕ) (b i : ℕ) (f : Five) (ok : Bool) → f ≡ fiveAt ws (645 + i * 6 + 1) → ok ≡ isForm f
-    → ((ltb (get_or ws (645 + i * 6) 0) 4294967296 && ok) && (leb 5 f.kind && leb b (get_or ws (645 + i * 6) 0))) ≡ stopFits ws b i
-unfolding stopForm stop_at stopRead
-stop-fits ws b i f ok e d =
+pub stop_fits_lem : (ws : List ℕ) (b i : ℕ) (f : Five) (ok : Bool) → f ≡ five_at ws (645 + i * 6 + 1) → ok ≡ is_form f
+    → ((ltb (get_or ws (645 + i * 6) 0) 4294967296 && ok) && (leb 5 f.kind && leb b (get_or ws (645 + i * 6) 0))) ≡ stop_fits ws b i
+unfolding stop_form stop_at stop_read
+stop_fits_lem ws b i f ok e d =
     let v = get_or ws (645 + i * 6) 0 in
     ap (λ (t : Bool). (ltb v 4294967296 && t) && (leb 5 f.kind && leb b v)) d
-    ∙ and_same (ltb v 4294967296 && isForm f) (leb 5 f.kind && leb b v) (isStop (obstacleOf f) && leb b (v % 4294967296)) (both v f (ltb v 4294967296) refl)
-    ∙ ap (λ (g : Five). (ltb v 4294967296 && isForm g) && (isStop (obstacleOf g) && leb b (v % 4294967296))) e
+    ∙ and_same (ltb v 4294967296 && is_form f) (leb 5 f.kind && leb b v) (is_stop (obstacle_of f) && leb b (v % 4294967296)) (both v f (ltb v 4294967296) refl)
+    ∙ ap (λ (g : Five). (ltb v 4294967296 && is_form g) && (is_stop (obstacle_of g) && leb b (v % 4294967296))) e
   where
-    both : (v : ℕ) (f : Five) (t : Bool) → ltb v 4294967296 ≡ t → (t && isForm f) ≡ true → (leb 5 f.kind && leb b v) ≡ (isStop (obstacleOf f) && leb b (v % 4294967296))
+    both : (v : ℕ) (f : Five) (t : Bool) → ltb v 4294967296 ≡ t → (t && is_form f) ≡ true → (leb 5 f.kind && leb b v) ≡ (is_stop (obstacle_of f) && leb b (v % 4294967296))
     both v f true l h = ap₂ (λ (p q : Bool). p && q) (stopping f.kind f.a f.b f.c f.d h) (ap (leb b) (sym (mod-eq_of_lt (ltb-true v 4294967296 l))))
     both v f false l h = absurd (false≢true h)
 
@@ -83,42 +83,42 @@ module _ (ws : List ℕ) (n i : ℕ) (all ok : Bool) (h : i < n) where
   up : suc i ≡ i + 1
   up = omega arith
 
-  module _ (e : all ≡ entriesFit ws i (n - i)) (d : ok ≡ entryFits ws i) where
-    entries-step : all ≡ (ok && entriesFit ws (i + 1) (n - (i + 1)))
-    unfolding entriesFit
-    entries-step = e ∙ ap (entriesFit ws i) next ∙ ap₂ (λ (b : Bool) (k : ℕ). b && entriesFit ws k (n - (i + 1))) (sym d) up
+  module _ (e : all ≡ entries_fit ws i (n - i)) (d : ok ≡ entry_fits ws i) where
+    entries_step : all ≡ (ok && entries_fit ws (i + 1) (n - (i + 1)))
+    unfolding entries_fit
+    entries_step = e ∙ ap (entries_fit ws i) next ∙ ap₂ (λ (b : Bool) (k : ℕ). b && entries_fit ws k (n - (i + 1))) (sym d) up
 
-    pub entries-no : ok ≡ false → false ≡ all
-    entries-no t = sym (entries-step ∙ ap (λ (b : Bool). b && entriesFit ws (i + 1) (n - (i + 1))) t)
+    pub entries_no : ok ≡ false → false ≡ all
+    entries_no t = sym (entries_step ∙ ap (λ (b : Bool). b && entries_fit ws (i + 1) (n - (i + 1))) t)
 
-    pub entries-on : ok ≡ true → all ≡ entriesFit ws (i + 1) (n - (i + 1))
-    entries-on t = entries-step ∙ ap (λ (b : Bool). b && entriesFit ws (i + 1) (n - (i + 1))) t
+    pub entries_on : ok ≡ true → all ≡ entries_fit ws (i + 1) (n - (i + 1))
+    entries_on t = entries_step ∙ ap (λ (b : Bool). b && entries_fit ws (i + 1) (n - (i + 1))) t
 
-  module _ (b : ℕ) (e : all ≡ stopsFit ws b i (n - i)) (d : ok ≡ stopFits ws b i) where
-    stops-step : all ≡ (ok && stopsFit ws (get_or ws (645 + i * 6) 0 % 4294967296 + 1) (i + 1) (n - (i + 1)))
-    unfolding stopsFit stop_at stopRead
-    stops-step =
+  module _ (b : ℕ) (e : all ≡ stops_fit ws b i (n - i)) (d : ok ≡ stop_fits ws b i) where
+    stops_step : all ≡ (ok && stops_fit ws (get_or ws (645 + i * 6) 0 % 4294967296 + 1) (i + 1) (n - (i + 1)))
+    unfolding stops_fit stop_at stop_read
+    stops_step =
         let v = get_or ws (645 + i * 6) 0 % 4294967296 in
         let z : suc v ≡ v + 1 = omega arith in
         e
-        ∙ ap (stopsFit ws b i) next
-        ∙ ap₂ (λ (t : Bool) (k : ℕ). t && stopsFit ws (suc v) k (n - (i + 1))) (sym d) up
-        ∙ ap (λ (x : ℕ). ok && stopsFit ws x (i + 1) (n - (i + 1))) z
+        ∙ ap (stops_fit ws b i) next
+        ∙ ap₂ (λ (t : Bool) (k : ℕ). t && stops_fit ws (suc v) k (n - (i + 1))) (sym d) up
+        ∙ ap (λ (x : ℕ). ok && stops_fit ws x (i + 1) (n - (i + 1))) z
 
-    pub stops-no : ok ≡ false → false ≡ all
-    stops-no t = sym (stops-step ∙ ap (λ (x : Bool). x && stopsFit ws (get_or ws (645 + i * 6) 0 % 4294967296 + 1) (i + 1) (n - (i + 1))) t)
+    pub stops_no : ok ≡ false → false ≡ all
+    stops_no t = sym (stops_step ∙ ap (λ (x : Bool). x && stops_fit ws (get_or ws (645 + i * 6) 0 % 4294967296 + 1) (i + 1) (n - (i + 1))) t)
 
-    pub stops-on : ok ≡ true → all ≡ stopsFit ws (get_or ws (645 + i * 6) 0 % 4294967296 + 1) (i + 1) (n - (i + 1))
-    stops-on t = stops-step ∙ ap (λ (x : Bool). x && stopsFit ws (get_or ws (645 + i * 6) 0 % 4294967296 + 1) (i + 1) (n - (i + 1))) t
+    pub stops_on : ok ≡ true → all ≡ stops_fit ws (get_or ws (645 + i * 6) 0 % 4294967296 + 1) (i + 1) (n - (i + 1))
+    stops_on t = stops_step ∙ ap (λ (x : Bool). x && stops_fit ws (get_or ws (645 + i * 6) 0 % 4294967296 + 1) (i + 1) (n - (i + 1))) t
 
 module _ (ws : List ℕ) (n i : ℕ) (all : Bool) (h : n ≤ i) where
   none : n - i ≡ 0
   none = omega arith
 
-  pub entries-end : all ≡ entriesFit ws i (n - i) → true ≡ all
-  unfolding entriesFit
-  entries-end e = sym (e ∙ ap (entriesFit ws i) none)
+  pub entries_end : all ≡ entries_fit ws i (n - i) → true ≡ all
+  unfolding entries_fit
+  entries_end e = sym (e ∙ ap (entries_fit ws i) none)
 
-  pub stops_end : (b : ℕ) → all ≡ stopsFit ws b i (n - i) → true ≡ all
-  unfolding stopsFit
-  stops_end b e = sym (e ∙ ap (stopsFit ws b i) none)
+  pub stops_end : (b : ℕ) → all ≡ stops_fit ws b i (n - i) → true ≡ all
+  unfolding stops_fit
+  stops_end b e = sym (e ∙ ap (stops_fit ws b i) none)

@@ -1,10 +1,10 @@
 // Whether any words hold a sound group, in place: only the words that count are looked at. Assumes nothing.
 ghost use Rattle.std.specs.Prelude.{◌≡◌, ◌+◌, ◌≤◌, ◌<◌, length};
-ghost use Rattle.group_lent_sound.specs.Test.{entryFits, stopFits, entriesFit, stopsFit, headFits, soundIn};
+ghost use Rattle.group_lent_sound.specs.Test.{entry_fits, stop_fits, entries_fit, stops_fit, head_fits, sound_in};
 
 fn entry_fits(w: &[u64], i: usize) -> bool
     requires { (length w.now ≡ 1413) × (i < 128) }
-    ensures { result ≡ entryFits w.now i }
+    ensures { result ≡ entry_fits w.now i }
 {
     let f = group_lent::five_of(w, 5 + i * 5);
     let ok = group_lent::is_form(f);
@@ -13,7 +13,7 @@ fn entry_fits(w: &[u64], i: usize) -> bool
 
 fn stop_fits(w: &[u64], least: u64, i: usize) -> bool
     requires { (length w.now ≡ 1413) × (i < 128) }
-    ensures { result ≡ stopFits w.now least i }
+    ensures { result ≡ stop_fits w.now least i }
 {
     let v = w[645 + i * 6];
     let f = group_lent::five_of(w, 645 + i * 6 + 1);
@@ -23,7 +23,7 @@ fn stop_fits(w: &[u64], least: u64, i: usize) -> bool
 
 fn entries_fit(w: &[u64], n: usize) -> bool
     requires { (length w.now ≡ 1413) × (n ≤ 128) }
-    ensures { result ≡ entriesFit w.now 0 n }
+    ensures { result ≡ entries_fit w.now 0 n }
 {
     let mut i: usize = 0;
     while i < n {
@@ -37,7 +37,7 @@ fn entries_fit(w: &[u64], n: usize) -> bool
 
 fn stops_fit(w: &[u64], m: usize) -> bool
     requires { (length w.now ≡ 1413) × (m ≤ 128) }
-    ensures { result ≡ stopsFit w.now 0 0 m }
+    ensures { result ≡ stops_fit w.now 0 0 m }
 {
     let mut least: u64 = 0;
     let mut i: usize = 0;
@@ -53,7 +53,7 @@ fn stops_fit(w: &[u64], m: usize) -> bool
 
 fn head_fits(w: &[u64]) -> bool
     requires { length w.now ≡ 1413 }
-    ensures { result ≡ headFits w.now }
+    ensures { result ≡ head_fits w.now }
 {
     (w[0] == 2) & ((w[1] == 0) & ((w[2] == 0) & ((w[3] <= 128) & (w[4] <= 128))))
 }
@@ -61,7 +61,7 @@ fn head_fits(w: &[u64]) -> bool
 // Of a group's 1413 words, wherever they are lent from.
 pub fn is_sound(w: &[u64]) -> bool
     requires { length w.now ≡ 1413 }
-    ensures { result ≡ soundIn w.now }
+    ensures { result ≡ sound_in w.now }
 {
     if w[0] == 1 {
         return w[2] <= 1;

@@ -12,57 +12,57 @@ use lib.ListN.{get_or, set}
 use lib.Seq.{sets, length-sets}
 use Rattle.kinds.specs.declared.Obstacle.{Obstacle}
 use Rattle.bench_words.specs.Codec.{pick}
-use Rattle.ledger_spec.specs.Groups.{Group, growth, conflicts, last_of, allButLast}
+use Rattle.ledger_spec.specs.Groups.{Group, growth, conflicts, last_of, all_but_last}
 use Rattle.ledger_spec.specs.GroupCalls.{peek}
-use Rattle.ledger_sparing.specs.Sparing.{spared, popSparing}
-use Rattle.ledger_sparing.specs.Drain.{oneEmpty}
-use Rattle.ledger_sparing.proofs.Pops.{taken, spared-list, spared-sound}
-use Rattle.ledger_sparing.proofs.Agrees.{peek-serves, agree-where}
+use Rattle.ledger_sparing.specs.Sparing.{spared, pop_sparing}
+use Rattle.ledger_sparing.specs.Drain.{one_empty}
+use Rattle.ledger_sparing.proofs.Pops.{taken, spared_list, spared_sound}
+use Rattle.ledger_sparing.proofs.Agrees.{peek_serves, agree_where}
 use Rattle.group_lent.specs.Forms.{length_of}
 use Rattle.group_lent.specs.Groups.{entry_at, stop_at}
-use Rattle.group_lent.specs.Place.{run, kindIn, lengthIn, flagIn, listed, stopped, listIn, stopsIn, groupIn, Listing, SoundGroup}
-use Rattle.group_lent.proofs.Stores.{sets-out, sets-in, run-same, run-front, run_long}
-use Rattle.group_lent.proofs.Seen.{Reads, out_reads, entry-same, entry-form, stop-same, stop-form, seen-conflicts, is-listing, to-listing}
-use Rattle.group_lent_takes.specs.After.{topFive, poppedWords}
-use Rattle.group_lent_takes.specs.Made.{maybeSeen, Popped}
+use Rattle.group_lent.specs.Place.{run, kind_in, length_in, flag_in, listed, stopped, list_in, stops_in, group_in, Listing, SoundGroup}
+use Rattle.group_lent.proofs.Stores.{sets_out, sets_in, run_same, run_front, run_long}
+use Rattle.group_lent.proofs.Seen.{Reads, out_reads, entry_same, entry_form_lem, stop_same, stop_form_lem, seen_conflicts, is_listing, to_listing}
+use Rattle.group_lent_takes.specs.After.{top_five, popped_words}
+use Rattle.group_lent_takes.specs.Made.{maybe_seen, Popped}
 use Rattle.group_lent_takes.specs.declared.Top.{Top}
-use Rattle.group_lent_spares.specs.Spares.{sparedWords, Spared}
+use Rattle.group_lent_spares.specs.Spares.{spared_words, Spared}
 
 module _ (ws : List ℕ) where
   abbrev unlisted : Bool
-  unlisted = eqb (kindIn ws) 1 || eqb (listed ws) 0
+  unlisted = eqb (kind_in ws) 1 || eqb (listed ws) 0
 
   -- ---- no list
-  is-empty : unlisted ≡ true → oneEmpty (groupIn ws) ≡ true
-  unfolding groupIn oneEmpty run
-  is-empty t = go (eqb (kindIn ws) 1) (listed ws) t
+  is_empty_lem : unlisted ≡ true → one_empty (group_in ws) ≡ true
+  unfolding group_in one_empty run
+  is_empty_lem t = go (eqb (kind_in ws) 1) (listed ws) t
     where
-      go : (b : Bool) (n : ℕ) → (b || eqb n 0) ≡ true → oneEmpty (pick b (growth (length_of (lengthIn ws)) (eqb (flagIn ws) 1)) (conflicts (run (entry_at ws) 0 n) (stopsIn ws))) ≡ true
+      go : (b : Bool) (n : ℕ) → (b || eqb n 0) ≡ true → one_empty (pick b (growth (length_of (length_in ws)) (eqb (flag_in ws) 1)) (conflicts (run (entry_at ws) 0 n) (stops_in ws))) ≡ true
       go true n t = refl
       go false zero t = refl
       go false (suc n) t = absurd (omega (arith, eqb-true (suc n) 0 t))
 
-  pub spared-none : unlisted ≡ true → (r : Top) (after : List ℕ) → Popped ws r after → Spared ws r after
-  unfolding sparedWords
-  spared-none t r after P = record {
+  pub spared_none : unlisted ≡ true → (r : Top) (after : List ℕ) → Popped ws r after → Spared ws r after
+  unfolding spared_words
+  spared_none t r after P = record {
     top = P.top;
-    words = P.words ∙ sym (ap (λ (b : Bool). pick b (poppedWords ws) (set ws 3 (listed ws - 1))) t);
-    seen = P.seen ∙ sym (agree-where (groupIn ws) (is-empty t));
+    words = P.words ∙ sym (ap (λ (b : Bool). pick b (popped_words ws) (set ws 3 (listed ws - 1))) t);
+    seen = P.seen ∙ sym (agree_where (group_in ws) (is_empty_lem t));
     sound = P.sound;
     refused = P.refused;
   }
 
   -- ---- one entry fewer
-  both-no : (a b : Bool) → (a || b) ≡ false → (a ≡ false) × (b ≡ false)
-  both-no true b e = absurd (true≢false e)
-  both-no false b e = (refl, e)
+  both_no : (a b : Bool) → (a || b) ≡ false → (a ≡ false) × (b ≡ false)
+  both_no true b e = absurd (true≢false e)
+  both_no false b e = (refl, e)
 
   module _ (s : SoundGroup ws) (t : unlisted ≡ false) where
     abbrev l : Listing ws
-    l = is-listing ws s (eqb-false (kindIn ws) 1 (both-no (eqb (kindIn ws) 1) (eqb (listed ws) 0) t).0)
+    l = is_listing ws s (eqb-false (kind_in ws) 1 (both_no (eqb (kind_in ws) 1) (eqb (listed ws) 0) t).0)
 
-    pub some-listed : 0 < listed ws
-    some-listed = let n : listed ws ≢ 0 = eqb-false (listed ws) 0 (both-no (eqb (kindIn ws) 1) (eqb (listed ws) 0) t).1 in omega (arith, n)
+    pub some_listed : 0 < listed ws
+    some_listed = let n : listed ws ≢ 0 = eqb-false (listed ws) 0 (both_no (eqb (kind_in ws) 1) (eqb (listed ws) 0) t).1 in omega (arith, n)
 
     abbrev count : List ℕ
     count = (listed ws - 1) ∷ []
@@ -71,10 +71,10 @@ module _ (ws : List ℕ) where
     left = sets ws 3 count
 
     counted : listed left ≡ listed ws - 1
-    counted = sets-in ws 3 count 0 3 refl (omega arith) (omega (arith, s.long))
+    counted = sets_in ws 3 count 0 3 refl (omega arith) (omega (arith, s.long))
 
     word : (j : ℕ) → (3 ≤ j → 4 ≤ j) → get_or left j 0 ≡ get_or ws j 0
-    word j h = sets-out ws 3 count j h
+    word j h = sets_out ws 3 count j h
 
     entry : (i : ℕ) → Reads ws (5 + i * 5) left (5 + i * 5) 5
     entry i = out_reads ws 3 count (5 + i * 5) 5 (λ g. omega arith)
@@ -85,49 +85,49 @@ module _ (ws : List ℕ) where
     four : stopped left ≡ stopped ws
     four = word 4 (λ g. omega arith)
 
-    list_left : listIn left ≡ allButLast (listIn ws)
-    unfolding run allButLast
+    list_left : list_in left ≡ all_but_last (list_in ws)
+    unfolding run all_but_last
     list_left =
         ap (run (entry_at left) 0) counted
-        ∙ run-same (entry_at left) (entry_at ws) 0 (listed ws - 1) (λ i a b. entry-same ws left i (entry i))
+        ∙ run_same (entry_at left) (entry_at ws) 0 (listed ws - 1) (λ i a b. entry_same ws left i (entry i))
         ∙ go (listed ws)
       where
-        go : (i : ℕ) → run (entry_at ws) 0 (i - 1) ≡ allButLast (run (entry_at ws) 0 i)
+        go : (i : ℕ) → run (entry_at ws) 0 (i - 1) ≡ all_but_last (run (entry_at ws) 0 i)
         go zero = refl
-        go (suc i) = let z : suc i - 1 ≡ i = omega arith in ap (run (entry_at ws) 0) z ∙ sym (run-front (entry_at ws) 0 i)
+        go (suc i) = let z : suc i - 1 ≡ i = omega arith in ap (run (entry_at ws) 0) z ∙ sym (run_front (entry_at ws) 0 i)
 
-    stops-left : stopsIn left ≡ stopsIn ws
-    stops-left = ap (run (stop_at left) 0) four ∙ run-same (stop_at left) (stop_at ws) 0 (stopped ws) (λ i a b. stop-same ws left i i (stop i))
+    stops_left : stops_in left ≡ stops_in ws
+    stops_left = ap (run (stop_at left) 0) four ∙ run_same (stop_at left) (stop_at ws) 0 (stopped ws) (λ i a b. stop_same ws left i i (stop i))
 
-    goes : spared (listIn ws) (stopsIn ws) ≡ conflicts (allButLast (listIn ws)) (stopsIn ws)
-    goes = spared-list (listIn ws) (stopsIn ws) (omega (arith, some-listed, run_long (entry_at ws) 0 (listed ws)))
+    goes : spared (list_in ws) (stops_in ws) ≡ conflicts (all_but_last (list_in ws)) (stops_in ws)
+    goes = spared_list (list_in ws) (stops_in ws) (omega (arith, some_listed, run_long (entry_at ws) 0 (listed ws)))
 
-    left-sound : SoundGroup left
-    left-sound =
-        to-listing left (spared (listIn ws) (stopsIn ws))
+    left_sound : SoundGroup left
+    left_sound =
+        to_listing left (spared (list_in ws) (stops_in ws))
         (length-sets ws 3 count ∙ s.long)
         (word 0 (λ g. absurd (omega arith)) ∙ l.kind)
         (word 1 (λ g. absurd (omega arith)) ∙ l.plain)
         (word 2 (λ g. absurd (omega arith)) ∙ l.blank)
         (omega (arith, counted, l.few))
         (omega (arith, four, l.fewer))
-        (λ i h. entry-form ws left i (entry i) (l.list i (omega (arith, h, counted))))
-        (λ i h. stop-form ws left i i (stop i) (l.stops i (omega (arith, h, four))))
-        (ap₂ conflicts list_left stops-left ∙ sym goes)
-        (spared-sound (listIn ws) (stopsIn ws) l.sound)
+        (λ i h. entry_form_lem ws left i (entry i) (l.list i (omega (arith, h, counted))))
+        (λ i h. stop_form_lem ws left i i (stop i) (l.stops i (omega (arith, h, four))))
+        (ap₂ conflicts list_left stops_left ∙ sym goes)
+        (spared_sound (list_in ws) (stops_in ws) l.sound)
 
-    turn : popSparing (groupIn ws) ≡ (0, (last_of (listIn ws) (stopsIn ws), conflicts (allButLast (listIn ws)) (stopsIn ws)))
-    turn = ap popSparing (seen-conflicts ws l.kind) ∙ taken (listIn ws) (stopsIn ws) l.sound ∙ ap (λ (q : Group). (0, (last_of (listIn ws) (stopsIn ws), q))) goes
+    turn : pop_sparing (group_in ws) ≡ (0, (last_of (list_in ws) (stops_in ws), conflicts (all_but_last (list_in ws)) (stops_in ws)))
+    turn = ap pop_sparing (seen_conflicts ws l.kind) ∙ taken (list_in ws) (stops_in ws) l.sound ∙ ap (λ (q : Group). (0, (last_of (list_in ws) (stops_in ws), q))) goes
 
-    pub spared-list-less : (r : Top) → r.obstacle ≡ topFive ws → (r.number, maybeSeen r.obstacle) ≡ peek (groupIn ws) → Spared ws r (set ws 3 (listed ws - 1))
-    unfolding sparedWords
-    spared-list-less r e p =
-        let a = p ∙ sym (peek-serves (groupIn ws)) in
-        let q : groupIn left ≡ (popSparing (groupIn ws)).1.1 = seen-conflicts left (word 0 (λ g. absurd (omega arith)) ∙ l.kind) ∙ ap₂ conflicts list_left stops-left ∙ sym (ap (λ (t : ℕ × (Option Obstacle × Group)). t.1.1) turn) in
+    pub spared_list_less : (r : Top) → r.obstacle ≡ top_five ws → (r.number, maybe_seen r.obstacle) ≡ peek (group_in ws) → Spared ws r (set ws 3 (listed ws - 1))
+    unfolding spared_words
+    spared_list_less r e p =
+        let a = p ∙ sym (peek_serves (group_in ws)) in
+        let q : group_in left ≡ (pop_sparing (group_in ws)).1.1 = seen_conflicts left (word 0 (λ g. absurd (omega arith)) ∙ l.kind) ∙ ap₂ conflicts list_left stops_left ∙ sym (ap (λ (t : ℕ × (Option Obstacle × Group)). t.1.1) turn) in
         record {
           top = e;
-          words = sym (ap (λ (b : Bool). pick b (poppedWords ws) (set ws 3 (listed ws - 1))) t);
+          words = sym (ap (λ (b : Bool). pick b (popped_words ws) (set ws 3 (listed ws - 1))) t);
           seen = λ i. ((a i).0, ((a i).1, q i));
-          sound = left-sound;
+          sound = left_sound;
           refused = λ n. absurd (n ((λ i. (a i).0) ∙ ap (λ (t : ℕ × (Option Obstacle × Group)). t.0) turn));
         }

@@ -2,11 +2,11 @@
 // one. The words hold a sound group: the call requires it, and leaves them so. Assumes nothing.
 ghost use Rattle.std.specs.Prelude.{◌≡◌, true, ◌&&◌, ◌∷◌, ◌+◌, ◌≤◌, ◌<◌, eqb, ltb, length, get_or};
 ghost use Rattle.std.proofs.lemmas.List.Edits.{sets};
-ghost use Rattle.kinds.specs.Obstacles.{isStop};
-ghost use Rattle.group_lent.specs.Forms.{fiveWords, isForm, obstacleOf};
+ghost use Rattle.kinds.specs.Obstacles.{is_stop};
+ghost use Rattle.group_lent.specs.Forms.{five_words, is_form, obstacle_of};
 ghost use Rattle.group_lent.specs.Place.{listed, stopped, Listing, SoundGroup};
 ghost use Rattle.group_lent_takes.specs.Made.{Added};
-ghost use Rattle.group_lent_stops.specs.Stops.{spot, place_in, lifted, inserted, joined, meetOut, stopOut, addedWords};
+ghost use Rattle.group_lent_stops.specs.Stops.{spot, place_in, lifted, inserted, joined, meet_out, stop_out, added_words};
 
 use group_lent::{Five, GROUP};
 use kinds::numbers;
@@ -54,7 +54,7 @@ fn lift(w: &mut [u64; GROUP], at: usize, k: usize)
 
 fn put_stop(w: &mut [u64; GROUP], at: usize, v: u64, f: Five)
     requires { at + 6 ≤ 1413 }
-    ensures { w.new ≡ sets w.old at (v ∷ fiveWords f) }
+    ensures { w.new ≡ sets w.old at (v ∷ five_words f) }
 {
     w[at] = v;
     group_lent::put_five(w, at + 1, f);
@@ -95,7 +95,7 @@ fn join(w: &mut [u64; GROUP], p: usize, f: Five)
 // It comes to stop p, which is pending at its vertex v.
 fn meet(w: &mut [u64; GROUP], p: usize, v: u64, f: Five) -> u8
     requires { (length w.old ≡ 1413) × ((p < stopped w.old) × (stopped w.old ≤ 128)) }
-    ensures { (result, w.new) ≡ meetOut w.old f v p }
+    ensures { (result, w.new) ≡ meet_out w.old f v p }
 {
     if f.kind == 5 {
         return 0;
@@ -118,8 +118,8 @@ fn meet(w: &mut [u64; GROUP], p: usize, v: u64, f: Five) -> u8
 // A growth becomes conflicts with the one stop. ROOM (20) where there are 128 already, or 128 listed where two stops become a conflict.
 pub fn add_stop(w: &mut [u64; GROUP], f: Five, v: u64) -> u8
     requires sound_group { SoundGroup w.old }
-    requires f_value { (isForm f ≡ true) × ((isStop (obstacleOf f) ≡ true) × (v < 4294967296)) }
-    ensures { Added f v w.old (stopOut w.old f v).1 result w.new }
+    requires f_value { (is_form f ≡ true) × ((is_stop (obstacle_of f) ≡ true) × (v < 4294967296)) }
+    ensures { Added f v w.old (stop_out w.old f v).1 result w.new }
 {
     if w[0] == 1 {
         put_stop(w, 645, v, f);
@@ -147,8 +147,8 @@ pub fn add_stop(w: &mut [u64; GROUP], f: Five, v: u64) -> u8
 // Any obstacle. `v` is the first vertex of a stop's node; of any other obstacle it says nothing.
 pub fn add(w: &mut [u64; GROUP], f: Five, v: u64) -> u8
     requires sound_group { SoundGroup w.old }
-    requires f_value { (isForm f ≡ true) × (v < 4294967296) }
-    ensures { Added f v w.old (addedWords w.old f v) result w.new }
+    requires f_value { (is_form f ≡ true) × (v < 4294967296) }
+    ensures { Added f v w.old (added_words w.old f v) result w.new }
 {
     if f.kind == 1 {
         return group_lent_takes::add_growth(w, f);

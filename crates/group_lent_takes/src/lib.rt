@@ -2,12 +2,12 @@
 // The words hold a sound group: every call requires it, and leaves them so. An obstacle is its five words. Assumes nothing.
 ghost use Rattle.std.specs.Prelude.{◌≡◌, true, ℕ, ◌-◌};
 ghost use Rattle.kinds.specs.Obstacles.{listable};
-ghost use Rattle.ledger_spec.specs.GroupCalls.{is_empty, isActive, growthOf, peek};
-ghost use Rattle.groups.specs.Shown.{shownAsked};
-ghost use Rattle.group_lent.specs.Forms.{isForm, obstacleOf};
-ghost use Rattle.group_lent.specs.Place.{groupIn, SoundGroup};
-ghost use Rattle.group_lent_takes.specs.After.{leastWord, eitherWord, grownWords, listedWords, topFive};
-ghost use Rattle.group_lent_takes.specs.Made.{Emptied, Added, maybeSeen, Popped};
+ghost use Rattle.ledger_spec.specs.GroupCalls.{is_empty, is_active, growth_of, peek};
+ghost use Rattle.groups.specs.Shown.{shown_asked};
+ghost use Rattle.group_lent.specs.Forms.{is_form, obstacle_of};
+ghost use Rattle.group_lent.specs.Place.{group_in, SoundGroup};
+ghost use Rattle.group_lent_takes.specs.After.{least_word, either_word, grown_words, listed_words, top_five};
+ghost use Rattle.group_lent_takes.specs.Made.{Emptied, Added, maybe_seen, Popped};
 
 use group_lent::{Five, GROUP};
 use groups::Asked;
@@ -37,7 +37,7 @@ pub fn empty_group(w: &mut [u64; GROUP])
 // A growth of largest weight, either flag.
 pub fn is_empty(w: &[u64; GROUP]) -> bool
     requires { SoundGroup w.now }
-    ensures { (0, result) ≡ is_empty (groupIn w.now) }
+    ensures { (0, result) ≡ is_empty (group_in w.now) }
 {
     (w[0] == 1) & (w[1] == LARGEST)
 }
@@ -45,7 +45,7 @@ pub fn is_empty(w: &[u64; GROUP]) -> bool
 // All but (largest, no).
 pub fn is_active(w: &[u64; GROUP]) -> bool
     requires { SoundGroup w.now }
-    ensures { (0, result) ≡ isActive (groupIn w.now) }
+    ensures { (0, result) ≡ is_active (group_in w.now) }
 {
     (w[0] != 1) | ((w[1] != LARGEST) | (w[2] == 1))
 }
@@ -53,7 +53,7 @@ pub fn is_active(w: &[u64; GROUP]) -> bool
 // The length of a growth, refused by NOTHING (21) where it is the largest; none of conflicts.
 pub fn get_none_zero_growth(w: &[u64; GROUP]) -> Asked
     requires { SoundGroup w.now }
-    ensures { shownAsked result ≡ growthOf (groupIn w.now) }
+    ensures { shown_asked result ≡ growth_of (group_in w.now) }
 {
     let l = w[1];
     if w[0] != 1 {
@@ -79,7 +79,7 @@ pub fn get_none_zero_growth(w: &[u64; GROUP]) -> Asked
 
 // The word of the lesser length.
 pub fn least(a: u64, b: u64) -> u64
-    ensures { result ≡ leastWord a b }
+    ensures { result ≡ least_word a b }
 {
     let x = group_lent::length_of(a);
     let y = group_lent::length_of(b);
@@ -90,7 +90,7 @@ pub fn least(a: u64, b: u64) -> u64
 }
 
 fn either(a: u64, b: u64) -> u64
-    ensures { result ≡ eitherWord a b }
+    ensures { result ≡ either_word a b }
 {
     if b == 1 {
         return 1;
@@ -102,7 +102,7 @@ fn either(a: u64, b: u64) -> u64
 pub fn add_growth(w: &mut [u64; GROUP], f: Five) -> u8
     requires sound_group { SoundGroup w.old }
     requires kind_value { f.kind ≡ 1 }
-    ensures { (v : ℕ) → Added f v w.old (grownWords w.old f) result w.new }
+    ensures { (v : ℕ) → Added f v w.old (grown_words w.old f) result w.new }
 {
     if w[0] != 1 {
         return 0;
@@ -119,8 +119,8 @@ pub fn add_growth(w: &mut [u64; GROUP], f: Five) -> u8
 // A growth becomes conflicts with the one entry. ROOM (20) where there are 128 already.
 pub fn add_listed(w: &mut [u64; GROUP], f: Five) -> u8
     requires sound_group { SoundGroup w.old }
-    requires f_value { (isForm f ≡ true) × (listable (obstacleOf f) ≡ true) }
-    ensures { (v : ℕ) → Added f v w.old (listedWords w.old f) result w.new }
+    requires f_value { (is_form f ≡ true) × (listable (obstacle_of f) ≡ true) }
+    ensures { (v : ℕ) → Added f v w.old (listed_words w.old f) result w.new }
 {
     if w[0] == 1 {
         group_lent::put_five(w, 5, f);
@@ -147,7 +147,7 @@ pub fn add_listed(w: &mut [u64; GROUP], f: Five) -> u8
 
 fn top_of(w: &[u64; GROUP]) -> Five
     requires { SoundGroup w.now }
-    ensures { result ≡ topFive w.now }
+    ensures { result ≡ top_five w.now }
 {
     if w[0] == 1 {
         return group_lent::no_obstacle();
@@ -165,8 +165,8 @@ fn top_of(w: &[u64; GROUP]) -> Five
 // KIND (10) of a growth.
 pub fn peek(w: &[u64; GROUP]) -> Top
     requires { SoundGroup w.now }
-    ensures top { result.obstacle ≡ topFive w.now }
-    ensures seen { (result.number, maybeSeen result.obstacle) ≡ peek (groupIn w.now) }
+    ensures top { result.obstacle ≡ top_five w.now }
+    ensures seen { (result.number, maybe_seen result.obstacle) ≡ peek (group_in w.now) }
 {
     let obstacle = top_of(w);
     if w[0] == 1 {

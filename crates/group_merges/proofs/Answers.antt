@@ -6,16 +6,16 @@ use mathlib.Core.List.{List}
 use lib.ListN.{length, take}
 use Rattle.kinds.specs.declared.Entry.{Entry}
 use Rattle.kinds.specs.declared.Stop.{Stop}
-use Rattle.ledger_spec.specs.Groups.{conflicts, grouped, addStops}
-use Rattle.groups.specs.View.{stopsOf, laid}
+use Rattle.ledger_spec.specs.Groups.{conflicts, grouped, add_stops}
+use Rattle.groups.specs.View.{stops_of, laid}
 use Rattle.groups.specs.declared.Group.{Group as Code}
-use Rattle.groups.proofs.View.{stops-is}
+use Rattle.groups.proofs.View.{stops_is}
 use Rattle.group_adds.specs.Adds.{changed}
-use Rattle.group_adds.proofs.Rooms.{done, full, answers-room, answers-lists}
+use Rattle.group_adds.proofs.Rooms.{done, full, answers_room, answers_lists}
 
 module _ (g : Code) (h : g.stopped ≤ length g.stops) (t : List Stop) (l : List Entry) where
-  pub no-room-left : addStops t l (take g.stopped g.stops) ≡ none → full g ≡ changed (grouped (addStops t l (stopsOf g))) g
-  no-room-left e = answers-room (addStops t l (stopsOf g)) g (ap (addStops t l) (stops-is g h) ∙ e)
+  pub no-room-left : add_stops t l (take g.stopped g.stops) ≡ none → full g ≡ changed (grouped (add_stops t l (stops_of g))) g
+  no-room-left e = answers_room (add_stops t l (stops_of g)) g (ap (add_stops t l) (stops_is g h) ∙ e)
 
-  pub all-merged : (k : List Entry) (s : List Stop) (r : Code) → addStops t l (take g.stopped g.stops) ≡ some (k, s) → r ≡ laid (conflicts k s) g → done r ≡ changed (grouped (addStops t l (stopsOf g))) g
-  all-merged k s r e f = answers-lists (addStops t l (stopsOf g)) g k s r (ap (addStops t l) (stops-is g h) ∙ e) f
+  pub all-merged : (k : List Entry) (s : List Stop) (r : Code) → add_stops t l (take g.stopped g.stops) ≡ some (k, s) → r ≡ laid (conflicts k s) g → done r ≡ changed (grouped (add_stops t l (stops_of g))) g
+  all-merged k s r e f = answers_lists (add_stops t l (stops_of g)) g k s r (ap (add_stops t l) (stops_is g h) ∙ e) f

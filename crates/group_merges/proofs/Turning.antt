@@ -6,32 +6,32 @@ use Rattle.kinds.specs.Obstacles.{pair_of}
 use Rattle.kinds.specs.declared.Pair.{Pair}
 use Rattle.kinds.specs.declared.Obstacle.TheVariants.{Conflicting}
 use Rattle.kinds.specs.declared.Stop.{Stop}
-use Rattle.group_stops.specs.Places.{meetingOf}
+use Rattle.group_stops.specs.Places.{meeting_of}
 use Rattle.group_stops.specs.declared.Meeting.{Meeting}
 use Rattle.group_stops.specs.declared.Meeting.TheVariants.{Join}
-use Rattle.group_merges.specs.Turns.{comesIn, meets, turn_of}
+use Rattle.group_merges.specs.Turns.{comes_in, meets, turn_of}
 use Rattle.group_merges.specs.declared.Turn.{Turn}
 use Rattle.group_merges.specs.declared.Turn.TheVariants.{Put, Enter, Full}
 
 module _ (x y : Stop) (stops listed : ℕ) where
-  pub by-pass : y.vertex.0 < x.vertex.0 → Put y 1 0 ≡ turn_of x y stops listed
+  pub by_pass : y.vertex.0 < x.vertex.0 → Put y 1 0 ≡ turn_of x y stops listed
   unfolding turn_of
-  by-pass h = rw (lt-ltb _ _ h)
+  by_pass h = rw (lt-ltb _ _ h)
 
   module _ (h : x.vertex.0 ≤ y.vertex.0) where
-    pub by-coming : {r : Turn} → x.vertex.0 < y.vertex.0 → r ≡ comesIn x stops → r ≡ turn_of x y stops listed
+    pub by_coming : {r : Turn} → x.vertex.0 < y.vertex.0 → r ≡ comes_in x stops → r ≡ turn_of x y stops listed
     unfolding turn_of
-    by-coming v e = rw (le-ltb _ _ h, lt-ltb _ _ v) e
+    by_coming v e = rw (le-ltb _ _ h, lt-ltb _ _ v) e
 
-    pub by-meeting : {r : Turn} {t : Meeting} → y.vertex.0 ≤ x.vertex.0 → meetingOf (pair_of x.obstacle) (pair_of y.obstacle) ≡ t → r ≡ meets t x y listed → r ≡ turn_of x y stops listed
+    pub by_meeting : {r : Turn} {t : Meeting} → y.vertex.0 ≤ x.vertex.0 → meeting_of (pair_of x.obstacle) (pair_of y.obstacle) ≡ t → r ≡ meets t x y listed → r ≡ turn_of x y stops listed
     unfolding turn_of
-    by-meeting v q e = rw (le-ltb _ _ h, le-ltb _ _ v) (e ∙ ap (λ (t : Meeting). meets t x y listed) (sym q))
+    by_meeting v q e = rw (le-ltb _ _ h, le-ltb _ _ v) (e ∙ ap (λ (t : Meeting). meets t x y listed) (sym q))
 
 module _ (a b : Pair) (x y : Stop) (listed : ℕ) where
-  pub by-full : 128 ≤ listed → Full ≡ meets (Join a b) x y listed
+  pub by_full : 128 ≤ listed → Full ≡ meets (Join a b) x y listed
   unfolding meets
-  by-full h = rw (le-leb _ _ h)
+  by_full h = rw (le-leb _ _ h)
 
-  pub by-entry : listed < 128 → Enter (record { obstacle = Conflicting a b }) ≡ meets (Join a b) x y listed
+  pub by_entry : listed < 128 → Enter (record { obstacle = Conflicting a b }) ≡ meets (Join a b) x y listed
   unfolding meets
-  by-entry h = rw (lt-leb _ _ h)
+  by_entry h = rw (lt-leb _ _ h)

@@ -1,9 +1,9 @@
 // The stops of another group added to a group's own, each under the vertex it was kept by, in one pass over both. Assumes nothing.
 ghost use Rattle.std.specs.Prelude.{◌≡◌, true, ◌+◌, ◌-◌, ◌≤◌, take, drop};
-ghost use Rattle.ledger_spec.specs.Groups.{risingFrom, grouped, addStops};
-ghost use Rattle.groups.specs.View.{stopsOf};
+ghost use Rattle.ledger_spec.specs.Groups.{rising_from, grouped, add_stops};
+ghost use Rattle.groups.specs.View.{stops_of};
 ghost use Rattle.group_adds.specs.Adds.{changed};
-ghost use Rattle.group_merges.specs.Turns.{comesIn, turn_of, closed};
+ghost use Rattle.group_merges.specs.Turns.{comes_in, turn_of, closed};
 
 use group_adds::Changed;
 use group_stops::Meeting;
@@ -25,7 +25,7 @@ enum Turn {
 
 // x comes in beside so many stops.
 fn comes_in(x: Stop, stops: usize) -> Turn
-    ensures { result ≡ comesIn x stops }
+    ensures { result ≡ comes_in x stops }
 {
     if Group::MOST <= stops {
         return Turn::Full;
@@ -90,8 +90,8 @@ fn ended(g: Group, list: List, listed: usize, out: Stops, i: usize, k: usize) ->
 pub fn merged(g: Group, list: List, listed: usize, other: Stops, m: usize) -> Changed
     requires stopped_bound { g.stopped ≤ 128 }
     requires listed_bound { (listed ≤ 128) × (drop listed list ≡ drop listed g.list) }
-    requires m_bound { (m ≤ 128) × (risingFrom 0 (take m other) ≡ true) }
-    ensures { result ≡ changed (grouped (addStops (take m other) (take listed list) (stopsOf g))) g }
+    requires m_bound { (m ≤ 128) × (rising_from 0 (take m other) ≡ true) }
+    ensures { result ≡ changed (grouped (add_stops (take m other) (take listed list) (stops_of g))) g }
 {
     let n = g.stopped;
     let own = g.stops;

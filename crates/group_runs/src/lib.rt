@@ -1,7 +1,7 @@
 // A run of one array laid into another, for entries and for stops: elements `from` to `n` of the one, from place `at` of the other on.
 // Assumes nothing.
 ghost use Rattle.std.specs.Prelude.{◌≡◌, ◌+◌, ◌-◌, ◌≤◌};
-ghost use Rattle.group_runs.specs.Runs.{laidAt};
+ghost use Rattle.group_runs.specs.Runs.{laid_at};
 
 use groups::Group;
 use kinds::{Entry, Stop};
@@ -14,7 +14,7 @@ pub fn entries_laid(
     n: usize,
 ) -> [Entry; Group::MOST]
     requires { (from ≤ n) × ((n ≤ 128) × (at + (n - from) ≤ 128)) }
-    ensures { result ≡ laidAt at list from n more }
+    ensures { result ≡ laid_at at list from n more }
 {
     let mut r = list;
     let mut a = from;
@@ -36,7 +36,7 @@ pub fn stops_laid(
     n: usize,
 ) -> [Stop; Group::MOST]
     requires { (from ≤ n) × ((n ≤ 128) × (at + (n - from) ≤ 128)) }
-    ensures { result ≡ laidAt at stops from n more }
+    ensures { result ≡ laid_at at stops from n more }
 {
     let mut r = stops;
     let mut a = from;

@@ -4,20 +4,20 @@ use mathlib.Core.Path.{◌≡◌, sym, ap, ◌∙◌}
 use mathlib.Core.Option.{Option}
 use Rattle.kinds.specs.declared.Obstacle.{Obstacle}
 use Rattle.ledger_spec.specs.Groups.{Group}
-use Rattle.ledger_sparing.specs.Sparing.{popSparing}
+use Rattle.ledger_sparing.specs.Sparing.{pop_sparing}
 use Rattle.groups.specs.View.{group_of}
 use Rattle.groups.specs.declared.Group.{Group as Code}
-use Rattle.group_takes.specs.Takes.{shownPopped, after}
+use Rattle.group_takes.specs.Takes.{shown_popped, after}
 use Rattle.group_takes.specs.declared.Popped.{Popped}
-use Rattle.group_takes.proofs.Only.{maybe-same}
+use Rattle.group_takes.proofs.Only.{maybe_same}
 
 module _ (g : Code) where
   abbrev left : Code
-  left = after (popSparing (group_of g)).0 (popSparing (group_of g)).1.1 g
+  left = after (pop_sparing (group_of g)).0 (pop_sparing (group_of g)).1.1 g
 
-  pub only-pop-sparing-stops : (r s : Popped) → shownPopped r ≡ popSparing (group_of g) → r.group ≡ left → shownPopped s ≡ popSparing (group_of g) → s.group ≡ left → r ≡ s
-  only-pop-sparing-stops r s p a q b = λ i. record {
+  pub only_pop_sparing_stops : (r s : Popped) → shown_popped r ≡ pop_sparing (group_of g) → r.group ≡ left → shown_popped s ≡ pop_sparing (group_of g) → s.group ≡ left → r ≡ s
+  only_pop_sparing_stops r s p a q b = λ i. record {
     number = ((p ∙ sym q) i).0;
-    obstacle = maybe-same r.obstacle s.obstacle (ap (λ (x : ℕ × (Option Obstacle × Group)). x.1.0) (p ∙ sym q)) i;
+    obstacle = maybe_same r.obstacle s.obstacle (ap (λ (x : ℕ × (Option Obstacle × Group)). x.1.0) (p ∙ sym q)) i;
     group = (a ∙ sym b) i;
   }

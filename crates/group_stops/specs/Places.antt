@@ -1,6 +1,6 @@
 -- A list changed at a place; where a vertex stands among stops; and what becomes of two stops at one vertex. Assumes nothing.
 use Rattle.std.specs.Prelude.{ℕ, suc, cond, List, [], ◌∷◌, ◌++◌, eqb, ltb, take, drop}
-use Rattle.kinds.specs.Names.{sameCode}
+use Rattle.kinds.specs.Names.{same_code}
 use Rattle.kinds.specs.declared.MaybePair.{MaybePair}
 use Rattle.kinds.specs.declared.MaybePair.TheVariants.{NoPair, WithPair}
 use Rattle.kinds.specs.declared.Stop.{Stop}
@@ -9,22 +9,22 @@ use Rattle.group_stops.specs.declared.Spot.TheVariants.{Free, Held}
 use Rattle.group_stops.specs.declared.Meeting.{Meeting}
 use Rattle.group_stops.specs.declared.Meeting.TheVariants.{Keep, Replace, Join}
 
-abbrev pub insertedAt : {A : Type 0} → ℕ → A → List A → List A
-insertedAt p x s = take p s ++ x ∷ drop p s
+abbrev pub inserted_at : {A : Type 0} → ℕ → A → List A → List A
+inserted_at p x s = take p s ++ x ∷ drop p s
 
 -- what comes after place p
 abbrev pub after_at : {A : Type 0} → ℕ → List A → List A
 after_at p s = drop (suc p) s
 
-abbrev pub removedAt : {A : Type 0} → ℕ → List A → List A
-removedAt p s = take p s ++ drop (suc p) s
+abbrev pub removed_at : {A : Type 0} → ℕ → List A → List A
+removed_at p s = take p s ++ drop (suc p) s
 
 -- the first stop whose vertex is not below v, counted from i: it is pending at v, or v is free there
 unfoldable pub spot_of : ℕ → ℕ → List Stop → Spot
 spot_of i v [] = Free i
 spot_of i v (y ∷ s) = cond (ltb v y.vertex.0) (Free i) (cond (eqb v y.vertex.0) (Held i y) (spot_of (suc i) v s))
 
-unfoldable pub meetingOf : MaybePair → MaybePair → Meeting
-meetingOf NoPair q = Keep
-meetingOf (WithPair p) NoPair = Replace
-meetingOf (WithPair p) (WithPair q) = cond (sameCode p.node q.node) Keep (Join p q)
+unfoldable pub meeting_of : MaybePair → MaybePair → Meeting
+meeting_of NoPair q = Keep
+meeting_of (WithPair p) NoPair = Replace
+meeting_of (WithPair p) (WithPair q) = cond (same_code p.node q.node) Keep (Join p q)

@@ -3,7 +3,7 @@
 ghost use Rattle.std.specs.Prelude.{◌≡◌, ◌≤◌, ◌<◌, take};
 ghost use Rattle.kinds.specs.Obstacles.{pair_of};
 ghost use Rattle.groups.specs.View.{over};
-ghost use Rattle.group_stops.specs.Places.{insertedAt, removedAt, spot_of, meetingOf};
+ghost use Rattle.group_stops.specs.Places.{inserted_at, removed_at, spot_of, meeting_of};
 
 use groups::Group;
 use kinds::{MaybePair, Pair, Stop, Vertex};
@@ -24,7 +24,7 @@ pub enum Meeting {
 }
 
 pub fn meeting_of(x: Stop, y: Stop) -> Meeting
-    ensures { result ≡ meetingOf (pair_of x.obstacle) (pair_of y.obstacle) }
+    ensures { result ≡ meeting_of (pair_of x.obstacle) (pair_of y.obstacle) }
 {
     let o = x.obstacle;
     let q = y.obstacle;
@@ -67,7 +67,7 @@ pub fn spot_of(stops: [Stop; Group::MOST], n: usize, v: Vertex) -> Spot
 // x comes in at p, and those from p on move up.
 pub fn put_in(stops: [Stop; Group::MOST], n: usize, p: usize, x: Stop) -> [Stop; Group::MOST]
     requires { (p ≤ n) × (n < 128) }
-    ensures { result ≡ over (insertedAt p x (take n stops)) stops }
+    ensures { result ≡ over (inserted_at p x (take n stops)) stops }
 {
     let mut r = stops;
     let mut carried = x;
@@ -85,7 +85,7 @@ pub fn put_in(stops: [Stop; Group::MOST], n: usize, p: usize, x: Stop) -> [Stop;
 // The stop at p goes, and those after it move down.
 pub fn taken_out(stops: [Stop; Group::MOST], n: usize, p: usize) -> [Stop; Group::MOST]
     requires { (p < n) × (n ≤ 128) }
-    ensures { result ≡ over (removedAt p (take n stops)) stops }
+    ensures { result ≡ over (removed_at p (take n stops)) stops }
 {
     let mut r = stops;
     let last = n - 1;

@@ -17,11 +17,11 @@ abbrev pub maybe : MaybeObstacle → Option Obstacle
 maybe NoObstacle = none
 maybe (WithObstacle o) = some o
 
-abbrev pub shownPeeked : Peeked → ℕ × Option Obstacle
-shownPeeked r = (r.number, maybe r.obstacle)
+abbrev pub shown_peeked : Peeked → ℕ × Option Obstacle
+shown_peeked r = (r.number, maybe r.obstacle)
 
-abbrev pub shownPopped : Popped → ℕ × (Option Obstacle × Group)
-shownPopped r = (r.number, (maybe r.obstacle, group_of r.group))
+abbrev pub shown_popped : Popped → ℕ × (Option Obstacle × Group)
+shown_popped r = (r.number, (maybe r.obstacle, group_of r.group))
 
 -- an accepted call leaves q laid into the group, a refused one the very group
 unfoldable pub after : ℕ → Group → Code → Code
@@ -31,10 +31,10 @@ after (suc n) q g = g
 -- ---- the parts
 
 -- of n entries with e the last and m stops with s the first
-abbrev pub topBy : ℕ → Entry → ℕ → Stop → MaybeObstacle
-topBy (suc n) e m s = WithObstacle e.obstacle
-topBy zero e (suc m) s = WithObstacle s.obstacle
-topBy zero e zero s = NoObstacle
+abbrev pub top_by : ℕ → Entry → ℕ → Stop → MaybeObstacle
+top_by (suc n) e m s = WithObstacle e.obstacle
+top_by zero e (suc m) s = WithObstacle s.obstacle
+top_by zero e zero s = NoObstacle
 
 -- the first goes, and the next n move down
 abbrev pub shifted : ℕ → List Stop → List Stop

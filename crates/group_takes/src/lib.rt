@@ -3,7 +3,7 @@
 ghost use Rattle.std.specs.Prelude.{◌≡◌, ◌-◌, ◌<◌};
 ghost use Rattle.ledger_spec.specs.GroupCalls.{peek, pop};
 ghost use Rattle.groups.specs.View.{group_of};
-ghost use Rattle.group_takes.specs.Takes.{topBy, shifted, shownPeeked, shownPopped, after};
+ghost use Rattle.group_takes.specs.Takes.{top_by, shifted, shown_peeked, shown_popped, after};
 
 use groups::{Group, Kind};
 use kinds::{Entry, Obstacle, Stop, numbers};
@@ -41,7 +41,7 @@ fn less(n: usize) -> usize
 
 // Of n entries with e the last and m stops with s the first: the one on top.
 fn top_of(n: usize, e: Entry, m: usize, s: Stop) -> MaybeObstacle
-    ensures { result ≡ topBy n e m s }
+    ensures { result ≡ top_by n e m s }
 {
     if 0 < n {
         let o = e.obstacle;
@@ -71,7 +71,7 @@ fn moved_down(stops: [Stop; Group::MOST], n: usize) -> [Stop; Group::MOST]
 }
 
 pub fn peek(g: Group) -> Peeked
-    ensures { shownPeeked result ≡ peek (group_of g) }
+    ensures { shown_peeked result ≡ peek (group_of g) }
 {
     if !groups::group_is_sound(g) {
         return Peeked {
@@ -99,7 +99,7 @@ pub fn peek(g: Group) -> Peeked
 }
 
 pub fn pop(g: Group) -> Popped
-    ensures says { shownPopped result ≡ pop (group_of g) }
+    ensures says { shown_popped result ≡ pop (group_of g) }
     ensures leaves { result.group ≡ after (pop (group_of g)).0 (pop (group_of g)).1.1 g }
 {
     if !groups::group_is_sound(g) {

@@ -1,7 +1,7 @@
 -- The empty group, byte for byte, and what the answers' fields say in the ledger's terms. Assumes nothing.
 use Rattle.std.specs.Prelude.{ℕ, Bool, false, ℤ, replicate}
 use Rattle.std.proofs.Math.Option.{Option, none, some}
-use Rattle.kinds.specs.Names.{noCode}
+use Rattle.kinds.specs.Names.{no_code}
 use Rattle.kinds.specs.declared.MaybePair.TheVariants.{NoPair}
 use Rattle.kinds.specs.declared.MaybeLength.{MaybeLength}
 use Rattle.kinds.specs.declared.MaybeLength.TheVariants.{NoLength, Length}
@@ -12,21 +12,21 @@ use Rattle.groups.specs.declared.Group.{Group as Code}
 use Rattle.groups.specs.declared.Told.{Told}
 use Rattle.groups.specs.declared.Asked.{Asked}
 
-abbrev pub emptyOf : Code
-emptyOf = record {
+abbrev pub empty_of : Code
+empty_of = record {
   kind = Growth largest false;
-  list = replicate 128 (record { obstacle = BlossomNeedExpand noCode });
-  stops = replicate 128 (record { vertex = record { 0 = 0 }; obstacle = VertexShrinkStop noCode NoPair });
+  list = replicate 128 (record { obstacle = BlossomNeedExpand no_code });
+  stops = replicate 128 (record { vertex = record { 0 = 0 }; obstacle = VertexShrinkStop no_code NoPair });
   listed = 0;
   stopped = 0;
 }
 
-abbrev pub shownTold : Told → ℕ × Bool
-shownTold r = (r.number, r.yes)
+abbrev pub shown_told : Told → ℕ × Bool
+shown_told r = (r.number, r.yes)
 
-abbrev pub maybeLength : MaybeLength → Option ℤ
-maybeLength NoLength = none
-maybeLength (Length l) = some l
+abbrev pub maybe_length : MaybeLength → Option ℤ
+maybe_length NoLength = none
+maybe_length (Length l) = some l
 
-abbrev pub shownAsked : Asked → ℕ × Option ℤ
-shownAsked r = (r.number, maybeLength r.length)
+abbrev pub shown_asked : Asked → ℕ × Option ℤ
+shown_asked r = (r.number, maybe_length r.length)

@@ -16,21 +16,21 @@ counted d (suc n) [] = d ∷ counted d n []
 counted d (suc n) (x ∷ l) = x ∷ counted d n l
 
 -- all fields 0: neither of them may stand in a sound group
-abbrev pub noEntry : Entry
-noEntry = record { obstacle = NonZeroGrow (pos 0) false }
+abbrev pub no_entry : Entry
+no_entry = record { obstacle = NonZeroGrow (pos 0) false }
 
-abbrev pub noStop : Stop
-noStop = record { vertex = record { 0 = 0 }; obstacle = NonZeroGrow (pos 0) false }
+abbrev pub no_stop : Stop
+no_stop = record { vertex = record { 0 = 0 }; obstacle = NonZeroGrow (pos 0) false }
 
 abbrev pub list_of : Code → List Entry
-list_of g = counted noEntry g.listed g.list
+list_of g = counted no_entry g.listed g.list
 
-abbrev pub stopsOf : Code → List Stop
-stopsOf g = counted noStop g.stopped g.stops
+abbrev pub stops_of : Code → List Stop
+stops_of g = counted no_stop g.stopped g.stops
 
 abbrev pub viewed : Kind → Code → Group
 viewed (Growth l f) g = growth l f
-viewed Conflicts g = conflicts (list_of g) (stopsOf g)
+viewed Conflicts g = conflicts (list_of g) (stops_of g)
 
 abbrev pub group_of : Code → Group
 group_of g = viewed g.kind g

@@ -1,10 +1,10 @@
 // Obstacle groups by value: the type, the empty group, the test of a sound group, and what a group can be asked without taking anything out.
 // Every public function is total: a group that breaks a rule is answered by BROKEN (2). Assumes nothing.
 ghost use Rattle.std.specs.Prelude.{◌≡◌, false, ◌≤◌, take};
-ghost use Rattle.ledger_spec.specs.Groups.{allListable, risingFrom, soundGroup};
-ghost use Rattle.ledger_spec.specs.GroupCalls.{is_empty, isActive, growthOf};
+ghost use Rattle.ledger_spec.specs.Groups.{all_listable, rising_from, sound_group};
+ghost use Rattle.ledger_spec.specs.GroupCalls.{is_empty, is_active, growth_of};
 ghost use Rattle.groups.specs.View.{group_of};
-ghost use Rattle.groups.specs.Shown.{emptyOf, shownTold, shownAsked};
+ghost use Rattle.groups.specs.Shown.{empty_of, shown_told, shown_asked};
 
 use kinds::{Entry, Handle, MaybeLength, MaybePair, Obstacle, Stop, Vertex, numbers};
 
@@ -44,7 +44,7 @@ pub struct Asked {
 
 // (largest weight, no)
 pub fn empty_group() -> Group
-    ensures { result ≡ emptyOf }
+    ensures { result ≡ empty_of }
 {
     let h = Handle::nobody();
     let e = Entry {
@@ -67,7 +67,7 @@ pub fn empty_group() -> Group
 
 fn are_listable(list: [Entry; Group::MOST], n: usize) -> bool
     requires { n ≤ 128 }
-    ensures { result ≡ allListable (take n list) }
+    ensures { result ≡ all_listable (take n list) }
 {
     let mut i: usize = 0;
     while i < n {
@@ -84,7 +84,7 @@ fn are_listable(list: [Entry; Group::MOST], n: usize) -> bool
 // Only stops, by strictly rising vertex.
 fn are_rising(stops: [Stop; Group::MOST], n: usize) -> bool
     requires { n ≤ 128 }
-    ensures { result ≡ risingFrom 0 (take n stops) }
+    ensures { result ≡ rising_from 0 (take n stops) }
 {
     let mut least: u64 = 0;
     let mut i: usize = 0;
@@ -105,7 +105,7 @@ fn are_rising(stops: [Stop; Group::MOST], n: usize) -> bool
 }
 
 pub fn group_is_sound(g: Group) -> bool
-    ensures { result ≡ soundGroup (group_of g) }
+    ensures { result ≡ sound_group (group_of g) }
 {
     let kind = g.kind;
     match kind {
@@ -136,7 +136,7 @@ fn no(number: u8) -> Told
 
 // A growth of largest weight, either flag.
 pub fn is_empty(g: Group) -> Told
-    ensures { shownTold result ≡ is_empty (group_of g) }
+    ensures { shown_told result ≡ is_empty (group_of g) }
 {
     if !group_is_sound(g) {
         return no(numbers::BROKEN);
@@ -153,7 +153,7 @@ pub fn is_empty(g: Group) -> Told
 
 // All but (largest, no).
 pub fn is_active(g: Group) -> Told
-    ensures { shownTold result ≡ isActive (group_of g) }
+    ensures { shown_told result ≡ is_active (group_of g) }
 {
     if !group_is_sound(g) {
         return no(numbers::BROKEN);
@@ -182,7 +182,7 @@ pub fn is_active(g: Group) -> Told
 
 // The length of a growth, refused by NOTHING (21) where it is the largest; none of conflicts.
 pub fn get_none_zero_growth(g: Group) -> Asked
-    ensures { shownAsked result ≡ growthOf (group_of g) }
+    ensures { shown_asked result ≡ growth_of (group_of g) }
 {
     if !group_is_sound(g) {
         return Asked {

@@ -1,6 +1,6 @@
 -- Obstacles: the small tests on them and what each case holds. Assumes nothing.
 use Rattle.std.specs.Prelude.{Bool, true, false, ◌&&◌, ◌||◌}
-use Rattle.kinds.specs.Names.{sameCode}
+use Rattle.kinds.specs.Names.{same_code}
 use Rattle.kinds.specs.declared.Handle.{Handle}
 use Rattle.kinds.specs.declared.Pair.{Pair}
 use Rattle.kinds.specs.declared.MaybePair.{MaybePair}
@@ -24,12 +24,12 @@ listable (TouchingVirtual p v m) = true
 listable (BlossomNeedExpand h) = true
 listable (VertexShrinkStop h p) = false
 
-abbrev pub isStop : Obstacle → Bool
-isStop (NonZeroGrow l f) = false
-isStop (Conflicting p q) = false
-isStop (TouchingVirtual p v m) = false
-isStop (BlossomNeedExpand h) = false
-isStop (VertexShrinkStop h p) = true
+abbrev pub is_stop : Obstacle → Bool
+is_stop (NonZeroGrow l f) = false
+is_stop (Conflicting p q) = false
+is_stop (TouchingVirtual p v m) = false
+is_stop (BlossomNeedExpand h) = false
+is_stop (VertexShrinkStop h p) = true
 
 -- the pair of a stop that has one
 abbrev pub pair_of : Obstacle → MaybePair
@@ -40,18 +40,18 @@ pair_of (BlossomNeedExpand h) = NoPair
 pair_of (VertexShrinkStop h p) = p
 
 -- a conflict of a and b, in this order and in either
-abbrev pub theseOf : Pair → Pair → Handle → Handle → Bool
-theseOf p q a b = sameCode p.node a && sameCode q.node b
+abbrev pub these_of : Pair → Pair → Handle → Handle → Bool
+these_of p q a b = same_code p.node a && same_code q.node b
 
-abbrev pub bothOf : Pair → Pair → Handle → Handle → Bool
-bothOf p q a b = theseOf p q a b || theseOf p q b a
+abbrev pub both_of : Pair → Pair → Handle → Handle → Bool
+both_of p q a b = these_of p q a b || these_of p q b a
 
-abbrev pub conflictingOf : Obstacle → Handle → Handle → Bool
-conflictingOf (NonZeroGrow l f) a b = false
-conflictingOf (Conflicting p q) a b = bothOf p q a b
-conflictingOf (TouchingVirtual p v m) a b = false
-conflictingOf (BlossomNeedExpand h) a b = false
-conflictingOf (VertexShrinkStop h p) a b = false
+abbrev pub conflicting_of : Obstacle → Handle → Handle → Bool
+conflicting_of (NonZeroGrow l f) a b = false
+conflicting_of (Conflicting p q) a b = both_of p q a b
+conflicting_of (TouchingVirtual p v m) a b = false
+conflicting_of (BlossomNeedExpand h) a b = false
+conflicting_of (VertexShrinkStop h p) a b = false
 
 -- ---- what each case holds
 
@@ -62,30 +62,30 @@ length_of (TouchingVirtual p v m) = NoLength
 length_of (BlossomNeedExpand h) = NoLength
 length_of (VertexShrinkStop h p) = NoLength
 
-abbrev pub nodesOf : Obstacle → MaybeNodes
-nodesOf (NonZeroGrow l f) = NoNodes
-nodesOf (Conflicting p q) = Nodes p.node q.node
-nodesOf (TouchingVirtual p v m) = NoNodes
-nodesOf (BlossomNeedExpand h) = NoNodes
-nodesOf (VertexShrinkStop h p) = NoNodes
+abbrev pub nodes_of : Obstacle → MaybeNodes
+nodes_of (NonZeroGrow l f) = NoNodes
+nodes_of (Conflicting p q) = Nodes p.node q.node
+nodes_of (TouchingVirtual p v m) = NoNodes
+nodes_of (BlossomNeedExpand h) = NoNodes
+nodes_of (VertexShrinkStop h p) = NoNodes
 
-abbrev pub virtualOf : Obstacle → MaybeVirtual
-virtualOf (NonZeroGrow l f) = NoVirtual
-virtualOf (Conflicting p q) = NoVirtual
-virtualOf (TouchingVirtual p v m) = Virtual p.node v
-virtualOf (BlossomNeedExpand h) = NoVirtual
-virtualOf (VertexShrinkStop h p) = NoVirtual
+abbrev pub virtual_of : Obstacle → MaybeVirtual
+virtual_of (NonZeroGrow l f) = NoVirtual
+virtual_of (Conflicting p q) = NoVirtual
+virtual_of (TouchingVirtual p v m) = Virtual p.node v
+virtual_of (BlossomNeedExpand h) = NoVirtual
+virtual_of (VertexShrinkStop h p) = NoVirtual
 
-abbrev pub expandOf : Obstacle → MaybeNode
-expandOf (NonZeroGrow l f) = NoNode
-expandOf (Conflicting p q) = NoNode
-expandOf (TouchingVirtual p v m) = NoNode
-expandOf (BlossomNeedExpand h) = Node h
-expandOf (VertexShrinkStop h p) = NoNode
+abbrev pub expand_of : Obstacle → MaybeNode
+expand_of (NonZeroGrow l f) = NoNode
+expand_of (Conflicting p q) = NoNode
+expand_of (TouchingVirtual p v m) = NoNode
+expand_of (BlossomNeedExpand h) = Node h
+expand_of (VertexShrinkStop h p) = NoNode
 
-abbrev pub stopOf : Obstacle → MaybeNode
-stopOf (NonZeroGrow l f) = NoNode
-stopOf (Conflicting p q) = NoNode
-stopOf (TouchingVirtual p v m) = NoNode
-stopOf (BlossomNeedExpand h) = NoNode
-stopOf (VertexShrinkStop h p) = Node h
+abbrev pub stop_of : Obstacle → MaybeNode
+stop_of (NonZeroGrow l f) = NoNode
+stop_of (Conflicting p q) = NoNode
+stop_of (TouchingVirtual p v m) = NoNode
+stop_of (BlossomNeedExpand h) = NoNode
+stop_of (VertexShrinkStop h p) = Node h

@@ -1,6 +1,6 @@
 // What an obstacle says, asked by the Rust's names: each answers what its variant holds, or that it is another. Assumes nothing.
 ghost use Rattle.std.specs.Prelude.{◌≡◌};
-ghost use Rattle.kinds.specs.Obstacles.{length_of, nodesOf, virtualOf, expandOf, stopOf};
+ghost use Rattle.kinds.specs.Obstacles.{length_of, nodes_of, virtual_of, expand_of, stop_of};
 
 use crate::{MaybeLength, MaybeNode, MaybeNodes, MaybeVirtual, Obstacle};
 
@@ -18,7 +18,7 @@ impl Obstacle {
     }
 
     pub fn get_conflicting(self) -> MaybeNodes
-        ensures { result ≡ nodesOf self }
+        ensures { result ≡ nodes_of self }
     {
         match self {
             Obstacle::NonZeroGrow(_, _) => MaybeNodes::NoNodes,
@@ -34,7 +34,7 @@ impl Obstacle {
     }
 
     pub fn get_touching_virtual(self) -> MaybeVirtual
-        ensures { result ≡ virtualOf self }
+        ensures { result ≡ virtual_of self }
     {
         match self {
             Obstacle::NonZeroGrow(_, _) => MaybeVirtual::NoVirtual,
@@ -49,7 +49,7 @@ impl Obstacle {
     }
 
     pub fn get_blossom_need_expand(self) -> MaybeNode
-        ensures { result ≡ expandOf self }
+        ensures { result ≡ expand_of self }
     {
         match self {
             Obstacle::NonZeroGrow(_, _) => MaybeNode::NoNode,
@@ -61,7 +61,7 @@ impl Obstacle {
     }
 
     pub fn get_vertex_shrink_stop(self) -> MaybeNode
-        ensures { result ≡ stopOf self }
+        ensures { result ≡ stop_of self }
     {
         match self {
             Obstacle::NonZeroGrow(_, _) => MaybeNode::NoNode,

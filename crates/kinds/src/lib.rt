@@ -4,9 +4,9 @@ mod getters; // what an obstacle says
 pub mod numbers; // the numbers a call can answer
 
 ghost use Rattle.std.specs.Prelude.{◌≡◌};
-ghost use Rattle.kinds.specs.Names.{sameCode, noCode};
-ghost use Rattle.kinds.specs.States.{againstOf, blossomOf};
-ghost use Rattle.kinds.specs.Obstacles.{listable, isStop, pair_of, theseOf, bothOf, conflictingOf};
+ghost use Rattle.kinds.specs.Names.{same_code, no_code};
+ghost use Rattle.kinds.specs.States.{against_of, blossom_of};
+ghost use Rattle.kinds.specs.Obstacles.{listable, is_stop, pair_of, these_of, both_of, conflicting_of};
 
 // Three counters that never stand in for one another.
 #[derive(Drop)]
@@ -40,7 +40,7 @@ impl Handle {
 
     // The handle of a refusal: all fields 0.
     pub fn nobody() -> Handle
-        ensures { result ≡ noCode }
+        ensures { result ≡ no_code }
     {
         Handle {
             unit: 0,
@@ -50,7 +50,7 @@ impl Handle {
     }
 
     pub fn same(self, other: Handle) -> bool
-        ensures { result ≡ sameCode self other }
+        ensures { result ≡ same_code self other }
     {
         if self.unit != other.unit {
             return false;
@@ -73,7 +73,7 @@ pub enum GrowState {
 impl GrowState {
     // Whether two nodes that meet in these states conflict, as the Rust has it.
     pub fn is_against(self, other: GrowState) -> bool
-        ensures { result ≡ againstOf self other }
+        ensures { result ≡ against_of self other }
     {
         match self {
             GrowState::Grow => match other {
@@ -101,7 +101,7 @@ pub enum Class {
 
 impl Class {
     pub fn is_blossom(self) -> bool
-        ensures { result ≡ blossomOf self }
+        ensures { result ≡ blossom_of self }
     {
         match self {
             Class::Absent => false,
@@ -169,7 +169,7 @@ pub enum MaybeVirtual {
 
 // The first nodes of two pairs are a and b, in this order.
 fn are_these(p: Pair, q: Pair, a: Handle, b: Handle) -> bool
-    ensures { result ≡ theseOf p q a b }
+    ensures { result ≡ these_of p q a b }
 {
     let m = p.node;
     let n = q.node;
@@ -180,7 +180,7 @@ fn are_these(p: Pair, q: Pair, a: Handle, b: Handle) -> bool
 }
 
 fn are_both(p: Pair, q: Pair, a: Handle, b: Handle) -> bool
-    ensures { result ≡ bothOf p q a b }
+    ensures { result ≡ both_of p q a b }
 {
     if are_these(p, q, a, b) {
         return true;
@@ -206,7 +206,7 @@ impl Obstacle {
     }
 
     pub fn is_stop(self) -> bool
-        ensures { result ≡ isStop self }
+        ensures { result ≡ is_stop self }
     {
         match self {
             Obstacle::NonZeroGrow(_, _) => false,
@@ -232,7 +232,7 @@ impl Obstacle {
 
     // Whether it is a conflict of these two nodes, in either order.
     pub fn is_conflicting(self, a: Handle, b: Handle) -> bool
-        ensures { result ≡ conflictingOf self a b }
+        ensures { result ≡ conflicting_of self a b }
     {
         match self {
             Obstacle::NonZeroGrow(_, _) => false,

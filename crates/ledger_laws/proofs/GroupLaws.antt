@@ -8,7 +8,7 @@ use mathlib.Core.Option.{Option, none, some}
 use mathlib.Core.List.{List, [], ◌∷◌}
 use native.Mathlib.Omega.{arith}
 use borrow.Author.Tests.{le-leb}
-use Rattle.kinds.specs.Obstacles.{listable, isStop}
+use Rattle.kinds.specs.Obstacles.{listable, is_stop}
 use Rattle.kinds.specs.declared.Entry.{Entry}
 use Rattle.kinds.specs.declared.Stop.{Stop}
 use Rattle.kinds.specs.declared.Obstacle.{Obstacle}
@@ -16,62 +16,62 @@ use Rattle.ledger_spec.specs.Bench.{Bench}
 use Rattle.ledger_spec.specs.Tests.{first, any, is_some}
 use Rattle.ledger_spec.specs.Reads.{said}
 use Rattle.ledger_spec.specs.Sound.{sound}
-use Rattle.ledger_spec.specs.Groups.{Group, growth, conflicts, soundGroup, allListable, risingFrom, added, extended, last_of, allButLast, popped}
-use Rattle.ledger_spec.specs.GroupCalls.{takeTests, lastIn, afterPop, pop, handlesOf, staleCode, vertexOf, or_else, add, groupHandles, extend}
+use Rattle.ledger_spec.specs.Groups.{Group, growth, conflicts, sound_group, all_listable, rising_from, added, extended, last_of, all_but_last, popped}
+use Rattle.ledger_spec.specs.GroupCalls.{take_tests, last_in, after_pop, pop, handles_of, stale_code, vertex_of, or_else, add, group_handles, extend}
 use Rattle.ledger_spec.proofs.Lists.{both_true}
-use Rattle.ledger_laws.proofs.GroupSound.{added-sound, extended-sound, popped-sound}
+use Rattle.ledger_laws.proofs.GroupSound.{added_sound, extended_sound, popped_sound}
 
 -- ---- a value, or what stands for it
 module _ {A : Type 0} (P : A → Type 0) where
-  said-keeps : (n : ℕ) (v z : A) → P v → P z → P (said n v z).1
+  said_keeps : (n : ℕ) (v z : A) → P v → P z → P (said n v z).1
   unfolding said
-  said-keeps zero v z p q = p
-  said-keeps (suc n) v z p q = q
+  said_keeps zero v z p q = p
+  said_keeps (suc n) v z p q = q
 
-said-refused : {A : Type 0} (n : ℕ) (v z : A) → (said n v z).0 ≢ 0 → (said n v z).1 ≡ z
+said_refused : {A : Type 0} (n : ℕ) (v z : A) → (said n v z).0 ≢ 0 → (said n v z).1 ≡ z
 unfolding said
-said-refused zero v z q = absurd (q refl)
-said-refused (suc n) v z q = refl
+said_refused zero v z q = absurd (q refl)
+said_refused (suc n) v z q = refl
 
 -- ---- pop
-after-sound : (g : Group) → soundGroup g ≡ true → soundGroup (afterPop g) ≡ true
-after-sound (growth l f) s = s
-after-sound (conflicts l t) s = popped-sound l t s
+after_sound : (g : Group) → sound_group g ≡ true → sound_group (after_pop g) ≡ true
+after_sound (growth l f) s = s
+after_sound (conflicts l t) s = popped_sound l t s
 
-pub pop-sound : (g : Group) → soundGroup g ≡ true → soundGroup (pop g).1.1 ≡ true
+pub pop_sound : (g : Group) → sound_group g ≡ true → sound_group (pop g).1.1 ≡ true
 unfolding pop
-pop-sound g s = said-keeps (λ (r : Option Obstacle × Group). soundGroup r.1 ≡ true) (first (takeTests g)) (lastIn g, afterPop g) (none, g) (after-sound g s) s
+pop_sound g s = said_keeps (λ (r : Option Obstacle × Group). sound_group r.1 ≡ true) (first (take_tests g)) (last_in g, after_pop g) (none, g) (after_sound g s) s
 
-pub pop-refused : (g : Group) → (pop g).0 ≢ 0 → (pop g).1 ≡ (none, g)
+pub pop_refused : (g : Group) → (pop g).0 ≢ 0 → (pop g).1 ≡ (none, g)
 unfolding pop
-pop-refused g q = said-refused (first (takeTests g)) (lastIn g, afterPop g) (none, g) q
+pop_refused g q = said_refused (first (take_tests g)) (last_in g, after_pop g) (none, g) q
 
 -- ---- add, extend
-else-sound : (o : Option Group) (g : Group) → ((q : Group) → o ≡ some q → soundGroup q ≡ true) → soundGroup g ≡ true → soundGroup (or_else o g) ≡ true
-else-sound none g f s = s
-else-sound (some q) g f s = f q refl
+else_sound : (o : Option Group) (g : Group) → ((q : Group) → o ≡ some q → sound_group q ≡ true) → sound_group g ≡ true → sound_group (or_else o g) ≡ true
+else_sound none g f s = s
+else_sound (some q) g f s = f q refl
 
 module _ (b : Bench) (g : Group) where
-  pub add-sound : (o : Obstacle) → soundGroup g ≡ true → soundGroup (add b g o).1 ≡ true
+  pub add_sound : (o : Obstacle) → sound_group g ≡ true → sound_group (add b g o).1 ≡ true
   unfolding add
-  add-sound o s = said-keeps (λ (q : Group). soundGroup q ≡ true) _ (or_else (added g o (vertexOf b o)) g) g (else-sound (added g o (vertexOf b o)) g (λ q. added-sound g o (vertexOf b o) q s) s) s
+  add_sound o s = said_keeps (λ (q : Group). sound_group q ≡ true) _ (or_else (added g o (vertex_of b o)) g) g (else_sound (added g o (vertex_of b o)) g (λ q. added_sound g o (vertex_of b o) q s) s) s
 
-  pub add-refused : (o : Obstacle) → (add b g o).0 ≢ 0 → (add b g o).1 ≡ g
+  pub add_refused : (o : Obstacle) → (add b g o).0 ≢ 0 → (add b g o).1 ≡ g
   unfolding add
-  add-refused o q = said-refused (first ((not (sound b && soundGroup g), 2) ∷ (any (staleCode b) (handlesOf o), 8) ∷ (not (is_some (added g o (vertexOf b o))), 20) ∷ [])) (or_else (added g o (vertexOf b o)) g) g q
+  add_refused o q = said_refused (first ((not (sound b && sound_group g), 2) ∷ (any (stale_code b) (handles_of o), 8) ∷ (not (is_some (added g o (vertex_of b o))), 20) ∷ [])) (or_else (added g o (vertex_of b o)) g) g q
 
-  pub extend-sound : (h : Group) → soundGroup g ≡ true → soundGroup h ≡ true → soundGroup (extend b g h).1 ≡ true
+  pub extend_sound : (h : Group) → sound_group g ≡ true → sound_group h ≡ true → sound_group (extend b g h).1 ≡ true
   unfolding extend
-  extend-sound h s t = said-keeps (λ (q : Group). soundGroup q ≡ true) _ (or_else (extended g h) g) g (else-sound (extended g h) g (λ q. extended-sound g h q s t) s) s
+  extend_sound h s t = said_keeps (λ (q : Group). sound_group q ≡ true) _ (or_else (extended g h) g) g (else_sound (extended g h) g (λ q. extended_sound g h q s t) s) s
 
-  pub extend-refused : (h : Group) → (extend b g h).0 ≢ 0 → (extend b g h).1 ≡ g
+  pub extend_refused : (h : Group) → (extend b g h).0 ≢ 0 → (extend b g h).1 ≡ g
   unfolding extend
-  extend-refused h q = said-refused (first ((not (sound b && (soundGroup g && soundGroup h)), 2) ∷ (any (staleCode b) (groupHandles h), 8) ∷ (not (is_some (extended g h)), 20) ∷ [])) (or_else (extended g h) g) g q
+  extend_refused h q = said_refused (first ((not (sound b && (sound_group g && sound_group h)), 2) ∷ (any (stale_code b) (group_handles h), 8) ∷ (not (is_some (extended g h)), 20) ∷ [])) (or_else (extended g h) g) g q
 
 -- ---- (P9) list c, d, stops x, y at rising vertices: pops give d, c, none, and each takes a stop with it
-pop-taken : (l : List Entry) (s : List Stop) → soundGroup (conflicts l s) ≡ true → pop (conflicts l s) ≡ (0, (last_of l s, popped l s))
-unfolding pop said first takeTests
-pop-taken l s e = go (soundGroup (conflicts l s)) e
+pop_taken : (l : List Entry) (s : List Stop) → sound_group (conflicts l s) ≡ true → pop (conflicts l s) ≡ (0, (last_of l s, popped l s))
+unfolding pop said first take_tests
+pop_taken l s e = go (sound_group (conflicts l s)) e
   where
     answer : Bool → ℕ × (Option Obstacle × Group)
     answer t = said (first ((not t, 2) ∷ (false, 10) ∷ [])) (last_of l s, popped l s) (none, conflicts l s)
@@ -81,23 +81,23 @@ pop-taken l s e = go (soundGroup (conflicts l s)) e
     go false f = absurd (false≢true f)
 
 module _ (c d : Entry) (x y : Stop) (hc : listable c.obstacle ≡ true) (hd : listable d.obstacle ≡ true)
-    (hx : isStop x.obstacle ≡ true) (hy : isStop y.obstacle ≡ true) (up : x.vertex.0 < y.vertex.0) where
-  both-fine : soundGroup (conflicts (c ∷ d ∷ []) (x ∷ y ∷ [])) ≡ true
-  unfolding soundGroup allListable risingFrom
-  both-fine = both_true (both_true hc (both_true hd refl)) (both_true hx (both_true (le-leb 0 x.vertex.0 (omega arith)) (both_true hy (both_true (le-leb (suc x.vertex.0) y.vertex.0 up) refl))))
+    (hx : is_stop x.obstacle ≡ true) (hy : is_stop y.obstacle ≡ true) (up : x.vertex.0 < y.vertex.0) where
+  both_fine : sound_group (conflicts (c ∷ d ∷ []) (x ∷ y ∷ [])) ≡ true
+  unfolding sound_group all_listable rising_from
+  both_fine = both_true (both_true hc (both_true hd refl)) (both_true hx (both_true (le-leb 0 x.vertex.0 (omega arith)) (both_true hy (both_true (le-leb (suc x.vertex.0) y.vertex.0 up) refl))))
 
-  one-fine : soundGroup (conflicts (c ∷ []) (y ∷ [])) ≡ true
-  unfolding soundGroup allListable risingFrom
-  one-fine = both_true (both_true hc refl) (both_true hy (both_true (le-leb 0 y.vertex.0 (omega arith)) refl))
+  one_fine : sound_group (conflicts (c ∷ []) (y ∷ [])) ≡ true
+  unfolding sound_group all_listable rising_from
+  one_fine = both_true (both_true hc refl) (both_true hy (both_true (le-leb 0 y.vertex.0 (omega arith)) refl))
 
-  pub p9-first : pop (conflicts (c ∷ d ∷ []) (x ∷ y ∷ [])) ≡ (0, (some d.obstacle, conflicts (c ∷ []) (y ∷ [])))
-  unfolding last_of allButLast
-  p9-first = pop-taken (c ∷ d ∷ []) (x ∷ y ∷ []) both-fine
+  pub p9_first : pop (conflicts (c ∷ d ∷ []) (x ∷ y ∷ [])) ≡ (0, (some d.obstacle, conflicts (c ∷ []) (y ∷ [])))
+  unfolding last_of all_but_last
+  p9_first = pop_taken (c ∷ d ∷ []) (x ∷ y ∷ []) both_fine
 
-  pub p9-second : pop (conflicts (c ∷ []) (y ∷ [])) ≡ (0, (some c.obstacle, conflicts [] []))
-  unfolding last_of allButLast
-  p9-second = pop-taken (c ∷ []) (y ∷ []) one-fine
+  pub p9_second : pop (conflicts (c ∷ []) (y ∷ [])) ≡ (0, (some c.obstacle, conflicts [] []))
+  unfolding last_of all_but_last
+  p9_second = pop_taken (c ∷ []) (y ∷ []) one_fine
 
-pub p9-third : pop (conflicts [] []) ≡ (0, (none, conflicts [] []))
-unfolding last_of allButLast soundGroup allListable risingFrom
-p9-third = pop-taken [] [] refl
+pub p9_third : pop (conflicts [] []) ≡ (0, (none, conflicts [] []))
+unfolding last_of all_but_last sound_group all_listable rising_from
+p9_third = pop_taken [] [] refl

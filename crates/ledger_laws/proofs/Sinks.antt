@@ -10,9 +10,9 @@ use borrow.Author.Tests.{le-leb, lt-ltb, le-ltb, ltb-false}
 use lib.IntN.{ℤ, pos, negsuc, neg_ℤ, ◌+ℤ◌, ◌*ℤ◌, +ℤ_idr}
 use lib.Signed.{lt_z, le_z}
 use Rattle.ledger_spec.specs.Bench.{State, grows, stays, shrinks, rate, Node}
-use Rattle.ledger_spec.specs.Tests.{isShrink, sinks}
+use Rattle.ledger_spec.specs.Tests.{is_shrink, sinks}
 use Rattle.ledger_spec.specs.Sound.{afloat}
-use Rattle.ledger_spec.specs.Deeds.{growSlot}
+use Rattle.ledger_spec.specs.Deeds.{grow_slot}
 
 -- a value that falls by no more than it is
 fall : (m k : ℕ) → k ≤ m → pos m +ℤ pos k *ℤ negsuc 0 ≡ pos (m - k)
@@ -24,14 +24,14 @@ fall m (suc k) h = ap (λ (z : ℕ). pos m +ℤ neg_ℤ (pos z)) one
     one = omega arith
 
 -- of a value v, a state s and lengths that are not negative
-rise : (v l : ℤ) (s : State) → lt_z l (pos 0) ≡ false → le_z (pos 0) v ≡ true → (isShrink s && lt_z v l) ≡ false → le_z (pos 0) (v +ℤ l *ℤ rate s) ≡ true
+rise : (v l : ℤ) (s : State) → lt_z l (pos 0) ≡ false → le_z (pos 0) v ≡ true → (is_shrink s && lt_z v l) ≡ false → le_z (pos 0) (v +ℤ l *ℤ rate s) ≡ true
 rise v (negsuc c) s h a k = absurd (true≢false h)
 rise (negsuc m) (pos c) s h a k = absurd (true≢false (sym a))
 rise (pos m) (pos c) grows h a k = le-leb 0 (m + c * 1) (omega arith)
 rise (pos m) (pos c) stays h a k = le-leb 0 (m + c * 0) (omega arith)
 rise (pos m) (pos c) shrinks h a k = ap (le_z (pos 0)) (fall m c (ltb-false m c k)) ∙ le-leb 0 (m - c) (omega arith)
 
-both : (v a c : ℤ) (s : State) → lt_z a (pos 0) ≡ false → lt_z c (pos 0) ≡ false → (isShrink s && lt_z v a) ≡ false → (isShrink s && lt_z (v +ℤ a *ℤ rate s) c) ≡ false → (isShrink s && lt_z v (a +ℤ c)) ≡ false
+both : (v a c : ℤ) (s : State) → lt_z a (pos 0) ≡ false → lt_z c (pos 0) ≡ false → (is_shrink s && lt_z v a) ≡ false → (is_shrink s && lt_z (v +ℤ a *ℤ rate s) c) ≡ false → (is_shrink s && lt_z v (a +ℤ c)) ≡ false
 both v a c grows h k x y = refl
 both v a c stays h k x y = refl
 both v (negsuc a) c shrinks h k x y = absurd (true≢false h)
@@ -39,7 +39,7 @@ both v (pos a) (negsuc c) shrinks h k x y = absurd (true≢false k)
 both (negsuc m) (pos a) (pos c) shrinks h k x y = absurd (true≢false x)
 both (pos m) (pos a) (pos c) shrinks h k x y = le-ltb m (a + c) (omega (arith, ltb-false m a x, ltb-false (m - a) c (ap (λ (z : ℤ). lt_z z (pos c)) (sym (fall m a (ltb-false m a x))) ∙ y)))
 
-parts : (v a c : ℤ) (s : State) → lt_z a (pos 0) ≡ false → lt_z c (pos 0) ≡ false → (isShrink s && lt_z v (a +ℤ c)) ≡ false → ((isShrink s && lt_z v a) ≡ false) × ((isShrink s && lt_z (v +ℤ a *ℤ rate s) c) ≡ false)
+parts : (v a c : ℤ) (s : State) → lt_z a (pos 0) ≡ false → lt_z c (pos 0) ≡ false → (is_shrink s && lt_z v (a +ℤ c)) ≡ false → ((is_shrink s && lt_z v a) ≡ false) × ((is_shrink s && lt_z (v +ℤ a *ℤ rate s) c) ≡ false)
 parts v a c grows h k x = (refl, refl)
 parts v a c stays h k x = (refl, refl)
 parts v (negsuc a) c shrinks h k x = absurd (true≢false h)
@@ -71,7 +71,7 @@ moved (pos m) c s = by_cases (dec_lt m c)
     (λ (k : m < c + s). lt-ltb (m - c) s (omega (arith, h, k)) ∙ sym (lt-ltb m (c + s) k))
     (λ (k : m < c + s → ⊥). le-ltb (m - c) s (omega (arith, h, k)) ∙ sym (le-ltb m (c + s) (omega (arith, k)))))
 
-sunk : (v c s : ℤ) (t : State) → lt_z c (pos 0) ≡ false → lt_z s (pos 0) ≡ false → (isShrink t && lt_z (v +ℤ c *ℤ rate t) s) ≡ (isShrink t && lt_z v (c +ℤ s))
+sunk : (v c s : ℤ) (t : State) → lt_z c (pos 0) ≡ false → lt_z s (pos 0) ≡ false → (is_shrink t && lt_z (v +ℤ c *ℤ rate t) s) ≡ (is_shrink t && lt_z v (c +ℤ s))
 sunk v c s grows h k = refl
 sunk v c s stays h k = refl
 sunk v (negsuc c) s shrinks h k = absurd (true≢false h)
@@ -79,23 +79,23 @@ sunk v (pos c) (negsuc s) shrinks h k = absurd (true≢false k)
 sunk v (pos c) (pos s) shrinks h k = moved v c s
 
 -- ---- the same of a slot
-pub sinks-grown : (c s : ℤ) → lt_z c (pos 0) ≡ false → lt_z s (pos 0) ≡ false → (o : Option Node) → sinks s (growSlot c o) ≡ sinks (c +ℤ s) o
-unfolding growSlot
-sinks-grown c s h k none = refl
-sinks-grown c s h k (some n) = sunk n.value c s n.state h k
+pub sinks_grown : (c s : ℤ) → lt_z c (pos 0) ≡ false → lt_z s (pos 0) ≡ false → (o : Option Node) → sinks s (grow_slot c o) ≡ sinks (c +ℤ s) o
+unfolding grow_slot
+sinks_grown c s h k none = refl
+sinks_grown c s h k (some n) = sunk n.value c s n.state h k
 
-pub grown-afloat : (l : ℤ) (o : Option Node) → lt_z l (pos 0) ≡ false → afloat o ≡ true → sinks l o ≡ false → afloat (growSlot l o) ≡ true
-unfolding growSlot
-grown-afloat l none h a k = refl
-grown-afloat l (some n) h a k = rise n.value l n.state h a k
+pub grown_afloat : (l : ℤ) (o : Option Node) → lt_z l (pos 0) ≡ false → afloat o ≡ true → sinks l o ≡ false → afloat (grow_slot l o) ≡ true
+unfolding grow_slot
+grown_afloat l none h a k = refl
+grown_afloat l (some n) h a k = rise n.value l n.state h a k
 
 module _ (a c : ℤ) (ha : lt_z a (pos 0) ≡ false) (hc : lt_z c (pos 0) ≡ false) where
-  pub sinks-whole : (o : Option Node) → sinks a o ≡ false → sinks c (growSlot a o) ≡ false → sinks (a +ℤ c) o ≡ false
-  unfolding growSlot
-  sinks-whole none x y = refl
-  sinks-whole (some n) x y = both n.value a c n.state ha hc x y
+  pub sinks_whole : (o : Option Node) → sinks a o ≡ false → sinks c (grow_slot a o) ≡ false → sinks (a +ℤ c) o ≡ false
+  unfolding grow_slot
+  sinks_whole none x y = refl
+  sinks_whole (some n) x y = both n.value a c n.state ha hc x y
 
-  pub sinks-parts : (o : Option Node) → sinks (a +ℤ c) o ≡ false → (sinks a o ≡ false) × (sinks c (growSlot a o) ≡ false)
-  unfolding growSlot
-  sinks-parts none x = (refl, refl)
-  sinks-parts (some n) x = parts n.value a c n.state ha hc x
+  pub sinks_parts : (o : Option Node) → sinks (a +ℤ c) o ≡ false → (sinks a o ≡ false) × (sinks c (grow_slot a o) ≡ false)
+  unfolding grow_slot
+  sinks_parts none x = (refl, refl)
+  sinks_parts (some n) x = parts n.value a c n.state ha hc x

@@ -3,8 +3,8 @@
 use Rattle.std.specs.Prelude.{ℕ, ◌≡◌, true, false, List, get_or}
 use Rattle.std.proofs.Math.Option.{Option, none, some}
 use Rattle.ledger_spec.specs.Bench.{Handle, Member, defect, blossom, Node, Bench}
-use Rattle.ledger_spec.specs.Look.{interface, nodeNamed}
-use Rattle.ledger_spec.specs.Tests.{isDefect}
+use Rattle.ledger_spec.specs.Look.{interface, node_named}
+use Rattle.ledger_spec.specs.Tests.{is_defect}
 use Rattle.ledger_spec.specs.Walk.{parent_in, outermost}
 use Rattle.ledger_spec.specs.Reads.{slots_of}
 use Rattle.ledger_spec.specs.Check.{total_of}
@@ -15,27 +15,27 @@ abbrev pub Entry : Type 0
 Entry = ℕ × ℕ × Option Node
 
 -- the vertex of a slot that holds a defect, and of the slot at an index
-unfoldable pub vertexOf : Option Node → Option ℕ
-vertexOf none = none
-vertexOf (some n) = elim n.class [ defect v ↦ some v | blossom ms ↦ none ]
+unfoldable pub vertex_of : Option Node → Option ℕ
+vertex_of none = none
+vertex_of (some n) = elim n.class [ defect v ↦ some v | blossom ms ↦ none ]
 
-abbrev pub vertexAt : List Entry → ℕ → Option ℕ
-vertexAt ts i = vertexOf (get_or ts i (0, 0, none)).2
+abbrev pub vertex_at : List Entry → ℕ → Option ℕ
+vertex_at ts i = vertex_of (get_or ts i (0, 0, none)).2
 
 -- t is a present node of m's outermost blossom
 pub record Near (b : Bench) (m t : Handle) : Type 0 where
   pub node : Node
-  pub present : nodeNamed b t ≡ some node
+  pub present : node_named b t ≡ some node
   pub outer : outermost b t ≡ outermost b m
 
 -- the Rust's weak test of a member: a defect touches by itself, a blossom by nodes near it
 pub record Weak (b : Bench) (m : Member) : Type 0 where
-  pub defect : isDefect (nodeNamed b m.node) ≡ true → (m.touch.0 ≡ m.node) × (m.touch.1 ≡ m.node)
-  pub blossom : isDefect (nodeNamed b m.node) ≡ false → Near b m.node m.touch.0 × Near b m.node m.touch.1
+  pub defect : is_defect (node_named b m.node) ≡ true → (m.touch.0 ≡ m.node) × (m.touch.1 ≡ m.node)
+  pub blossom : is_defect (node_named b m.node) ≡ false → Near b m.node m.touch.0 × Near b m.node m.touch.1
 
 -- all but the sum
 pub record Ordered (b : Bench) (u : ℕ) : Type 0 where
-  pub single : (i j v : ℕ) → vertexAt (slots_of b u) i ≡ some v → vertexAt (slots_of b u) j ≡ some v → i ≡ j
+  pub single : (i j v : ℕ) → vertex_at (slots_of b u) i ≡ some v → vertex_at (slots_of b u) j ≡ some v → i ≡ j
   pub touching : (t : Entry) (n : Node) (ms : List Member) (m : Member) → In t (slots_of b u) → t.2 ≡ some n → n.class ≡ blossom ms → In m ms → Weak b m
 
 pub record Clean (b : Bench) (u : ℕ) : Type 0 where
@@ -45,9 +45,9 @@ pub record Clean (b : Bench) (u : ℕ) : Type 0 where
 -- t is under m: it is m, or its parent is under m
 pub data Descends (b : Bench) (m : Handle) : Handle → Type 0 where
   itself : Descends b m m
-  inside : {t : Handle} (p : Handle) → parent_in (nodeNamed b t) ≡ some p → Descends b m p → Descends b m t
+  inside : {t : Handle} (p : Handle) → parent_in (node_named b t) ≡ some p → Descends b m p → Descends b m t
 
 pub record Strict (b : Bench) (u : ℕ) : Type 0 where
   pub clean : Clean b u
   pub under : (t : Entry) (n : Node) (ms : List Member) (m : Member) → In t (slots_of b u) → t.2 ≡ some n → n.class ≡ blossom ms → In m ms
-      → isDefect (nodeNamed b m.node) ≡ false → Descends b m.node m.touch.0 × Descends b m.node m.touch.1
+      → is_defect (node_named b m.node) ≡ false → Descends b m.node m.touch.0 × Descends b m.node m.touch.1

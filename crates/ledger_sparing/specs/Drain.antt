@@ -6,7 +6,7 @@ use Rattle.kinds.specs.declared.Entry.{Entry}
 use Rattle.kinds.specs.declared.Stop.{Stop}
 use Rattle.kinds.specs.declared.Obstacle.{Obstacle}
 use Rattle.ledger_spec.specs.Groups.{Group, growth, conflicts}
-use Rattle.ledger_sparing.specs.Sparing.{popSparing}
+use Rattle.ledger_sparing.specs.Sparing.{pop_sparing}
 
 -- a call's number and what it took
 abbrev pub Answer : Type 0
@@ -15,29 +15,29 @@ Answer = ℕ × Option Obstacle
 -- the answers of n calls, the first call's first, and the group after them
 unfoldable pub answers : ℕ → Group → List Answer
 answers zero g = []
-answers (suc n) g = ((popSparing g).0, (popSparing g).1.0) ∷ answers n (popSparing g).1.1
+answers (suc n) g = ((pop_sparing g).0, (pop_sparing g).1.0) ∷ answers n (pop_sparing g).1.1
 
 unfoldable pub left : ℕ → Group → Group
 left zero g = g
-left (suc n) g = left n (popSparing g).1.1
+left (suc n) g = left n (pop_sparing g).1.1
 
 -- a list's obstacles from its end; those of stops as they stand, which in a sound group is by rising vertex
-unfoldable pub fromEnd : List Entry → List Obstacle
-fromEnd [] = []
-fromEnd (e ∷ es) = fromEnd es ++ e.obstacle ∷ []
+unfoldable pub from_end : List Entry → List Obstacle
+from_end [] = []
+from_end (e ∷ es) = from_end es ++ e.obstacle ∷ []
 
-unfoldable pub asTheyStand : List Stop → List Obstacle
-asTheyStand [] = []
-asTheyStand (s ∷ ss) = s.obstacle ∷ asTheyStand ss
+unfoldable pub as_they_stand : List Stop → List Obstacle
+as_they_stand [] = []
+as_they_stand (s ∷ ss) = s.obstacle ∷ as_they_stand ss
 
 -- every entry of conflicts, once
-abbrev pub entriesOf : List Entry → List Stop → List Obstacle
-entriesOf es ss = fromEnd es ++ asTheyStand ss
+abbrev pub entries_of : List Entry → List Stop → List Obstacle
+entries_of es ss = from_end es ++ as_they_stand ss
 
 -- each of them as an accepted call's answer
-unfoldable pub givenOut : List Obstacle → List Answer
-givenOut [] = []
-givenOut (o ∷ os) = (0, some o) ∷ givenOut os
+unfoldable pub given_out : List Obstacle → List Answer
+given_out [] = []
+given_out (o ∷ os) = (0, some o) ∷ given_out os
 
 -- n accepted calls that took nothing
 unfoldable pub nothings : ℕ → List Answer
@@ -45,8 +45,8 @@ nothings zero = []
 nothings (suc n) = (0, none) ∷ nothings n
 
 -- the list or the stops are empty, or it is a growth
-unfoldable pub oneEmpty : Group → Bool
-oneEmpty (growth n f) = true
-oneEmpty (conflicts [] ss) = true
-oneEmpty (conflicts (e ∷ es) []) = true
-oneEmpty (conflicts (e ∷ es) (s ∷ ss)) = false
+unfoldable pub one_empty : Group → Bool
+one_empty (growth n f) = true
+one_empty (conflicts [] ss) = true
+one_empty (conflicts (e ∷ es) []) = true
+one_empty (conflicts (e ∷ es) (s ∷ ss)) = false

@@ -32,20 +32,20 @@ unfolding sum_to
 sum_same zero f g h = refl
 sum_same (suc n) f g h = ap₂ ◌+◌ (sum_same n f g (λ p l. h p (omega arith))) (h n (omega arith))
 
-pub sum-add : (n : ℕ) (f g : ℕ → ℕ) → sum_to n (λ p. f p + g p) ≡ sum_to n f + sum_to n g
+pub sum_add : (n : ℕ) (f g : ℕ → ℕ) → sum_to n (λ p. f p + g p) ≡ sum_to n f + sum_to n g
 unfolding sum_to
-sum-add zero f g = refl
-sum-add (suc n) f g = omega (arith, sum-add n f g)
+sum_add zero f g = refl
+sum_add (suc n) f g = omega (arith, sum_add n f g)
 
-pub sum-zero : (n : ℕ) (f : ℕ → ℕ) → ((p : ℕ) → p < n → f p ≡ 0) → sum_to n f ≡ 0
+pub sum_zero : (n : ℕ) (f : ℕ → ℕ) → ((p : ℕ) → p < n → f p ≡ 0) → sum_to n f ≡ 0
 unfolding sum_to
-sum-zero zero f h = refl
-sum-zero (suc n) f h = omega (arith, sum-zero n f (λ p l. h p (omega arith)), h n (omega arith))
+sum_zero zero f h = refl
+sum_zero (suc n) f h = omega (arith, sum_zero n f (λ p l. h p (omega arith)), h n (omega arith))
 
-pub sum-swap : (n m : ℕ) (f : ℕ → ℕ → ℕ) → sum_to n (λ p. sum_to m (λ q. f p q)) ≡ sum_to m (λ q. sum_to n (λ p. f p q))
+pub sum_swap : (n m : ℕ) (f : ℕ → ℕ → ℕ) → sum_to n (λ p. sum_to m (λ q. f p q)) ≡ sum_to m (λ q. sum_to n (λ p. f p q))
 unfolding sum_to
-sum-swap zero m f = sym (sum-zero m (λ q. 0) (λ q l. refl))
-sum-swap (suc n) m f = ap (λ (x : ℕ). x + sum_to m (λ q. f n q)) (sum-swap n m f) ∙ sym (sum-add m (λ q. sum_to n (λ p. f p q)) (λ q. f n q))
+sum_swap zero m f = sym (sum_zero m (λ q. 0) (λ q l. refl))
+sum_swap (suc n) m f = ap (λ (x : ℕ). x + sum_to m (λ q. f n q)) (sum_swap n m f) ∙ sym (sum_add m (λ q. sum_to n (λ p. f p q)) (λ q. f n q))
 
 -- all but one are 0
 pub sum_one : (n k : ℕ) (f : ℕ → ℕ) → k < n → ((p : ℕ) → p < n → (p ≡ k → ⊥) → f p ≡ 0) → sum_to n f ≡ f k
@@ -54,44 +54,44 @@ sum_one zero k f l h = absurd (omega arith)
 sum_one (suc n) k f l h = go (ℕ_discrete k n) (λ m. sum_one n k f m (λ p q. h p (omega arith)))
   where
     go : Dec (k ≡ n) → (k < n → sum_to n f ≡ f k) → sum_to n f + f n ≡ f k
-    go (yes e) ih = omega (arith, sum-zero n f (λ p q. h p (omega arith) (λ z. omega arith)), ap f e)
+    go (yes e) ih = omega (arith, sum_zero n f (λ p q. h p (omega arith) (λ z. omega arith)), ap f e)
     go (no e) ih = omega (arith, ih (omega arith), h n (omega arith) (λ z. e (sym z)))
 
-pub sum-has : (n k : ℕ) (f : ℕ → ℕ) → k < n → f k ≤ sum_to n f
+pub sum_has : (n k : ℕ) (f : ℕ → ℕ) → k < n → f k ≤ sum_to n f
 unfolding sum_to
-sum-has zero k f l = absurd (omega arith)
-sum-has (suc n) k f l = go (ℕ_discrete k n) (λ m. sum-has n k f m)
+sum_has zero k f l = absurd (omega arith)
+sum_has (suc n) k f l = go (ℕ_discrete k n) (λ m. sum_has n k f m)
   where
     go : Dec (k ≡ n) → (k < n → f k ≤ sum_to n f) → f k ≤ sum_to n f + f n
     go (yes e) ih = omega (arith, ap f e)
     go (no e) ih = omega (arith, ih (omega arith))
 
-pub sum-most : (n : ℕ) (f : ℕ → ℕ) → ((p : ℕ) → p < n → f p ≤ 1) → sum_to n f ≤ n
+pub sum_most : (n : ℕ) (f : ℕ → ℕ) → ((p : ℕ) → p < n → f p ≤ 1) → sum_to n f ≤ n
 unfolding sum_to
-sum-most zero f h = omega arith
-sum-most (suc n) f h = omega (arith, sum-most n f (λ p l. h p (omega arith)), h n (omega arith))
+sum_most zero f h = omega arith
+sum_most (suc n) f h = omega (arith, sum_most n f (λ p l. h p (omega arith)), h n (omega arith))
 
 -- each element of a list below n
 abbrev pub Below : ℕ → List ℕ → Type 0
 Below n [] = Unit {0}
 Below n (k ∷ ks) = (k < n) × Below n ks
 
-hit-here : (n k : ℕ) (f : ℕ → ℕ) → k < n → sum_to n (λ p. one (eqb p k) * f p) ≡ f k
-hit-here n k f l = sum_one n k (λ p. one (eqb p k) * f p) l (λ p m ne. ap (λ (c : Bool). one c * f p) (ne_eqb p k ne) ∙ omega arith)
+hit_here : (n k : ℕ) (f : ℕ → ℕ) → k < n → sum_to n (λ p. one (eqb p k) * f p) ≡ f k
+hit_here n k f l = sum_one n k (λ p. one (eqb p k) * f p) l (λ p m ne. ap (λ (c : Bool). one c * f p) (ne_eqb p k ne) ∙ omega arith)
     ∙ ap (λ (c : Bool). one c * f k) (eq-eqb k k refl) ∙ omega arith
 
 -- a sum over a list, as one over positions
-pub list-sum : (n : ℕ) (f : ℕ → ℕ) (ks : List ℕ) → Below n ks → sum_of f ks ≡ sum_to n (λ p. count p ks * f p)
+pub list_sum : (n : ℕ) (f : ℕ → ℕ) (ks : List ℕ) → Below n ks → sum_of f ks ≡ sum_to n (λ p. count p ks * f p)
 unfolding sum_of count
-list-sum n f [] b = sym (sum-zero n (λ p. 0 * f p) (λ p l. omega arith))
-list-sum n f (k ∷ ks) b = ap₂ ◌+◌ (sym (hit-here n k f b.0)) (list-sum n f ks b.1)
-    ∙ sym (sum-add n (λ p. one (eqb p k) * f p) (λ p. count p ks * f p))
+list_sum n f [] b = sym (sum_zero n (λ p. 0 * f p) (λ p l. omega arith))
+list_sum n f (k ∷ ks) b = ap₂ ◌+◌ (sym (hit_here n k f b.0)) (list_sum n f ks b.1)
+    ∙ sym (sum_add n (λ p. one (eqb p k) * f p) (λ p. count p ks * f p))
     ∙ sum_same n (λ p. one (eqb p k) * f p + count p ks * f p) (λ p. (one (eqb p k) + count p ks) * f p) (λ p l. sym (add-mul (one (eqb p k)) (count p ks) (f p)))
 
-pub list-has : (f : ℕ → ℕ) (p : ℕ) (ks : List ℕ) (m : ℕ) → count p ks ≡ suc m → f p ≤ sum_of f ks
+pub list_has : (f : ℕ → ℕ) (p : ℕ) (ks : List ℕ) (m : ℕ) → count p ks ≡ suc m → f p ≤ sum_of f ks
 unfolding sum_of count
-list-has f p [] m e = absurd (omega arith)
-list-has f p (k ∷ ks) m e = go (ℕ_discrete p k) (list-has f p ks m)
+list_has f p [] m e = absurd (omega arith)
+list_has f p (k ∷ ks) m e = go (ℕ_discrete p k) (list_has f p ks m)
   where
     go : Dec (p ≡ k) → (count p ks ≡ suc m → f p ≤ sum_of f ks) → f p ≤ f k + sum_of f ks
     go (yes q) ih = omega (arith, ap f q)
@@ -129,12 +129,12 @@ module _ (n : ℕ) (own whole : ℕ → ℕ) (kids : ℕ → List ℕ) (child : 
   both p false e = omega (arith, ap (λ (z : Bool). rest z (whole p)) e)
 
   children : sum_to n (λ q. sum_of whole (kids q)) ≡ sum_to n (λ p. part (child p) (whole p))
-  children = sum_same n (λ q. sum_of whole (kids q)) (λ q. sum_to n (λ p. count p (kids q) * whole p)) (λ q l. list-sum n whole (kids q) (below q l))
-      ∙ sum-swap n n (λ q p. count p (kids q) * whole p)
+  children = sum_same n (λ q. sum_of whole (kids q)) (λ q. sum_to n (λ p. count p (kids q) * whole p)) (λ q l. list_sum n whole (kids q) (below q l))
+      ∙ sum_swap n n (λ q p. count p (kids q) * whole p)
       ∙ sum_same n (λ p. sum_to n (λ q. count p (kids q) * whole p)) (λ p. part (child p) (whole p)) (λ p l. held p l (child p) refl)
 
   pub family : sum_to n free ≡ sum_to n own
   family =
-      let a = sum_same n whole (λ p. free p + part (child p) (whole p)) (λ p l. both p (child p) refl) ∙ sum-add n free (λ p. part (child p) (whole p)) in
-      let b = sum_same n whole (λ q. own q + sum_of whole (kids q)) adds ∙ sum-add n own (λ q. sum_of whole (kids q)) in
+      let a = sum_same n whole (λ p. free p + part (child p) (whole p)) (λ p l. both p (child p) refl) ∙ sum_add n free (λ p. part (child p) (whole p)) in
+      let b = sum_same n whole (λ q. own q + sum_of whole (kids q)) adds ∙ sum_add n own (λ q. sum_of whole (kids q)) in
       omega (arith, a, b, children)

@@ -8,14 +8,14 @@ use mathlib.Core.List.{List, [], ◌∷◌}
 use native.Mathlib.Omega.{arith}
 use lib.Dec.{T, eqb, leb, ltb, ltb→lt}
 use lib.IntN.{nat_abs}
-use borrow.Author.Tests.{lt-leb, ne_eqb, eqb-true, eq-eqb, leb-false, eqb-false, not-false}
+use borrow.Author.Tests.{lt-leb, ne_eqb, eqb-true, eq-eqb, leb-false, eqb-false, not_false}
 use Rattle.ledger_spec.specs.Bench.{Handle, Node, Bench}
-use Rattle.ledger_spec.specs.Look.{interface, slot_of, nodeNamed, ifSerial}
+use Rattle.ledger_spec.specs.Look.{interface, slot_of, node_named, if_serial}
 use Rattle.ledger_spec.specs.Knit.{Has}
-use Rattle.ledger_spec.proofs.Lists.{or-false, same-eq, eq-same}
-use Rattle.ledger_spec.proofs.Knit.{some-eq, none-some}
+use Rattle.ledger_spec.proofs.Lists.{or_false, same_eq, eq_same}
+use Rattle.ledger_spec.proofs.Knit.{some_eq, none_some}
 use Rattle.ledger_spec.specs.Tests.{first, is_some, empty, outside, child, stale, floored, same}
-use Rattle.ledger_spec.specs.Refuse.{fuseTests}
+use Rattle.ledger_spec.specs.Refuse.{fuse_tests}
 
 -- each test of a list failed; and no number of it is 0, which is computed
 abbrev pub Failed : List (Bool × ℕ) → Type 0
@@ -54,13 +54,13 @@ failed (t ∷ ts) f = go t.0 f.0 (failed ts f.1)
     go true e h = absurd (true≢false e)
     go false e h = h
 
-pub given-false : {A : Type 0} (o : Option A) → is_some o ≡ false → o ≡ none
-given-false none e = refl
-given-false (some a) e = absurd (true≢false e)
+pub given_false : {A : Type 0} (o : Option A) → is_some o ≡ false → o ≡ none
+given_false none e = refl
+given_false (some a) e = absurd (true≢false e)
 
-pub empty-true : {A : Type 0} (l : List A) → empty l ≡ true → l ≡ []
-empty-true [] e = refl
-empty-true (x ∷ xs) e = absurd (true≢false (sym e))
+pub empty_true : {A : Type 0} (l : List A) → empty l ≡ true → l ≡ []
+empty_true [] e = refl
+empty_true (x ∷ xs) e = absurd (true≢false (sym e))
 
 -- an interface that a call may name
 pub record Open (b : Bench) (u : ℕ) : Type 0 where
@@ -68,102 +68,102 @@ pub record Open (b : Bench) (u : ℕ) : Type 0 where
   pub free : (interface b u).parent ≡ none
 
 pub open_of : (b : Bench) (u : ℕ) → outside u ≡ false → child b u ≡ false → Open b u
-open_of b u x y = record { low = leb-false 8 u x; free = given-false (interface b u).parent y }
+open_of b u x y = record { low = leb-false 8 u x; free = given_false (interface b u).parent y }
 
 -- ---- the node that a handle names stands in its slot, under its serial
-serial-some : (k : ℕ) (o : Option Node) (n : Node) → ifSerial k o ≡ some n → (o ≡ some n) × (n.serial ≡ k)
-unfolding ifSerial
-serial-some k none n e = absurd (none-some refl e)
-serial-some k (some m) n e = go (eqb k m.serial) refl e
+serial_some : (k : ℕ) (o : Option Node) (n : Node) → if_serial k o ≡ some n → (o ≡ some n) × (n.serial ≡ k)
+unfolding if_serial
+serial_some k none n e = absurd (none_some refl e)
+serial_some k (some m) n e = go (eqb k m.serial) refl e
   where
     pick : Bool → Option Node
     pick c = elim c [ true ↦ some m | false ↦ none ]
 
     go : (c : Bool) → eqb k m.serial ≡ c → pick c ≡ some n → (some m ≡ some n) × (n.serial ≡ k)
-    go true t e = (e, ap (λ (x : Node). x.serial) (sym (some-eq refl e)) ∙ sym (eqb-true k m.serial t))
-    go false t e = absurd (none-some refl e)
+    go true t e = (e, ap (λ (x : Node). x.serial) (sym (some_eq refl e)) ∙ sym (eqb-true k m.serial t))
+    go false t e = absurd (none_some refl e)
 
-serial-is : (k : ℕ) (n : Node) → n.serial ≡ k → ifSerial k (some n) ≡ some n
-unfolding ifSerial
-serial-is k n e = go (eq-eqb k n.serial (sym e))
+serial_is : (k : ℕ) (n : Node) → n.serial ≡ k → if_serial k (some n) ≡ some n
+unfolding if_serial
+serial_is k n e = go (eq-eqb k n.serial (sym e))
   where
-    go : eqb k n.serial ≡ true → ifSerial k (some n) ≡ some n
-    go t = rw (t, ifSerial)
+    go : eqb k n.serial ≡ true → if_serial k (some n) ≡ some n
+    go t = rw (t, if_serial)
 
-pub serial-none : (k : ℕ) → ifSerial k none ≡ none
-unfolding ifSerial
-serial-none k = refl
+pub serial_none : (k : ℕ) → if_serial k none ≡ none
+unfolding if_serial
+serial_none k = refl
 
-pub serial-other : (k : ℕ) (n : Node) → k ≢ n.serial → ifSerial k (some n) ≡ none
-unfolding ifSerial
-serial-other k n q = go (ne_eqb k n.serial q)
+pub serial_other : (k : ℕ) (n : Node) → k ≢ n.serial → if_serial k (some n) ≡ none
+unfolding if_serial
+serial_other k n q = go (ne_eqb k n.serial q)
   where
-    go : eqb k n.serial ≡ false → ifSerial k (some n) ≡ none
-    go t = rw (t, ifSerial)
+    go : eqb k n.serial ≡ false → if_serial k (some n) ≡ none
+    go t = rw (t, if_serial)
 
-pub node-has : (b : Bench) (h : Handle) (n : Node) → nodeNamed b h ≡ some n → Has (slot_of b) h n
-unfolding nodeNamed
-node-has b h n e = let r = serial-some h.serial (slot_of b h.unit h.slot) n e in record { stands = r.0; serial = r.1 }
+pub node_has : (b : Bench) (h : Handle) (n : Node) → node_named b h ≡ some n → Has (slot_of b) h n
+unfolding node_named
+node_has b h n e = let r = serial_some h.serial (slot_of b h.unit h.slot) n e in record { stands = r.0; serial = r.1 }
 
-pub has-node : (b : Bench) (h : Handle) (n : Node) → Has (slot_of b) h n → nodeNamed b h ≡ some n
-unfolding nodeNamed
-has-node b h n H = ap (ifSerial h.serial) H.stands ∙ serial-is h.serial n H.serial
+pub has_node : (b : Bench) (h : Handle) (n : Node) → Has (slot_of b) h n → node_named b h ≡ some n
+unfolding node_named
+has_node b h n H = ap (if_serial h.serial) H.stands ∙ serial_is h.serial n H.serial
 
 -- a handle that is not stale
-pub has_of : (b : Bench) (h : Handle) → stale b h ≡ false → (n : Node) × Has (slot_of b) h n × (nodeNamed b h ≡ some n)
-has_of b h e = go (nodeNamed b h) refl
+pub has_of : (b : Bench) (h : Handle) → stale b h ≡ false → (n : Node) × Has (slot_of b) h n × (node_named b h ≡ some n)
+has_of b h e = go (node_named b h) refl
   where
-    go : (o : Option Node) → nodeNamed b h ≡ o → (n : Node) × Has (slot_of b) h n × (nodeNamed b h ≡ some n)
+    go : (o : Option Node) → node_named b h ≡ o → (n : Node) × Has (slot_of b) h n × (node_named b h ≡ some n)
     go none k = absurd (true≢false (sym (ap (λ (o : Option Node). not (is_some o)) k) ∙ e))
-    go (some n) k = (n, node-has b h n k, k)
+    go (some n) k = (n, node_has b h n k, k)
 
 pub record Fusable (b : Bench) (p l r : ℕ) : Type 0 where
   pub p<8 : p < 8
   pub l<p : l < p
   pub r<p : r < p
   pub l≢r : l ≢ r
-  pub l-none : (interface b l).parent ≡ none
-  pub r-none : (interface b r).parent ≡ none
-  pub p-none : (interface b p).parent ≡ none
-  pub no-slots : (interface b p).slots ≡ []
-  pub no-progress : nat_abs (interface b p).progress ≡ 0
-  pub no-halves : is_some (interface b p).halves ≡ false
+  pub l_none : (interface b l).parent ≡ none
+  pub r_none : (interface b r).parent ≡ none
+  pub p_none : (interface b p).parent ≡ none
+  pub no_slots : (interface b p).slots ≡ []
+  pub no_progress : nat_abs (interface b p).progress ≡ 0
+  pub no_halves : is_some (interface b p).halves ≡ false
   pub alike : floored b l ≡ floored b r
 
-pub fusable : (b : Bench) (p l r : ℕ) → first (fuseTests b p l r) ≡ 0 → Fusable b p l r
-unfolding fuseTests
+pub fusable : (b : Bench) (p l r : ℕ) → first (fuse_tests b p l r) ≡ 0 → Fusable b p l r
+unfolding fuse_tests
 fusable b p l r e =
-    let t = passed (fuseTests b p l r) tt e in
-    let c₁ = or-false (child b p) (child b l || child b r) t.1.0 in
-    let c₂ = or-false (child b l) (child b r) c₁.1 in
-    let q₁ = or-false (eqb l r) (leb p l || leb p r) t.1.1.0 in
-    let q₂ = or-false (leb p l) (leb p r) q₁.1 in
-    let u₁ = or-false (not (empty (interface b p).slots)) (not (eqb (nat_abs (interface b p).progress) 0) || is_some (interface b p).halves) t.1.1.1.0 in
-    let u₂ = or-false (not (eqb (nat_abs (interface b p).progress) 0)) (is_some (interface b p).halves) u₁.1 in
+    let t = passed (fuse_tests b p l r) tt e in
+    let c₁ = or_false (child b p) (child b l || child b r) t.1.0 in
+    let c₂ = or_false (child b l) (child b r) c₁.1 in
+    let q₁ = or_false (eqb l r) (leb p l || leb p r) t.1.1.0 in
+    let q₂ = or_false (leb p l) (leb p r) q₁.1 in
+    let u₁ = or_false (not (empty (interface b p).slots)) (not (eqb (nat_abs (interface b p).progress) 0) || is_some (interface b p).halves) t.1.1.1.0 in
+    let u₂ = or_false (not (eqb (nat_abs (interface b p).progress) 0)) (is_some (interface b p).halves) u₁.1 in
     record {
-      p<8 = leb-false 8 p (or-false (outside p) (outside l || outside r) t.0).0;
+      p<8 = leb-false 8 p (or_false (outside p) (outside l || outside r) t.0).0;
       l<p = leb-false p l q₂.0;
       r<p = leb-false p r q₂.1;
       l≢r = eqb-false l r q₁.0;
-      p-none = given-false (interface b p).parent c₁.0;
-      l-none = given-false (interface b l).parent c₂.0;
-      r-none = given-false (interface b r).parent c₂.1;
-      no-slots = empty-true (interface b p).slots (not-false (empty (interface b p).slots) u₁.0);
-      no-progress = eqb-true (nat_abs (interface b p).progress) 0 (not-false (eqb (nat_abs (interface b p).progress) 0) u₂.0);
-      no-halves = u₂.1;
-      alike = same-eq (floored b l) (floored b r) (not-false (same (floored b l) (floored b r)) t.1.1.1.1.0);
+      p_none = given_false (interface b p).parent c₁.0;
+      l_none = given_false (interface b l).parent c₂.0;
+      r_none = given_false (interface b r).parent c₂.1;
+      no_slots = empty_true (interface b p).slots (not_false (empty (interface b p).slots) u₁.0);
+      no_progress = eqb-true (nat_abs (interface b p).progress) 0 (not_false (eqb (nat_abs (interface b p).progress) 0) u₂.0);
+      no_halves = u₂.1;
+      alike = same_eq (floored b l) (floored b r) (not_false (same (floored b l) (floored b r)) t.1.1.1.1.0);
     }
 
 -- and back: what can be fused is
-pub fusable-tests : (b : Bench) (p l r : ℕ) → Fusable b p l r → first (fuseTests b p l r) ≡ 0
-unfolding fuseTests
-fusable-tests b p l r f = failed (fuseTests b p l r) (
+pub fusable_tests : (b : Bench) (p l r : ℕ) → Fusable b p l r → first (fuse_tests b p l r) ≡ 0
+unfolding fuse_tests
+fusable_tests b p l r f = failed (fuse_tests b p l r) (
   ap₂ ◌||◌ (lt-leb 8 p f.p<8) (ap₂ ◌||◌ (lt-leb 8 l (omega arith)) (lt-leb 8 r (omega arith))),
   (
-    ap₂ ◌||◌ (ap is_some f.p-none) (ap₂ ◌||◌ (ap is_some f.l-none) (ap is_some f.r-none)),
+    ap₂ ◌||◌ (ap is_some f.p_none) (ap₂ ◌||◌ (ap is_some f.l_none) (ap is_some f.r_none)),
     (
       ap₂ ◌||◌ (ne_eqb l r f.l≢r) (ap₂ ◌||◌ (lt-leb p l f.l<p) (lt-leb p r f.r<p)),
-      (ap₂ ◌||◌ (ap (λ (x : List (Option Node)). not (empty x)) f.no-slots) (ap₂ ◌||◌ (ap (λ (z : ℕ). not (eqb z 0)) f.no-progress) f.no-halves), (ap not (eq-same (floored b l) (floored b r) f.alike), tt)),
+      (ap₂ ◌||◌ (ap (λ (x : List (Option Node)). not (empty x)) f.no_slots) (ap₂ ◌||◌ (ap (λ (z : ℕ). not (eqb z 0)) f.no_progress) f.no_halves), (ap not (eq_same (floored b l) (floored b r) f.alike), tt)),
     ),
   ),
 )

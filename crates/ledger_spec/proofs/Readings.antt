@@ -1,4 +1,4 @@
--- What a bench says of its interfaces and slots after a slot was changed (`place`), a node marked (`mark`, `markAll`) or a slot added (`push`).
+-- What a bench says of its interfaces and slots after a slot was changed (`place`), a node marked (`mark`, `mark_all`) or a slot added (`push`).
 -- Each law is of one field; the definitions stay shut for whoever cites these. Assumes nothing.
 use Prim.Native.Nat.{ℕ, zero, suc, ◌≤◌, ◌<◌, max}
 use mathlib.Core.Path.{◌≡◌, refl, sym, ◌∙◌, ap, ap₂, subst}
@@ -10,61 +10,61 @@ use native.Mathlib.Decide.{ℕ_discrete, dec_lt}
 use lib.ListN.{get_or, length, set, length-set, get_or-eq_default}
 use lib.Seq.{get_or-set_same, get_or-set_other, set_out}
 use lib.IntN.{ℤ, ◌+ℤ◌, ◌-ℤ◌}
-use Rattle.ledger_spec.specs.Bench.{Handle, State, rate, Node, Interface, Bench, fresh, withSlots, withSpeed}
+use Rattle.ledger_spec.specs.Bench.{Handle, State, rate, Node, Interface, Bench, fresh, with_slots, with_speed}
 use Rattle.ledger_spec.specs.Look.{interface, slot_of, top}
-use Rattle.ledger_spec.specs.Change.{share, withInterface, faster, place, put, push, restate, mark, markAll}
+use Rattle.ledger_spec.specs.Change.{share, with_interface, faster, place, put, push, restate, mark, mark_all}
 use Rattle.ledger_spec.specs.Knit.{In, here, there}
-use Rattle.ledger_spec.proofs.Interfaces.{put-here, put-else, put-kept}
-use Rattle.ledger_spec.proofs.Slots.{put-at, put-off, put_count}
+use Rattle.ledger_spec.proofs.Interfaces.{put_here, put_else, put_kept}
+use Rattle.ledger_spec.proofs.Slots.{put_at, put_off, put_count}
 
 -- no interface, no node
-pub slot-out : (b : Bench) (u s : ℕ) → length b.interfaces ≤ u → slot_of b u s ≡ none
-slot-out b u s h = ap (λ (f : Interface). get_or f.slots s none) (get_or-eq_default b.interfaces fresh h)
+pub slot_out : (b : Bench) (u s : ℕ) → length b.interfaces ≤ u → slot_of b u s ≡ none
+slot_out b u s h = ap (λ (f : Interface). get_or f.slots s none) (get_or-eq_default b.interfaces fresh h)
 
 -- ---- a slot changed
 module _ (b : Bench) (u s : ℕ) (y : Option Node) where
   abbrev one : Bench
-  one = withInterface b u (withSlots (interface b u) (set (interface b u).slots s y))
+  one = with_interface b u (with_slots (interface b u) (set (interface b u).slots s y))
 
   -- any field but the slots and the speed
-  pub place-field : {X : Type 0} (φ : Interface → X) → ((f : Interface) (l : List (Option Node)) → φ (withSlots f l) ≡ φ f) → ((f : Interface) (x : ℤ) → φ (withSpeed f x) ≡ φ f)
+  pub place_field : {X : Type 0} (φ : Interface → X) → ((f : Interface) (l : List (Option Node)) → φ (with_slots f l) ≡ φ f) → ((f : Interface) (x : ℤ) → φ (with_speed f x) ≡ φ f)
       → (w : ℕ) → φ (interface (place b u s y) w) ≡ φ (interface b w)
   unfolding place faster
-  place-field φ p q w = put-kept φ one (top b u) _ (q _ _) w ∙ put-kept φ b u _ (p _ _) w
+  place_field φ p q w = put_kept φ one (top b u) _ (q _ _) w ∙ put_kept φ b u _ (p _ _) w
 
   -- an interface that is neither the slot's nor its top, whole
-  pub place-aside : (w : ℕ) → w ≢ u → w ≢ top b u → interface (place b u s y) w ≡ interface b w
+  pub place_aside : (w : ℕ) → w ≢ u → w ≢ top b u → interface (place b u s y) w ≡ interface b w
   unfolding place faster
-  place-aside w p q = put-else (λ f. f) one (top b u) _ w q ∙ put-else (λ f. f) b u _ w p
+  place_aside w p q = put_else (λ f. f) one (top b u) _ w q ∙ put_else (λ f. f) b u _ w p
 
-  pub place-else : (w : ℕ) → w ≢ u → (interface (place b u s y) w).slots ≡ (interface b w).slots
+  pub place_else : (w : ℕ) → w ≢ u → (interface (place b u s y) w).slots ≡ (interface b w).slots
   unfolding place faster
-  place-else w q = put-kept (λ f. f.slots) one (top b u) _ refl w ∙ put-else (λ f. f.slots) b u _ w q
+  place_else w q = put_kept (λ f. f.slots) one (top b u) _ refl w ∙ put_else (λ f. f.slots) b u _ w q
 
   pub place_here : u < length b.interfaces → (interface (place b u s y) u).slots ≡ set (interface b u).slots s y
   unfolding place faster
-  place_here h = put-kept (λ f. f.slots) one (top b u) _ refl u ∙ put-here (λ f. f.slots) b u _ h
+  place_here h = put_kept (λ f. f.slots) one (top b u) _ refl u ∙ put_here (λ f. f.slots) b u _ h
 
-  pub place-slow : (w : ℕ) → w ≢ top b u → (interface (place b u s y) w).speed ≡ (interface b w).speed
+  pub place_slow : (w : ℕ) → w ≢ top b u → (interface (place b u s y) w).speed ≡ (interface b w).speed
   unfolding place faster
-  place-slow w q = put-else (λ f. f.speed) one (top b u) _ w q ∙ put-kept (λ f. f.speed) b u _ refl w
+  place_slow w q = put_else (λ f. f.speed) one (top b u) _ w q ∙ put_kept (λ f. f.speed) b u _ refl w
 
-  pub place-fast : top b u < length b.interfaces → (interface (place b u s y) (top b u)).speed ≡ (interface b (top b u)).speed +ℤ (share y -ℤ share (slot_of b u s))
+  pub place_fast : top b u < length b.interfaces → (interface (place b u s y) (top b u)).speed ≡ (interface b (top b u)).speed +ℤ (share y -ℤ share (slot_of b u s))
   unfolding place faster
-  place-fast h = put-here (λ f. f.speed) one (top b u) _ (subst (λ (n : ℕ). top b u < n) (sym (length-set b.interfaces u _)) h)
-      ∙ ap (λ (x : ℤ). x +ℤ (share y -ℤ share (slot_of b u s))) (put-kept (λ f. f.speed) b u _ refl (top b u))
+  place_fast h = put_here (λ f. f.speed) one (top b u) _ (subst (λ (n : ℕ). top b u < n) (sym (length-set b.interfaces u _)) h)
+      ∙ ap (λ (x : ℤ). x +ℤ (share y -ℤ share (slot_of b u s))) (put_kept (λ f. f.speed) b u _ refl (top b u))
 
-  pub place-length : length (place b u s y).interfaces ≡ length b.interfaces
+  pub place_length : length (place b u s y).interfaces ≡ length b.interfaces
   unfolding place faster
-  place-length = simp length-set
+  place_length = simp length-set
 
-  pub place-next : (place b u s y).next ≡ b.next
+  pub place_next : (place b u s y).next ≡ b.next
   unfolding place faster
-  place-next = refl
+  place_next = refl
 
-  pub place-plain : (place b u s y).plain ≡ b.plain
+  pub place_plain : (place b u s y).plain ≡ b.plain
   unfolding place faster
-  place-plain = refl
+  place_plain = refl
 
   -- where it is placed: y, if there is such a slot
   pub place_at : (slot_of b u s ≡ none → y ≡ none) → slot_of (place b u s y) u s ≡ y
@@ -76,190 +76,190 @@ module _ (b : Bench) (u s : ℕ) (y : Option Node) where
         where
           bare : slot_of b u s ≡ none
           bare = get_or-eq_default (interface b u).slots none (omega arith)
-      go (no h) k = slot-out (place b u s y) u s (omega (arith, h, place-length)) ∙ sym (fit (slot-out b u s (omega arith)))
+      go (no h) k = slot_out (place b u s y) u s (omega (arith, h, place_length)) ∙ sym (fit (slot_out b u s (omega arith)))
 
-  pub place-off : (w t : ℕ) → (u ≡ w → s ≡ t → ⊥) → slot_of (place b u s y) w t ≡ slot_of b w t
-  place-off w t off = go (ℕ_discrete w u) (dec_lt u (length b.interfaces))
+  pub place_off : (w t : ℕ) → (u ≡ w → s ≡ t → ⊥) → slot_of (place b u s y) w t ≡ slot_of b w t
+  place_off w t off = go (ℕ_discrete w u) (dec_lt u (length b.interfaces))
     where
       go : Dec (w ≡ u) → Dec (u < length b.interfaces) → slot_of (place b u s y) w t ≡ slot_of b w t
       go (yes e) (yes h) = subst (λ (z : ℕ). slot_of (place b u s y) z t ≡ slot_of b z t) (sym e) (ap (λ (l : List (Option Node)). get_or l t none) (place_here h) ∙ get_or-set_other (interface b u).slots s t y none (λ z. off (sym e) (sym z)))
-      go (yes e) (no h) = slot-out (place b u s y) w t (omega (arith, h, e, place-length)) ∙ sym (slot-out b w t (omega arith))
-      go (no e) h = ap (λ (l : List (Option Node)). get_or l t none) (place-else w e)
+      go (yes e) (no h) = slot_out (place b u s y) w t (omega (arith, h, e, place_length)) ∙ sym (slot_out b w t (omega arith))
+      go (no e) h = ap (λ (l : List (Option Node)). get_or l t none) (place_else w e)
 
   -- how many slots an interface has
-  pub place-count : (w : ℕ) → length (interface (place b u s y) w).slots ≡ length (interface b w).slots
-  place-count w = go (ℕ_discrete w u) (dec_lt u (length b.interfaces))
+  pub place_count : (w : ℕ) → length (interface (place b u s y) w).slots ≡ length (interface b w).slots
+  place_count w = go (ℕ_discrete w u) (dec_lt u (length b.interfaces))
     where
       go : Dec (w ≡ u) → Dec (u < length b.interfaces) → length (interface (place b u s y) w).slots ≡ length (interface b w).slots
       go (yes e) (yes h) = subst (λ (z : ℕ). length (interface (place b u s y) z).slots ≡ length (interface b z).slots) (sym e) (ap length (place_here h) ∙ length-set (interface b u).slots s y)
-      go (yes e) (no h) = ap (λ (f : Interface). length f.slots) (get_or-eq_default (place b u s y).interfaces fresh (omega (arith, h, e, place-length)) ∙ sym (get_or-eq_default b.interfaces fresh (omega arith)))
-      go (no e) h = ap length (place-else w e)
+      go (yes e) (no h) = ap (λ (f : Interface). length f.slots) (get_or-eq_default (place b u s y).interfaces fresh (omega (arith, h, e, place_length)) ∙ sym (get_or-eq_default b.interfaces fresh (omega arith)))
+      go (no e) h = ap length (place_else w e)
 
 -- ---- a node marked
-restate-none : (o : Option Node) (s : State) (p : Option Handle) → o ≡ none → restate o s p ≡ none
-restate-none o s p e = ap (λ (x : Option Node). restate x s p) e
+restate_none : (o : Option Node) (s : State) (p : Option Handle) → o ≡ none → restate o s p ≡ none
+restate_none o s p e = ap (λ (x : Option Node). restate x s p) e
 
-restate-twice : (o : Option Node) (s : State) (p : Option Handle) → restate (restate o s p) s p ≡ restate o s p
-restate-twice none s p = refl
-restate-twice (some n) s p = refl
+restate_twice : (o : Option Node) (s : State) (p : Option Handle) → restate (restate o s p) s p ≡ restate o s p
+restate_twice none s p = refl
+restate_twice (some n) s p = refl
 
 module _ (b : Bench) (h : Handle) (s : State) (p : Option Handle) where
-  pub mark-field : {X : Type 0} (φ : Interface → X) → ((f : Interface) (l : List (Option Node)) → φ (withSlots f l) ≡ φ f) → ((f : Interface) (x : ℤ) → φ (withSpeed f x) ≡ φ f)
+  pub mark_field : {X : Type 0} (φ : Interface → X) → ((f : Interface) (l : List (Option Node)) → φ (with_slots f l) ≡ φ f) → ((f : Interface) (x : ℤ) → φ (with_speed f x) ≡ φ f)
       → (w : ℕ) → φ (interface (mark b h s p) w) ≡ φ (interface b w)
   unfolding mark
-  mark-field φ x y w = place-field b h.unit h.slot _ φ x y w
+  mark_field φ x y w = place_field b h.unit h.slot _ φ x y w
 
-  pub mark-aside : (w : ℕ) → w ≢ h.unit → w ≢ top b h.unit → interface (mark b h s p) w ≡ interface b w
+  pub mark_aside : (w : ℕ) → w ≢ h.unit → w ≢ top b h.unit → interface (mark b h s p) w ≡ interface b w
   unfolding mark
-  mark-aside w x y = place-aside b h.unit h.slot _ w x y
+  mark_aside w x y = place_aside b h.unit h.slot _ w x y
 
-  pub mark-at : slot_of (mark b h s p) h.unit h.slot ≡ restate (slot_of b h.unit h.slot) s p
+  pub mark_at : slot_of (mark b h s p) h.unit h.slot ≡ restate (slot_of b h.unit h.slot) s p
   unfolding mark
-  mark-at = place_at b h.unit h.slot _ (restate-none (slot_of b h.unit h.slot) s p)
+  mark_at = place_at b h.unit h.slot _ (restate_none (slot_of b h.unit h.slot) s p)
 
-  pub mark-off : (u t : ℕ) → (h.unit ≡ u → h.slot ≡ t → ⊥) → slot_of (mark b h s p) u t ≡ slot_of b u t
+  pub mark_off : (u t : ℕ) → (h.unit ≡ u → h.slot ≡ t → ⊥) → slot_of (mark b h s p) u t ≡ slot_of b u t
   unfolding mark
-  mark-off u t off = place-off b h.unit h.slot _ u t off
+  mark_off u t off = place_off b h.unit h.slot _ u t off
 
-  pub mark-count : (u : ℕ) → length (interface (mark b h s p) u).slots ≡ length (interface b u).slots
+  pub mark_count : (u : ℕ) → length (interface (mark b h s p) u).slots ≡ length (interface b u).slots
   unfolding mark
-  mark-count u = place-count b h.unit h.slot _ u
+  mark_count u = place_count b h.unit h.slot _ u
 
-  pub mark-slow : (w : ℕ) → w ≢ top b h.unit → (interface (mark b h s p) w).speed ≡ (interface b w).speed
+  pub mark_slow : (w : ℕ) → w ≢ top b h.unit → (interface (mark b h s p) w).speed ≡ (interface b w).speed
   unfolding mark
-  mark-slow w q = place-slow b h.unit h.slot _ w q
+  mark_slow w q = place_slow b h.unit h.slot _ w q
 
-  pub mark-fast : top b h.unit < length b.interfaces → (interface (mark b h s p) (top b h.unit)).speed
+  pub mark_fast : top b h.unit < length b.interfaces → (interface (mark b h s p) (top b h.unit)).speed
       ≡ (interface b (top b h.unit)).speed +ℤ (share (restate (slot_of b h.unit h.slot) s p) -ℤ share (slot_of b h.unit h.slot))
   unfolding mark
-  mark-fast q = place-fast b h.unit h.slot _ q
+  mark_fast q = place_fast b h.unit h.slot _ q
 
-  pub mark-length : length (mark b h s p).interfaces ≡ length b.interfaces
+  pub mark_length : length (mark b h s p).interfaces ≡ length b.interfaces
   unfolding mark
-  mark-length = place-length b h.unit h.slot _
+  mark_length = place_length b h.unit h.slot _
 
-  pub mark-next : (mark b h s p).next ≡ b.next
+  pub mark_next : (mark b h s p).next ≡ b.next
   unfolding mark
-  mark-next = place-next b h.unit h.slot _
+  mark_next = place_next b h.unit h.slot _
 
-  pub mark-plain : (mark b h s p).plain ≡ b.plain
+  pub mark_plain : (mark b h s p).plain ≡ b.plain
   unfolding mark
-  mark-plain = place-plain b h.unit h.slot _
+  mark_plain = place_plain b h.unit h.slot _
 
 -- ---- nodes marked one after the other
 module _ (s : State) (p : Option Handle) where
-  pub markAll-field : {X : Type 0} (φ : Interface → X) → ((f : Interface) (l : List (Option Node)) → φ (withSlots f l) ≡ φ f) → ((f : Interface) (x : ℤ) → φ (withSpeed f x) ≡ φ f)
-      → (b : Bench) (hs : List Handle) (w : ℕ) → φ (interface (markAll b hs s p) w) ≡ φ (interface b w)
-  unfolding markAll
-  markAll-field φ x y b [] w = refl
-  markAll-field φ x y b (h ∷ hs) w = markAll-field φ x y (mark b h s p) hs w ∙ mark-field b h s p φ x y w
+  pub mark_all_field : {X : Type 0} (φ : Interface → X) → ((f : Interface) (l : List (Option Node)) → φ (with_slots f l) ≡ φ f) → ((f : Interface) (x : ℤ) → φ (with_speed f x) ≡ φ f)
+      → (b : Bench) (hs : List Handle) (w : ℕ) → φ (interface (mark_all b hs s p) w) ≡ φ (interface b w)
+  unfolding mark_all
+  mark_all_field φ x y b [] w = refl
+  mark_all_field φ x y b (h ∷ hs) w = mark_all_field φ x y (mark b h s p) hs w ∙ mark_field b h s p φ x y w
 
-  pub markAll-off : (b : Bench) (hs : List Handle) (u t : ℕ) → ((h : Handle) → In h hs → h.unit ≡ u → h.slot ≡ t → ⊥) → slot_of (markAll b hs s p) u t ≡ slot_of b u t
-  unfolding markAll
-  markAll-off b [] u t off = refl
-  markAll-off b (g ∷ hs) u t off = markAll-off (mark b g s p) hs u t (λ h i. off h (there i)) ∙ mark-off b g s p u t (off g (here refl))
+  pub mark_all_off : (b : Bench) (hs : List Handle) (u t : ℕ) → ((h : Handle) → In h hs → h.unit ≡ u → h.slot ≡ t → ⊥) → slot_of (mark_all b hs s p) u t ≡ slot_of b u t
+  unfolding mark_all
+  mark_all_off b [] u t off = refl
+  mark_all_off b (g ∷ hs) u t off = mark_all_off (mark b g s p) hs u t (λ h i. off h (there i)) ∙ mark_off b g s p u t (off g (here refl))
 
   -- once marked, so it stays
-  markAll-fix : (b : Bench) (hs : List Handle) (u t : ℕ) (o : Option Node) → slot_of b u t ≡ restate o s p → slot_of (markAll b hs s p) u t ≡ restate o s p
-  unfolding markAll
-  markAll-fix b [] u t o e = e
-  markAll-fix b (g ∷ hs) u t o e = markAll-fix (mark b g s p) hs u t o (go (ℕ_discrete g.unit u) (ℕ_discrete g.slot t))
+  mark_all_fix : (b : Bench) (hs : List Handle) (u t : ℕ) (o : Option Node) → slot_of b u t ≡ restate o s p → slot_of (mark_all b hs s p) u t ≡ restate o s p
+  unfolding mark_all
+  mark_all_fix b [] u t o e = e
+  mark_all_fix b (g ∷ hs) u t o e = mark_all_fix (mark b g s p) hs u t o (go (ℕ_discrete g.unit u) (ℕ_discrete g.slot t))
     where
       go : Dec (g.unit ≡ u) → Dec (g.slot ≡ t) → slot_of (mark b g s p) u t ≡ restate o s p
-      go (yes x) (yes y) = ap₂ (slot_of (mark b g s p)) (sym x) (sym y) ∙ mark-at b g s p ∙ ap (λ (z : Option Node). restate z s p) (ap₂ (slot_of b) x y ∙ e) ∙ restate-twice o s p
-      go (yes x) (no y) = mark-off b g s p u t (λ a c. y c) ∙ e
-      go (no x) y = mark-off b g s p u t (λ a c. x a) ∙ e
+      go (yes x) (yes y) = ap₂ (slot_of (mark b g s p)) (sym x) (sym y) ∙ mark_at b g s p ∙ ap (λ (z : Option Node). restate z s p) (ap₂ (slot_of b) x y ∙ e) ∙ restate_twice o s p
+      go (yes x) (no y) = mark_off b g s p u t (λ a c. y c) ∙ e
+      go (no x) y = mark_off b g s p u t (λ a c. x a) ∙ e
 
-  pub markAll-at : (b : Bench) (hs : List Handle) (h : Handle) → In h hs → slot_of (markAll b hs s p) h.unit h.slot ≡ restate (slot_of b h.unit h.slot) s p
-  unfolding markAll
-  markAll-at b hs h (here {g} {hs = tl} e) = markAll-fix (mark b g s p) tl h.unit h.slot (slot_of b h.unit h.slot)
-      (subst (λ (z : Handle). slot_of (mark b g s p) z.unit z.slot ≡ restate (slot_of b z.unit z.slot) s p) (sym e) (mark-at b g s p))
-  markAll-at b hs h (there {g} {hs = tl} i) = go (ℕ_discrete g.unit h.unit) (ℕ_discrete g.slot h.slot) (markAll-at (mark b g s p) tl h i)
+  pub mark_all_at : (b : Bench) (hs : List Handle) (h : Handle) → In h hs → slot_of (mark_all b hs s p) h.unit h.slot ≡ restate (slot_of b h.unit h.slot) s p
+  unfolding mark_all
+  mark_all_at b hs h (here {g} {hs = tl} e) = mark_all_fix (mark b g s p) tl h.unit h.slot (slot_of b h.unit h.slot)
+      (subst (λ (z : Handle). slot_of (mark b g s p) z.unit z.slot ≡ restate (slot_of b z.unit z.slot) s p) (sym e) (mark_at b g s p))
+  mark_all_at b hs h (there {g} {hs = tl} i) = go (ℕ_discrete g.unit h.unit) (ℕ_discrete g.slot h.slot) (mark_all_at (mark b g s p) tl h i)
     where
-      off : (g.unit ≡ h.unit → g.slot ≡ h.slot → ⊥) → slot_of (markAll (mark b g s p) tl s p) h.unit h.slot ≡ restate (slot_of (mark b g s p) h.unit h.slot) s p → slot_of (markAll (mark b g s p) tl s p) h.unit h.slot ≡ restate (slot_of b h.unit h.slot) s p
-      off k ih = ih ∙ ap (λ (z : Option Node). restate z s p) (mark-off b g s p h.unit h.slot k)
+      off : (g.unit ≡ h.unit → g.slot ≡ h.slot → ⊥) → slot_of (mark_all (mark b g s p) tl s p) h.unit h.slot ≡ restate (slot_of (mark b g s p) h.unit h.slot) s p → slot_of (mark_all (mark b g s p) tl s p) h.unit h.slot ≡ restate (slot_of b h.unit h.slot) s p
+      off k ih = ih ∙ ap (λ (z : Option Node). restate z s p) (mark_off b g s p h.unit h.slot k)
 
-      go : Dec (g.unit ≡ h.unit) → Dec (g.slot ≡ h.slot) → slot_of (markAll (mark b g s p) tl s p) h.unit h.slot ≡ restate (slot_of (mark b g s p) h.unit h.slot) s p → slot_of (markAll (mark b g s p) tl s p) h.unit h.slot ≡ restate (slot_of b h.unit h.slot) s p
-      go (yes x) (yes y) ih = markAll-fix (mark b g s p) tl h.unit h.slot (slot_of b h.unit h.slot)
-          (ap₂ (slot_of (mark b g s p)) (sym x) (sym y) ∙ mark-at b g s p ∙ ap (λ (z : Option Node). restate z s p) (ap₂ (slot_of b) x y))
+      go : Dec (g.unit ≡ h.unit) → Dec (g.slot ≡ h.slot) → slot_of (mark_all (mark b g s p) tl s p) h.unit h.slot ≡ restate (slot_of (mark b g s p) h.unit h.slot) s p → slot_of (mark_all (mark b g s p) tl s p) h.unit h.slot ≡ restate (slot_of b h.unit h.slot) s p
+      go (yes x) (yes y) ih = mark_all_fix (mark b g s p) tl h.unit h.slot (slot_of b h.unit h.slot)
+          (ap₂ (slot_of (mark b g s p)) (sym x) (sym y) ∙ mark_at b g s p ∙ ap (λ (z : Option Node). restate z s p) (ap₂ (slot_of b) x y))
       go (yes x) (no y) ih = off (λ a c. y c) ih
       go (no x) y ih = off (λ a c. x a) ih
 
-  pub markAll-count : (b : Bench) (hs : List Handle) (u : ℕ) → length (interface (markAll b hs s p) u).slots ≡ length (interface b u).slots
-  unfolding markAll
-  markAll-count b [] u = refl
-  markAll-count b (g ∷ hs) u = markAll-count (mark b g s p) hs u ∙ mark-count b g s p u
+  pub mark_all_count : (b : Bench) (hs : List Handle) (u : ℕ) → length (interface (mark_all b hs s p) u).slots ≡ length (interface b u).slots
+  unfolding mark_all
+  mark_all_count b [] u = refl
+  mark_all_count b (g ∷ hs) u = mark_all_count (mark b g s p) hs u ∙ mark_count b g s p u
 
-  pub markAll-length : (b : Bench) (hs : List Handle) → length (markAll b hs s p).interfaces ≡ length b.interfaces
-  unfolding markAll
-  markAll-length b [] = refl
-  markAll-length b (g ∷ hs) = markAll-length (mark b g s p) hs ∙ mark-length b g s p
+  pub mark_all_length : (b : Bench) (hs : List Handle) → length (mark_all b hs s p).interfaces ≡ length b.interfaces
+  unfolding mark_all
+  mark_all_length b [] = refl
+  mark_all_length b (g ∷ hs) = mark_all_length (mark b g s p) hs ∙ mark_length b g s p
 
-  pub markAll-next : (b : Bench) (hs : List Handle) → (markAll b hs s p).next ≡ b.next
-  unfolding markAll
-  markAll-next b [] = refl
-  markAll-next b (g ∷ hs) = markAll-next (mark b g s p) hs ∙ mark-next b g s p
+  pub mark_all_next : (b : Bench) (hs : List Handle) → (mark_all b hs s p).next ≡ b.next
+  unfolding mark_all
+  mark_all_next b [] = refl
+  mark_all_next b (g ∷ hs) = mark_all_next (mark b g s p) hs ∙ mark_next b g s p
 
-  pub markAll-plain : (b : Bench) (hs : List Handle) → (markAll b hs s p).plain ≡ b.plain
-  unfolding markAll
-  markAll-plain b [] = refl
-  markAll-plain b (g ∷ hs) = markAll-plain (mark b g s p) hs ∙ mark-plain b g s p
+  pub mark_all_plain : (b : Bench) (hs : List Handle) → (mark_all b hs s p).plain ≡ b.plain
+  unfolding mark_all
+  mark_all_plain b [] = refl
+  mark_all_plain b (g ∷ hs) = mark_all_plain (mark b g s p) hs ∙ mark_plain b g s p
 
   -- a slot that holds nothing holds nothing still
-  pub markAll-none : (b : Bench) (hs : List Handle) (u t : ℕ) → slot_of b u t ≡ none → slot_of (markAll b hs s p) u t ≡ none
-  markAll-none b hs u t e = markAll-fix b hs u t none e
+  pub mark_all_none : (b : Bench) (hs : List Handle) (u t : ℕ) → slot_of b u t ≡ none → slot_of (mark_all b hs s p) u t ≡ none
+  mark_all_none b hs u t e = mark_all_fix b hs u t none e
 
 -- ---- a node put at a free slot
 module _ (b : Bench) (u t : ℕ) (n : Node) where
   abbrev more : Bench
-  more = withInterface b u (withSlots (interface b u) (put (interface b u).slots t n))
+  more = with_interface b u (with_slots (interface b u) (put (interface b u).slots t n))
 
-  pub push-field : {X : Type 0} (φ : Interface → X) → ((f : Interface) (l : List (Option Node)) → φ (withSlots f l) ≡ φ f) → ((f : Interface) (x : ℤ) → φ (withSpeed f x) ≡ φ f)
+  pub push_field : {X : Type 0} (φ : Interface → X) → ((f : Interface) (l : List (Option Node)) → φ (with_slots f l) ≡ φ f) → ((f : Interface) (x : ℤ) → φ (with_speed f x) ≡ φ f)
       → (w : ℕ) → φ (interface (push b u t n) w) ≡ φ (interface b w)
   unfolding push faster
-  push-field φ p q w = put-kept φ more u _ (q _ _) w ∙ put-kept φ b u _ (p _ _) w
+  push_field φ p q w = put_kept φ more u _ (q _ _) w ∙ put_kept φ b u _ (p _ _) w
 
   -- any other interface, whole
-  pub push-aside : (w : ℕ) → w ≢ u → interface (push b u t n) w ≡ interface b w
+  pub push_aside : (w : ℕ) → w ≢ u → interface (push b u t n) w ≡ interface b w
   unfolding push faster
-  push-aside w q = put-else (λ f. f) more u _ w q ∙ put-else (λ f. f) b u _ w q
+  push_aside w q = put_else (λ f. f) more u _ w q ∙ put_else (λ f. f) b u _ w q
 
   pub push_else : (w : ℕ) → w ≢ u → (interface (push b u t n) w).slots ≡ (interface b w).slots
-  push_else w q = ap (λ (f : Interface). f.slots) (push-aside w q)
+  push_else w q = ap (λ (f : Interface). f.slots) (push_aside w q)
 
-  pub push-here : u < length b.interfaces → (interface (push b u t n) u).slots ≡ put (interface b u).slots t n
+  pub push_here : u < length b.interfaces → (interface (push b u t n) u).slots ≡ put (interface b u).slots t n
   unfolding push faster
-  push-here h = put-kept (λ f. f.slots) more u _ refl u ∙ put-here (λ f. f.slots) b u _ h
+  push_here h = put_kept (λ f. f.slots) more u _ refl u ∙ put_here (λ f. f.slots) b u _ h
 
-  pub push-slow : (w : ℕ) → w ≢ u → (interface (push b u t n) w).speed ≡ (interface b w).speed
-  push-slow w q = ap (λ (f : Interface). f.speed) (push-aside w q)
+  pub push_slow : (w : ℕ) → w ≢ u → (interface (push b u t n) w).speed ≡ (interface b w).speed
+  push_slow w q = ap (λ (f : Interface). f.speed) (push_aside w q)
 
-  pub push-fast : u < length b.interfaces → (interface (push b u t n) u).speed ≡ (interface b u).speed +ℤ rate n.state
+  pub push_fast : u < length b.interfaces → (interface (push b u t n) u).speed ≡ (interface b u).speed +ℤ rate n.state
   unfolding push faster
-  push-fast h = put-here (λ f. f.speed) more u _ (subst (λ (m : ℕ). u < m) (sym (length-set b.interfaces u _)) h)
-      ∙ ap (λ (x : ℤ). x +ℤ rate n.state) (put-kept (λ f. f.speed) b u _ refl u)
+  push_fast h = put_here (λ f. f.speed) more u _ (subst (λ (m : ℕ). u < m) (sym (length-set b.interfaces u _)) h)
+      ∙ ap (λ (x : ℤ). x +ℤ rate n.state) (put_kept (λ f. f.speed) b u _ refl u)
 
-  pub push-length : length (push b u t n).interfaces ≡ length b.interfaces
+  pub push_length : length (push b u t n).interfaces ≡ length b.interfaces
   unfolding push faster
-  push-length = simp length-set
+  push_length = simp length-set
 
-  pub push-next : (push b u t n).next ≡ suc b.next
+  pub push_next : (push b u t n).next ≡ suc b.next
   unfolding push faster
-  push-next = refl
+  push_next = refl
 
-  pub push-plain : (push b u t n).plain ≡ b.plain
+  pub push_plain : (push b u t n).plain ≡ b.plain
   unfolding push faster
-  push-plain = refl
+  push_plain = refl
 
-  pub push-count : u < length b.interfaces → t ≤ length (interface b u).slots → length (interface (push b u t n) u).slots ≡ max (length (interface b u).slots) (suc t)
-  push-count h x = ap length (push-here h) ∙ put_count (interface b u).slots t n x
+  pub push_count : u < length b.interfaces → t ≤ length (interface b u).slots → length (interface (push b u t n) u).slots ≡ max (length (interface b u).slots) (suc t)
+  push_count h x = ap length (push_here h) ∙ put_count (interface b u).slots t n x
 
   pub push_at : u < length b.interfaces → t ≤ length (interface b u).slots → slot_of (push b u t n) u t ≡ some n
-  push_at h x = ap (λ (l : List (Option Node)). get_or l t none) (push-here h) ∙ put-at (interface b u).slots t n x
+  push_at h x = ap (λ (l : List (Option Node)). get_or l t none) (push_here h) ∙ put_at (interface b u).slots t n x
 
-  pub push-off : u < length b.interfaces → t ≤ length (interface b u).slots → (w v : ℕ) → (w ≡ u → v ≡ t → ⊥) → slot_of (push b u t n) w v ≡ slot_of b w v
-  push-off h x w v off = go (ℕ_discrete w u)
+  pub push_off : u < length b.interfaces → t ≤ length (interface b u).slots → (w v : ℕ) → (w ≡ u → v ≡ t → ⊥) → slot_of (push b u t n) w v ≡ slot_of b w v
+  push_off h x w v off = go (ℕ_discrete w u)
     where
       go : Dec (w ≡ u) → slot_of (push b u t n) w v ≡ slot_of b w v
-      go (yes e) = subst (λ (z : ℕ). slot_of (push b u t n) z v ≡ slot_of b z v) (sym e) (ap (λ (l : List (Option Node)). get_or l v none) (push-here h) ∙ put-off (interface b u).slots t n x v (λ z. off e z))
+      go (yes e) = subst (λ (z : ℕ). slot_of (push b u t n) z v ≡ slot_of b z v) (sym e) (ap (λ (l : List (Option Node)). get_or l v none) (push_here h) ∙ put_off (interface b u).slots t n x v (λ z. off e z))
       go (no e) = ap (λ (l : List (Option Node)). get_or l v none) (push_else w e)

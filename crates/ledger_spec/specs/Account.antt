@@ -15,31 +15,31 @@ unfoldable pub gate : Bool → ℤ → ℤ
 gate true x = x
 gate false x = pos 0
 
-unfoldable pub slotSum : (Option Node → ℤ) → List (Option Node) → ℤ
-slotSum φ [] = pos 0
-slotSum φ (x ∷ xs) = φ x +ℤ slotSum φ xs
+unfoldable pub slot_sum : (Option Node → ℤ) → List (Option Node) → ℤ
+slot_sum φ [] = pos 0
+slot_sum φ (x ∷ xs) = φ x +ℤ slot_sum φ xs
 
 unfoldable pub total : List ℤ → ℤ
 total [] = pos 0
 total (x ∷ xs) = x +ℤ total xs
 
 -- the sum of v over the interfaces of i's tree
-abbrev pub treeSum : (ℕ → ℕ) → (ℕ → ℤ) → ℕ → ℤ
-treeSum tp v i = Σ 8 (λ u. gate (eqb (tp u) i) (v u))
+abbrev pub tree_sum : (ℕ → ℕ) → (ℕ → ℤ) → ℕ → ℤ
+tree_sum tp v i = Σ 8 (λ u. gate (eqb (tp u) i) (v u))
 
-abbrev pub valuesAt : Book → ℕ → ℤ
-valuesAt k u = slotSum worth (interface k.bench u).slots +ℤ total (k.gone u)
+abbrev pub values_at : Book → ℕ → ℤ
+values_at k u = slot_sum worth (interface k.bench u).slots +ℤ total (k.gone u)
 
-abbrev pub ratesIn : Bench → ℕ → ℤ
-ratesIn b u = slotSum share (interface b u).slots
+abbrev pub rates_in : Bench → ℕ → ℤ
+rates_in b u = slot_sum share (interface b u).slots
 
-abbrev pub ratesAt : Book → ℕ → ℤ
-ratesAt k u = ratesIn k.bench u
+abbrev pub rates_at : Book → ℕ → ℤ
+rates_at k u = rates_in k.bench u
 
 -- The stored sum and speed of each interface without a parent are those of the nodes in its tree
 pub record Right (k : Book) (i : ℕ) : Type 0 where
-  pub sum : (interface k.bench i).sum ≡ treeSum (top k.bench) (valuesAt k) i
-  pub speed : (interface k.bench i).speed ≡ treeSum (top k.bench) (ratesAt k) i
+  pub sum : (interface k.bench i).sum ≡ tree_sum (top k.bench) (values_at k) i
+  pub speed : (interface k.bench i).speed ≡ tree_sum (top k.bench) (rates_at k) i
 
 -- Two benches with the same nodes, links, marks and serials, and for each interface without a parent the same sum and speed
 pub record Alike (b c : Bench) : Type 0 where

@@ -6,9 +6,9 @@ use Rattle.ledger_spec.specs.Numbers.{BROKEN}
 use Rattle.ledger_spec.specs.Bench.{Handle, Bench}
 use Rattle.ledger_spec.specs.Calls.{Reply, nobody, Call, perform}
 use Rattle.ledger_spec.specs.Notices.{Notice, tells}
-use Rattle.ledger_spec.specs.Reads.{sum_of, speedOf, count_of, fillsOf, flooredOf, handleAtIndex, belongs, value_of}
-use Rattle.ledger_spec.specs.Walk.{outerOf, belowOf, firstVertex, verticesInto}
-use Rattle.ledger_spec.specs.Check.{checkOf, strictOf}
+use Rattle.ledger_spec.specs.Reads.{sum_of, speed_of, count_of, fills_of, floored_of, handle_at_index, belongs, value_of}
+use Rattle.ledger_spec.specs.Walk.{outer_of, below_of, first_vertex, vertices_into}
+use Rattle.ledger_spec.specs.Check.{check_of, strict_of}
 use Rattle.ledger_spec.specs.Sound.{sound}
 
 pub record Answer : Type 0 where
@@ -41,7 +41,7 @@ pub record Read (A : Type 0) : Type 0 where
   pub own : ℕ × A
   pub zero : A
 
--- a read of any bench (of lent words: `readWords` of crate sound_lent)
+-- a read of any bench (of lent words: `read_words` of crate sound_lent)
 abbrev pub read : {A : Type 0} → Bench → Read A → ℕ × A
 read b r = ask b r.zero r.own
 
@@ -49,19 +49,19 @@ abbrev pub sumRead : Bench → ℕ → Read ℤ
 sumRead b u = record { own = sum_of b u; zero = pos 0 }
 
 abbrev pub speedRead : Bench → ℕ → Read ℤ
-speedRead b u = record { own = speedOf b u; zero = pos 0 }
+speedRead b u = record { own = speed_of b u; zero = pos 0 }
 
 abbrev pub countRead : Bench → ℕ → Read ℕ
 countRead b u = record { own = count_of b u; zero = 0 }
 
 abbrev pub fillsRead : Bench → ℕ → Read Bool
-fillsRead b u = record { own = fillsOf b u; zero = false }
+fillsRead b u = record { own = fills_of b u; zero = false }
 
 abbrev pub flooredRead : Bench → ℕ → Read Bool
-flooredRead b u = record { own = flooredOf b u; zero = false }
+flooredRead b u = record { own = floored_of b u; zero = false }
 
 abbrev pub indexRead : Bench → ℕ → ℕ → Read (Option Handle)
-indexRead b u k = record { own = handleAtIndex b u k; zero = none }
+indexRead b u k = record { own = handle_at_index b u k; zero = none }
 
 abbrev pub belongsRead : Bench → ℕ → Handle → Read Bool
 belongsRead b u h = record { own = belongs b u h; zero = false }
@@ -70,19 +70,19 @@ abbrev pub valueRead : Bench → Handle → Read ℤ
 valueRead b h = record { own = value_of b h; zero = pos 0 }
 
 abbrev pub outerRead : Bench → Handle → Read (Handle × ℕ)
-outerRead b h = record { own = outerOf b h; zero = (nobody, 0) }
+outerRead b h = record { own = outer_of b h; zero = (nobody, 0) }
 
 abbrev pub belowRead : Bench → Handle → Read Handle
-belowRead b h = record { own = belowOf b h; zero = nobody }
+belowRead b h = record { own = below_of b h; zero = nobody }
 
 abbrev pub firstRead : Bench → Handle → Read ℕ
-firstRead b h = record { own = firstVertex b h; zero = 0 }
+firstRead b h = record { own = first_vertex b h; zero = 0 }
 
 abbrev pub verticesRead : Bench → Handle → List ℕ → Read (ℕ × List ℕ)
-verticesRead b h out = record { own = verticesInto b h out; zero = (0, out) }
+verticesRead b h out = record { own = vertices_into b h out; zero = (0, out) }
 
 abbrev pub checkRead : Bench → ℕ → Read (ℕ × ℕ)
-checkRead b u = record { own = checkOf b u; zero = (0, 0) }
+checkRead b u = record { own = check_of b u; zero = (0, 0) }
 
 abbrev pub strictRead : Bench → ℕ → Read (ℕ × ℕ)
-strictRead b u = record { own = strictOf b u; zero = (0, 0) }
+strictRead b u = record { own = strict_of b u; zero = (0, 0) }

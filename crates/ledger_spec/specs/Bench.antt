@@ -1,4 +1,4 @@
--- The bench of docs/MANUAL.md, Words, held plainly: what a node, an interface and a bench are, and the bench that set-up makes.
+-- The bench of docs/MANUAL.md, Words, held plainly: what a node, an interface and a bench are, and the bench that set_up_lem makes.
 -- A weight is the ℤ that a contract has for an `i64`; serials, slots and vertices are ℕ. Assumes nothing.
 use Rattle.std.specs.Prelude.{ℕ, Bool, true, false, List, [], ℤ, pos, negsuc, replicate}
 use Rattle.std.proofs.Math.Option.{Option, none}
@@ -39,19 +39,19 @@ pub record Marks : Type 0 where
   pub fills : Bool
   pub floored : Bool
 
-abbrev pub noMarks : Marks
-noMarks = record { fills = false; floored = false }
+abbrev pub no_marks : Marks
+no_marks = record { fills = false; floored = false }
 
-abbrev pub withFloor : Marks → Bool → Marks
-withFloor m x = record { fills = m.fills; floored = x }
+abbrev pub with_floor : Marks → Bool → Marks
+with_floor m x = record { fills = m.fills; floored = x }
 
 -- a mark that a call gives, and the marks with it
 pub data Marking : Type 0 where
   filling floor : Marking
 
-abbrev pub withMark : Marking → Marks → Marks
-withMark filling m = record { fills = true; floored = m.floored }
-withMark floor m = withFloor m true
+abbrev pub with_mark : Marking → Marks → Marks
+with_mark filling m = record { fills = true; floored = m.floored }
+with_mark floor m = with_floor m true
 
 -- An interface. Its slots are those used since its last clear; one emptied by expansion is `none`.
 pub record Interface : Type 0 where
@@ -63,41 +63,41 @@ pub record Interface : Type 0 where
   pub halves : Option (ℕ × ℕ)
   pub marks : Marks
 
--- `plain` says which engine holds the values: the plain one adds to each at every growth. It is chosen at set-up, and no call, read or check looks at it.
+-- `plain` says which engine holds the values: the plain one adds to each at every growth. It is chosen at set_up_lem, and no call, read or check looks at it.
 pub record Bench : Type 0 where
   pub next : ℕ
   pub interfaces : List Interface
   pub plain : Bool
 
 abbrev pub fresh : Interface
-fresh = record { slots = []; progress = pos 0; sum = pos 0; speed = pos 0; parent = none; halves = none; marks = noMarks }
+fresh = record { slots = []; progress = pos 0; sum = pos 0; speed = pos 0; parent = none; halves = none; marks = no_marks }
 
 -- ---- an interface with one field changed: what every other definition makes one by, so that a new field is said in this file alone
 
-abbrev pub withSlots : Interface → List (Option Node) → Interface
-withSlots f x = record { slots = x; progress = f.progress; sum = f.sum; speed = f.speed; parent = f.parent; halves = f.halves; marks = f.marks }
+abbrev pub with_slots : Interface → List (Option Node) → Interface
+with_slots f x = record { slots = x; progress = f.progress; sum = f.sum; speed = f.speed; parent = f.parent; halves = f.halves; marks = f.marks }
 
-abbrev pub withProgress : Interface → ℤ → Interface
-withProgress f x = record { slots = f.slots; progress = x; sum = f.sum; speed = f.speed; parent = f.parent; halves = f.halves; marks = f.marks }
+abbrev pub with_progress : Interface → ℤ → Interface
+with_progress f x = record { slots = f.slots; progress = x; sum = f.sum; speed = f.speed; parent = f.parent; halves = f.halves; marks = f.marks }
 
 abbrev pub with_sum : Interface → ℤ → Interface
 with_sum f x = record { slots = f.slots; progress = f.progress; sum = x; speed = f.speed; parent = f.parent; halves = f.halves; marks = f.marks }
 
-abbrev pub withSpeed : Interface → ℤ → Interface
-withSpeed f x = record { slots = f.slots; progress = f.progress; sum = f.sum; speed = x; parent = f.parent; halves = f.halves; marks = f.marks }
+abbrev pub with_speed : Interface → ℤ → Interface
+with_speed f x = record { slots = f.slots; progress = f.progress; sum = f.sum; speed = x; parent = f.parent; halves = f.halves; marks = f.marks }
 
-abbrev pub withParent : Interface → Option ℕ → Interface
-withParent f x = record { slots = f.slots; progress = f.progress; sum = f.sum; speed = f.speed; parent = x; halves = f.halves; marks = f.marks }
+abbrev pub with_parent : Interface → Option ℕ → Interface
+with_parent f x = record { slots = f.slots; progress = f.progress; sum = f.sum; speed = f.speed; parent = x; halves = f.halves; marks = f.marks }
 
-abbrev pub withHalves : Interface → Option (ℕ × ℕ) → Interface
-withHalves f x = record { slots = f.slots; progress = f.progress; sum = f.sum; speed = f.speed; parent = f.parent; halves = x; marks = f.marks }
+abbrev pub with_halves : Interface → Option (ℕ × ℕ) → Interface
+with_halves f x = record { slots = f.slots; progress = f.progress; sum = f.sum; speed = f.speed; parent = f.parent; halves = x; marks = f.marks }
 
-abbrev pub withMarks : Interface → Marks → Interface
-withMarks f x = record { slots = f.slots; progress = f.progress; sum = f.sum; speed = f.speed; parent = f.parent; halves = f.halves; marks = x }
+abbrev pub with_marks : Interface → Marks → Interface
+with_marks f x = record { slots = f.slots; progress = f.progress; sum = f.sum; speed = f.speed; parent = f.parent; halves = f.halves; marks = x }
 
--- the bench that set-up makes, in either engine; and in the lazy one
-abbrev pub setUpIn : Bool → ℕ → Bench
-setUpIn plain first = record { next = first; interfaces = replicate 8 fresh; plain = plain }
+-- the bench that set_up_lem makes, in either engine; and in the lazy one
+abbrev pub set_up_in : Bool → ℕ → Bench
+set_up_in plain first = record { next = first; interfaces = replicate 8 fresh; plain = plain }
 
-abbrev pub setUp : ℕ → Bench
-setUp first = setUpIn false first
+abbrev pub set_up : ℕ → Bench
+set_up first = set_up_in false first

@@ -19,33 +19,33 @@ signed (negsuc n) = 45 ∷ decimal (suc n)
 -- ---- read
 
 -- digits after a number n
-unfoldable pub afterDigits : ℕ → List ℕ → Option ℕ
-afterDigits n [] = some n
-afterDigits n (c ∷ f) = elim (leb 48 c && leb c 57) [ true ↦ afterDigits (n * 10 + (c - 48)) f | false ↦ none ]
+unfoldable pub after_digits : ℕ → List ℕ → Option ℕ
+after_digits n [] = some n
+after_digits n (c ∷ f) = elim (leb 48 c && leb c 57) [ true ↦ after_digits (n * 10 + (c - 48)) f | false ↦ none ]
 
 -- plain decimals without leading zeros
 unfoldable pub natural : List ℕ → Option ℕ
 natural [] = none
-natural (c ∷ []) = afterDigits 0 (c ∷ [])
-natural (c ∷ d ∷ f) = elim (eqb c 48) [ true ↦ none | false ↦ afterDigits 0 (c ∷ d ∷ f) ]
+natural (c ∷ []) = after_digits 0 (c ∷ [])
+natural (c ∷ d ∷ f) = elim (eqb c 48) [ true ↦ none | false ↦ after_digits 0 (c ∷ d ∷ f) ]
 
 -- in a range, both ends included
 unfoldable pub between : ℕ → ℕ → Option ℕ → Option ℕ
 between least most none = none
 between least most (some n) = elim (leb least n && leb n most) [ true ↦ some n | false ↦ none ]
 
-abbrev pub numberWithin : ℕ → ℕ → List ℕ → Option ℕ
-numberWithin least most f = between least most (natural f)
+abbrev pub number_within : ℕ → ℕ → List ℕ → Option ℕ
+number_within least most f = between least most (natural f)
 
-abbrev pub plusOf : Option ℕ → Option ℤ
-plusOf none = none
-plusOf (some n) = some (pos n)
+abbrev pub plus_of : Option ℕ → Option ℤ
+plus_of none = none
+plus_of (some n) = some (pos n)
 
-abbrev pub minusOf : Option ℕ → Option ℤ
-minusOf none = none
-minusOf (some n) = some (neg_ℤ (pos n))
+abbrev pub minus_of : Option ℕ → Option ℤ
+minus_of none = none
+minus_of (some n) = some (neg_ℤ (pos n))
 
 -- any signed 64-bit number; minus only before a nonzero number
 unfoldable pub integer : List ℕ → Option ℤ
 integer [] = none
-integer (c ∷ f) = elim (eqb c 45) [ true ↦ minusOf (numberWithin 1 9223372036854775808 f) | false ↦ plusOf (numberWithin 0 9223372036854775807 (c ∷ f)) ]
+integer (c ∷ f) = elim (eqb c 45) [ true ↦ minus_of (number_within 1 9223372036854775808 f) | false ↦ plus_of (number_within 0 9223372036854775807 (c ∷ f)) ]

@@ -3,18 +3,18 @@
 use Rattle.std.specs.Prelude.{ℕ, zero, suc, ◌≡◌, refl, true, false, List, [], ◌∷◌, map, ℤ, pos}
 use Prim.Native.String.{String, ◌++◌}
 use Rattle.std.proofs.Math.Option.{Option, none, some}
-use Rattle.kinds.specs.Names.{noCode}
+use Rattle.kinds.specs.Names.{no_code}
 use Rattle.kinds.specs.declared.Stop.{Stop}
 use Rattle.kinds.specs.declared.MaybePair.TheVariants.{NoPair}
 use Rattle.kinds.specs.declared.Obstacle.{Obstacle}
 use Rattle.kinds.specs.declared.Obstacle.TheVariants.{TouchingVirtual, BlossomNeedExpand, VertexShrinkStop}
 use Rattle.ledger_spec.specs.Numbers.{BROKEN}
-use Rattle.ledger_spec.specs.Bench.{Handle, grows, defect, Bench, fresh, setUp, withSlots, withSpeed}
-use Rattle.ledger_spec.specs.Change.{withInterface}
+use Rattle.ledger_spec.specs.Bench.{Handle, grows, defect, Bench, fresh, set_up, with_slots, with_speed}
+use Rattle.ledger_spec.specs.Change.{with_interface}
 use Rattle.ledger_spec.specs.Calls.{Call, Defect, Blossom, Expand, Grow, Fuse}
-use Rattle.ledger_spec.specs.Reads.{handleAtIndex, value_of}
+use Rattle.ledger_spec.specs.Reads.{handle_at_index, value_of}
 use Rattle.ledger_spec.specs.Answers.{answer}
-use Rattle.ledger_spec.specs.Book.{turns, newBook}
+use Rattle.ledger_spec.specs.Book.{turns, new_book}
 use Rattle.ledger_spec.specs.Groups.{Group, growth, conflicts, largest}
 use Rattle.ledger_spec.specs.GroupCalls.{extend}
 use Rattle.ledger_spec.specs.Bytes.{bytes}
@@ -23,7 +23,7 @@ use Rattle.ledger_spec.specs.Opened.{run, ran, pops}
 -- what a row shows: a text, a node's value, the handle of an index, what went from an interface, a number, what extending a group answers and leaves, what pops took
 pub data Cell : Type 0 where
   text : List ℕ → Cell
-  aValue : ℕ × ℤ → Cell
+  a_value : ℕ × ℤ → Cell
   handle : ℕ × Option Handle → Cell
   went : List ℤ → Cell
   a_number : ℕ → Cell
@@ -33,7 +33,7 @@ pub data Cell : Type 0 where
 -- what lines answer after others
 pub after : String → String → Cell
 unfolding run
-after before lines = text (run (ran (setUp 1) before) lines)
+after before lines = text (run (ran (set_up 1) before) lines)
 
 pub wants : String → Cell
 unfolding run
@@ -41,15 +41,15 @@ wants s = text (bytes s)
 
 pub valued : String → ℕ → Cell
 unfolding run
-valued before u = aValue (value_of (ran (setUp 1) before) (record { unit = u; slot = 0; serial = suc u }))
+valued before u = a_value (value_of (ran (set_up 1) before) (record { unit = u; slot = 0; serial = suc u }))
 
 pub indexed : String → ℕ → ℕ → Cell
 unfolding run
-indexed before u k = handle (handleAtIndex (ran (setUp 1) before) u k)
+indexed before u k = handle (handle_at_index (ran (set_up 1) before) u k)
 
 pub lost : List Call → ℕ → Cell
 unfolding run
-lost cs u = went ((turns (newBook 1) cs).gone u)
+lost cs u = went ((turns (new_book 1) cs).gone u)
 
 pub refused : Bench → Call → Cell
 unfolding run
@@ -57,7 +57,7 @@ refused b c = a_number (answer b c).number
 
 pub joined : Group → Group → Cell
 unfolding run
-joined g h = group (extend (setUp 1) g h)
+joined g h = group (extend (set_up 1) g h)
 
 abbrev pub many : ℕ → String → String
 many zero s = ""
@@ -67,26 +67,26 @@ abbrev pub fused : String
 fused = "D 0 3\nD 1 7\nG 0 4\nG 1 6\nF 2 0 1\n"
 
 -- the whole case
-abbrev pub wholeCase : String
-wholeCase = "D 0 3\nD 0 8\nD 0 9\nG 0 5\nB 0 1 2 3\nG 0 2\nS 0 4 -1\nG 0 1\nE 0 4\nK 0\n"
+abbrev pub whole_case : String
+whole_case = "D 0 3\nD 0 8\nD 0 9\nG 0 5\nB 0 1 2 3\nG 0 2\nS 0 4 -1\nG 0 1\nE 0 4\nK 0\n"
 
 -- a blossom of value 4 in interface 0, expanded by its fused parent's number
 abbrev pub expanded : List Call
 expanded = Defect 0 3 ∷ Blossom 0 (record { unit = 0; slot = 0; serial = 1 } ∷ []) [] ∷ Grow 0 (pos 4) ∷ Fuse 2 0 1 ∷ Expand 2 (record { unit = 0; slot = 1; serial = 2 }) ∷ []
 
 -- a bench made by hand: a defect of this value where nothing has grown yet
-abbrev pub worthAtOnce : ℤ → Bench
-worthAtOnce v = withInterface (setUp 2) 0 (withSpeed (withSlots fresh (some (record { serial = 1; class = defect 3; state = grows; parent = none; value = v; size = 1 }) ∷ [])) (pos 1))
+abbrev pub worth_at_once : ℤ → Bench
+worth_at_once v = with_interface (set_up 2) 0 (with_speed (with_slots fresh (some (record { serial = 1; class = defect 3; state = grows; parent = none; value = v; size = 1 }) ∷ [])) (pos 1))
 
 -- two obstacles for a list, and stops at 4 and 9
 abbrev pub c1 : Obstacle
-c1 = BlossomNeedExpand noCode
+c1 = BlossomNeedExpand no_code
 
 abbrev pub c2 : Obstacle
-c2 = TouchingVirtual (record { node = noCode; touching = noCode }) (record { 0 = 7 }) false
+c2 = TouchingVirtual (record { node = no_code; touching = no_code }) (record { 0 = 7 }) false
 
 abbrev pub stop_at : ℕ → Stop
-stop_at v = record { vertex = record { 0 = v }; obstacle = VertexShrinkStop noCode NoPair }
+stop_at v = record { vertex = record { 0 = v }; obstacle = VertexShrinkStop no_code NoPair }
 
 abbrev pub pending : Group
 pending = conflicts (record { obstacle = c1 } ∷ record { obstacle = c2 } ∷ []) (stop_at 4 ∷ stop_at 9 ∷ [])
@@ -95,8 +95,8 @@ abbrev pub table : List (Cell × Cell)
 table =
     -- P1, with both values
     (after fused "G 2 5\n", wants "0 0 2 20\n")
-    ∷ (valued (fused ++ "G 2 5\n") 0, aValue (0, pos 9))
-    ∷ (valued (fused ++ "G 2 5\n") 1, aValue (0, pos 11))
+    ∷ (valued (fused ++ "G 2 5\n") 0, a_value (0, pos 9))
+    ∷ (valued (fused ++ "G 2 5\n") 1, a_value (0, pos 11))
     -- P2
     ∷ (after (fused ++ "G 2 5\n") "D 0 5\n", wants "4 0 0 0\n")
     -- P3
@@ -114,7 +114,7 @@ table =
     -- P9
     ∷ (taken (pops 3 pending), taken ((0, some c2) ∷ (0, some c1) ∷ (0, none) ∷ []))
     -- P10, the whole case
-    ∷ (after "" wholeCase, wants "0 1 1 0\n0 2 2 0\n0 3 3 0\n0 0 3 15\n0 4 1 15\n0 0 1 17\n0 4 -1 17\n0 0 -1 16\n0 4 3 16\n0 5 3 16\n")
+    ∷ (after "" whole_case, wants "0 1 1 0\n0 2 2 0\n0 3 3 0\n0 0 3 15\n0 4 1 15\n0 0 1 17\n0 4 -1 17\n0 0 -1 16\n0 4 3 16\n0 5 3 16\n")
     -- a fuse that names no interface shows zeros (READING T1)
     ∷ (after "D 2 5\n" "F 2 9 0\n", wants "3 0 0 0\n")
     -- of several refusals the lowest: gone before of another tree (READING T16), a child before all that a handle can be
@@ -129,8 +129,8 @@ table =
     ∷ (lost expanded 0, went (pos 4 ∷ []))
     ∷ (lost expanded 2, went [])
     -- a value outside W is BROKEN
-    ∷ (refused (worthAtOnce (pos 0)) (Grow 0 (pos 1)), a_number 0)
-    ∷ (refused (worthAtOnce (pos 1)) (Grow 0 (pos 1)), a_number BROKEN)
+    ∷ (refused (worth_at_once (pos 0)) (Grow 0 (pos 1)), a_number 0)
+    ∷ (refused (worth_at_once (pos 1)) (Grow 0 (pos 1)), a_number BROKEN)
     ∷ []
 
 pub edges : map (λ (e : Cell × Cell). e.0) table ≡ map (λ (e : Cell × Cell). e.1) table

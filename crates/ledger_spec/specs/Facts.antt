@@ -1,7 +1,7 @@
 -- What a sound bench is, as facts: `sound b ≡ true` says all of this and no more (proofs: Says, Holds). Assumes nothing.
 use Rattle.std.specs.Prelude.{ℕ, ◌*◌, ◌≤◌, ◌<◌, ◌≡◌, true, List, length, pos, nat_abs}
 use Rattle.std.proofs.Math.Option.{none, some}
-use Rattle.ledger_spec.specs.Numbers.{progressLimit, serialLimit, slotLimit, circleLimit}
+use Rattle.ledger_spec.specs.Numbers.{progress_limit, serial_limit, slot_limit, circle_limit}
 use Rattle.ledger_spec.specs.Bench.{Handle, Member, defect, blossom, Node, Bench}
 use Rattle.ledger_spec.specs.Look.{interface, slot_of, top, tree}
 use Rattle.ledger_spec.specs.Deeds.{sizes}
@@ -10,7 +10,7 @@ use Rattle.ledger_spec.specs.Tests.{floored}
 use Rattle.ledger_spec.specs.Sound.{afloat}
 use Rattle.ledger_spec.specs.Frame.{Frame}
 use Rattle.ledger_spec.specs.Knit.{nodes, In, Sewn}
-use Rattle.ledger_spec.specs.Account.{treeSum, ratesIn}
+use Rattle.ledger_spec.specs.Account.{tree_sum, rates_in}
 
 -- W: the progress of interface i and of all below it
 abbrev pub W : Bench → ℕ → ℕ
@@ -25,7 +25,7 @@ pub record Touching (b : Bench) (t : Handle) : Type 0 where
 -- a blossom's circle and size
 pub record Circle (b : Bench) (n : Node) (ms : List Member) : Type 0 where
   pub least : 1 ≤ length ms
-  pub most : length ms ≤ circleLimit
+  pub most : length ms ≤ circle_limit
   pub size : n.size ≡ sizes b (nodes ms)
   pub touching : (m : Member) → In m ms → Touching b m.touch.0 × Touching b m.touch.1
 
@@ -41,13 +41,13 @@ pub record Floors (b : Bench) : Type 0 where
 
 pub record Sound (b : Bench) : Type 0 where
   pub frame : Frame b
-  pub few : (u : ℕ) → length (interface b u).slots ≤ slotLimit
+  pub few : (u : ℕ) → length (interface b u).slots ≤ slot_limit
   pub forward : (u : ℕ) → (interface b u).progress ≡ pos (nat_abs (interface b u).progress)
-  pub limit : (u : ℕ) → nat_abs (interface b u).progress ≤ progressLimit
-  pub worn : b.next ≤ serialLimit
+  pub limit : (u : ℕ) → nat_abs (interface b u).progress ≤ progress_limit
+  pub worn : b.next ≤ serial_limit
   pub sewn : Sewn b
   pub rings : (u s : ℕ) (n : Node) → slot_of b u s ≡ some n → Ring b n
   pub values : (u s : ℕ) (n : Node) → slot_of b u s ≡ some n → nat_abs n.value ≤ W b (top b u)
   pub sums : (i : ℕ) → i < 8 → (interface b i).parent ≡ none → nat_abs (interface b i).sum ≤ 512 * W b i
-  pub speeds : (i : ℕ) → i < 8 → (interface b i).parent ≡ none → (interface b i).speed ≡ treeSum (top b) (ratesIn b) i
+  pub speeds : (i : ℕ) → i < 8 → (interface b i).parent ≡ none → (interface b i).speed ≡ tree_sum (top b) (rates_in b) i
   pub floors : Floors b

@@ -4,13 +4,13 @@ use Rattle.std.specs.Prelude.{ℕ, zero, suc, ◌≡◌, refl, List, [], ◌∷�
 use Rattle.ledger_spec.specs.Bench.{Handle, grows, filling}
 use Rattle.ledger_spec.specs.Calls.{Call, Defect, Blossom, Expand, SetState, Fuse, Clear, Mark}
 use Rattle.ledger_spec.specs.Answers.{Answer, answer}
-use Rattle.ledger_spec.specs.Book.{turns, newBook}
+use Rattle.ledger_spec.specs.Book.{turns, new_book}
 use Rattle.ledger_spec.specs.Opened.{run}
 
--- the number and the handle that a call answers after others, from set-up
+-- the number and the handle that a call answers after others, from set_up_lem
 pub after : List Call → Call → ℕ × Handle
 unfolding run
-after cs c = let a : Answer = answer (turns (newBook 1) cs).bench c in (a.number, a.node)
+after cs c = let a : Answer = answer (turns (new_book 1) cs).bench c in (a.number, a.node)
 
 abbrev pub at : ℕ → ℕ → Handle
 at s k = record { unit = 0; slot = s; serial = k }

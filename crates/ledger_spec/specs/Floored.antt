@@ -1,17 +1,17 @@
 -- Ask 8's edges as one table about the definitions: when a growth is refused by a floor, what fuses, when a mark comes too late. Assumes nothing.
 use Rattle.std.specs.Prelude.{ℕ, ◌^◌, ◌≡◌, refl, false, List, [], ◌∷◌, ◌++◌, map, pos, negsuc}
-use Rattle.ledger_spec.specs.Bench.{shrinks, floor, Bench, withMarks}
+use Rattle.ledger_spec.specs.Bench.{shrinks, floor, Bench, with_marks}
 use Rattle.ledger_spec.specs.Look.{interface}
-use Rattle.ledger_spec.specs.Change.{withInterface}
+use Rattle.ledger_spec.specs.Change.{with_interface}
 use Rattle.ledger_spec.specs.Calls.{Call, Defect, SetState, Grow, Fuse, Clear, Mark}
 use Rattle.ledger_spec.specs.Answers.{answer}
-use Rattle.ledger_spec.specs.Book.{turns, newBook}
+use Rattle.ledger_spec.specs.Book.{turns, new_book}
 use Rattle.ledger_spec.specs.Opened.{run}
 
--- the number that a call answers after others, from set-up; and on a bench
+-- the number that a call answers after others, from set_up_lem; and on a bench
 pub after : List Call → Call → ℕ
 unfolding run
-after cs c = (answer (turns (newBook 1) cs).bench c).number
+after cs c = (answer (turns (new_book 1) cs).bench c).number
 
 pub of : Bench → Call → ℕ
 unfolding run
@@ -54,8 +54,8 @@ table =
     ∷ (after (Grow 0 (pos 5) ∷ []) (Mark 0 floor), 0)
     ∷ (after (Mark 0 floor ∷ Clear 0 ∷ shrinking) (Grow 0 (pos 6)), 0)
     -- a bench made by hand: a floored half under a parent that is not
-    ∷ (of (turns (newBook 1) joined).bench (Grow 2 (pos 1)), 0)
-    ∷ (of (withInterface (turns (newBook 1) joined).bench 1 (withMarks (interface (turns (newBook 1) joined).bench 1) (record { floored = false; fills = false }))) (Grow 2 (pos 1)), 2)
+    ∷ (of (turns (new_book 1) joined).bench (Grow 2 (pos 1)), 0)
+    ∷ (of (with_interface (turns (new_book 1) joined).bench 1 (with_marks (interface (turns (new_book 1) joined).bench 1) (record { floored = false; fills = false }))) (Grow 2 (pos 1)), 2)
     ∷ []
 
 pub floors : map (λ (e : ℕ × ℕ). e.0) table ≡ map (λ (e : ℕ × ℕ). e.1) table

@@ -13,96 +13,96 @@ use Rattle.ledger_spec.specs.Numbers.{BROKEN, STALE, KIND, ROOM, NOTHING}
 use Rattle.ledger_spec.specs.Bench.{Bench}
 use Rattle.ledger_spec.specs.Tests.{first, any, is_some, stale}
 use Rattle.ledger_spec.specs.Reads.{said}
-use Rattle.ledger_spec.specs.Walk.{firstVertex}
+use Rattle.ledger_spec.specs.Walk.{first_vertex}
 use Rattle.ledger_spec.specs.Sound.{sound}
-use Rattle.ledger_spec.specs.Named.{handleNamed}
-use Rattle.ledger_spec.specs.Groups.{Group, growth, conflicts, largest, eqZ, soundGroup, added, extended, last_of, popped}
+use Rattle.ledger_spec.specs.Named.{handle_named}
+use Rattle.ledger_spec.specs.Groups.{Group, growth, conflicts, largest, eq_z, sound_group, added, extended, last_of, popped}
 
 -- ---- reads
 
-abbrev pub isLargest : Group → Bool
-isLargest (growth n f) = eqZ n largest
-isLargest (conflicts es ss) = false
+abbrev pub is_largest : Group → Bool
+is_largest (growth n f) = eq_z n largest
+is_largest (conflicts es ss) = false
 
-abbrev pub isGrowth : Group → Bool
-isGrowth (growth n f) = true
-isGrowth (conflicts es ss) = false
+abbrev pub is_growth : Group → Bool
+is_growth (growth n f) = true
+is_growth (conflicts es ss) = false
 
 -- all but (largest, no)
 abbrev pub active : Group → Bool
-active (growth n f) = cond (eqZ n largest) f true
+active (growth n f) = cond (eq_z n largest) f true
 active (conflicts es ss) = true
 
-unfoldable pub groupTests : Group → List (Bool × ℕ)
-groupTests g = (not (soundGroup g), BROKEN) ∷ []
+unfoldable pub group_tests : Group → List (Bool × ℕ)
+group_tests g = (not (sound_group g), BROKEN) ∷ []
 
 unfoldable pub is_empty : Group → ℕ × Bool
-is_empty g = said (first (groupTests g)) (isLargest g) false
+is_empty g = said (first (group_tests g)) (is_largest g) false
 
-unfoldable pub isActive : Group → ℕ × Bool
-isActive g = said (first (groupTests g)) (active g) false
+unfoldable pub is_active : Group → ℕ × Bool
+is_active g = said (first (group_tests g)) (active g) false
 
 -- the length of a growth; "none" of conflicts
-abbrev pub lengthIn : Group → Option ℤ
-lengthIn (growth n f) = some n
-lengthIn (conflicts es ss) = none
+abbrev pub length_in : Group → Option ℤ
+length_in (growth n f) = some n
+length_in (conflicts es ss) = none
 
-unfoldable pub growthOf : Group → ℕ × Option ℤ
-growthOf g = said (first ((not (soundGroup g), BROKEN) ∷ (isLargest g, NOTHING) ∷ [])) (lengthIn g) none
+unfoldable pub growth_of : Group → ℕ × Option ℤ
+growth_of g = said (first ((not (sound_group g), BROKEN) ∷ (is_largest g, NOTHING) ∷ [])) (length_in g) none
 
-abbrev pub lastIn : Group → Option Obstacle
-lastIn (growth n f) = none
-lastIn (conflicts es ss) = last_of es ss
+abbrev pub last_in : Group → Option Obstacle
+last_in (growth n f) = none
+last_in (conflicts es ss) = last_of es ss
 
-unfoldable pub takeTests : Group → List (Bool × ℕ)
-takeTests g = (not (soundGroup g), BROKEN) ∷ (isGrowth g, KIND) ∷ []
+unfoldable pub take_tests : Group → List (Bool × ℕ)
+take_tests g = (not (sound_group g), BROKEN) ∷ (is_growth g, KIND) ∷ []
 
 unfoldable pub peek : Group → ℕ × Option Obstacle
-peek g = said (first (takeTests g)) (lastIn g) none
+peek g = said (first (take_tests g)) (last_in g) none
 
 -- ---- changes: number, answer, group
 
-abbrev pub afterPop : Group → Group
-afterPop (growth n f) = growth n f
-afterPop (conflicts es ss) = popped es ss
+abbrev pub after_pop : Group → Group
+after_pop (growth n f) = growth n f
+after_pop (conflicts es ss) = popped es ss
 
 unfoldable pub pop : Group → ℕ × (Option Obstacle × Group)
-pop g = said (first (takeTests g)) (lastIn g, afterPop g) (none, g)
+pop g = said (first (take_tests g)) (last_in g, after_pop g) (none, g)
 
 -- the nodes that an obstacle names, and those of a group
-abbrev pub pairHandles : MaybePair → List Code
-pairHandles NoPair = []
-pairHandles (WithPair p) = p.node ∷ p.touching ∷ []
+abbrev pub pair_handles : MaybePair → List Code
+pair_handles NoPair = []
+pair_handles (WithPair p) = p.node ∷ p.touching ∷ []
 
-unfoldable pub handlesOf : Obstacle → List Code
-handlesOf (NonZeroGrow n f) = []
-handlesOf (Conflicting p q) = p.node ∷ p.touching ∷ q.node ∷ q.touching ∷ []
-handlesOf (TouchingVirtual p v m) = p.node ∷ p.touching ∷ []
-handlesOf (BlossomNeedExpand h) = h ∷ []
-handlesOf (VertexShrinkStop h p) = h ∷ pairHandles p
+unfoldable pub handles_of : Obstacle → List Code
+handles_of (NonZeroGrow n f) = []
+handles_of (Conflicting p q) = p.node ∷ p.touching ∷ q.node ∷ q.touching ∷ []
+handles_of (TouchingVirtual p v m) = p.node ∷ p.touching ∷ []
+handles_of (BlossomNeedExpand h) = h ∷ []
+handles_of (VertexShrinkStop h p) = h ∷ pair_handles p
 
-unfoldable pub listHandles : List Entry → List Code
-listHandles [] = []
-listHandles (e ∷ es) = handlesOf e.obstacle ++ listHandles es
+unfoldable pub list_handles : List Entry → List Code
+list_handles [] = []
+list_handles (e ∷ es) = handles_of e.obstacle ++ list_handles es
 
-unfoldable pub stopHandles : List Stop → List Code
-stopHandles [] = []
-stopHandles (s ∷ ss) = handlesOf s.obstacle ++ stopHandles ss
+unfoldable pub stop_handles : List Stop → List Code
+stop_handles [] = []
+stop_handles (s ∷ ss) = handles_of s.obstacle ++ stop_handles ss
 
-abbrev pub groupHandles : Group → List Code
-groupHandles (growth n f) = []
-groupHandles (conflicts es ss) = listHandles es ++ stopHandles ss
+abbrev pub group_handles : Group → List Code
+group_handles (growth n f) = []
+group_handles (conflicts es ss) = list_handles es ++ stop_handles ss
 
-abbrev pub staleCode : Bench → Code → Bool
-staleCode b h = stale b (handleNamed h)
+abbrev pub stale_code : Bench → Code → Bool
+stale_code b h = stale b (handle_named h)
 
 -- the first vertex of a stop's node; no other obstacle is kept by one
-abbrev pub vertexOf : Bench → Obstacle → ℕ
-vertexOf b (NonZeroGrow n f) = 0
-vertexOf b (Conflicting p q) = 0
-vertexOf b (TouchingVirtual p v m) = 0
-vertexOf b (BlossomNeedExpand h) = 0
-vertexOf b (VertexShrinkStop h p) = (firstVertex b (handleNamed h)).1
+abbrev pub vertex_of : Bench → Obstacle → ℕ
+vertex_of b (NonZeroGrow n f) = 0
+vertex_of b (Conflicting p q) = 0
+vertex_of b (TouchingVirtual p v m) = 0
+vertex_of b (BlossomNeedExpand h) = 0
+vertex_of b (VertexShrinkStop h p) = (first_vertex b (handle_named h)).1
 
 -- the group itself where there is no room
 abbrev pub or_else : Option Group → Group → Group
@@ -112,13 +112,13 @@ or_else (some q) g = q
 unfoldable pub add : Bench → Group → Obstacle → ℕ × Group
 add b g o =
     said
-    (first ((not (sound b && soundGroup g), BROKEN) ∷ (any (staleCode b) (handlesOf o), STALE) ∷ (not (is_some (added g o (vertexOf b o))), ROOM) ∷ []))
-    (or_else (added g o (vertexOf b o)) g)
+    (first ((not (sound b && sound_group g), BROKEN) ∷ (any (stale_code b) (handles_of o), STALE) ∷ (not (is_some (added g o (vertex_of b o))), ROOM) ∷ []))
+    (or_else (added g o (vertex_of b o)) g)
     g
 
 unfoldable pub extend : Bench → Group → Group → ℕ × Group
 extend b g h =
     said
-    (first ((not (sound b && (soundGroup g && soundGroup h)), BROKEN) ∷ (any (staleCode b) (groupHandles h), STALE) ∷ (not (is_some (extended g h)), ROOM) ∷ []))
+    (first ((not (sound b && (sound_group g && sound_group h)), BROKEN) ∷ (any (stale_code b) (group_handles h), STALE) ∷ (not (is_some (extended g h)), ROOM) ∷ []))
     (or_else (extended g h) g)
     g

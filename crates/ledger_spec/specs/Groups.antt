@@ -3,15 +3,15 @@
 use Rattle.std.specs.Prelude.{ℕ, suc, Bool, true, false, cond, ◌&&◌, ◌||◌, List, [], ◌∷◌, ◌++◌, length, drop, eqb, leb, ltb, ℤ, pos, negsuc}
 use Rattle.std.proofs.Math.Option.{Option, none, some}
 use Rattle.std.specs.Int.Signed.{lt_z}
-use Rattle.kinds.specs.Names.{sameCode}
-use Rattle.kinds.specs.Obstacles.{listable, isStop, pair_of}
+use Rattle.kinds.specs.Names.{same_code}
+use Rattle.kinds.specs.Obstacles.{listable, is_stop, pair_of}
 use Rattle.kinds.specs.declared.Entry.{Entry}
 use Rattle.kinds.specs.declared.Stop.{Stop}
 use Rattle.kinds.specs.declared.MaybePair.{MaybePair}
 use Rattle.kinds.specs.declared.MaybePair.TheVariants.{NoPair, WithPair}
 use Rattle.kinds.specs.declared.Obstacle.{Obstacle}
 use Rattle.kinds.specs.declared.Obstacle.TheVariants.{NonZeroGrow, Conflicting, TouchingVirtual, BlossomNeedExpand, VertexShrinkStop}
-use Rattle.ledger_spec.specs.Numbers.{groupLimit}
+use Rattle.ledger_spec.specs.Numbers.{group_limit}
 
 pub data Group : Type 0 where
   growth : (length : ℤ) (flag : Bool) → Group
@@ -20,29 +20,29 @@ pub data Group : Type 0 where
 abbrev pub largest : ℤ
 largest = pos 9223372036854775807
 
-abbrev pub emptyGroup : Group
-emptyGroup = growth largest false
+abbrev pub empty_group : Group
+empty_group = growth largest false
 
-abbrev pub eqZ : ℤ → ℤ → Bool
-eqZ (pos a) (pos b) = eqb a b
-eqZ (pos a) (negsuc b) = false
-eqZ (negsuc a) (pos b) = false
-eqZ (negsuc a) (negsuc b) = eqb a b
+abbrev pub eq_z : ℤ → ℤ → Bool
+eq_z (pos a) (pos b) = eqb a b
+eq_z (pos a) (negsuc b) = false
+eq_z (negsuc a) (pos b) = false
+eq_z (negsuc a) (negsuc b) = eqb a b
 
 -- ---- a sound group: at most 128 of each, no growth or stop in the list, only stops pending, by strictly rising vertex
 
-unfoldable pub allListable : List Entry → Bool
-allListable [] = true
-allListable (e ∷ es) = listable e.obstacle && allListable es
+unfoldable pub all_listable : List Entry → Bool
+all_listable [] = true
+all_listable (e ∷ es) = listable e.obstacle && all_listable es
 
 -- only stops, each at a vertex of at least v
-unfoldable pub risingFrom : ℕ → List Stop → Bool
-risingFrom v [] = true
-risingFrom v (s ∷ ss) = isStop s.obstacle && (leb v s.vertex.0 && risingFrom (suc s.vertex.0) ss)
+unfoldable pub rising_from : ℕ → List Stop → Bool
+rising_from v [] = true
+rising_from v (s ∷ ss) = is_stop s.obstacle && (leb v s.vertex.0 && rising_from (suc s.vertex.0) ss)
 
-unfoldable pub soundGroup : Group → Bool
-soundGroup (growth n f) = true
-soundGroup (conflicts es ss) = leb (length es) groupLimit && (leb (length ss) groupLimit && (allListable es && risingFrom 0 ss))
+unfoldable pub sound_group : Group → Bool
+sound_group (growth n f) = true
+sound_group (conflicts es ss) = leb (length es) group_limit && (leb (length ss) group_limit && (all_listable es && rising_from 0 ss))
 
 -- ---- add: none where list or stops would pass 128
 
@@ -51,31 +51,31 @@ abbrev pub Lists : Type 0
 Lists = List Entry × List Stop
 
 unfoldable pub room_for : List Entry → List Stop → Option Lists
-room_for es ss = cond (leb (length es) groupLimit && leb (length ss) groupLimit) (some (es, ss)) none
+room_for es ss = cond (leb (length es) group_limit && leb (length ss) group_limit) (some (es, ss)) none
 
 -- the stops at the front whose vertex is below v, and the others
-unfoldable pub frontOf : ℕ → List Stop → List Stop
-frontOf v [] = []
-frontOf v (s ∷ ss) = cond (ltb s.vertex.0 v) (s ∷ frontOf v ss) []
+unfoldable pub front_of : ℕ → List Stop → List Stop
+front_of v [] = []
+front_of v (s ∷ ss) = cond (ltb s.vertex.0 v) (s ∷ front_of v ss) []
 
-unfoldable pub backOf : ℕ → List Stop → List Stop
-backOf v [] = []
-backOf v (s ∷ ss) = cond (ltb s.vertex.0 v) (backOf v ss) (s ∷ ss)
+unfoldable pub back_of : ℕ → List Stop → List Stop
+back_of v [] = []
+back_of v (s ∷ ss) = cond (ltb s.vertex.0 v) (back_of v ss) (s ∷ ss)
 
 -- stop x comes to a vertex where y is pending, by their pairs; fs and bs are the stops before and after y
 unfoldable pub meet : MaybePair → MaybePair → Stop → Stop → List Entry → List Stop → List Stop → Option Lists
 meet NoPair q x y es fs bs = room_for es (fs ++ y ∷ bs)
 meet (WithPair p) NoPair x y es fs bs = room_for es (fs ++ x ∷ bs)
 meet (WithPair p) (WithPair q) x y es fs bs =
-    cond (sameCode p.node q.node) (room_for es (fs ++ y ∷ bs)) (room_for (es ++ record { obstacle = Conflicting p q } ∷ []) (fs ++ bs))
+    cond (same_code p.node q.node) (room_for es (fs ++ y ∷ bs)) (room_for (es ++ record { obstacle = Conflicting p q } ∷ []) (fs ++ bs))
 
 unfoldable pub placed : Stop → List Entry → List Stop → List Stop → Option Lists
 placed x es fs [] = room_for es (fs ++ x ∷ [])
 placed x es fs (y ∷ bs) =
     cond (eqb y.vertex.0 x.vertex.0) (meet (pair_of x.obstacle) (pair_of y.obstacle) x y es fs bs) (room_for es (fs ++ x ∷ y ∷ bs))
 
-unfoldable pub addStop : Stop → List Entry → List Stop → Option Lists
-addStop x es ss = placed x es (frontOf x.vertex.0 ss) (backOf x.vertex.0 ss)
+unfoldable pub add_stop : Stop → List Entry → List Stop → Option Lists
+add_stop x es ss = placed x es (front_of x.vertex.0 ss) (back_of x.vertex.0 ss)
 
 abbrev pub smaller : ℤ → ℤ → ℤ
 smaller n n' = cond (lt_z n' n) n' n
@@ -85,44 +85,44 @@ grouped none = none
 grouped (some ls) = some (conflicts ls.0 ls.1)
 
 -- o is added, v being the first vertex of a stop's node: to a growth, to conflicts
-unfoldable pub addToGrowth : ℤ → Bool → Obstacle → ℕ → Option Group
-addToGrowth n f (NonZeroGrow n' f') v = some (growth (smaller n n') (f || f'))
-addToGrowth n f (Conflicting p q) v = some (conflicts (record { obstacle = Conflicting p q } ∷ []) [])
-addToGrowth n f (TouchingVirtual p w m) v = some (conflicts (record { obstacle = TouchingVirtual p w m } ∷ []) [])
-addToGrowth n f (BlossomNeedExpand h) v = some (conflicts (record { obstacle = BlossomNeedExpand h } ∷ []) [])
-addToGrowth n f (VertexShrinkStop h p) v = some (conflicts [] (record { vertex = record { 0 = v }; obstacle = VertexShrinkStop h p } ∷ []))
+unfoldable pub add_to_growth : ℤ → Bool → Obstacle → ℕ → Option Group
+add_to_growth n f (NonZeroGrow n' f') v = some (growth (smaller n n') (f || f'))
+add_to_growth n f (Conflicting p q) v = some (conflicts (record { obstacle = Conflicting p q } ∷ []) [])
+add_to_growth n f (TouchingVirtual p w m) v = some (conflicts (record { obstacle = TouchingVirtual p w m } ∷ []) [])
+add_to_growth n f (BlossomNeedExpand h) v = some (conflicts (record { obstacle = BlossomNeedExpand h } ∷ []) [])
+add_to_growth n f (VertexShrinkStop h p) v = some (conflicts [] (record { vertex = record { 0 = v }; obstacle = VertexShrinkStop h p } ∷ []))
 
-unfoldable pub addToConflicts : List Entry → List Stop → Obstacle → ℕ → Option Group
-addToConflicts es ss (NonZeroGrow n f) v = some (conflicts es ss)
-addToConflicts es ss (Conflicting p q) v = grouped (room_for (es ++ record { obstacle = Conflicting p q } ∷ []) ss)
-addToConflicts es ss (TouchingVirtual p w m) v = grouped (room_for (es ++ record { obstacle = TouchingVirtual p w m } ∷ []) ss)
-addToConflicts es ss (BlossomNeedExpand h) v = grouped (room_for (es ++ record { obstacle = BlossomNeedExpand h } ∷ []) ss)
-addToConflicts es ss (VertexShrinkStop h p) v = grouped (addStop (record { vertex = record { 0 = v }; obstacle = VertexShrinkStop h p }) es ss)
+unfoldable pub add_to_conflicts : List Entry → List Stop → Obstacle → ℕ → Option Group
+add_to_conflicts es ss (NonZeroGrow n f) v = some (conflicts es ss)
+add_to_conflicts es ss (Conflicting p q) v = grouped (room_for (es ++ record { obstacle = Conflicting p q } ∷ []) ss)
+add_to_conflicts es ss (TouchingVirtual p w m) v = grouped (room_for (es ++ record { obstacle = TouchingVirtual p w m } ∷ []) ss)
+add_to_conflicts es ss (BlossomNeedExpand h) v = grouped (room_for (es ++ record { obstacle = BlossomNeedExpand h } ∷ []) ss)
+add_to_conflicts es ss (VertexShrinkStop h p) v = grouped (add_stop (record { vertex = record { 0 = v }; obstacle = VertexShrinkStop h p }) es ss)
 
 unfoldable pub added : Group → Obstacle → ℕ → Option Group
-added (growth n f) o v = addToGrowth n f o v
-added (conflicts es ss) o v = addToConflicts es ss o v
+added (growth n f) o v = add_to_growth n f o v
+added (conflicts es ss) o v = add_to_conflicts es ss o v
 
 -- ---- extend
 
 -- the smaller of two pairs: length first, then no before yes
-unfoldable pub smallerPair : ℤ → Bool → ℤ → Bool → Group
-smallerPair n f n' f' = cond (lt_z n' n) (growth n' f') (cond (lt_z n n') (growth n f) (growth n (f && f')))
+unfoldable pub smaller_pair : ℤ → Bool → ℤ → Bool → Group
+smaller_pair n f n' f' = cond (lt_z n' n) (growth n' f') (cond (lt_z n n') (growth n f) (growth n (f && f')))
 
 -- stops added one after the other, each under the vertex it was kept by, as long as there is room
 abbrev pub and_then : Option Lists → (List Entry → List Stop → Option Lists) → Option Lists
 and_then none next = none
 and_then (some ls) next = next ls.0 ls.1
 
-unfoldable pub addStops : List Stop → List Entry → List Stop → Option Lists
-addStops [] es ss = some (es, ss)
-addStops (x ∷ xs) es ss = and_then (addStop x es ss) (addStops xs)
+unfoldable pub add_stops : List Stop → List Entry → List Stop → Option Lists
+add_stops [] es ss = some (es, ss)
+add_stops (x ∷ xs) es ss = and_then (add_stop x es ss) (add_stops xs)
 
 unfoldable pub extended : Group → Group → Option Group
-extended (growth n f) (growth n' f') = some (cond (eqZ n' largest) (growth n f) (smallerPair n f n' f'))
+extended (growth n f) (growth n' f') = some (cond (eq_z n' largest) (growth n f) (smaller_pair n f n' f'))
 extended (growth n f) (conflicts es ss) = some (conflicts es ss)
 extended (conflicts es ss) (growth n f) = some (conflicts es ss)
-extended (conflicts es ss) (conflicts es' ss') = grouped (and_then (room_for (es ++ es') ss) (addStops ss'))
+extended (conflicts es ss) (conflicts es' ss') = grouped (and_then (room_for (es ++ es') ss) (add_stops ss'))
 
 -- ---- pop and peek of conflicts
 
@@ -134,11 +134,11 @@ last_of (e ∷ []) ss = some e.obstacle
 last_of (e ∷ e' ∷ es) ss = last_of (e' ∷ es) ss
 
 -- all but the last
-unfoldable pub allButLast : {A : Type 0} → List A → List A
-allButLast [] = []
-allButLast (x ∷ []) = []
-allButLast (x ∷ y ∷ ys) = x ∷ allButLast (y ∷ ys)
+unfoldable pub all_but_last : {A : Type 0} → List A → List A
+all_but_last [] = []
+all_but_last (x ∷ []) = []
+all_but_last (x ∷ y ∷ ys) = x ∷ all_but_last (y ∷ ys)
 
 -- the last of the list goes AND the stop of smallest vertex goes
 abbrev pub popped : List Entry → List Stop → Group
-popped es ss = conflicts (allButLast es) (drop 1 ss)
+popped es ss = conflicts (all_but_last es) (drop 1 ss)

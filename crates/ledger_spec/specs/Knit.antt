@@ -3,7 +3,7 @@
 use Rattle.std.specs.Prelude.{ℕ, ◌≤◌, ◌<◌, ◌≡◌, List, ◌∷◌, map}
 use Rattle.std.proofs.Math.Option.{Option, some}
 use Rattle.ledger_spec.specs.Bench.{Handle, stays, Member, blossom, Node, Bench}
-use Rattle.ledger_spec.specs.Look.{slot_of, top, sameHandle}
+use Rattle.ledger_spec.specs.Look.{slot_of, top, same_handle}
 use Rattle.ledger_spec.specs.SoundTree.{tally}
 
 abbrev pub At : Type 0
@@ -31,7 +31,7 @@ pub record Up (at : At) (tp : ℕ → ℕ) (u s : ℕ) (n : Node) (q : Handle) :
   pub ms : List Member
   pub has : Has at q over
   pub ring : over.class ≡ blossom ms
-  pub once : tally (sameHandle (mk u s n)) (nodes ms) ≡ 1
+  pub once : tally (same_handle (mk u s n)) (nodes ms) ≡ 1
   pub still : n.state ≡ stays
   pub older : n.serial < q.serial
   pub near : tp u ≡ tp q.unit

@@ -16,17 +16,17 @@ gap (none ∷ xs) = 0
 gap (some n ∷ xs) = suc (gap xs)
 
 -- the slot that a new node takes: the lowest empty one if the interface fills, else the first that was not used yet
-unfoldable pub freeSlot : Bench → ℕ → ℕ
-freeSlot b u = elim (interface b u).marks.fills [ true ↦ gap (interface b u).slots | false ↦ length (interface b u).slots ]
+unfoldable pub free_slot : Bench → ℕ → ℕ
+free_slot b u = elim (interface b u).marks.fills [ true ↦ gap (interface b u).slots | false ↦ length (interface b u).slots ]
 
 -- what a slot holds, if it has that serial
-unfoldable pub ifSerial : ℕ → Option Node → Option Node
-ifSerial k none = none
-ifSerial k (some n) = elim (eqb k n.serial) [ true ↦ some n | false ↦ none ]
+unfoldable pub if_serial : ℕ → Option Node → Option Node
+if_serial k none = none
+if_serial k (some n) = elim (eqb k n.serial) [ true ↦ some n | false ↦ none ]
 
 -- the present node that a handle names
-unfoldable pub nodeNamed : Bench → Handle → Option Node
-nodeNamed b h = ifSerial h.serial (slot_of b h.unit h.slot)
+unfoldable pub node_named : Bench → Handle → Option Node
+node_named b h = if_serial h.serial (slot_of b h.unit h.slot)
 
 -- the interface without a parent at the top of u's tree: parents have higher numbers, so 8 steps are enough
 unfoldable pub climb : ℕ → Bench → ℕ → ℕ
@@ -41,5 +41,5 @@ unfoldable pub tree : ℕ → Bench → ℕ → List ℕ
 tree zero b u = u ∷ []
 tree (suc k) b u = elim (interface b u).halves [ none ↦ u ∷ [] | some lr ↦ (tree k b lr.0 ++ tree k b lr.1) ++ (u ∷ []) ]
 
-abbrev pub sameHandle : Handle → Handle → Bool
-sameHandle g h = (eqb g.unit h.unit && eqb g.slot h.slot) && eqb g.serial h.serial
+abbrev pub same_handle : Handle → Handle → Bool
+same_handle g h = (eqb g.unit h.unit && eqb g.slot h.slot) && eqb g.serial h.serial

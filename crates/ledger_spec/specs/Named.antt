@@ -7,14 +7,14 @@ use Rattle.kinds.specs.declared.Parent.{Parent}
 use Rattle.kinds.specs.declared.Parent.TheVariants.{Outermost, Inside}
 use Rattle.ledger_spec.specs.Bench.{Handle, State, grows, stays, shrinks}
 
-abbrev pub handleNamed : Code → Handle
-handleNamed h = record { unit = h.unit; slot = h.slot; serial = h.serial.0 }
+abbrev pub handle_named : Code → Handle
+handle_named h = record { unit = h.unit; slot = h.slot; serial = h.serial.0 }
 
-abbrev pub stateNamed : GrowState → State
-stateNamed Grow = grows
-stateNamed Stay = stays
-stateNamed Shrink = shrinks
+abbrev pub state_named : GrowState → State
+state_named Grow = grows
+state_named Stay = stays
+state_named Shrink = shrinks
 
-abbrev pub parentNamed : Parent → Option Handle
-parentNamed Outermost = none
-parentNamed (Inside h) = some (handleNamed h)
+abbrev pub parent_named : Parent → Option Handle
+parent_named Outermost = none
+parent_named (Inside h) = some (handle_named h)

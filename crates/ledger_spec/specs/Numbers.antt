@@ -3,20 +3,20 @@ use Rattle.std.specs.Prelude.{ℕ, ◌^◌}
 
 -- ---- limits: a progress, the serials (all are below this), a circle and an interface's slots, a group's list and its stops
 
-abbrev pub progressLimit : ℕ
-progressLimit = 2 ^ 40
+abbrev pub progress_limit : ℕ
+progress_limit = 2 ^ 40
 
-abbrev pub serialLimit : ℕ
-serialLimit = 2 ^ 32
+abbrev pub serial_limit : ℕ
+serial_limit = 2 ^ 32
 
-abbrev pub slotLimit : ℕ
-slotLimit = 64
+abbrev pub slot_limit : ℕ
+slot_limit = 64
 
-abbrev pub circleLimit : ℕ
-circleLimit = 64
+abbrev pub circle_limit : ℕ
+circle_limit = 64
 
-abbrev pub groupLimit : ℕ
-groupLimit = 128
+abbrev pub group_limit : ℕ
+group_limit = 128
 
 -- ---- the numbers a call can answer
 

@@ -2,7 +2,7 @@
 -- record has it. Assumes nothing.
 use Rattle.std.specs.Prelude.{ℕ, Bool, true, false, ◌&&◌, List, [], ◌∷◌, eqb, pos}
 use Rattle.std.proofs.Math.Option.{Option, none, some}
-use Rattle.ledger_spec.specs.Bench.{setUp, setUpIn}
+use Rattle.ledger_spec.specs.Bench.{set_up, set_up_in}
 use Rattle.ledger_spec.specs.Grammar.{line_of}
 use Rattle.ledger_spec.specs.Lines.{LineAnswer, says}
 
@@ -19,9 +19,9 @@ chosen (m ∷ s ∷ d ∷ []) = elim (eqb m 77 && eqb s 32) [ true ↦ engine d 
 chosen (m ∷ s ∷ d ∷ e ∷ l) = none
 
 -- a first line that chooses an engine sets the bench up in it and answers four zeros; another is a line as any
-abbrev pub openingBy : Option Bool → List ℕ → LineAnswer
-openingBy none l = says (setUp 1) (line_of l)
-openingBy (some m) l = record { numbers = (0, 0, pos 0, pos 0); bench = setUpIn m 1 }
+abbrev pub opening_by : Option Bool → List ℕ → LineAnswer
+opening_by none l = says (set_up 1) (line_of l)
+opening_by (some m) l = record { numbers = (0, 0, pos 0, pos 0); bench = set_up_in m 1 }
 
 unfoldable pub opening : List ℕ → LineAnswer
-opening l = openingBy (chosen l) l
+opening l = opening_by (chosen l) l

@@ -2,7 +2,7 @@
 -- Assumes nothing.
 use Rattle.std.specs.Prelude.{ℕ, ◌≡◌, refl, Bool, true, false, List, [], ◌∷◌, map}
 use Prim.Native.String.{String}
-use Rattle.ledger_spec.specs.Program.{program, programLeaves}
+use Rattle.ledger_spec.specs.Program.{program, program_leaves}
 use Rattle.ledger_spec.specs.Bytes.{bytes}
 use Rattle.ledger_spec.specs.Opened.{run}
 
@@ -13,7 +13,7 @@ pub record Row : Type 0 where
 
 pub of : String → Row
 unfolding run
-of input = record { answers = program (bytes input); plain = (programLeaves (bytes input)).plain }
+of input = record { answers = program (bytes input); plain = (program_leaves (bytes input)).plain }
 
 pub is : String → Bool → Row
 unfolding run
@@ -33,14 +33,14 @@ unfolding run of is
 chooses = refl
 
 -- not where it is not the first line: after an empty one, a bad one, a good one, another M
-pub only-first : Agree (
+pub only_first : Agree (
     (of "\nM 1\n", is "1 0 0 0\n1 0 0 0\n" false)
     ∷ (of "X\nM 1\n", is "1 0 0 0\n1 0 0 0\n" false)
     ∷ (of "K 0\nM 1\n", is "0 0 0 0\n1 0 0 0\n" false)
     ∷ (of "M 0\nM 1\n", is "0 0 0 0\n1 0 0 0\n" false)
     ∷ [])
 unfolding run of is
-only-first = refl
+only_first = refl
 
 -- not another number, none, another form, nor a line without its newline
 pub no_other : Agree (

@@ -1,7 +1,7 @@
 -- The text program whole: standard input's bytes to standard output's, from a bench with first serial 1, in the engine that the first line chooses, else in
 -- the lazy one. Assumes nothing.
 use Rattle.std.specs.Prelude.{ℕ, List, [], ◌∷◌, ◌++◌, ℤ}
-use Rattle.ledger_spec.specs.Bench.{Bench, setUp}
+use Rattle.ledger_spec.specs.Bench.{Bench, set_up}
 use Rattle.ledger_spec.specs.Decimals.{decimal, signed}
 use Rattle.ledger_spec.specs.Fields.{cut}
 use Rattle.ledger_spec.specs.Grammar.{Line, wrong, line_of}
@@ -24,9 +24,9 @@ unfoldable pub answers : Bench → List Line → List (ℕ × ℕ × ℤ × ℤ)
 answers b [] = []
 answers b (l ∷ ls) = (says b l).numbers ∷ answers (says b l).bench ls
 
-unfoldable pub afterLines : Bench → List Line → Bench
-afterLines b [] = b
-afterLines b (l ∷ ls) = afterLines (says b l).bench ls
+unfoldable pub after_lines : Bench → List Line → Bench
+after_lines b [] = b
+after_lines b (l ∷ ls) = after_lines (says b l).bench ls
 
 -- number, serial, speed, sum, with one space between, and a newline
 unfoldable pub text_of : ℕ × ℕ × ℤ × ℤ → List ℕ
@@ -38,19 +38,19 @@ texts (x ∷ xs) = text_of x ++ texts xs
 
 -- ---- a whole input, by what stands between its newlines: only a line that a newline ends opens
 
-unfoldable pub openAnswers : List (List ℕ) → List (ℕ × ℕ × ℤ × ℤ)
-openAnswers [] = []
-openAnswers (l ∷ []) = answers (setUp 1) (ended (l ∷ []))
-openAnswers (l ∷ m ∷ ls) = (opening l).numbers ∷ answers (opening l).bench (ended (m ∷ ls))
+unfoldable pub open_answers : List (List ℕ) → List (ℕ × ℕ × ℤ × ℤ)
+open_answers [] = []
+open_answers (l ∷ []) = answers (set_up 1) (ended (l ∷ []))
+open_answers (l ∷ m ∷ ls) = (opening l).numbers ∷ answers (opening l).bench (ended (m ∷ ls))
 
-unfoldable pub openAfter : List (List ℕ) → Bench
-openAfter [] = setUp 1
-openAfter (l ∷ []) = setUp 1
-openAfter (l ∷ m ∷ ls) = afterLines (opening l).bench (ended (m ∷ ls))
+unfoldable pub open_after : List (List ℕ) → Bench
+open_after [] = set_up 1
+open_after (l ∷ []) = set_up 1
+open_after (l ∷ m ∷ ls) = after_lines (opening l).bench (ended (m ∷ ls))
 
 unfoldable pub program : List ℕ → List ℕ
-program input = texts (openAnswers (cut 10 input))
+program input = texts (open_answers (cut 10 input))
 
 -- the bench after it
-unfoldable pub programLeaves : List ℕ → Bench
-programLeaves input = openAfter (cut 10 input)
+unfoldable pub program_leaves : List ℕ → Bench
+program_leaves input = open_after (cut 10 input)

@@ -4,10 +4,10 @@ use Rattle.std.specs.Prelude.{ℕ, zero, suc, Bool, false, not, ◌&&◌, List, 
 use Rattle.std.proofs.Math.Option.{Option, none, some}
 use Rattle.ledger_spec.specs.Numbers.{UNIT, CHILD, STALE, RANGE}
 use Rattle.ledger_spec.specs.Bench.{Handle, Node, Bench}
-use Rattle.ledger_spec.specs.Look.{interface, nodeNamed, tree}
+use Rattle.ledger_spec.specs.Look.{interface, node_named, tree}
 use Rattle.ledger_spec.specs.Change.{worth}
 use Rattle.ledger_spec.specs.Tests.{first, outside, child, stale, foreign, floored}
-use Rattle.ledger_spec.specs.Refuse.{unitTests}
+use Rattle.ledger_spec.specs.Refuse.{unit_tests}
 
 -- a value, or what stands for it where the number is not 0
 unfoldable pub said : {A : Type 0} → ℕ → A → A → ℕ × A
@@ -15,54 +15,54 @@ said zero v z = (0, v)
 said (suc k) v z = (suc k, z)
 
 -- the slots of a tree, in the order of the index, each with its place
-unfoldable pub slotsFrom : ℕ → ℕ → List (Option Node) → List (ℕ × ℕ × Option Node)
-slotsFrom u k [] = []
-slotsFrom u k (x ∷ xs) = (u, k, x) ∷ slotsFrom u (suc k) xs
+unfoldable pub slots_from : ℕ → ℕ → List (Option Node) → List (ℕ × ℕ × Option Node)
+slots_from u k [] = []
+slots_from u k (x ∷ xs) = (u, k, x) ∷ slots_from u (suc k) xs
 
 unfoldable pub gather : Bench → List ℕ → List (ℕ × ℕ × Option Node)
 gather b [] = []
-gather b (u ∷ us) = slotsFrom u 0 (interface b u).slots ++ gather b us
+gather b (u ∷ us) = slots_from u 0 (interface b u).slots ++ gather b us
 
 abbrev pub slots_of : Bench → ℕ → List (ℕ × ℕ × Option Node)
 slots_of b u = gather b (tree 8 b u)
 
-abbrev pub asHandle : ℕ × ℕ × Option Node → Option Handle
-asHandle t = elim t.2 [ none ↦ none | some n ↦ some (record { unit = t.0; slot = t.1; serial = n.serial }) ]
+abbrev pub as_handle : ℕ × ℕ × Option Node → Option Handle
+as_handle t = elim t.2 [ none ↦ none | some n ↦ some (record { unit = t.0; slot = t.1; serial = n.serial }) ]
 
 -- ---- interfaces
 
 unfoldable pub sum_of : Bench → ℕ → ℕ × ℤ
-sum_of b u = said (first (unitTests b u)) (interface b u).sum (pos 0)
+sum_of b u = said (first (unit_tests b u)) (interface b u).sum (pos 0)
 
-unfoldable pub speedOf : Bench → ℕ → ℕ × ℤ
-speedOf b u = said (first (unitTests b u)) (interface b u).speed (pos 0)
+unfoldable pub speed_of : Bench → ℕ → ℕ × ℤ
+speed_of b u = said (first (unit_tests b u)) (interface b u).speed (pos 0)
 
 unfoldable pub count_of : Bench → ℕ → ℕ × ℕ
-count_of b u = said (first (unitTests b u)) (length (slots_of b u)) 0
+count_of b u = said (first (unit_tests b u)) (length (slots_of b u)) 0
 
 -- whether an interface gives a new node its lowest empty slot
-unfoldable pub fillsOf : Bench → ℕ → ℕ × Bool
-fillsOf b u = said (first (unitTests b u)) (interface b u).marks.fills false
+unfoldable pub fills_of : Bench → ℕ → ℕ × Bool
+fills_of b u = said (first (unit_tests b u)) (interface b u).marks.fills false
 
 -- whether no value of its tree may fall below 0
-unfoldable pub flooredOf : Bench → ℕ → ℕ × Bool
-flooredOf b u = said (first (unitTests b u)) (floored b u) false
+unfoldable pub floored_of : Bench → ℕ → ℕ × Bool
+floored_of b u = said (first (unit_tests b u)) (floored b u) false
 
-unfoldable pub indexTests : Bench → ℕ → ℕ → List (Bool × ℕ)
-indexTests b u k = (outside u, UNIT) ∷ (child b u, CHILD) ∷ (leb (length (slots_of b u)) k, RANGE) ∷ []
+unfoldable pub index_tests : Bench → ℕ → ℕ → List (Bool × ℕ)
+index_tests b u k = (outside u, UNIT) ∷ (child b u, CHILD) ∷ (leb (length (slots_of b u)) k, RANGE) ∷ []
 
 -- index to handle, or nothing where the slot was emptied
-unfoldable pub handleAtIndex : Bench → ℕ → ℕ → ℕ × Option Handle
-handleAtIndex b u k = said (first (indexTests b u k)) (asHandle (get_or (slots_of b u) k (0, 0, none))) none
+unfoldable pub handle_at_index : Bench → ℕ → ℕ → ℕ × Option Handle
+handle_at_index b u k = said (first (index_tests b u k)) (as_handle (get_or (slots_of b u) k (0, 0, none))) none
 
 -- ---- nodes
 
-unfoldable pub nodeTests : Bench → Handle → List (Bool × ℕ)
-nodeTests b h = (stale b h, STALE) ∷ []
+unfoldable pub node_tests : Bench → Handle → List (Bool × ℕ)
+node_tests b h = (stale b h, STALE) ∷ []
 
 unfoldable pub value_of : Bench → Handle → ℕ × ℤ
-value_of b h = said (first (nodeTests b h)) (worth (nodeNamed b h)) (pos 0)
+value_of b h = said (first (node_tests b h)) (worth (node_named b h)) (pos 0)
 
 -- whether a node stands in an interface's tree: no in place of 8 and 9
 unfoldable pub belongs : Bench → ℕ → Handle → ℕ × Bool
-belongs b u h = said (first (unitTests b u)) (not (stale b h) && not (foreign b u h)) false
+belongs b u h = said (first (unit_tests b u)) (not (stale b h) && not (foreign b u h)) false

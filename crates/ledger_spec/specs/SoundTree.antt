@@ -2,7 +2,7 @@
 use Rattle.std.specs.Prelude.{ℕ, suc, ◌+◌, Bool, true, false, not, ◌&&◌, ◌||◌, List, [], ◌∷◌, length, eqb, leb, ltb, pos, nat_abs}
 use Rattle.std.proofs.Math.Option.{Option, none, some}
 use Rattle.std.specs.Int.Signed.{le_z}
-use Rattle.ledger_spec.specs.Numbers.{progressLimit, slotLimit}
+use Rattle.ledger_spec.specs.Numbers.{progress_limit, slot_limit}
 use Rattle.ledger_spec.specs.Bench.{Bench}
 use Rattle.ledger_spec.specs.Look.{interface}
 
@@ -18,27 +18,27 @@ unfoldable pub tally : {A : Type 0} → (A → Bool) → List A → ℕ
 tally p [] = 0
 tally p (x ∷ xs) = elim (p x) [ true ↦ suc (tally p xs) | false ↦ tally p xs ]
 
-abbrev pub isParent : Option ℕ → ℕ → Bool
-isParent none u = false
-isParent (some p) u = eqb p u
+abbrev pub is_parent : Option ℕ → ℕ → Bool
+is_parent none u = false
+is_parent (some p) u = eqb p u
 
-abbrev pub isHalf : Option (ℕ × ℕ) → ℕ → Bool
-isHalf none u = false
-isHalf (some lr) u = eqb lr.0 u || eqb lr.1 u
+abbrev pub is_half : Option (ℕ × ℕ) → ℕ → Bool
+is_half none u = false
+is_half (some lr) u = eqb lr.0 u || eqb lr.1 u
 
 -- links of interface u, up and down
-unfoldable pub linksUp : Bench → ℕ → Bool
-linksUp b u = elim (interface b u).parent [ none ↦ true | some p ↦ ltb u p && (leb p 7 && isHalf (interface b p).halves u) ]
+unfoldable pub links_up : Bench → ℕ → Bool
+links_up b u = elim (interface b u).parent [ none ↦ true | some p ↦ ltb u p && (leb p 7 && is_half (interface b p).halves u) ]
 
-unfoldable pub linksDown : Bench → ℕ → Bool
-linksDown b u = elim (interface b u).halves [
+unfoldable pub links_down : Bench → ℕ → Bool
+links_down b u = elim (interface b u).halves [
   | none ↦ true
-  | some lr ↦ (not (eqb lr.0 lr.1) && (ltb lr.0 u && ltb lr.1 u)) && (isParent (interface b lr.0).parent u && isParent (interface b lr.1).parent u)
+  | some lr ↦ (not (eqb lr.0 lr.1) && (ltb lr.0 u && ltb lr.1 u)) && (is_parent (interface b lr.0).parent u && is_parent (interface b lr.1).parent u)
 ]
 
-unfoldable pub soundInterface : Bench → ℕ → Bool
-soundInterface b u = (leb (length (interface b u).slots) slotLimit && (le_z (pos 0) (interface b u).progress && le_z (interface b u).progress (pos progressLimit)))
-    && (linksUp b u && linksDown b u)
+unfoldable pub sound_interface : Bench → ℕ → Bool
+sound_interface b u = (leb (length (interface b u).slots) slot_limit && (le_z (pos 0) (interface b u).progress && le_z (interface b u).progress (pos progress_limit)))
+    && (links_up b u && links_down b u)
 
 -- W: the progress of an interface and of all below it
 unfoldable pub reach : Bench → List ℕ → ℕ

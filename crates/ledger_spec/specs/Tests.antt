@@ -2,9 +2,9 @@
 use Rattle.std.specs.Prelude.{ℕ, Bool, true, false, ◌||◌, ◌&&◌, not, List, [], ◌∷◌, eqb, leb, ℤ, nat_abs}
 use Rattle.std.proofs.Math.Option.{Option, none, some}
 use Rattle.std.specs.Int.Signed.{lt_z}
-use Rattle.ledger_spec.specs.Numbers.{slotLimit, serialLimit}
+use Rattle.ledger_spec.specs.Numbers.{slot_limit, serial_limit}
 use Rattle.ledger_spec.specs.Bench.{Handle, State, grows, stays, shrinks, Node, Interface, Bench, defect, blossom}
-use Rattle.ledger_spec.specs.Look.{interface, freeSlot, nodeNamed, top, sameHandle}
+use Rattle.ledger_spec.specs.Look.{interface, free_slot, node_named, top, same_handle}
 use Rattle.ledger_spec.specs.SoundTree.{units}
 
 unfoldable pub first : List (Bool × ℕ) → ℕ
@@ -32,42 +32,42 @@ child b u = is_some (interface b u).parent
 
 -- STALE, FOREIGN, KIND, INSIDE: of a handle; TWICE: of several
 abbrev pub stale : Bench → Handle → Bool
-stale b h = not (is_some (nodeNamed b h))
+stale b h = not (is_some (node_named b h))
 
 abbrev pub foreign : Bench → ℕ → Handle → Bool
 foreign b u h = not (eqb (top b h.unit) u)
 
-abbrev pub isDefect : Option Node → Bool
-isDefect none = false
-isDefect (some n) = elim n.class [ defect v ↦ true | blossom ms ↦ false ]
+abbrev pub is_defect : Option Node → Bool
+is_defect none = false
+is_defect (some n) = elim n.class [ defect v ↦ true | blossom ms ↦ false ]
 
-abbrev pub hasParent : Option Node → Bool
-hasParent none = false
-hasParent (some n) = is_some n.parent
+abbrev pub has_parent : Option Node → Bool
+has_parent none = false
+has_parent (some n) = is_some n.parent
 
 unfoldable pub twice : List Handle → Bool
 twice [] = false
-twice (h ∷ hs) = any (sameHandle h) hs || twice hs
+twice (h ∷ hs) = any (same_handle h) hs || twice hs
 
 -- FULL, WORN, USED
 abbrev pub full : Bench → ℕ → Bool
-full b u = leb slotLimit (freeSlot b u)
+full b u = leb slot_limit (free_slot b u)
 
 abbrev pub worn : Bench → Bool
-worn b = leb serialLimit b.next
+worn b = leb serial_limit b.next
 
 abbrev pub used : Interface → Bool
 used f = not (empty f.slots) || (not (eqb (nat_abs f.progress) 0) || is_some f.halves)
 
 -- BELOW: a shrinking node of u's tree has a value below l
-abbrev pub isShrink : State → Bool
-isShrink grows = false
-isShrink stays = false
-isShrink shrinks = true
+abbrev pub is_shrink : State → Bool
+is_shrink grows = false
+is_shrink stays = false
+is_shrink shrinks = true
 
 abbrev pub sinks : ℤ → Option Node → Bool
 sinks l none = false
-sinks l (some n) = isShrink n.state && lt_z n.value l
+sinks l (some n) = is_shrink n.state && lt_z n.value l
 
 abbrev pub floored : Bench → ℕ → Bool
 floored b u = (interface b u).marks.floored

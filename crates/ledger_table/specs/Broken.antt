@@ -2,10 +2,10 @@
 -- broken and, where it has a limit, kept just at it; BROKEN is what every call then answers. Assumes nothing.
 use Rattle.std.specs.Prelude.{ℕ, suc, ◌≡◌, refl, Bool, true, false, not, List, [], ◌∷◌, ◌++◌, map, eqb, get_or, set, replicate, take, ℤ, pos, negsuc}
 use Rattle.std.proofs.Math.Option.{Option, none, some}
-use Rattle.ledger_spec.specs.Numbers.{progressLimit, BROKEN}
-use Rattle.ledger_spec.specs.Bench.{Handle, State, grows, stays, shrinks, Member, Class, blossom, Node, Interface, Bench, setUp, withSlots, withProgress, with_sum, withSpeed, withParent, withHalves}
+use Rattle.ledger_spec.specs.Numbers.{progress_limit, BROKEN}
+use Rattle.ledger_spec.specs.Bench.{Handle, State, grows, stays, shrinks, Member, Class, blossom, Node, Interface, Bench, set_up, with_slots, with_progress, with_sum, with_speed, with_parent, with_halves}
 use Rattle.ledger_spec.specs.Look.{interface}
-use Rattle.ledger_spec.specs.Change.{withInterface}
+use Rattle.ledger_spec.specs.Change.{with_interface}
 use Rattle.ledger_spec.specs.Calls.{Grow}
 use Rattle.ledger_spec.specs.Sound.{sound}
 use Rattle.ledger_spec.specs.Answers.{answer}
@@ -14,7 +14,7 @@ use Rattle.ledger_spec.specs.Opened.{run, ran}
 -- serials 1 to 3 in blossom 4 of interface 0, 5 in interface 1, both fused into 2, where 6 stands; W is 8 + 3 + 1
 unfoldable pub made : Bench
 unfolding run ran
-made = ran (setUp 1) "D 0 3\nD 0 8\nD 0 9\nG 0 5\nB 0 1 2 3\nG 0 2\nS 0 4 -1\nG 0 1\nD 1 7\nG 1 3\nF 2 0 1\nD 2 4\nG 2 1\n"
+made = ran (set_up 1) "D 0 3\nD 0 8\nD 0 9\nG 0 5\nB 0 1 2 3\nG 0 2\nS 0 4 -1\nG 0 1\nD 1 7\nG 1 3\nF 2 0 1\nD 2 4\nG 2 1\n"
 
 -- ---- one thing changed
 
@@ -22,35 +22,35 @@ abbrev pub next : ℕ → Bench → Bench
 next n b = record { next = n; interfaces = b.interfaces; plain = b.plain }
 
 abbrev pub face : ℕ → (Interface → Interface) → Bench → Bench
-face u f b = withInterface b u (f (interface b u))
+face u f b = with_interface b u (f (interface b u))
 
 abbrev pub progress : ℤ → Interface → Interface
-progress p f = withProgress f p
+progress p f = with_progress f p
 
 abbrev pub sum : ℤ → Interface → Interface
 sum s f = with_sum f s
 
 abbrev pub speed : ℤ → Interface → Interface
-speed v f = withSpeed f v
+speed v f = with_speed f v
 
 abbrev pub parent : Option ℕ → Interface → Interface
-parent p f = withParent f p
+parent p f = with_parent f p
 
 abbrev pub halves : Option (ℕ × ℕ) → Interface → Interface
-halves h f = withHalves f h
+halves h f = with_halves f h
 
 abbrev pub empties : ℕ → Interface → Interface
-empties n f = withSlots f (f.slots ++ replicate n none)
+empties n f = with_slots f (f.slots ++ replicate n none)
 
 abbrev pub lose : ℕ → Interface → Interface
-lose s f = withSlots f (set f.slots s none)
+lose s f = with_slots f (set f.slots s none)
 
 abbrev pub changed : (Node → Node) → Option Node → Option Node
 changed g none = none
 changed g (some n) = some (g n)
 
 abbrev pub node : ℕ → (Node → Node) → Interface → Interface
-node s g f = withSlots f (set f.slots s (changed g (get_or f.slots s none)))
+node s g f = with_slots f (set f.slots s (changed g (get_or f.slots s none)))
 
 abbrev pub serial : ℕ → Node → Node
 serial k n = record { serial = k; class = n.class; state = n.state; parent = n.parent; value = n.value; size = n.size }
@@ -93,7 +93,7 @@ rows =
     ∷ (next 7, true) ∷ (next 6, false) ∷ (next 0, false) ∷ (next 4294967296, true) ∷ (next 4294967297, false)
     -- used slots, progress
     ∷ (face 1 (empties 63), true) ∷ (face 1 (empties 64), false) ∷ (face 7 (empties 64), true) ∷ (face 7 (empties 65), false)
-    ∷ (face 7 (progress (pos progressLimit)), true) ∷ (face 7 (progress (pos (suc progressLimit))), false) ∷ (face 7 (progress (negsuc 0)), false)
+    ∷ (face 7 (progress (pos progress_limit)), true) ∷ (face 7 (progress (pos (suc progress_limit))), false) ∷ (face 7 (progress (negsuc 0)), false)
     ∷ (face 0 (progress (pos 1)), true) ∷ (face 0 (progress (pos 0)), false) ∷ (face 0 (progress (pos 100)), true) ∷ (face 1 (progress (negsuc 0)), false)
     -- children
     ∷ (face 2 (halves none), false) ∷ (face 2 (halves (some (1, 0))), true) ∷ (face 2 (halves (some (0, 0))), false)
@@ -128,9 +128,9 @@ unfolding run ran made
 verdicts = refl
 
 -- what a call answers then: 2 exactly where the bench is not sound
-abbrev pub isTwo : ℕ → Bool
-isTwo n = not (eqb n BROKEN)
+abbrev pub is_two : ℕ → Bool
+is_two n = not (eqb n BROKEN)
 
-pub broken : map (λ (r : (Bench → Bench) × Bool). isTwo (answer (r.0 made) (Grow 2 (pos 0))).number) rows ≡ map (λ (r : (Bench → Bench) × Bool). r.1) rows
+pub broken : map (λ (r : (Bench → Bench) × Bool). is_two (answer (r.0 made) (Grow 2 (pos 0))).number) rows ≡ map (λ (r : (Bench → Bench) × Bool). r.1) rows
 unfolding run ran made
 broken = refl

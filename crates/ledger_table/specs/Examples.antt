@@ -6,8 +6,8 @@ use Rattle.ledger_spec.specs.Bench.{Handle, grows, shrinks, blossom, Bench}
 use Rattle.ledger_spec.specs.Change.{place}
 use Rattle.ledger_spec.specs.Sound.{sound}
 use Rattle.ledger_spec.specs.Calls.{Call, Defect, Blossom, Expand, SetState, Grow, Fuse}
-use Rattle.ledger_spec.specs.Check.{checkOf, strictOf}
-use Rattle.ledger_spec.specs.Book.{turns, newBook}
+use Rattle.ledger_spec.specs.Check.{check_of, strict_of}
+use Rattle.ledger_spec.specs.Book.{turns, new_book}
 use Rattle.ledger_spec.specs.Opened.{run}
 
 -- the node of serial k in a slot of interface 0, and of interface 1
@@ -52,7 +52,7 @@ both = Defect 0 1 ∷ Defect 0 2 ∷ Defect 0 3 ∷ ring (at 0 1) ∷ ring (at 1
 
 -- by hand, since no call can do it: a member's own parent as what it touches by
 abbrev pub around : Bench
-around = place (turns (newBook 1) (Defect 0 1 ∷ ring (at 0 1) ∷ ring (at 1 2) ∷ [])).bench 0 2
+around = place (turns (new_book 1) (Defect 0 1 ∷ ring (at 0 1) ∷ ring (at 1 2) ∷ [])).bench 0 2
     (some (record { serial = 3; class = blossom (record { node = at 1 2; touch = (at 2 3, at 1 2) } ∷ []); state = grows; parent = none; value = pos 0; size = 1 }))
 
 -- calls, the interface checked, number, verdict and index
@@ -84,8 +84,8 @@ table =
     ∷ (Fuse 2 0 1 ∷ [], 0, (4, (0, 0)))
     ∷ []
 
-abbrev pub strictTable : List (List Call × ℕ × (ℕ × (ℕ × ℕ)))
-strictTable =
+abbrev pub strict_table : List (List Call × ℕ × (ℕ × (ℕ × ℕ)))
+strict_table =
     (cousins, 0, (0, (6, 2)))
     ∷ (nested, 0, (0, (3, 2)))
     ∷ (nested ++ (Blossom 0 (at 3 4 ∷ at 1 2 ∷ []) [] ∷ []), 0, (0, (6, 2)))
@@ -96,22 +96,22 @@ strictTable =
     ∷ ([], 8, (3, (0, 0)))
     ∷ []
 
-pub examples : map (λ (e : List Call × ℕ × (ℕ × (ℕ × ℕ))). checkOf (turns (newBook 1) e.0).bench e.1) table ≡ map (λ (e : List Call × ℕ × (ℕ × (ℕ × ℕ))). e.2) table
+pub examples : map (λ (e : List Call × ℕ × (ℕ × (ℕ × ℕ))). check_of (turns (new_book 1) e.0).bench e.1) table ≡ map (λ (e : List Call × ℕ × (ℕ × (ℕ × ℕ))). e.2) table
 unfolding run
 examples = refl
 
-pub strict-examples : map (λ (e : List Call × ℕ × (ℕ × (ℕ × ℕ))). strictOf (turns (newBook 1) e.0).bench e.1) strictTable ≡ map (λ (e : List Call × ℕ × (ℕ × (ℕ × ℕ))). e.2) strictTable
+pub strict_examples : map (λ (e : List Call × ℕ × (ℕ × (ℕ × ℕ))). strict_of (turns (new_book 1) e.0).bench e.1) strict_table ≡ map (λ (e : List Call × ℕ × (ℕ × (ℕ × ℕ))). e.2) strict_table
 unfolding run
-strict-examples = refl
+strict_examples = refl
 
-pub around-sound : sound around ≡ true
+pub around_sound : sound around ≡ true
 unfolding run
-around-sound = refl
+around_sound = refl
 
-pub around-plain : checkOf around 0 ≡ (0, (0, 0))
+pub around_plain : check_of around 0 ≡ (0, (0, 0))
 unfolding run
-around-plain = refl
+around_plain = refl
 
-pub around-strict : strictOf around 0 ≡ (0, (6, 1))
+pub around_strict : strict_of around 0 ≡ (0, (6, 1))
 unfolding run
-around-strict = refl
+around_strict = refl

@@ -8,11 +8,11 @@ use Rattle.ledger_spec.specs.Calls.{perform}
 use Rattle.ledger_spec.specs.Notices.{tells}
 use Rattle.ledger_spec.specs.Reads.{said}
 use Rattle.ledger_spec.specs.Answers.{whole, broken}
-use Rattle.ledger_spec.specs.Groups.{soundGroup, added, extended}
-use Rattle.ledger_spec.specs.GroupCalls.{handlesOf, groupHandles, staleCode, vertexOf, or_else}
+use Rattle.ledger_spec.specs.Groups.{sound_group, added, extended}
+use Rattle.ledger_spec.specs.GroupCalls.{handles_of, group_handles, stale_code, vertex_of, or_else}
 use Rattle.ledger_spec.specs.Opened.{run}
-use Rattle.ledger_table.specs.Talk.{Ledger, flattened, serialsSaid, triples, pairs, shownSlot, acts, callsSaid, adds, extends, popsOne, changes, shows, checked, dumped, vertices, groupAsked, reads, byLetter, regroups, performs, opens, deskTurn}
-use Rattle.ledger_table.specs.Replay.{numbersText, sameBytes, answered, along, replay}
+use Rattle.ledger_table.specs.Talk.{Ledger, flattened, serials_said, triples, pairs, shown_slot, acts, calls_said, adds, extends, pops_one, changes, shows, checked, dumped, vertices, group_asked, reads, by_letter, regroups, performs, opens, desk_turn}
+use Rattle.ledger_table.specs.Replay.{numbers_text, same_bytes, answered, along, replay}
 
 -- the plain ledger with test t where it has `sound`
 abbrev pub tested : (Bench → Bool) → Ledger
@@ -20,20 +20,20 @@ tested t = record {
   answer = λ b c. elim (t b) [ true ↦ whole (perform b c) (tells b c) | false ↦ broken b ];
   ask = λ b z r. elim (t b) [ true ↦ r | false ↦ (2, z) ];
   add = λ b g o. said
-      (first ((not (t b && soundGroup g), 2) ∷ (any (staleCode b) (handlesOf o), 8) ∷ (not (is_some (added g o (vertexOf b o))), 20) ∷ []))
-      (or_else (added g o (vertexOf b o)) g)
+      (first ((not (t b && sound_group g), 2) ∷ (any (stale_code b) (handles_of o), 8) ∷ (not (is_some (added g o (vertex_of b o))), 20) ∷ []))
+      (or_else (added g o (vertex_of b o)) g)
       g;
   extend = λ b g h. said
-      (first ((not (t b && (soundGroup g && soundGroup h)), 2) ∷ (any (staleCode b) (groupHandles h), 8) ∷ (not (is_some (extended g h)), 20) ∷ []))
+      (first ((not (t b && (sound_group g && sound_group h)), 2) ∷ (any (stale_code b) (group_handles h), 8) ∷ (not (is_some (extended g h)), 20) ∷ []))
       (or_else (extended g h) g)
       g;
 }
 
--- all that can be wrong with a bench that a text leads to: a set-up past the serials
-abbrev pub nextFits : Bench → Bool
-nextFits b = leb b.next (2 ^ 32)
+-- all that can be wrong with a bench that a text leads to: a set_up_lem past the serials
+abbrev pub next_fits : Bench → Bool
+next_fits b = leb b.next (2 ^ 32)
 
 -- with every definition open
 unfoldable pub quickly : String → ℕ × ℕ
-unfolding run flattened serialsSaid triples pairs shownSlot acts callsSaid adds extends popsOne changes shows checked dumped vertices groupAsked reads byLetter regroups performs opens deskTurn numbersText sameBytes answered along replay
-quickly s = replay (tested nextFits) s
+unfolding run flattened serials_said triples pairs shown_slot acts calls_said adds extends pops_one changes shows checked dumped vertices group_asked reads by_letter regroups performs opens desk_turn numbers_text same_bytes answered along replay
+quickly s = replay (tested next_fits) s

@@ -10,13 +10,13 @@ use Rattle.kinds.specs.declared.MaybePair.TheVariants.{NoPair, WithPair}
 use Rattle.kinds.specs.declared.Obstacle.{Obstacle}
 use Rattle.kinds.specs.declared.Obstacle.TheVariants.{NonZeroGrow, Conflicting, TouchingVirtual, BlossomNeedExpand, VertexShrinkStop}
 use Rattle.ledger_spec.specs.Bench.{Handle, State, grows, stays, shrinks, rate, Member, defect, blossom, Node, Bench}
-use Rattle.ledger_spec.specs.Calls.{setUpCall, Call, Defect, Blossom, Expand, SetState, Grow, Fuse, Clear}
-use Rattle.ledger_spec.specs.Notices.{Notice, defectAdded, stateSet, shrinkPrepared, blossomAdded, blossomRemoved, grown}
+use Rattle.ledger_spec.specs.Calls.{set_up_call, Call, Defect, Blossom, Expand, SetState, Grow, Fuse, Clear}
+use Rattle.ledger_spec.specs.Notices.{Notice, defect_added, state_set, shrink_prepared, blossom_added, blossom_removed, grown}
 use Rattle.ledger_spec.specs.Reads.{slots_of}
 use Rattle.ledger_spec.specs.Answers.{Answer, answer, ask, Read, sumRead, speedRead, countRead, indexRead, belongsRead, valueRead, outerRead, belowRead, firstRead, verticesRead, checkRead, strictRead}
 use Rattle.ledger_spec.specs.Lines.{named, shown}
-use Rattle.ledger_spec.specs.Groups.{Group, growth, conflicts, emptyGroup}
-use Rattle.ledger_spec.specs.GroupCalls.{is_empty, isActive, growthOf, peek, pop, add, extend}
+use Rattle.ledger_spec.specs.Groups.{Group, growth, conflicts, empty_group}
+use Rattle.ledger_spec.specs.GroupCalls.{is_empty, is_active, growth_of, peek, pop, add, extend}
 
 -- who answers: calls, reads, and the two calls on groups that are lent a bench
 pub record Ledger : Type 1 where
@@ -34,8 +34,8 @@ pub record Desk : Type 0 where
   pub bench : Bench
   pub groups : List Group
 
-abbrev pub newDesk : Bench → Desk
-newDesk b = record { bench = b; groups = replicate 4 emptyGroup }
+abbrev pub new_desk : Bench → Desk
+new_desk b = record { bench = b; groups = replicate 4 empty_group }
 
 -- what is answered, and the desk after it
 pub record Turn : Type 0 where
@@ -60,19 +60,19 @@ nat l k = nat_abs (arg l k)
 abbrev pub flag : ℤ → Bool
 flag z = eqb (nat_abs z) 1
 
-abbrev pub stateSaid : ℤ → State
-stateSaid (pos zero) = stays
-stateSaid (pos (suc n)) = grows
-stateSaid (negsuc n) = shrinks
+abbrev pub state_said : ℤ → State
+state_said (pos zero) = stays
+state_said (pos (suc n)) = grows
+state_said (negsuc n) = shrinks
 
 unfoldable pub flattened : {A : Type 0} → (A → List ℤ) → List A → List ℤ
 flattened f [] = []
 flattened f (x ∷ xs) = f x ++ flattened f xs
 
 -- a row of numbers by threes and twos
-unfoldable pub serialsSaid : ℕ → List ℤ → List ℕ
-serialsSaid zero l = []
-serialsSaid (suc k) l = nat_abs (get_or l 0 (pos 0)) ∷ serialsSaid k (drop 1 l)
+unfoldable pub serials_said : ℕ → List ℤ → List ℕ
+serials_said zero l = []
+serials_said (suc k) l = nat_abs (get_or l 0 (pos 0)) ∷ serials_said k (drop 1 l)
 
 unfoldable pub triples : ℕ → List ℤ → List (ℕ × ℕ × ℕ)
 triples zero l = []
@@ -86,57 +86,57 @@ pairs (suc k) (a ∷ l) = (nat_abs a, nat_abs (get_or l 0 (pos 0))) ∷ pairs k 
 
 -- ---- what is shown of nodes, notices, obstacles, groups
 
-abbrev pub shownNotice : Notice → List ℤ
-shownNotice (defectAdded h) = pos 1 ∷ num h.serial ∷ []
-shownNotice (stateSet h s) = pos 2 ∷ num h.serial ∷ rate s ∷ []
-shownNotice (shrinkPrepared hs) = pos 3 ∷ num (length hs) ∷ map (λ (h : Handle). num h.serial) hs
-shownNotice (blossomAdded h) = pos 4 ∷ num h.serial ∷ []
-shownNotice (blossomRemoved h) = pos 5 ∷ num h.serial ∷ []
-shownNotice (grown l) = pos 6 ∷ l ∷ []
+abbrev pub shown_notice : Notice → List ℤ
+shown_notice (defect_added h) = pos 1 ∷ num h.serial ∷ []
+shown_notice (state_set h s) = pos 2 ∷ num h.serial ∷ rate s ∷ []
+shown_notice (shrink_prepared hs) = pos 3 ∷ num (length hs) ∷ map (λ (h : Handle). num h.serial) hs
+shown_notice (blossom_added h) = pos 4 ∷ num h.serial ∷ []
+shown_notice (blossom_removed h) = pos 5 ∷ num h.serial ∷ []
+shown_notice (grown l) = pos 6 ∷ l ∷ []
 
-abbrev pub parentSerial : Option Handle → ℤ
-parentSerial none = pos 0
-parentSerial (some h) = num h.serial
+abbrev pub parent_serial : Option Handle → ℤ
+parent_serial none = pos 0
+parent_serial (some h) = num h.serial
 
-abbrev pub shownMember : Member → List ℤ
-shownMember m = num m.node.serial ∷ num m.touch.0.serial ∷ num m.touch.1.serial ∷ []
+abbrev pub shown_member : Member → List ℤ
+shown_member m = num m.node.serial ∷ num m.touch.0.serial ∷ num m.touch.1.serial ∷ []
 
-unfoldable pub shownSlot : ℕ × ℕ × Option Node → List ℤ
-shownSlot t = elim t.2 [
+unfoldable pub shown_slot : ℕ × ℕ × Option Node → List ℤ
+shown_slot t = elim t.2 [
   | none ↦ pos 0 ∷ []
   | some n ↦ elim n.class [
-    | defect v ↦ pos 1 ∷ num n.serial ∷ rate n.state ∷ parentSerial n.parent ∷ num n.size ∷ n.value ∷ num v ∷ []
-    | blossom ms ↦ pos 2 ∷ num n.serial ∷ rate n.state ∷ parentSerial n.parent ∷ num n.size ∷ n.value ∷ num (length ms) ∷ flattened shownMember ms
+    | defect v ↦ pos 1 ∷ num n.serial ∷ rate n.state ∷ parent_serial n.parent ∷ num n.size ∷ n.value ∷ num v ∷ []
+    | blossom ms ↦ pos 2 ∷ num n.serial ∷ rate n.state ∷ parent_serial n.parent ∷ num n.size ∷ n.value ∷ num (length ms) ∷ flattened shown_member ms
   ]
 ]
 
 abbrev pub ser : Code → ℤ
 ser h = num h.serial.0
 
-abbrev pub shownObstacle : Obstacle → List ℤ
-shownObstacle (NonZeroGrow l f) = pos 1 ∷ l ∷ bit f ∷ []
-shownObstacle (Conflicting p q) = pos 2 ∷ ser p.node ∷ ser p.touching ∷ ser q.node ∷ ser q.touching ∷ []
-shownObstacle (TouchingVirtual p v m) = pos 3 ∷ ser p.node ∷ ser p.touching ∷ num v.0 ∷ bit m ∷ []
-shownObstacle (BlossomNeedExpand n) = pos 4 ∷ ser n ∷ []
-shownObstacle (VertexShrinkStop n NoPair) = pos 5 ∷ ser n ∷ []
-shownObstacle (VertexShrinkStop n (WithPair p)) = pos 6 ∷ ser n ∷ ser p.node ∷ ser p.touching ∷ []
+abbrev pub shown_obstacle : Obstacle → List ℤ
+shown_obstacle (NonZeroGrow l f) = pos 1 ∷ l ∷ bit f ∷ []
+shown_obstacle (Conflicting p q) = pos 2 ∷ ser p.node ∷ ser p.touching ∷ ser q.node ∷ ser q.touching ∷ []
+shown_obstacle (TouchingVirtual p v m) = pos 3 ∷ ser p.node ∷ ser p.touching ∷ num v.0 ∷ bit m ∷ []
+shown_obstacle (BlossomNeedExpand n) = pos 4 ∷ ser n ∷ []
+shown_obstacle (VertexShrinkStop n NoPair) = pos 5 ∷ ser n ∷ []
+shown_obstacle (VertexShrinkStop n (WithPair p)) = pos 6 ∷ ser n ∷ ser p.node ∷ ser p.touching ∷ []
 
-abbrev pub shownTaken : Option Obstacle → List ℤ
-shownTaken none = pos 0 ∷ []
-shownTaken (some o) = shownObstacle o
+abbrev pub shown_taken : Option Obstacle → List ℤ
+shown_taken none = pos 0 ∷ []
+shown_taken (some o) = shown_obstacle o
 
-abbrev pub shownGroup : Group → List ℤ
-shownGroup (growth l f) = pos 1 ∷ l ∷ bit f ∷ []
-shownGroup (conflicts l s) = pos 2 ∷ num (length l) ∷ (flattened (λ (e : Entry). shownObstacle e.obstacle) l
-    ++ (num (length s) ∷ flattened (λ (x : Stop). num x.vertex.0 ∷ shownObstacle x.obstacle) s))
+abbrev pub shown_group : Group → List ℤ
+shown_group (growth l f) = pos 1 ∷ l ∷ bit f ∷ []
+shown_group (conflicts l s) = pos 2 ∷ num (length l) ∷ (flattened (λ (e : Entry). shown_obstacle e.obstacle) l
+    ++ (num (length s) ∷ flattened (λ (x : Stop). num x.vertex.0 ∷ shown_obstacle x.obstacle) s))
 
-abbrev pub shownLength : Option ℤ → List ℤ
-shownLength none = pos 0 ∷ pos 0 ∷ []
-shownLength (some l) = pos 1 ∷ l ∷ []
+abbrev pub shown_length : Option ℤ → List ℤ
+shown_length none = pos 0 ∷ pos 0 ∷ []
+shown_length (some l) = pos 1 ∷ l ∷ []
 
-abbrev pub shownHandle : Option Handle → List ℤ
-shownHandle none = pos 0 ∷ pos 0 ∷ pos 0 ∷ []
-shownHandle (some h) = num h.serial ∷ num h.unit ∷ num h.slot ∷ []
+abbrev pub shown_handle : Option Handle → List ℤ
+shown_handle none = pos 0 ∷ pos 0 ∷ pos 0 ∷ []
+shown_handle (some h) = num h.serial ∷ num h.unit ∷ num h.slot ∷ []
 
 -- ---- calls
 
@@ -146,21 +146,21 @@ four t = num t.0 ∷ num t.1 ∷ t.2 ∷ t.3 ∷ []
 -- a call that names interface u: four numbers, then its notices
 unfoldable pub acts : Ledger → Desk → ℕ → Call → Turn
 acts L k u c = let a : Answer = L.answer k.bench c in record {
-  says = four (shown a.number a.node.serial a.bench u) ++ (num (length a.notices) ∷ flattened shownNotice a.notices);
+  says = four (shown a.number a.node.serial a.bench u) ++ (num (length a.notices) ∷ flattened shown_notice a.notices);
   desk = record { bench = a.bench; groups = k.groups };
 }
 
 -- what each letter calls, with the numbers l behind it
-unfoldable pub callsSaid : Bench → List ℤ → List (Char × Call)
-callsSaid b l =
+unfoldable pub calls_said : Bench → List ℤ → List (Char × Call)
+calls_said b l =
     let u : ℕ = nat l 0 in
     let t : List (ℕ × ℕ × ℕ) = triples 400 (drop 1 l) in
     ("D", Defect u (nat l 1))
     ∷ ("B", Blossom u (map (λ (z : ℤ). named b (nat_abs z)) (drop 1 l)) [])
     ∷ ("b", Blossom u (map (λ (x : ℕ × ℕ × ℕ). named b x.0) t) (map (λ (x : ℕ × ℕ × ℕ). (named b x.1, named b x.2)) t))
-    ∷ ("t", Blossom u (map (named b) (serialsSaid (nat l 1) (drop 2 l))) (map (λ (x : ℕ × ℕ). (named b x.0, named b x.1)) (pairs 400 (drop (2 + nat l 1) l))))
+    ∷ ("t", Blossom u (map (named b) (serials_said (nat l 1) (drop 2 l))) (map (λ (x : ℕ × ℕ). (named b x.0, named b x.1)) (pairs 400 (drop (2 + nat l 1) l))))
     ∷ ("E", Expand u (named b (nat l 1)))
-    ∷ ("S", SetState u (named b (nat l 1)) (stateSaid (arg l 2)))
+    ∷ ("S", SetState u (named b (nat l 1)) (state_said (arg l 2)))
     ∷ ("G", Grow u (arg l 1))
     ∷ ("F", Fuse u (nat l 1) (nat l 2))
     ∷ ("C", Clear u)
@@ -169,7 +169,7 @@ callsSaid b l =
 -- ---- groups: what is said, and the group after it
 
 abbrev pub group : Desk → ℕ → Group
-group k g = get_or k.groups g emptyGroup
+group k g = get_or k.groups g empty_group
 
 abbrev pub code' : Bench → ℕ → Code
 code' b n = let h : Handle = named b n in record { unit = h.unit; slot = h.slot; serial = record { 0 = h.serial } }
@@ -180,15 +180,15 @@ adds L k g o = let r : ℕ × Group = L.add k.bench (group k g) o in (num r.0 �
 unfoldable pub extends : Ledger → Desk → ℕ → ℕ → List ℤ × Group
 extends L k g h = let r : ℕ × Group = L.extend k.bench (group k g) (group k h) in (num r.0 ∷ [], r.1)
 
-unfoldable pub popsOne : Group → List ℤ × Group
-popsOne g = let r : ℕ × (Option Obstacle × Group) = pop g in (num r.0 ∷ shownTaken r.1.0, r.1.1)
+unfoldable pub pops_one : Group → List ℤ × Group
+pops_one g = let r : ℕ × (Option Obstacle × Group) = pop g in (num r.0 ∷ shown_taken r.1.0, r.1.1)
 
 unfoldable pub changes : Ledger → Desk → List ℤ → List (Char × (List ℤ × Group))
 changes L k l =
     let g : ℕ = nat l 0 in
     let n : ℕ → Code = λ i. code' k.bench (nat l i) in
     let p : ℕ → ℕ → Pair = λ i j. record { node = n i; touching = n j } in
-    ("e", (pos 0 ∷ [], emptyGroup))
+    ("e", (pos 0 ∷ [], empty_group))
     ∷ ("g", adds L k g (NonZeroGrow (arg l 1) (flag (arg l 2))))
     ∷ ("c", adds L k g (Conflicting (p 1 2) (p 3 4)))
     ∷ ("w", adds L k g (TouchingVirtual (p 1 2) (record { 0 = nat l 3 }) (flag (arg l 4))))
@@ -196,7 +196,7 @@ changes L k l =
     ∷ ("q", adds L k g (VertexShrinkStop (n 1) NoPair))
     ∷ ("r", adds L k g (VertexShrinkStop (n 1) (WithPair (p 2 3))))
     ∷ ("j", extends L k g (nat l 1))
-    ∷ ("z", popsOne (group k g))
+    ∷ ("z", pops_one (group k g))
     ∷ []
 
 -- ---- reads
@@ -214,7 +214,7 @@ checked L b u = let r : ℕ × (ℕ × ℕ) = asks L b (checkRead b u) in four (
 
 unfoldable pub dumped : Ledger → Bench → ℕ → List ℤ
 dumped L b u = elim (asks L b (countRead b u)).0 [
-  | zero ↦ pos 0 ∷ num (length (slots_of b u)) ∷ flattened shownSlot (slots_of b u)
+  | zero ↦ pos 0 ∷ num (length (slots_of b u)) ∷ flattened shown_slot (slots_of b u)
   | suc n ↦ num (suc n) ∷ pos 0 ∷ []
 ]
 
@@ -223,8 +223,8 @@ unfoldable pub vertices : Ledger → Bench → Handle → ℕ → List ℤ
 vertices L b h room =
     shows (λ (r : ℕ × List ℕ). num r.0 ∷ map num r.1) (asks L b (verticesRead b h (replicate room 77)))
 
-unfoldable pub groupAsked : Group → List ℤ
-groupAsked g = pos 0 ∷ bit (is_empty g).1 ∷ bit (isActive g).1 ∷ shows shownLength (growthOf g)
+unfoldable pub group_asked : Group → List ℤ
+group_asked g = pos 0 ∷ bit (is_empty g).1 ∷ bit (is_active g).1 ∷ shows shown_length (growth_of g)
 
 unfoldable pub reads : Ledger → Desk → List ℤ → List (Char × List ℤ)
 reads L k l =
@@ -237,7 +237,7 @@ reads L k l =
     ∷ ("s", shows (λ (z : ℤ). z ∷ []) (asks L b (sumRead b u)))
     ∷ ("p", shows (λ (z : ℤ). z ∷ []) (asks L b (speedRead b u)))
     ∷ ("n", shows (λ (n : ℕ). num n ∷ []) (asks L b (countRead b u)))
-    ∷ ("h", shows shownHandle (asks L b (indexRead b u (nat l 1))))
+    ∷ ("h", shows shown_handle (asks L b (indexRead b u (nat l 1))))
     ∷ ("i", shows (λ (f : Bool). bit f ∷ []) (asks L b (belongsRead b u (named b (nat l 1)))))
     ∷ ("d", dumped L b u)
     ∷ ("v", shows (λ (z : ℤ). z ∷ []) (asks L b (valueRead b h)))
@@ -245,35 +245,35 @@ reads L k l =
     ∷ ("u", shows (λ (g : Handle). num g.serial ∷ []) (asks L b (belowRead b h)))
     ∷ ("f", shows (λ (n : ℕ). num n ∷ []) (asks L b (firstRead b h)))
     ∷ ("a", vertices L b h (nat l 1))
-    ∷ ("y", groupAsked g)
-    ∷ ("l", shows shownTaken (peek g))
-    ∷ ("m", pos 0 ∷ shownGroup g)
+    ∷ ("y", group_asked g)
+    ∷ ("l", shows shown_taken (peek g))
+    ∷ ("m", pos 0 ∷ shown_group g)
     ∷ []
 
 -- ---- a line
 
 -- what stands under a letter
-unfoldable pub byLetter : {A : Type 0} → ℕ → List (Char × A) → Option A
-byLetter c [] = none
-byLetter c (r ∷ rs) = elim (eqb c (code r.0)) [ true ↦ some r.1 | false ↦ byLetter c rs ]
+unfoldable pub by_letter : {A : Type 0} → ℕ → List (Char × A) → Option A
+by_letter c [] = none
+by_letter c (r ∷ rs) = elim (eqb c (code r.0)) [ true ↦ some r.1 | false ↦ by_letter c rs ]
 
 -- a letter that stands nowhere says nothing
-abbrev pub orNothing : Option (List ℤ) → List ℤ
-orNothing none = []
-orNothing (some l) = l
+abbrev pub or_nothing : Option (List ℤ) → List ℤ
+or_nothing none = []
+or_nothing (some l) = l
 
 unfoldable pub regroups : Ledger → Desk → ℕ → List ℤ → Option (List ℤ × Group) → Turn
-regroups L k c l none = record { says = orNothing (byLetter c (reads L k l)); desk = k }
+regroups L k c l none = record { says = or_nothing (by_letter c (reads L k l)); desk = k }
 regroups L k c l (some r) = record { says = r.0; desk = record { bench = k.bench; groups = set k.groups (nat l 0) r.1 } }
 
 unfoldable pub performs : Ledger → Desk → ℕ → List ℤ → Option Call → Turn
-performs L k c l none = regroups L k c l (byLetter c (changes L k l))
+performs L k c l none = regroups L k c l (by_letter c (changes L k l))
 performs L k c l (some x) = acts L k (nat l 0) x
 
 unfoldable pub opens : Ledger → Desk → ℕ → List ℤ → Bool → Turn
-opens L k c l true = record { says = num (setUpCall (nat l 0)).number ∷ []; desk = newDesk (setUpCall (nat l 0)).bench }
-opens L k c l false = performs L k c l (byLetter c (callsSaid k.bench l))
+opens L k c l true = record { says = num (set_up_call (nat l 0)).number ∷ []; desk = new_desk (set_up_call (nat l 0)).bench }
+opens L k c l false = performs L k c l (by_letter c (calls_said k.bench l))
 
 -- N sets up; the other letters stand for calls, changes of groups and reads
-unfoldable pub deskTurn : Ledger → Desk → ℕ → List ℤ → Turn
-deskTurn L k c l = opens L k c l (eqb c (code "N"))
+unfoldable pub desk_turn : Ledger → Desk → ℕ → List ℤ → Turn
+desk_turn L k c l = opens L k c l (eqb c (code "N"))

@@ -1,6 +1,6 @@
 // Files of byte records, for Rust and C: is a slice one, and how many records it has. Assumes nothing.
 ghost use Rattle.std.specs.Prelude.{◌≡◌};
-ghost use Rattle.record_spec.specs.Files.{fileOps};
+ghost use Rattle.record_spec.specs.Files.{file_ops};
 ghost use Rattle.link_records.specs.Answers.{counted};
 
 use kinds::numbers;
@@ -13,7 +13,7 @@ pub struct Counted {
 }
 
 pub fn count(file: &[u8]) -> Counted
-    ensures { (result.number, result.count) ≡ counted (fileOps file.now) }
+    ensures { (result.number, result.count) ≡ counted (file_ops file.now) }
 {
     let w = record_files::scan(file);
     if w.whole {

@@ -6,7 +6,7 @@ use mathlib.Core.Bool.{Bool, not, true, false, true≢false}
 use mathlib.Core.List.{List, [], ◌∷◌}
 use native.Mathlib.Decide.{dec_le}
 use native.Mathlib.Omega.{arith}
-use borrow.Author.Tests.{lt-ltb, le-ltb, not-true, not-false}
+use borrow.Author.Tests.{lt-ltb, le-ltb, not_true, not_false}
 use lib.Dec.{ltb}
 use lib.ListN.{length, take}
 use lib.IntN.{pos}
@@ -14,91 +14,91 @@ use Rattle.ledger_spec.specs.Tests.{first}
 use Rattle.ledger_spec.specs.Grammar.{line_of}
 use Rattle.bench_views.specs.Fit.{SoundWords}
 use Rattle.text_numbers.specs.declared.Reply.{Reply}
-use Rattle.text_numbers.specs.Numbers.{numbersOf}
+use Rattle.text_numbers.specs.Numbers.{numbers_of}
 use Rattle.text_calls.specs.Turned.{Turned}
 use Rattle.text_sessions.specs.Session.{ChunkDone, OpeningDone, Finished}
-use Rattle.sound_bench.specs.Sound.{soundWords}
+use Rattle.sound_bench.specs.Sound.{sound_words}
 use Rattle.sound_lent.specs.Verdict.{Verdict}
 use Rattle.link_text.specs.declared.Chunked.{Chunked}
-use Rattle.link_text.specs.Text.{chunkNo, ChunkBy, ChunkOn, OpeningBy, LineOn, EndBy}
+use Rattle.link_text.specs.Text.{chunk_no, ChunkBy, ChunkOn, OpeningBy, LineOn, EndBy}
 
 -- ---- a chunk, by the lengths
 
-pub much-held : (h c r : ℕ) → 1024 < h → 2 ≡ chunkNo h c r
-unfolding chunkNo first
-much-held h c r l = rw (lt-ltb 1024 h l)
+pub much_held : (h c r : ℕ) → 1024 < h → 2 ≡ chunk_no h c r
+unfolding chunk_no first
+much_held h c r l = rw (lt-ltb 1024 h l)
 
-pub small : (h c r : ℕ) → h ≤ 1024 → r / 57 < c → 19 ≡ chunkNo h c r
-unfolding chunkNo first
+pub small : (h c r : ℕ) → h ≤ 1024 → r / 57 < c → 19 ≡ chunk_no h c r
+unfolding chunk_no first
 small h c r l m = rw (le-ltb 1024 h l, lt-ltb (r / 57) c m)
 
-pub enough : (h c r : ℕ) → h ≤ 1024 → c ≤ r / 57 → 0 ≡ chunkNo h c r
-unfolding chunkNo first
+pub enough : (h c r : ℕ) → h ≤ 1024 → c ≤ r / 57 → 0 ≡ chunk_no h c r
+unfolding chunk_no first
 enough h c r l m = rw (le-ltb 1024 h l, le-ltb (r / 57) c m)
 
 -- and only then
-pub fits : (h c r : ℕ) → chunkNo h c r ≡ 0 → (h ≤ 1024) × (c ≤ r / 57)
+pub fits : (h c r : ℕ) → chunk_no h c r ≡ 0 → (h ≤ 1024) × (c ≤ r / 57)
 fits h c r e = by_cases (dec_le h 1024)
     (λ (l : h ≤ 1024). by_cases (dec_le c (r / 57)) (λ (m : c ≤ r / 57). (l, m)) (λ (m : c ≤ r / 57 → ⊥). absurd (omega (arith, e, small h c r l (omega arith)))))
-    (λ (l : h ≤ 1024 → ⊥). absurd (omega (arith, e, much-held h c r (omega arith))))
+    (λ (l : h ≤ 1024 → ⊥). absurd (omega (arith, e, much_held h c r (omega arith))))
 
 module _ (b chunk buf : List ℕ) (held : ℕ) (out : List ℕ) where
-  module _ (n : ℕ) (is : n ≡ chunkNo held (length chunk) (length out)) where
+  module _ (n : ℕ) (is : n ≡ chunk_no held (length chunk) (length out)) where
     module _ (q : n ≡ 0 → ⊥) (r : Chunked) (e : r ≡ record { number = n; held = held; wrote = 0 }) where
-      pub chunk-refused : ChunkBy b chunk buf held out b buf out r.number r.held r.wrote
-      chunk-refused = rw e (record { number = is; done = λ z. absurd (q z); refused = λ _. (refl, refl, refl, refl, refl) })
+      pub chunk_refused : ChunkBy b chunk buf held out b buf out r.number r.held r.wrote
+      chunk_refused = rw e (record { number = is; done = λ z. absurd (q z); refused = λ _. (refl, refl, refl, refl, refl) })
 
-      pub opening-refused : OpeningBy b chunk buf held out b buf out r.number r.held r.wrote
-      opening-refused = rw e (record { number = is; done = λ z. absurd (q z); refused = λ _. (refl, refl, refl, refl, refl) })
+      pub opening_refused : OpeningBy b chunk buf held out b buf out r.number r.held r.wrote
+      opening_refused = rw e (record { number = is; done = λ z. absurd (q z); refused = λ _. (refl, refl, refl, refl, refl) })
 
     module _ (z : n ≡ 0) {b' buf' out' : List ℕ} {held' wrote : ℕ} where
-      pub chunk-done : ChunkDone b chunk (take held buf) out b' buf' out' held' wrote → ChunkBy b chunk buf held out b' buf' out' 0 held' wrote
-      chunk-done d = record { number = sym z ∙ is; done = λ _. d; refused = λ q. absurd (q refl) }
+      pub chunk_done : ChunkDone b chunk (take held buf) out b' buf' out' held' wrote → ChunkBy b chunk buf held out b' buf' out' 0 held' wrote
+      chunk_done d = record { number = sym z ∙ is; done = λ _. d; refused = λ q. absurd (q refl) }
 
-      pub opening-done : OpeningDone chunk (take held buf) out b' buf' out' held' wrote → OpeningBy b chunk buf held out b' buf' out' 0 held' wrote
-      opening-done d = record { number = sym z ∙ is; done = λ _. d; refused = λ q. absurd (q refl) }
+      pub opening_done : OpeningDone chunk (take held buf) out b' buf' out' held' wrote → OpeningBy b chunk buf held out b' buf' out' 0 held' wrote
+      opening_done d = record { number = sym z ∙ is; done = λ _. d; refused = λ q. absurd (q refl) }
 
 -- ---- by the verdict on the words
 
 module _ (b : List ℕ) (s : Bool) (v : Verdict b s) where
-  unsound : {A : Type 0} → not s ≡ true → soundWords b ≡ true → A
-  unsound t e = absurd (true≢false (sym e ∙ (sym v.is ∙ not-true s t)))
+  unsound : {A : Type 0} → not s ≡ true → sound_words b ≡ true → A
+  unsound t e = absurd (true≢false (sym e ∙ (sym v.is ∙ not_true s t)))
 
-  sounds : {A : Type 0} → not s ≡ false → soundWords b ≡ false → A
-  sounds t e = absurd (true≢false (sym (sym v.is ∙ not-false s t) ∙ e))
+  sounds : {A : Type 0} → not s ≡ false → sound_words b ≡ false → A
+  sounds t e = absurd (true≢false (sym (sym v.is ∙ not_false s t) ∙ e))
 
-  pub sound-bench : not s ≡ false → SoundWords b
-  sound-bench t = v.says (not-false s t)
+  pub sound_bench : not s ≡ false → SoundWords b
+  sound_bench t = v.says (not_false s t)
 
-  pub line-broken : (line : List ℕ) (r : Reply) → not s ≡ true → numbersOf r ≡ (2, 0, pos 0, pos 0) → LineOn b line r b
-  line-broken line r t e = record { sound = λ y. unsound t y; broken = λ _. (e, refl) }
+  pub line_broken : (line : List ℕ) (r : Reply) → not s ≡ true → numbers_of r ≡ (2, 0, pos 0, pos 0) → LineOn b line r b
+  line_broken line r t e = record { sound = λ y. unsound t y; broken = λ _. (e, refl) }
 
-  pub line-sound : (line : List ℕ) (r : Reply) (b' : List ℕ) → not s ≡ false → Turned b (line_of line) r b' → LineOn b line r b'
-  line-sound line r b' t T = record { sound = λ _. T; broken = λ y. sounds t y }
+  pub line_sound : (line : List ℕ) (r : Reply) (b' : List ℕ) → not s ≡ false → Turned b (line_of line) r b' → LineOn b line r b'
+  line_sound line r b' t T = record { sound = λ _. T; broken = λ y. sounds t y }
 
   module _ (chunk buf : List ℕ) (held : ℕ) (out : List ℕ) where
-    pub chunk-broken : not s ≡ true → (r : Chunked) → r ≡ record { number = 2; held = held; wrote = 0 } → ChunkOn b chunk buf held out b buf out r.number r.held r.wrote
-    chunk-broken t r e = rw e (record { sound = λ y. unsound t y; broken = λ _. (refl, refl, refl, refl, refl, refl) })
+    pub chunk_broken : not s ≡ true → (r : Chunked) → r ≡ record { number = 2; held = held; wrote = 0 } → ChunkOn b chunk buf held out b buf out r.number r.held r.wrote
+    chunk_broken t r e = rw e (record { sound = λ y. unsound t y; broken = λ _. (refl, refl, refl, refl, refl, refl) })
 
-    pub chunk-sound : {b' buf' out' : List ℕ} {n held' wrote : ℕ} → not s ≡ false → ChunkBy b chunk buf held out b' buf' out' n held' wrote → ChunkOn b chunk buf held out b' buf' out' n held' wrote
-    chunk-sound t C = record { sound = λ _. C; broken = λ y. sounds t y }
+    pub chunk_sound : {b' buf' out' : List ℕ} {n held' wrote : ℕ} → not s ≡ false → ChunkBy b chunk buf held out b' buf' out' n held' wrote → ChunkOn b chunk buf held out b' buf' out' n held' wrote
+    chunk_sound t C = record { sound = λ _. C; broken = λ y. sounds t y }
 
 -- ---- the input's end
 
-end-no : (n : ℕ) → n < 57 → 19 ≡ first ((ltb n 57, 19) ∷ [])
+end_no : (n : ℕ) → n < 57 → 19 ≡ first ((ltb n 57, 19) ∷ [])
 unfolding first
-end-no n l = rw (lt-ltb n 57 l)
+end_no n l = rw (lt-ltb n 57 l)
 
-end-yes : (n : ℕ) → 57 ≤ n → 0 ≡ first ((ltb n 57, 19) ∷ [])
+end_yes : (n : ℕ) → 57 ≤ n → 0 ≡ first ((ltb n 57, 19) ∷ [])
 unfolding first
-end-yes n l = rw (le-ltb n 57 l)
+end_yes n l = rw (le-ltb n 57 l)
 
 nonzero : (n : ℕ) → 0 < n → n ≡ 0 → ⊥
 nonzero n l z = omega arith
 
 module _ (held : ℕ) (out : List ℕ) where
-  pub end-small : length out < 57 → (r : Chunked) → r ≡ record { number = 19; held = held; wrote = 0 } → EndBy held out out r.number r.wrote
-  end-small l r e = rw e (record { number = end-no (length out) l; done = λ z. absurd (nonzero 19 (omega arith) z); refused = λ _. (refl, refl) })
+  pub end_small : length out < 57 → (r : Chunked) → r ≡ record { number = 19; held = held; wrote = 0 } → EndBy held out out r.number r.wrote
+  end_small l r e = rw e (record { number = end_no (length out) l; done = λ z. absurd (nonzero 19 (omega arith) z); refused = λ _. (refl, refl) })
 
-  pub end-done : {out' : List ℕ} {wrote : ℕ} → 57 ≤ length out → Finished held out 0 out' wrote → EndBy held out out' 0 wrote
-  end-done l f = record { number = end-yes (length out) l; done = λ _. f; refused = λ q. absurd (q refl) }
+  pub end_done : {out' : List ℕ} {wrote : ℕ} → 57 ≤ length out → Finished held out 0 out' wrote → EndBy held out out' 0 wrote
+  end_done l f = record { number = end_yes (length out) l; done = λ _. f; refused = λ q. absurd (q refl) }

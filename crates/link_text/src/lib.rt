@@ -5,7 +5,7 @@ ghost use Rattle.std.specs.Prelude.{◌≡◌};
 ghost use Rattle.ledger_spec.specs.Grammar.{line_of};
 ghost use Rattle.bench_views.specs.Fit.{SoundWords};
 ghost use Rattle.text_calls.specs.Turned.{Turned};
-ghost use Rattle.link_text.specs.Text.{chunkNo, ChunkBy, LineOn, ChunkOn, OpeningBy, EndBy};
+ghost use Rattle.link_text.specs.Text.{chunk_no, ChunkBy, LineOn, ChunkOn, OpeningBy, EndBy};
 
 use bench_serials::HINTS;
 use bench_words::WORDS;
@@ -35,7 +35,7 @@ fn refused(number: u8, held: usize) -> Chunked
 
 // The number that a chunk is refused by, from what is held, its bytes and the bytes of room for its answers.
 fn chunk_no(held: usize, bytes: usize, room: usize) -> u8
-    ensures { result ≡ chunkNo held bytes room }
+    ensures { result ≡ chunk_no held bytes room }
 {
     if HELD < held {
         return numbers::BROKEN;

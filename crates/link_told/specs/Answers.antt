@@ -3,10 +3,10 @@
 use Rattle.std.specs.Prelude.{ℕ, List, [], ◌∷◌, map, length}
 use Rattle.std.proofs.lemmas.List.Edits.{sets}
 use Rattle.ledger_spec.specs.Bench.{Handle, State, grows, stays, shrinks}
-use Rattle.ledger_spec.specs.Notices.{Notice, defectAdded, stateSet, shrinkPrepared, blossomAdded, blossomRemoved, grown}
+use Rattle.ledger_spec.specs.Notices.{Notice, defect_added, state_set, shrink_prepared, blossom_added, blossom_removed, grown}
 use Rattle.ledger_spec.specs.Answers.{Answer}
-use Rattle.outcome_notices.specs.Laid.{circleIn}
-use Rattle.link_answers.specs.Forms.{nodeWord, signedWord}
+use Rattle.outcome_notices.specs.Laid.{circle_in}
+use Rattle.link_answers.specs.Forms.{node_word, signed_word}
 
 abbrev pub stateKind : State → ℕ
 stateKind stays = 2
@@ -15,33 +15,33 @@ stateKind shrinks = 4
 
 -- a notice's kind
 abbrev pub kindWord : Notice → ℕ
-kindWord (defectAdded h) = 1
-kindWord (stateSet h s) = stateKind s
-kindWord (shrinkPrepared hs) = 5
-kindWord (blossomAdded h) = 6
-kindWord (blossomRemoved h) = 7
+kindWord (defect_added h) = 1
+kindWord (state_set h s) = stateKind s
+kindWord (shrink_prepared hs) = 5
+kindWord (blossom_added h) = 6
+kindWord (blossom_removed h) = 7
 kindWord (grown l) = 8
 
 -- and what it is of: a node or a length
 abbrev pub whatWord : Notice → ℕ
-whatWord (defectAdded h) = nodeWord h
-whatWord (stateSet h s) = nodeWord h
-whatWord (shrinkPrepared hs) = 0
-whatWord (blossomAdded h) = nodeWord h
-whatWord (blossomRemoved h) = nodeWord h
-whatWord (grown l) = signedWord l
+whatWord (defect_added h) = node_word h
+whatWord (state_set h s) = node_word h
+whatWord (shrink_prepared hs) = 0
+whatWord (blossom_added h) = node_word h
+whatWord (blossom_removed h) = node_word h
+whatWord (grown l) = signed_word l
 
 abbrev pub toldWords : List Notice → List ℕ
 toldWords [] = []
 toldWords (n ∷ ns) = kindWord n ∷ whatWord n ∷ toldWords ns
 
 -- the words that stand first: node, counts, notices
-abbrev pub frontWords : Handle → List Notice → List ℕ
-frontWords h ns = nodeWord h ∷ length ns ∷ length (circleIn ns) ∷ toldWords ns
+abbrev pub front_words : Handle → List Notice → List ℕ
+front_words h ns = node_word h ∷ length ns ∷ length (circle_in ns) ∷ toldWords ns
 
 -- a node and notices, written over ws
 unfoldable pub saidOver : List ℕ → Handle → List Notice → List ℕ
-saidOver ws h ns = sets (sets ws 0 (frontWords h ns)) 135 (map nodeWord (circleIn ns))
+saidOver ws h ns = sets (sets ws 0 (front_words h ns)) 135 (map node_word (circle_in ns))
 
 -- an answer, written over ws
 abbrev pub answerOver : List ℕ → Answer → List ℕ

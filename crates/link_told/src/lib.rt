@@ -3,14 +3,14 @@
 ghost use Rattle.std.specs.Prelude.{◌≡◌, [], ◌∷◌, map, ◌+◌, ◌<◌, ◌≤◌, length};
 ghost use Rattle.std.proofs.lemmas.List.Edits.{sets};
 ghost use Rattle.ledger_spec.specs.Calls.{nobody};
-ghost use Rattle.ledger_spec.specs.Named.{handleNamed, stateNamed};
-ghost use Rattle.ledger_spec.specs.Notices.{defectAdded, stateSet, grown};
-ghost use Rattle.bench_views.specs.Given.{handGiven};
+ghost use Rattle.ledger_spec.specs.Named.{handle_named, state_named};
+ghost use Rattle.ledger_spec.specs.Notices.{defect_added, state_set, grown};
+ghost use Rattle.bench_views.specs.Given.{hand_given};
 ghost use Rattle.bench_views.specs.Fit.{Fit};
 ghost use Rattle.bench_views.specs.View.{view};
-ghost use Rattle.deed_circles.specs.Given.{handsGiven};
-ghost use Rattle.outcome_notices.specs.Lists.{Ring, blossomMade, blossomGone};
-ghost use Rattle.link_answers.specs.Forms.{nodeWord};
+ghost use Rattle.deed_circles.specs.Given.{hands_given};
+ghost use Rattle.outcome_notices.specs.Lists.{Ring, blossom_made, blossom_gone};
+ghost use Rattle.link_answers.specs.Forms.{node_word};
 ghost use Rattle.link_told.specs.Answers.{stateKind, toldWords, saidOver};
 ghost use Rattle.link_told.specs.Circles.{staying, growing, Walked};
 
@@ -48,14 +48,14 @@ pub fn refused(number: u8, out: &mut [u64; ANSWER]) -> u8
 }
 
 pub fn defect(out: &mut [u64; ANSWER], h: Handle)
-    ensures { out.new ≡ saidOver out.old (handleNamed h) (defectAdded (handleNamed h) ∷ []) }
+    ensures { out.new ≡ saidOver out.old (handle_named h) (defect_added (handle_named h) ∷ []) }
 {
     let w = link_answers::node_word(h);
     put_one(out, w, 1, w);
 }
 
 fn state_kind(s: GrowState) -> u64
-    ensures { result ≡ stateKind (stateNamed s) }
+    ensures { result ≡ stateKind (state_named s) }
 {
     match s {
         GrowState::Grow => 3,
@@ -65,7 +65,7 @@ fn state_kind(s: GrowState) -> u64
 }
 
 pub fn state(out: &mut [u64; ANSWER], h: Handle, s: GrowState)
-    ensures { out.new ≡ saidOver out.old (handleNamed h) (stateSet (handleNamed h) (stateNamed s) ∷ []) }
+    ensures { out.new ≡ saidOver out.old (handle_named h) (state_set (handle_named h) (state_named s) ∷ []) }
 {
     let w = link_answers::node_word(h);
     let kind = state_kind(s);
@@ -81,7 +81,7 @@ pub fn grown(out: &mut [u64; ANSWER], length: i64)
 
 // A member as it is told: the word that gives it, or that of no bench's handle.
 fn member_word(w: u64) -> u64
-    ensures { result ≡ nodeWord (handGiven w) }
+    ensures { result ≡ node_word (hand_given w) }
 {
     let h = link_answers::hand(w);
     link_answers::node_word(h)
@@ -117,7 +117,7 @@ fn put_added(out: &mut [u64; ANSWER], at: usize, node: u64)
 // The circle, beside the notices.
 fn put_circle(out: &mut [u64; ANSWER], members: &[u64])
     requires { length members.now ≤ 64 }
-    ensures { out.new ≡ sets out.old 135 (map nodeWord (handsGiven members.now)) }
+    ensures { out.new ≡ sets out.old 135 (map node_word (hands_given members.now)) }
 {
     let n = members.len();
     let mut i: usize = 0;
@@ -131,7 +131,7 @@ fn put_circle(out: &mut [u64; ANSWER], members: &[u64])
 // Each member stays, in order; then the circle is prepared to shrink, and the blossom q is added.
 pub fn blossom(out: &mut [u64; ANSWER], members: &[u64], q: Handle)
     requires { length members.now ≤ 64 }
-    ensures { out.new ≡ saidOver out.old (handleNamed q) (blossomMade (handsGiven members.now) (handleNamed q)) }
+    ensures { out.new ≡ saidOver out.old (handle_named q) (blossom_made (hands_given members.now) (handle_named q)) }
 {
     let n = members.len();
     let w = link_answers::node_word(q);
@@ -166,8 +166,8 @@ fn put_grows(out: &mut [u64; ANSWER], b: &[u64; WORDS], first: usize, count: usi
 
 // The blossom that h names goes; then each member grows, in circle order. Written from the words before the work.
 pub fn expanded(out: &mut [u64; ANSWER], b: &[u64; WORDS], h: Handle)
-    requires { Fit b.now × Ring (view b.now) (handleNamed h) }
-    ensures { out.new ≡ saidOver out.old (handleNamed h) (blossomGone (view b.now) (handleNamed h)) }
+    requires { Fit b.now × Ring (view b.now) (handle_named h) }
+    ensures { out.new ≡ saidOver out.old (handle_named h) (blossom_gone (view b.now) (handle_named h)) }
 {
     let n = bench_words::load_node(b, (h.unit as usize) * 64 + (h.slot as usize));
     let w = link_answers::node_word(h);

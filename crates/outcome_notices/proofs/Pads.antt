@@ -9,11 +9,11 @@ use lib.Seq.{take-suc, set_at, append_snoc}
 use Rattle.outcome_notices.specs.Laid.{pad}
 
 module _ {A : Type 0} where
-  pub pad-long : (d : A) (n : ℕ) (xs : List A) → length xs ≤ n → length (pad d n xs) ≡ n
-  pad-long d n xs l = let e = length-append xs (replicate (n - length xs) d) in let f = length-replicate (n - length xs) d in omega arith
+  pub pad_long : (d : A) (n : ℕ) (xs : List A) → length xs ≤ n → length (pad d n xs) ≡ n
+  pad_long d n xs l = let e = length-append xs (replicate (n - length xs) d) in let f = length-replicate (n - length xs) d in omega arith
 
-  pub pad-set : (d : A) (n i : ℕ) (xs : List A) (x : A) → i < n → length xs ≡ i → set (pad d n xs) i x ≡ pad d n (xs ++ (x ∷ []))
-  pad-set d n i xs x l e =
+  pub pad_set : (d : A) (n i : ℕ) (xs : List A) (x : A) → i < n → length xs ≡ i → set (pad d n xs) i x ≡ pad d n (xs ++ (x ∷ []))
+  pad_set d n i xs x l e =
       let k : n - length xs ≡ suc (n - suc i) = omega arith in
       let m : n - suc i ≡ n - length (xs ++ (x ∷ [])) = omega (arith, length-append xs (x ∷ [])) in
       ap (λ (j : ℕ). set (xs ++ replicate j d) i x) k

@@ -7,35 +7,35 @@ use mathlib.Core.List.{List}
 use native.Mathlib.Omega.{arith}
 use lib.ListN.{length, get_or}
 use Rattle.kinds.specs.declared.Class.TheVariants.{Blossom}
-use Rattle.bench_words.specs.Store.{nodeAt, interfaceAt}
+use Rattle.bench_words.specs.Store.{node_at, interface_at}
 use Rattle.bench_words.specs.declared.Node.{Node}
 use Rattle.ledger_spec.specs.Bench.{Handle, Bench}
 use Rattle.ledger_spec.specs.Bench as plain
 use Rattle.ledger_spec.specs.Look as look
 use Rattle.ledger_spec.specs.Tests.{first, is_some}
-use Rattle.ledger_spec.specs.Refuse.{expandTests}
+use Rattle.ledger_spec.specs.Refuse.{expand_tests}
 use Rattle.ledger_spec.specs.Deeds.{members}
 use Rattle.ledger_spec.specs.Knit.{nodes}
-use Rattle.ledger_spec.proofs.Knit.{some-eq}
+use Rattle.ledger_spec.proofs.Knit.{some_eq}
 use Rattle.ledger_spec.proofs.Passed.{has_of}
-use Rattle.ledger_spec.proofs.Accepted.{Named, expand-passed, members-of}
-use Rattle.bench_views.specs.View.{view, sumUp, circleOf, follow}
+use Rattle.ledger_spec.proofs.Accepted.{Named, expand_passed, members_of}
+use Rattle.bench_views.specs.View.{view, sum_up, circle_of, follow}
 use Rattle.bench_views.specs.Canon.{walk}
 use Rattle.bench_views.specs.Fit.{Fit}
-use Rattle.bench_views.proofs.Views.{view-slot}
-use Rattle.bench_views.proofs.Rings.{ringed, slot-blossom}
-use Rattle.deed_nodes.proofs.Needs.{Stands, stands, stands-blossom}
-use Rattle.deed_nodes.proofs.Keeps.{walk-in}
+use Rattle.bench_views.proofs.Views.{view_slot}
+use Rattle.bench_views.proofs.Rings.{ringed, slot_blossom}
+use Rattle.deed_nodes.proofs.Needs.{Stands, stands, stands_blossom}
+use Rattle.deed_nodes.proofs.Keeps.{walk_in}
 use Rattle.outcome_notices.specs.Lists.{Ring}
 
 -- what an accepted expand names
-pub ring_of : (b : Bench) (u : ℕ) (h : Handle) → first (expandTests b u h) ≡ 0 → Ring b h
-ring_of b u h e = let P = expand-passed b u h e in record { node = P.named.node; ms = P.ms; named = P.named.is; ring = P.ring }
+pub ring_of : (b : Bench) (u : ℕ) (h : Handle) → first (expand_tests b u h) ≡ 0 → Ring b h
+ring_of b u h e = let P = expand_passed b u h e in record { node = P.named.node; ms = P.ms; named = P.named.is; ring = P.ring }
 
-length-follow : (n : ℕ) (A : ℕ → Node) (k : ℕ) → length (follow n A k) ≡ n
+length_follow : (n : ℕ) (A : ℕ → Node) (k : ℕ) → length (follow n A k) ≡ n
 unfolding follow
-length-follow zero A k = refl
-length-follow (suc n) A k = ap suc (length-follow n A (A k).next)
+length_follow zero A k = refl
+length_follow (suc n) A k = ap suc (length_follow n A (A k).next)
 
 module _ (b : List ℕ) (h : Handle) (F : Fit b) (R : Ring (view b) h) where
   abbrev k : ℕ
@@ -47,26 +47,26 @@ module _ (b : List ℕ) (h : Handle) (F : Fit b) (R : Ring (view b) h) where
   stood : Stands b h
   stood = stands b F h named
 
-  class : (nodeAt b k).class ≡ Blossom
-  class = stands-blossom stood R.named R.ring
+  class : (node_at b k).class ≡ Blossom
+  class = stands_blossom stood R.named R.ring
 
   pub low : k < 512
   low = stood.low
 
-  pub few : (nodeAt b k).count ≤ 64
+  pub few : (node_at b k).count ≤ 64
   few =
-      let B = slot-blossom (nodeAt b k) (sumUp 8 (interfaceAt b) h.unit) (circleOf (nodeAt b) k) class in
-      let c = F.circle h.unit h.slot B.node (circleOf (nodeAt b) k) (view-slot (get_or b 0 0) (interfaceAt b) (nodeAt b) h.unit h.slot stood.unit stood.slot ∙ B.shown) B.class in
-      omega (arith, c.1, length-follow (nodeAt b k).count (nodeAt b) (nodeAt b k).first)
+      let B = slot_blossom (node_at b k) (sum_up 8 (interface_at b) h.unit) (circle_of (node_at b) k) class in
+      let c = F.circle h.unit h.slot B.node (circle_of (node_at b) k) (view_slot (get_or b 0 0) (interface_at b) (node_at b) h.unit h.slot stood.unit stood.slot ∙ B.shown) B.class in
+      omega (arith, c.1, length_follow (node_at b k).count (node_at b) (node_at b k).first)
 
-  pub members-low : (i : ℕ) → i < (nodeAt b k).count → walk i (nodeAt b) (nodeAt b k).first < 512
-  members-low i l =
-      let p = walk i (nodeAt b) (nodeAt b k).first in
-      let g = ringed b F.sewn h.unit h.slot stood.unit stood.slot class p (walk-in (nodeAt b k).count i (nodeAt b) (nodeAt b k).first l) in
+  pub members_low : (i : ℕ) → i < (node_at b k).count → walk i (node_at b) (node_at b k).first < 512
+  members_low i l =
+      let p = walk i (node_at b) (node_at b k).first in
+      let g = ringed b F.sewn h.unit h.slot stood.unit stood.slot class p (walk_in (node_at b k).count i (node_at b) (node_at b k).first l) in
       omega (arith, g.unit)
 
-  pub members-seen : members (look.nodeNamed (view b) h) ≡ nodes (circleOf (nodeAt b) k)
-  members-seen =
-      let B = slot-blossom (nodeAt b k) (sumUp 8 (interfaceAt b) h.unit) (circleOf (nodeAt b) k) class in
-      let n : stood.node ≡ B.node = some-eq stood.seen B.shown in
-      members-of (view b) h stood.node stood.named (circleOf (nodeAt b) k) (ap (λ (x : plain.Node). x.class) n ∙ B.class)
+  pub members_seen : members (look.node_named (view b) h) ≡ nodes (circle_of (node_at b) k)
+  members_seen =
+      let B = slot_blossom (node_at b k) (sum_up 8 (interface_at b) h.unit) (circle_of (node_at b) k) class in
+      let n : stood.node ≡ B.node = some_eq stood.seen B.shown in
+      members_of (view b) h stood.node stood.named (circle_of (node_at b) k) (ap (λ (x : plain.Node). x.class) n ∙ B.class)

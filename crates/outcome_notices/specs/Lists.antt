@@ -2,21 +2,21 @@
 use Rattle.std.specs.Prelude.{◌≡◌, List, [], ◌∷◌, ◌++◌, map}
 use Rattle.std.proofs.Math.Option.{some}
 use Rattle.ledger_spec.specs.Bench.{Handle, Member, Node, Bench, grows, stays, blossom}
-use Rattle.ledger_spec.specs.Look.{nodeNamed}
+use Rattle.ledger_spec.specs.Look.{node_named}
 use Rattle.ledger_spec.specs.Deeds.{members}
-use Rattle.ledger_spec.specs.Notices.{Notice, stateSet, shrinkPrepared, blossomAdded, blossomRemoved}
+use Rattle.ledger_spec.specs.Notices.{Notice, state_set, shrink_prepared, blossom_added, blossom_removed}
 
 -- each member stays, its circle is prepared to shrink, the blossom is added
-abbrev pub blossomMade : List Handle → Handle → List Notice
-blossomMade hs q = map (λ (h : Handle). stateSet h stays) hs ++ (shrinkPrepared hs ∷ blossomAdded q ∷ [])
+abbrev pub blossom_made : List Handle → Handle → List Notice
+blossom_made hs q = map (λ (h : Handle). state_set h stays) hs ++ (shrink_prepared hs ∷ blossom_added q ∷ [])
 
 -- the blossom is removed, and each member grows
-abbrev pub blossomGone : Bench → Handle → List Notice
-blossomGone b h = blossomRemoved h ∷ map (λ (g : Handle). stateSet g grows) (members (nodeNamed b h))
+abbrev pub blossom_gone : Bench → Handle → List Notice
+blossom_gone b h = blossom_removed h ∷ map (λ (g : Handle). state_set g grows) (members (node_named b h))
 
 -- h names a blossom that is present
 pub record Ring (b : Bench) (h : Handle) : Type 0 where
   pub node : Node
   pub ms : List Member
-  pub named : nodeNamed b h ≡ some node
+  pub named : node_named b h ≡ some node
   pub ring : node.class ≡ blossom ms

@@ -1,14 +1,14 @@
 // What a call tells the dual module, by value: the notices in order and, once beside them, the circle of "shrink prepared".
 // Entries past the counts are blank, so that a list of notices has one value. The caller has been accepted by its tests. Assumes nothing.
 ghost use Rattle.std.specs.Prelude.{◌≡◌, [], ◌∷◌, ◌≤◌, length};
-ghost use Rattle.ledger_spec.specs.Named.{handleNamed, stateNamed};
-ghost use Rattle.ledger_spec.specs.Notices.{defectAdded, stateSet, grown};
-ghost use Rattle.bench_views.specs.Given.{handGiven};
-ghost use Rattle.deed_circles.specs.Given.{handsGiven};
+ghost use Rattle.ledger_spec.specs.Named.{handle_named, state_named};
+ghost use Rattle.ledger_spec.specs.Notices.{defect_added, state_set, grown};
+ghost use Rattle.bench_views.specs.Given.{hand_given};
+ghost use Rattle.deed_circles.specs.Given.{hands_given};
 ghost use Rattle.bench_views.specs.View.{view};
 ghost use Rattle.bench_views.specs.Fit.{Fit};
 ghost use Rattle.outcome_notices.specs.Laid.{packed, laid, only};
-ghost use Rattle.outcome_notices.specs.Lists.{Ring, blossomMade, blossomGone};
+ghost use Rattle.outcome_notices.specs.Lists.{Ring, blossom_made, blossom_gone};
 
 use bench_words::WORDS;
 use kinds::{GrowState, Handle, Notice};
@@ -60,7 +60,7 @@ fn one(e: Told) -> Notices
 }
 
 pub fn defect(h: Handle) -> Notices
-    ensures { result ≡ laid (defectAdded (handleNamed h) ∷ []) }
+    ensures { result ≡ laid (defect_added (handle_named h) ∷ []) }
 {
     one(Told {
         notice: Notice::DefectAdded(h),
@@ -68,7 +68,7 @@ pub fn defect(h: Handle) -> Notices
 }
 
 pub fn state(h: Handle, s: GrowState) -> Notices
-    ensures { result ≡ laid (stateSet (handleNamed h) (stateNamed s) ∷ []) }
+    ensures { result ≡ laid (state_set (handle_named h) (state_named s) ∷ []) }
 {
     one(Told {
         notice: Notice::StateSet(h, s),
@@ -85,7 +85,7 @@ pub fn grown(l: i64) -> Notices
 
 // The handle that a word gives: one of no bench where the word is no packed handle.
 fn hand(w: u64) -> Handle
-    ensures { result ≡ packed (handGiven w) }
+    ensures { result ≡ packed (hand_given w) }
 {
     bench_words::hand_of(w)
 }
@@ -93,7 +93,7 @@ fn hand(w: u64) -> Handle
 // Each member stays, in order; then the circle is prepared to shrink, and the blossom q is added.
 pub fn blossom(members: &[u64], q: Handle) -> Notices
     requires { length members.now ≤ 64 }
-    ensures { result ≡ laid (blossomMade (handsGiven members.now) (handleNamed q)) }
+    ensures { result ≡ laid (blossom_made (hands_given members.now) (handle_named q)) }
 {
     let mut r = none();
     let n = members.len();
@@ -120,8 +120,8 @@ pub fn blossom(members: &[u64], q: Handle) -> Notices
 
 // The blossom that h names goes; then each member grows, in circle order. Made from the words before the call.
 pub fn expand(b: &[u64; WORDS], h: Handle) -> Notices
-    requires { Fit b.now × Ring (view b.now) (handleNamed h) }
-    ensures { result ≡ laid (blossomGone (view b.now) (handleNamed h)) }
+    requires { Fit b.now × Ring (view b.now) (handle_named h) }
+    ensures { result ≡ laid (blossom_gone (view b.now) (handle_named h)) }
 {
     let n = bench_words::load_node(b, (h.unit as usize) * 64 + (h.slot as usize));
     let count = n.count as usize;

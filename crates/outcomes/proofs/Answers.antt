@@ -4,34 +4,34 @@ use Prim.Native.Nat.{ℕ}
 use mathlib.Core.Path.{◌≡◌, refl, sym, ◌∙◌, ap}
 use mathlib.Core.Logic.{◌≢◌}
 use mathlib.Core.List.{List}
-use Rattle.kinds.specs.Names.{noCode}
+use Rattle.kinds.specs.Names.{no_code}
 use Rattle.kinds.specs.declared.Handle.{Handle}
 use Rattle.ledger_spec.specs.Tests.{first}
 use Rattle.ledger_spec.specs.Calls.{Call}
 use Rattle.ledger_spec.specs.Answers.{answer}
 use Rattle.ledger_spec.specs.Sound.{sound}
-use Rattle.ledger_spec.specs.Named.{handleNamed}
-use Rattle.ledger_laws.proofs.Answered.{testsOf, deed_of, node_of, answer-number, zero-bench, zero-node, refused-node}
-use Rattle.ledger_laws.proofs.Always.{answer-sound}
+use Rattle.ledger_spec.specs.Named.{handle_named}
+use Rattle.ledger_laws.proofs.Answered.{tests_of, deed_of, node_of, answer_number, zero_bench, zero_node, refused_node}
+use Rattle.ledger_laws.proofs.Always.{answer_sound}
 use Rattle.bench_views.specs.View.{view}
 use Rattle.bench_views.specs.Fit.{SoundWords, Done}
 use Rattle.outcomes.specs.Answered.{Answered}
 use Rattle.outcomes.proofs.Outcomes.{stays}
 
 module _ (b : List ℕ) (c : Call) (W : SoundWords b) (b' : List ℕ) where
-  pub did : (h : Handle) → first (testsOf (view b) c) ≡ 0 → Done b' (deed_of (view b) c) → handleNamed h ≡ node_of (view b) c → Answered b c 0 h b'
+  pub did : (h : Handle) → first (tests_of (view b) c) ≡ 0 → Done b' (deed_of (view b) c) → handle_named h ≡ node_of (view b) c → Answered b c 0 h b'
   did h z D e =
-      let zero : (answer (view b) c).number ≡ 0 = answer-number (view b) c W.sound ∙ z in
-      let seen : view b' ≡ (answer (view b) c).bench = D.seen ∙ sym (zero-bench (view b) c zero) in (
+      let zero : (answer (view b) c).number ≡ 0 = answer_number (view b) c W.sound ∙ z in
+      let seen : view b' ≡ (answer (view b) c).bench = D.seen ∙ sym (zero_bench (view b) c zero) in (
         record {
           number = sym zero;
-          words = λ _. record { canon = D.canon; sound = ap sound seen ∙ answer-sound (view b) c W.sound };
+          words = λ _. record { canon = D.canon; sound = ap sound seen ∙ answer_sound (view b) c W.sound };
           seen = λ _. seen;
           refused = λ q. absurd (q refl);
         },
-        e ∙ sym (zero-node (view b) c zero),
+        e ∙ sym (zero_node (view b) c zero),
       )
 
-  pub refused : (n : ℕ) → n ≢ 0 → n ≡ first (testsOf (view b) c) → b' ≡ b → Answered b c n noCode b'
-  refused n q e same = let k : n ≡ (answer (view b) c).number = e ∙ sym (answer-number (view b) c W.sound) in
-      (stays q k same, sym (refused-node (view b) c (λ z. q (k ∙ z))))
+  pub refused : (n : ℕ) → n ≢ 0 → n ≡ first (tests_of (view b) c) → b' ≡ b → Answered b c n no_code b'
+  refused n q e same = let k : n ≡ (answer (view b) c).number = e ∙ sym (answer_number (view b) c W.sound) in
+      (stays q k same, sym (refused_node (view b) c (λ z. q (k ∙ z))))

@@ -1,6 +1,6 @@
 // What a call that changes a bench answers, and what that answer has to be: the plain ledger's own. Assumes nothing.
 ghost use Rattle.std.specs.Prelude.{◌≡◌};
-ghost use Rattle.outcomes.specs.Refused.{refusedBy};
+ghost use Rattle.outcomes.specs.Refused.{refused_by};
 
 use kinds::Handle;
 
@@ -14,7 +14,7 @@ pub struct Made {
 impl Made {
     // No node: a refusal's number, or 0 of a call that names none.
     pub fn refused(number: u8) -> Made
-        ensures { result ≡ refusedBy number }
+        ensures { result ≡ refused_by number }
     {
         let node = Handle::nobody();
         Made { number, node }

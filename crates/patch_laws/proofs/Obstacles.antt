@@ -7,8 +7,8 @@ use mathlib.Core.List.{List, [], ◌∷◌, ◌++◌, map, map-append}
 use lib.Dec.{eqb, leb, ltb}
 use lib.ListN.{length, length-map, drop}
 use lib.Signed.{lt_z}
-use Rattle.kinds.specs.Names.{sameCode}
-use Rattle.kinds.specs.Obstacles.{listable, isStop, pair_of}
+use Rattle.kinds.specs.Names.{same_code}
+use Rattle.kinds.specs.Obstacles.{listable, is_stop, pair_of}
 use Rattle.kinds.specs.declared.Handle.{Handle as Code}
 use Rattle.kinds.specs.declared.Pair.{Pair}
 use Rattle.kinds.specs.declared.Entry.{Entry}
@@ -19,220 +19,220 @@ use Rattle.kinds.specs.declared.Obstacle.{Obstacle}
 use Rattle.kinds.specs.declared.Obstacle.TheVariants.{NonZeroGrow, Conflicting, TouchingVirtual, BlossomNeedExpand, VertexShrinkStop}
 use Rattle.ledger_spec.specs.Tests.{first}
 use Rattle.ledger_spec.specs.Reads.{said}
-use Rattle.ledger_sparing.specs.Sparing.{spared, afterSparing, popSparing}
-use Rattle.ledger_spec.specs.Groups.{Group, growth, conflicts, largest, eqZ, allListable, risingFrom, soundGroup, Lists, room_for, frontOf, backOf, meet, placed, addStop, grouped, addToGrowth, addToConflicts, added, smallerPair, and_then, addStops, extended, last_of, allButLast}
-use Rattle.ledger_spec.specs.GroupCalls.{isLargest, isGrowth, active, groupTests, is_empty, isActive, lengthIn, growthOf, lastIn, takeTests, peek, afterPop, pop, handlesOf, listHandles, stopHandles, groupHandles}
-use Rattle.patch_laws.specs.Obstacles.{mapPair, mapMaybe, mapObstacle, mapTaken, mapEntry, mapStop, mapGroup}
-use Rattle.patch_laws.proofs.Renamed.{map-map}
+use Rattle.ledger_sparing.specs.Sparing.{spared, after_sparing, pop_sparing}
+use Rattle.ledger_spec.specs.Groups.{Group, growth, conflicts, largest, eq_z, all_listable, rising_from, sound_group, Lists, room_for, front_of, back_of, meet, placed, add_stop, grouped, add_to_growth, add_to_conflicts, added, smaller_pair, and_then, add_stops, extended, last_of, all_but_last}
+use Rattle.ledger_spec.specs.GroupCalls.{is_largest, is_growth, active, group_tests, is_empty, is_active, length_in, growth_of, last_in, take_tests, peek, after_pop, pop, handles_of, list_handles, stop_handles, group_handles}
+use Rattle.patch_laws.specs.Obstacles.{map_pair, map_maybe, map_obstacle, map_taken, map_entry, map_stop, map_group}
+use Rattle.patch_laws.proofs.Renamed.{map_map}
 
 -- a renamed answer of a read
-pub said-map : {A B : Type 0} (f : A → B) (n : ℕ) (v z : A) → said n (f v) (f z) ≡ ((said n v z).0, f (said n v z).1)
+pub said_map : {A B : Type 0} (f : A → B) (n : ℕ) (v z : A) → said n (f v) (f z) ≡ ((said n v z).0, f (said n v z).1)
 unfolding said
-said-map f zero v z = refl
-said-map f (suc n) v z = refl
+said_map f zero v z = refl
+said_map f (suc n) v z = refl
 
 -- ---- two renamings one after the other
 module _ (f g h : Code → Code) (e : (c : Code) → f (g c) ≡ h c) where
-  pair-twice : (p : Pair) → mapPair f (mapPair g p) ≡ mapPair h p
-  pair-twice p = λ i. record { node = e p.node i; touching = e p.touching i }
+  pair_twice : (p : Pair) → map_pair f (map_pair g p) ≡ map_pair h p
+  pair_twice p = λ i. record { node = e p.node i; touching = e p.touching i }
 
-  pub obstacle-twice : (o : Obstacle) → mapObstacle f (mapObstacle g o) ≡ mapObstacle h o
-  obstacle-twice (NonZeroGrow l b) = refl
-  obstacle-twice (Conflicting p q) = ap₂ Conflicting (pair-twice p) (pair-twice q)
-  obstacle-twice (TouchingVirtual p v m) = ap (λ (x : Pair). TouchingVirtual x v m) (pair-twice p)
-  obstacle-twice (BlossomNeedExpand n) = ap BlossomNeedExpand (e n)
-  obstacle-twice (VertexShrinkStop n NoPair) = ap (λ (x : Code). VertexShrinkStop x NoPair) (e n)
-  obstacle-twice (VertexShrinkStop n (WithPair p)) = ap₂ (λ (x : Code) (y : Pair). VertexShrinkStop x (WithPair y)) (e n) (pair-twice p)
+  pub obstacle_twice : (o : Obstacle) → map_obstacle f (map_obstacle g o) ≡ map_obstacle h o
+  obstacle_twice (NonZeroGrow l b) = refl
+  obstacle_twice (Conflicting p q) = ap₂ Conflicting (pair_twice p) (pair_twice q)
+  obstacle_twice (TouchingVirtual p v m) = ap (λ (x : Pair). TouchingVirtual x v m) (pair_twice p)
+  obstacle_twice (BlossomNeedExpand n) = ap BlossomNeedExpand (e n)
+  obstacle_twice (VertexShrinkStop n NoPair) = ap (λ (x : Code). VertexShrinkStop x NoPair) (e n)
+  obstacle_twice (VertexShrinkStop n (WithPair p)) = ap₂ (λ (x : Code) (y : Pair). VertexShrinkStop x (WithPair y)) (e n) (pair_twice p)
 
-  pub group-twice : (q : Group) → mapGroup f (mapGroup g q) ≡ mapGroup h q
-  group-twice (growth l b) = refl
-  group-twice (conflicts l s) = ap₂ conflicts (map-map (mapEntry g) (mapEntry f) (mapEntry h) (λ x. ap (λ (o : Obstacle). record { obstacle = o }) (obstacle-twice x.obstacle)) l)
-      (map-map (mapStop g) (mapStop f) (mapStop h) (λ x. ap (λ (o : Obstacle). record { vertex = x.vertex; obstacle = o }) (obstacle-twice x.obstacle)) s)
+  pub group_twice : (q : Group) → map_group f (map_group g q) ≡ map_group h q
+  group_twice (growth l b) = refl
+  group_twice (conflicts l s) = ap₂ conflicts (map_map (map_entry g) (map_entry f) (map_entry h) (λ x. ap (λ (o : Obstacle). record { obstacle = o }) (obstacle_twice x.obstacle)) l)
+      (map_map (map_stop g) (map_stop f) (map_stop h) (λ x. ap (λ (o : Obstacle). record { vertex = x.vertex; obstacle = o }) (obstacle_twice x.obstacle)) s)
 
-  pub taken_twice : (o : Option Obstacle) → mapTaken f (mapTaken g o) ≡ mapTaken h o
+  pub taken_twice : (o : Option Obstacle) → map_taken f (map_taken g o) ≡ map_taken h o
   taken_twice none = refl
-  taken_twice (some o) = ap some (obstacle-twice o)
+  taken_twice (some o) = ap some (obstacle_twice o)
 
 -- ---- the handles of an obstacle and of a group
 module _ (f : Code → Code) where
-  pub handles-map : (o : Obstacle) → handlesOf (mapObstacle f o) ≡ map f (handlesOf o)
-  unfolding handlesOf
-  handles-map (NonZeroGrow l b) = refl
-  handles-map (Conflicting p q) = refl
-  handles-map (TouchingVirtual p v m) = refl
-  handles-map (BlossomNeedExpand n) = refl
-  handles-map (VertexShrinkStop n NoPair) = refl
-  handles-map (VertexShrinkStop n (WithPair p)) = refl
+  pub handles_map : (o : Obstacle) → handles_of (map_obstacle f o) ≡ map f (handles_of o)
+  unfolding handles_of
+  handles_map (NonZeroGrow l b) = refl
+  handles_map (Conflicting p q) = refl
+  handles_map (TouchingVirtual p v m) = refl
+  handles_map (BlossomNeedExpand n) = refl
+  handles_map (VertexShrinkStop n NoPair) = refl
+  handles_map (VertexShrinkStop n (WithPair p)) = refl
 
-  list-map : (l : List Entry) → listHandles (map (mapEntry f) l) ≡ map f (listHandles l)
-  unfolding listHandles
-  list-map [] = refl
-  list-map (x ∷ xs) = ap₂ {C = List Code} ◌++◌ (handles-map x.obstacle) (list-map xs) ∙ sym (map-append f (handlesOf x.obstacle) (listHandles xs))
+  list_map : (l : List Entry) → list_handles (map (map_entry f) l) ≡ map f (list_handles l)
+  unfolding list_handles
+  list_map [] = refl
+  list_map (x ∷ xs) = ap₂ {C = List Code} ◌++◌ (handles_map x.obstacle) (list_map xs) ∙ sym (map-append f (handles_of x.obstacle) (list_handles xs))
 
-  stop-map : (s : List Stop) → stopHandles (map (mapStop f) s) ≡ map f (stopHandles s)
-  unfolding stopHandles
-  stop-map [] = refl
-  stop-map (x ∷ xs) = ap₂ {C = List Code} ◌++◌ (handles-map x.obstacle) (stop-map xs) ∙ sym (map-append f (handlesOf x.obstacle) (stopHandles xs))
+  stop_map : (s : List Stop) → stop_handles (map (map_stop f) s) ≡ map f (stop_handles s)
+  unfolding stop_handles
+  stop_map [] = refl
+  stop_map (x ∷ xs) = ap₂ {C = List Code} ◌++◌ (handles_map x.obstacle) (stop_map xs) ∙ sym (map-append f (handles_of x.obstacle) (stop_handles xs))
 
-  pub group-map : (g : Group) → groupHandles (mapGroup f g) ≡ map f (groupHandles g)
-  group-map (growth l b) = refl
-  group-map (conflicts l s) = ap₂ {C = List Code} ◌++◌ (list-map l) (stop-map s) ∙ sym (map-append f (listHandles l) (stopHandles s))
+  pub group_map : (g : Group) → group_handles (map_group f g) ≡ map f (group_handles g)
+  group_map (growth l b) = refl
+  group_map (conflicts l s) = ap₂ {C = List Code} ◌++◌ (list_map l) (stop_map s) ∙ sym (map-append f (list_handles l) (stop_handles s))
 
   -- ---- a sound group
-  listable-map : (o : Obstacle) → listable (mapObstacle f o) ≡ listable o
-  listable-map (NonZeroGrow l b) = refl
-  listable-map (Conflicting p q) = refl
-  listable-map (TouchingVirtual p v m) = refl
-  listable-map (BlossomNeedExpand n) = refl
-  listable-map (VertexShrinkStop n p) = refl
+  listable_map : (o : Obstacle) → listable (map_obstacle f o) ≡ listable o
+  listable_map (NonZeroGrow l b) = refl
+  listable_map (Conflicting p q) = refl
+  listable_map (TouchingVirtual p v m) = refl
+  listable_map (BlossomNeedExpand n) = refl
+  listable_map (VertexShrinkStop n p) = refl
 
-  is-stop-map : (o : Obstacle) → isStop (mapObstacle f o) ≡ isStop o
-  is-stop-map (NonZeroGrow l b) = refl
-  is-stop-map (Conflicting p q) = refl
-  is-stop-map (TouchingVirtual p v m) = refl
-  is-stop-map (BlossomNeedExpand n) = refl
-  is-stop-map (VertexShrinkStop n p) = refl
+  is_stop_map : (o : Obstacle) → is_stop (map_obstacle f o) ≡ is_stop o
+  is_stop_map (NonZeroGrow l b) = refl
+  is_stop_map (Conflicting p q) = refl
+  is_stop_map (TouchingVirtual p v m) = refl
+  is_stop_map (BlossomNeedExpand n) = refl
+  is_stop_map (VertexShrinkStop n p) = refl
 
-  pair-map : (o : Obstacle) → pair_of (mapObstacle f o) ≡ mapMaybe f (pair_of o)
-  pair-map (NonZeroGrow l b) = refl
-  pair-map (Conflicting p q) = refl
-  pair-map (TouchingVirtual p v m) = refl
-  pair-map (BlossomNeedExpand n) = refl
-  pair-map (VertexShrinkStop n p) = refl
+  pair_map : (o : Obstacle) → pair_of (map_obstacle f o) ≡ map_maybe f (pair_of o)
+  pair_map (NonZeroGrow l b) = refl
+  pair_map (Conflicting p q) = refl
+  pair_map (TouchingVirtual p v m) = refl
+  pair_map (BlossomNeedExpand n) = refl
+  pair_map (VertexShrinkStop n p) = refl
 
-  all-listable : (l : List Entry) → allListable (map (mapEntry f) l) ≡ allListable l
-  unfolding allListable
-  all-listable [] = refl
-  all-listable (x ∷ xs) = ap₂ ◌&&◌ (listable-map x.obstacle) (all-listable xs)
+  all_listable_lem : (l : List Entry) → all_listable (map (map_entry f) l) ≡ all_listable l
+  unfolding all_listable
+  all_listable_lem [] = refl
+  all_listable_lem (x ∷ xs) = ap₂ ◌&&◌ (listable_map x.obstacle) (all_listable_lem xs)
 
-  rising-map : (v : ℕ) (s : List Stop) → risingFrom v (map (mapStop f) s) ≡ risingFrom v s
-  unfolding risingFrom
-  rising-map v [] = refl
-  rising-map v (x ∷ xs) = ap₂ (λ (c d : Bool). c && (leb v x.vertex.0 && d)) (is-stop-map x.obstacle) (rising-map (suc x.vertex.0) xs)
+  rising_map : (v : ℕ) (s : List Stop) → rising_from v (map (map_stop f) s) ≡ rising_from v s
+  unfolding rising_from
+  rising_map v [] = refl
+  rising_map v (x ∷ xs) = ap₂ (λ (c d : Bool). c && (leb v x.vertex.0 && d)) (is_stop_map x.obstacle) (rising_map (suc x.vertex.0) xs)
 
-  pub sound-map : (g : Group) → soundGroup (mapGroup f g) ≡ soundGroup g
-  unfolding soundGroup
-  sound-map (growth l b) = refl
-  sound-map (conflicts l s) = λ i. leb (length-map l (mapEntry f) i) 128 && (leb (length-map s (mapStop f) i) 128 && (all-listable l i && rising-map 0 s i))
+  pub sound_map : (g : Group) → sound_group (map_group f g) ≡ sound_group g
+  unfolding sound_group
+  sound_map (growth l b) = refl
+  sound_map (conflicts l s) = λ i. leb (length-map l (map_entry f) i) 128 && (leb (length-map s (map_stop f) i) 128 && (all_listable_lem l i && rising_map 0 s i))
 
   -- ---- what a group answers, and gives out
   abbrev E : List Entry → List Entry
-  E l = map (mapEntry f) l
+  E l = map (map_entry f) l
 
   abbrev S : List Stop → List Stop
-  S s = map (mapStop f) s
+  S s = map (map_stop f) s
 
-  last-of : (l : List Entry) (s : List Stop) → last_of (E l) (S s) ≡ mapTaken f (last_of l s)
+  last_of_lem : (l : List Entry) (s : List Stop) → last_of (E l) (S s) ≡ map_taken f (last_of l s)
   unfolding last_of
-  last-of [] [] = refl
-  last-of [] (x ∷ xs) = refl
-  last-of (x ∷ []) s = refl
-  last-of (x ∷ y ∷ ys) s = last-of (y ∷ ys) s
+  last_of_lem [] [] = refl
+  last_of_lem [] (x ∷ xs) = refl
+  last_of_lem (x ∷ []) s = refl
+  last_of_lem (x ∷ y ∷ ys) s = last_of_lem (y ∷ ys) s
 
-  all_but : (l : List Entry) → allButLast (E l) ≡ E (allButLast l)
-  unfolding allButLast
+  all_but : (l : List Entry) → all_but_last (E l) ≡ E (all_but_last l)
+  unfolding all_but_last
   all_but [] = refl
   all_but (x ∷ []) = refl
-  all_but (x ∷ y ∷ ys) = ap {B = List Entry} (λ l. mapEntry f x ∷ l) (all_but (y ∷ ys))
+  all_but (x ∷ y ∷ ys) = ap {B = List Entry} (λ l. map_entry f x ∷ l) (all_but (y ∷ ys))
 
   rest_of : (s : List Stop) → drop 1 (S s) ≡ S (drop 1 s)
   rest_of [] = refl
   rest_of (x ∷ xs) = refl
 
-  last-map : (g : Group) → lastIn (mapGroup f g) ≡ mapTaken f (lastIn g)
-  last-map (growth l b) = refl
-  last-map (conflicts l s) = last-of l s
+  last_map : (g : Group) → last_in (map_group f g) ≡ map_taken f (last_in g)
+  last_map (growth l b) = refl
+  last_map (conflicts l s) = last_of_lem l s
 
-  take-map : (g : Group) → first (takeTests (mapGroup f g)) ≡ first (takeTests g)
-  unfolding takeTests
-  take-map g = λ i. first ((not (sound-map g i), 2) ∷ (growths g i, 10) ∷ [])
+  take_map : (g : Group) → first (take_tests (map_group f g)) ≡ first (take_tests g)
+  unfolding take_tests
+  take_map g = λ i. first ((not (sound_map g i), 2) ∷ (growths g i, 10) ∷ [])
     where
-      growths : (q : Group) → isGrowth (mapGroup f q) ≡ isGrowth q
+      growths : (q : Group) → is_growth (map_group f q) ≡ is_growth q
       growths (growth l b) = refl
       growths (conflicts l s) = refl
 
-  largest-map : (g : Group) → isLargest (mapGroup f g) ≡ isLargest g
-  largest-map (growth l b) = refl
-  largest-map (conflicts l s) = refl
+  largest_map : (g : Group) → is_largest (map_group f g) ≡ is_largest g
+  largest_map (growth l b) = refl
+  largest_map (conflicts l s) = refl
 
-  pub empty-map : (g : Group) → is_empty (mapGroup f g) ≡ is_empty g
-  unfolding is_empty groupTests
-  empty-map g = λ i. said (first ((not (sound-map g i), 2) ∷ [])) (largest-map g i) false
+  pub empty_map : (g : Group) → is_empty (map_group f g) ≡ is_empty g
+  unfolding is_empty group_tests
+  empty_map g = λ i. said (first ((not (sound_map g i), 2) ∷ [])) (largest_map g i) false
 
-  pub active-map : (g : Group) → isActive (mapGroup f g) ≡ isActive g
-  unfolding isActive groupTests
-  active-map g = λ i. said (first ((not (sound-map g i), 2) ∷ [])) (go g i) false
+  pub active_map : (g : Group) → is_active (map_group f g) ≡ is_active g
+  unfolding is_active group_tests
+  active_map g = λ i. said (first ((not (sound_map g i), 2) ∷ [])) (go g i) false
     where
-      go : (q : Group) → active (mapGroup f q) ≡ active q
+      go : (q : Group) → active (map_group f q) ≡ active q
       go (growth l b) = refl
       go (conflicts l s) = refl
 
-  pub growth-map : (g : Group) → growthOf (mapGroup f g) ≡ growthOf g
-  unfolding growthOf
-  growth-map g = λ i. said (first ((not (sound-map g i), 2) ∷ (largest-map g i, 21) ∷ [])) (go g i) none
+  pub growth_map : (g : Group) → growth_of (map_group f g) ≡ growth_of g
+  unfolding growth_of
+  growth_map g = λ i. said (first ((not (sound_map g i), 2) ∷ (largest_map g i, 21) ∷ [])) (go g i) none
     where
-      go : (q : Group) → lengthIn (mapGroup f q) ≡ lengthIn q
+      go : (q : Group) → length_in (map_group f q) ≡ length_in q
       go (growth l b) = refl
       go (conflicts l s) = refl
 
-  pub peek-map : (g : Group) → peek (mapGroup f g) ≡ ((peek g).0, mapTaken f (peek g).1)
+  pub peek_map : (g : Group) → peek (map_group f g) ≡ ((peek g).0, map_taken f (peek g).1)
   unfolding peek
-  peek-map g = (λ i. said (take-map g i) (last-map g i) none) ∙ said-map (mapTaken f) (first (takeTests g)) (lastIn g) none
+  peek_map g = (λ i. said (take_map g i) (last_map g i) none) ∙ said_map (map_taken f) (first (take_tests g)) (last_in g) none
 
   -- a pop's answer and what it leaves
-  abbrev pub mapPopped : Option Obstacle × Group → Option Obstacle × Group
-  mapPopped x = (mapTaken f x.0, mapGroup f x.1)
+  abbrev pub map_popped : Option Obstacle × Group → Option Obstacle × Group
+  map_popped x = (map_taken f x.0, map_group f x.1)
 
-  pub pop-map : (g : Group) → pop (mapGroup f g) ≡ ((pop g).0, mapPopped (pop g).1)
+  pub pop_map : (g : Group) → pop (map_group f g) ≡ ((pop g).0, map_popped (pop g).1)
   unfolding pop
-  pop-map g = (λ i. said (take-map g i) (last-map g i, go g i) (none, mapGroup f g)) ∙ said-map mapPopped (first (takeTests g)) (lastIn g, afterPop g) (none, g)
+  pop_map g = (λ i. said (take_map g i) (last_map g i, go g i) (none, map_group f g)) ∙ said_map map_popped (first (take_tests g)) (last_in g, after_pop g) (none, g)
     where
-      go : (q : Group) → afterPop (mapGroup f q) ≡ mapGroup f (afterPop q)
+      go : (q : Group) → after_pop (map_group f q) ≡ map_group f (after_pop q)
       go (growth l b) = refl
       go (conflicts l s) = ap₂ conflicts (all_but l) (rest_of s)
 
-  pub spare-map : (g : Group) → popSparing (mapGroup f g) ≡ ((popSparing g).0, mapPopped (popSparing g).1)
-  unfolding popSparing spared
-  spare-map g = (λ i. said (take-map g i) (last-map g i, go g i) (none, mapGroup f g)) ∙ said-map mapPopped (first (takeTests g)) (lastIn g, afterSparing g) (none, g)
+  pub spare_map : (g : Group) → pop_sparing (map_group f g) ≡ ((pop_sparing g).0, map_popped (pop_sparing g).1)
+  unfolding pop_sparing spared
+  spare_map g = (λ i. said (take_map g i) (last_map g i, go g i) (none, map_group f g)) ∙ said_map map_popped (first (take_tests g)) (last_in g, after_sparing g) (none, g)
     where
-      go : (q : Group) → afterSparing (mapGroup f q) ≡ mapGroup f (afterSparing q)
+      go : (q : Group) → after_sparing (map_group f q) ≡ map_group f (after_sparing q)
       go (growth l b) = refl
       go (conflicts [] s) = ap (conflicts []) (rest_of s)
       go (conflicts (x ∷ xs) s) = ap (λ (l : List Entry). conflicts l (S s)) (all_but (x ∷ xs))
 
 -- ---- what add and extend make
-module _ (f : Code → Code) (same : (g h : Code) → sameCode (f g) (f h) ≡ sameCode g h) where
+module _ (f : Code → Code) (same : (g h : Code) → same_code (f g) (f h) ≡ same_code g h) where
   abbrev both : Option Lists → Option Lists
   both none = none
   both (some ls) = some (E f ls.0, S f ls.1)
 
   abbrev pub mapped : Option Group → Option Group
   mapped none = none
-  mapped (some g) = some (mapGroup f g)
+  mapped (some g) = some (map_group f g)
 
   room : (l : List Entry) (s : List Stop) → room_for (E f l) (S f s) ≡ both (room_for l s)
   unfolding room_for
-  room l s = ap₂ (λ (x y : ℕ). cond (leb x 128 && leb y 128) (some (E f l, S f s)) none) (length-map l (mapEntry f)) (length-map s (mapStop f)) ∙ go (leb (length l) 128 && leb (length s) 128)
+  room l s = ap₂ (λ (x y : ℕ). cond (leb x 128 && leb y 128) (some (E f l, S f s)) none) (length-map l (map_entry f)) (length-map s (map_stop f)) ∙ go (leb (length l) 128 && leb (length s) 128)
     where
       go : (c : Bool) → cond c (some (E f l, S f s)) none ≡ both (cond c (some (l, s)) none)
       go true = refl
       go false = refl
 
-  front-map : (v : ℕ) (s : List Stop) → frontOf v (S f s) ≡ S f (frontOf v s)
-  unfolding frontOf
-  front-map v [] = refl
-  front-map v (x ∷ xs) = ap (λ (r : List Stop). cond (ltb x.vertex.0 v) (mapStop f x ∷ r) []) (front-map v xs) ∙ go (ltb x.vertex.0 v)
+  front_map : (v : ℕ) (s : List Stop) → front_of v (S f s) ≡ S f (front_of v s)
+  unfolding front_of
+  front_map v [] = refl
+  front_map v (x ∷ xs) = ap (λ (r : List Stop). cond (ltb x.vertex.0 v) (map_stop f x ∷ r) []) (front_map v xs) ∙ go (ltb x.vertex.0 v)
     where
-      go : (c : Bool) → cond c (mapStop f x ∷ S f (frontOf v xs)) [] ≡ S f (cond c (x ∷ frontOf v xs) [])
+      go : (c : Bool) → cond c (map_stop f x ∷ S f (front_of v xs)) [] ≡ S f (cond c (x ∷ front_of v xs) [])
       go true = refl
       go false = refl
 
-  back-map : (v : ℕ) (s : List Stop) → backOf v (S f s) ≡ S f (backOf v s)
-  unfolding backOf
-  back-map v [] = refl
-  back-map v (x ∷ xs) = ap (λ (r : List Stop). cond (ltb x.vertex.0 v) r (mapStop f x ∷ S f xs)) (back-map v xs) ∙ go (ltb x.vertex.0 v)
+  back_map : (v : ℕ) (s : List Stop) → back_of v (S f s) ≡ S f (back_of v s)
+  unfolding back_of
+  back_map v [] = refl
+  back_map v (x ∷ xs) = ap (λ (r : List Stop). cond (ltb x.vertex.0 v) r (map_stop f x ∷ S f xs)) (back_map v xs) ∙ go (ltb x.vertex.0 v)
     where
-      go : (c : Bool) → cond c (S f (backOf v xs)) (mapStop f x ∷ S f xs) ≡ S f (cond c (backOf v xs) (x ∷ xs))
+      go : (c : Bool) → cond c (S f (back_of v xs)) (map_stop f x ∷ S f xs) ≡ S f (cond c (back_of v xs) (x ∷ xs))
       go true = refl
       go false = refl
 
@@ -241,72 +241,72 @@ module _ (f : Code → Code) (same : (g h : Code) → sameCode (f g) (f h) ≡ s
   both_cond false x y = refl
 
   -- room with stops put together
-  room-join : (l : List Entry) (s t : List Stop) → room_for (E f l) (S f s ++ S f t) ≡ both (room_for l (s ++ t))
-  room-join l s t = ap (room_for (E f l)) (sym (map-append (mapStop f) s t)) ∙ room l (s ++ t)
+  room_join : (l : List Entry) (s t : List Stop) → room_for (E f l) (S f s ++ S f t) ≡ both (room_for l (s ++ t))
+  room_join l s t = ap (room_for (E f l)) (sym (map-append (map_stop f) s t)) ∙ room l (s ++ t)
 
-  room-more : (l : List Entry) (x : Entry) (s : List Stop) → room_for (E f l ++ (mapEntry f x ∷ [])) (S f s) ≡ both (room_for (l ++ (x ∷ [])) s)
-  room-more l x s = ap (λ (z : List Entry). room_for z (S f s)) (sym (map-append (mapEntry f) l (x ∷ []))) ∙ room (l ++ (x ∷ [])) s
+  room_more : (l : List Entry) (x : Entry) (s : List Stop) → room_for (E f l ++ (map_entry f x ∷ [])) (S f s) ≡ both (room_for (l ++ (x ∷ [])) s)
+  room_more l x s = ap (λ (z : List Entry). room_for z (S f s)) (sym (map-append (map_entry f) l (x ∷ []))) ∙ room (l ++ (x ∷ [])) s
 
-  meet-map : (p q : MaybePair) (x y : Stop) (l : List Entry) (s t : List Stop) → meet (mapMaybe f p) (mapMaybe f q) (mapStop f x) (mapStop f y) (E f l) (S f s) (S f t) ≡ both (meet p q x y l s t)
+  meet_map : (p q : MaybePair) (x y : Stop) (l : List Entry) (s t : List Stop) → meet (map_maybe f p) (map_maybe f q) (map_stop f x) (map_stop f y) (E f l) (S f s) (S f t) ≡ both (meet p q x y l s t)
   unfolding meet
-  meet-map NoPair q x y l s t = room-join l s (y ∷ t)
-  meet-map (WithPair p) NoPair x y l s t = room-join l s (x ∷ t)
-  meet-map (WithPair p) (WithPair q) x y l s t = (λ i. cond (same p.node q.node i) (room-join l s (y ∷ t) i) (more i)) ∙ both_cond (sameCode p.node q.node) (room_for l (s ++ y ∷ t)) (room_for (l ++ record { obstacle = Conflicting p q } ∷ []) (s ++ t))
+  meet_map NoPair q x y l s t = room_join l s (y ∷ t)
+  meet_map (WithPair p) NoPair x y l s t = room_join l s (x ∷ t)
+  meet_map (WithPair p) (WithPair q) x y l s t = (λ i. cond (same p.node q.node i) (room_join l s (y ∷ t) i) (more i)) ∙ both_cond (same_code p.node q.node) (room_for l (s ++ y ∷ t)) (room_for (l ++ record { obstacle = Conflicting p q } ∷ []) (s ++ t))
     where
-      more : room_for (E f l ++ record { obstacle = Conflicting (mapPair f p) (mapPair f q) } ∷ []) (S f s ++ S f t) ≡ both (room_for (l ++ record { obstacle = Conflicting p q } ∷ []) (s ++ t))
-      more = ap (room_for (E f l ++ record { obstacle = Conflicting (mapPair f p) (mapPair f q) } ∷ [])) (sym (map-append (mapStop f) s t)) ∙ room-more l (record { obstacle = Conflicting p q }) (s ++ t)
+      more : room_for (E f l ++ record { obstacle = Conflicting (map_pair f p) (map_pair f q) } ∷ []) (S f s ++ S f t) ≡ both (room_for (l ++ record { obstacle = Conflicting p q } ∷ []) (s ++ t))
+      more = ap (room_for (E f l ++ record { obstacle = Conflicting (map_pair f p) (map_pair f q) } ∷ [])) (sym (map-append (map_stop f) s t)) ∙ room_more l (record { obstacle = Conflicting p q }) (s ++ t)
 
-  placed-map : (x : Stop) (l : List Entry) (s t : List Stop) → placed (mapStop f x) (E f l) (S f s) (S f t) ≡ both (placed x l s t)
+  placed_map : (x : Stop) (l : List Entry) (s t : List Stop) → placed (map_stop f x) (E f l) (S f s) (S f t) ≡ both (placed x l s t)
   unfolding placed
-  placed-map x l s [] = room-join l s (x ∷ [])
-  placed-map x l s (y ∷ t) = (λ i. cond (eqb y.vertex.0 x.vertex.0) (met i) (room-join l s (x ∷ y ∷ t) i)) ∙ both_cond (eqb y.vertex.0 x.vertex.0) (meet (pair_of x.obstacle) (pair_of y.obstacle) x y l s t) (room_for l (s ++ x ∷ y ∷ t))
+  placed_map x l s [] = room_join l s (x ∷ [])
+  placed_map x l s (y ∷ t) = (λ i. cond (eqb y.vertex.0 x.vertex.0) (met i) (room_join l s (x ∷ y ∷ t) i)) ∙ both_cond (eqb y.vertex.0 x.vertex.0) (meet (pair_of x.obstacle) (pair_of y.obstacle) x y l s t) (room_for l (s ++ x ∷ y ∷ t))
     where
-      met : meet (pair_of (mapObstacle f x.obstacle)) (pair_of (mapObstacle f y.obstacle)) (mapStop f x) (mapStop f y) (E f l) (S f s) (S f t) ≡ both (meet (pair_of x.obstacle) (pair_of y.obstacle) x y l s t)
-      met = (λ i. meet (pair-map f x.obstacle i) (pair-map f y.obstacle i) (mapStop f x) (mapStop f y) (E f l) (S f s) (S f t)) ∙ meet-map (pair_of x.obstacle) (pair_of y.obstacle) x y l s t
+      met : meet (pair_of (map_obstacle f x.obstacle)) (pair_of (map_obstacle f y.obstacle)) (map_stop f x) (map_stop f y) (E f l) (S f s) (S f t) ≡ both (meet (pair_of x.obstacle) (pair_of y.obstacle) x y l s t)
+      met = (λ i. meet (pair_map f x.obstacle i) (pair_map f y.obstacle i) (map_stop f x) (map_stop f y) (E f l) (S f s) (S f t)) ∙ meet_map (pair_of x.obstacle) (pair_of y.obstacle) x y l s t
 
-  add-stop : (x : Stop) (l : List Entry) (s : List Stop) → addStop (mapStop f x) (E f l) (S f s) ≡ both (addStop x l s)
-  unfolding addStop
-  add-stop x l s = (λ i. placed (mapStop f x) (E f l) (front-map x.vertex.0 s i) (back-map x.vertex.0 s i)) ∙ placed-map x l (frontOf x.vertex.0 s) (backOf x.vertex.0 s)
+  add_stop_lem : (x : Stop) (l : List Entry) (s : List Stop) → add_stop (map_stop f x) (E f l) (S f s) ≡ both (add_stop x l s)
+  unfolding add_stop
+  add_stop_lem x l s = (λ i. placed (map_stop f x) (E f l) (front_map x.vertex.0 s i) (back_map x.vertex.0 s i)) ∙ placed_map x l (front_of x.vertex.0 s) (back_of x.vertex.0 s)
 
-  add-stops : (xs : List Stop) (l : List Entry) (s : List Stop) → addStops (S f xs) (E f l) (S f s) ≡ both (addStops xs l s)
-  unfolding addStops
-  add-stops [] l s = refl
-  add-stops (x ∷ xs) l s = ap (λ (o : Option Lists). and_then o (addStops (S f xs))) (add-stop x l s) ∙ go (addStop x l s) (add-stops xs)
+  add_stops_lem : (xs : List Stop) (l : List Entry) (s : List Stop) → add_stops (S f xs) (E f l) (S f s) ≡ both (add_stops xs l s)
+  unfolding add_stops
+  add_stops_lem [] l s = refl
+  add_stops_lem (x ∷ xs) l s = ap (λ (o : Option Lists). and_then o (add_stops (S f xs))) (add_stop_lem x l s) ∙ go (add_stop x l s) (add_stops_lem xs)
     where
-      go : (o : Option Lists) → ((l : List Entry) (s : List Stop) → addStops (S f xs) (E f l) (S f s) ≡ both (addStops xs l s)) → and_then (both o) (addStops (S f xs)) ≡ both (and_then o (addStops xs))
+      go : (o : Option Lists) → ((l : List Entry) (s : List Stop) → add_stops (S f xs) (E f l) (S f s) ≡ both (add_stops xs l s)) → and_then (both o) (add_stops (S f xs)) ≡ both (and_then o (add_stops xs))
       go none ih = refl
       go (some ls) ih = ih ls.0 ls.1
 
-  grouped-map : (o : Option Lists) → grouped (both o) ≡ mapped (grouped o)
-  grouped-map none = refl
-  grouped-map (some ls) = refl
+  grouped_map : (o : Option Lists) → grouped (both o) ≡ mapped (grouped o)
+  grouped_map none = refl
+  grouped_map (some ls) = refl
 
-  pub added-map : (g : Group) (o : Obstacle) (v : ℕ) → added (mapGroup f g) (mapObstacle f o) v ≡ mapped (added g o v)
-  unfolding added addToGrowth addToConflicts
-  added-map (growth a b) (NonZeroGrow l c) v = refl
-  added-map (growth a b) (Conflicting p q) v = refl
-  added-map (growth a b) (TouchingVirtual p w m) v = refl
-  added-map (growth a b) (BlossomNeedExpand n) v = refl
-  added-map (growth a b) (VertexShrinkStop n p) v = refl
-  added-map (conflicts l s) (NonZeroGrow a c) v = refl
-  added-map (conflicts l s) (Conflicting p q) v = ap grouped (room-more l (record { obstacle = Conflicting p q }) s) ∙ grouped-map (room_for (l ++ record { obstacle = Conflicting p q } ∷ []) s)
-  added-map (conflicts l s) (TouchingVirtual p w m) v = ap grouped (room-more l (record { obstacle = TouchingVirtual p w m }) s) ∙ grouped-map (room_for (l ++ record { obstacle = TouchingVirtual p w m } ∷ []) s)
-  added-map (conflicts l s) (BlossomNeedExpand n) v = ap grouped (room-more l (record { obstacle = BlossomNeedExpand n }) s) ∙ grouped-map (room_for (l ++ record { obstacle = BlossomNeedExpand n } ∷ []) s)
-  added-map (conflicts l s) (VertexShrinkStop n p) v = ap grouped (add-stop (record { vertex = record { 0 = v }; obstacle = VertexShrinkStop n p }) l s) ∙ grouped-map (addStop (record { vertex = record { 0 = v }; obstacle = VertexShrinkStop n p }) l s)
+  pub added_map : (g : Group) (o : Obstacle) (v : ℕ) → added (map_group f g) (map_obstacle f o) v ≡ mapped (added g o v)
+  unfolding added add_to_growth add_to_conflicts
+  added_map (growth a b) (NonZeroGrow l c) v = refl
+  added_map (growth a b) (Conflicting p q) v = refl
+  added_map (growth a b) (TouchingVirtual p w m) v = refl
+  added_map (growth a b) (BlossomNeedExpand n) v = refl
+  added_map (growth a b) (VertexShrinkStop n p) v = refl
+  added_map (conflicts l s) (NonZeroGrow a c) v = refl
+  added_map (conflicts l s) (Conflicting p q) v = ap grouped (room_more l (record { obstacle = Conflicting p q }) s) ∙ grouped_map (room_for (l ++ record { obstacle = Conflicting p q } ∷ []) s)
+  added_map (conflicts l s) (TouchingVirtual p w m) v = ap grouped (room_more l (record { obstacle = TouchingVirtual p w m }) s) ∙ grouped_map (room_for (l ++ record { obstacle = TouchingVirtual p w m } ∷ []) s)
+  added_map (conflicts l s) (BlossomNeedExpand n) v = ap grouped (room_more l (record { obstacle = BlossomNeedExpand n }) s) ∙ grouped_map (room_for (l ++ record { obstacle = BlossomNeedExpand n } ∷ []) s)
+  added_map (conflicts l s) (VertexShrinkStop n p) v = ap grouped (add_stop_lem (record { vertex = record { 0 = v }; obstacle = VertexShrinkStop n p }) l s) ∙ grouped_map (add_stop (record { vertex = record { 0 = v }; obstacle = VertexShrinkStop n p }) l s)
 
-  pub extended-map : (g h : Group) → extended (mapGroup f g) (mapGroup f h) ≡ mapped (extended g h)
-  unfolding extended smallerPair
-  extended-map (growth a b) (growth c d) = go (eqZ c largest) (lt_z c a) (lt_z a c)
+  pub extended_map : (g h : Group) → extended (map_group f g) (map_group f h) ≡ mapped (extended g h)
+  unfolding extended smaller_pair
+  extended_map (growth a b) (growth c d) = go (eq_z c largest) (lt_z c a) (lt_z a c)
     where
       go : (x y z : Bool) → some (cond x (growth a b) (cond y (growth c d) (cond z (growth a b) (growth a (b && d))))) ≡ mapped (some (cond x (growth a b) (cond y (growth c d) (cond z (growth a b) (growth a (b && d))))))
       go true y z = refl
       go false true z = refl
       go false false true = refl
       go false false false = refl
-  extended-map (growth a b) (conflicts m t) = refl
-  extended-map (conflicts l s) (growth c d) = refl
-  extended-map (conflicts l s) (conflicts m t) = ap grouped (ap (λ (o : Option Lists). and_then o (addStops (S f t))) (ap (λ (z : List Entry). room_for z (S f s)) (sym (map-append (mapEntry f) l m)) ∙ room (l ++ m) s) ∙ go (room_for (l ++ m) s)) ∙ grouped-map (and_then (room_for (l ++ m) s) (addStops t))
+  extended_map (growth a b) (conflicts m t) = refl
+  extended_map (conflicts l s) (growth c d) = refl
+  extended_map (conflicts l s) (conflicts m t) = ap grouped (ap (λ (o : Option Lists). and_then o (add_stops (S f t))) (ap (λ (z : List Entry). room_for z (S f s)) (sym (map-append (map_entry f) l m)) ∙ room (l ++ m) s) ∙ go (room_for (l ++ m) s)) ∙ grouped_map (and_then (room_for (l ++ m) s) (add_stops t))
     where
-      go : (o : Option Lists) → and_then (both o) (addStops (S f t)) ≡ both (and_then o (addStops t))
+      go : (o : Option Lists) → and_then (both o) (add_stops (S f t)) ≡ both (and_then o (add_stops t))
       go none = refl
-      go (some ls) = add-stops t ls.0 ls.1
+      go (some ls) = add_stops_lem t ls.0 ls.1

@@ -3,15 +3,15 @@ use Rattle.std.specs.Prelude.{ℕ, zero, suc, Bool, List, [], ◌∷◌, ◌++�
 use Rattle.std.proofs.Math.Option.{Option, none, some}
 use Rattle.kinds.specs.declared.Obstacle.{Obstacle}
 use Rattle.ledger_spec.specs.Bench.{Handle, State, Bench}
-use Rattle.ledger_spec.specs.Calls.{Call, setUpCall}
+use Rattle.ledger_spec.specs.Calls.{Call, set_up_call}
 use Rattle.ledger_spec.specs.Notices.{Notice}
 use Rattle.ledger_spec.specs.Groups.{Group}
-use Rattle.ledger_spec.specs.GroupCalls.{is_empty, isActive, growthOf, peek, pop, add, extend}
+use Rattle.ledger_spec.specs.GroupCalls.{is_empty, is_active, growth_of, peek, pop, add, extend}
 use Rattle.ledger_spec.specs.Answers.{Answer, answer, Read as Asking, read, sumRead, speedRead, countRead, indexRead, belongsRead, valueRead, outerRead, belowRead, firstRead, verticesRead, fillsRead, flooredRead, checkRead, strictRead}
-use Rattle.ledger_sparing.specs.Sparing.{popSparing}
-use Rattle.picture_spec.specs.Picture.{pictureRead}
-use Rattle.read_present.specs.Present.{presentRead, nextRead}
-use Rattle.patch_laws.specs.Obstacles.{mapObstacle, mapTaken, mapGroup, givenCode, numberCode}
+use Rattle.ledger_sparing.specs.Sparing.{pop_sparing}
+use Rattle.picture_spec.specs.Picture.{picture_read}
+use Rattle.read_present.specs.Present.{present_read, next_read}
+use Rattle.patch_laws.specs.Obstacles.{map_obstacle, map_taken, map_group, given_code, number_code}
 use Rattle.patch_laws.specs.Patch.{Script, Defect, Blossom, Expand, SetState, Grow, Fuse, Clear, Mark, Table, given, written, Name, name_of}
 
 -- ---- what the patch can ask of a node that it made, and of an interface: every read of the ledger. The calls on groups change no bench, and those
@@ -29,17 +29,17 @@ pub data Read : Type 0 where
 
 -- ---- what it sees: a notice, an answer, a read's answer, with names in place of handles
 pub data Heard : Type 0 where
-  defectAdded blossomAdded blossomRemoved : Name → Heard
-  stateSet : Name → State → Heard
-  shrinkPrepared : List Name → Heard
+  defect_added blossom_added blossom_removed : Name → Heard
+  state_set : Name → State → Heard
+  shrink_prepared : List Name → Heard
   grown : ℤ → Heard
 
 abbrev pub heard : Table → Notice → Heard
-heard t (Notice.defectAdded h) = defectAdded (name_of t h)
-heard t (Notice.stateSet h s) = stateSet (name_of t h) s
-heard t (Notice.shrinkPrepared hs) = shrinkPrepared (map (name_of t) hs)
-heard t (Notice.blossomAdded h) = blossomAdded (name_of t h)
-heard t (Notice.blossomRemoved h) = blossomRemoved (name_of t h)
+heard t (Notice.defect_added h) = defect_added (name_of t h)
+heard t (Notice.state_set h s) = state_set (name_of t h) s
+heard t (Notice.shrink_prepared hs) = shrink_prepared (map (name_of t) hs)
+heard t (Notice.blossom_added h) = blossom_added (name_of t h)
+heard t (Notice.blossom_removed h) = blossom_removed (name_of t h)
 heard t (Notice.grown l) = grown l
 
 pub data Seen : Type 0 where
@@ -75,16 +75,16 @@ number_of (taken r) = r.0
 number_of (kept r) = r.0
 
 -- a slot's handle; nothing where the slot was emptied
-abbrev pub nameIn : Table → Option Handle → Option Name
-nameIn t none = none
-nameIn t (some h) = some (name_of t h)
+abbrev pub name_in : Table → Option Handle → Option Name
+name_in t none = none
+name_in t (some h) = some (name_of t h)
 
 -- the patch's group as the ledger has it, and back
 abbrev pub lent : Table → Group → Group
-lent t g = mapGroup (givenCode t) g
+lent t g = map_group (given_code t) g
 
 abbrev pub back : Table → Group → Group
-back t g = mapGroup (numberCode t) g
+back t g = map_group (number_code t) g
 
 -- ---- one side of the comparison: the bench, and the handles that the patch was given on it
 pub record Side : Type 0 where
@@ -104,14 +104,14 @@ made (Fuse p l r) n h = []
 made (Clear u) n h = []
 made (Mark u k) n h = []
 
-abbrev pub answerTo : Side → Script → Answer
-answerTo k c = answer k.bench (written k.table c)
+abbrev pub answer_to : Side → Script → Answer
+answer_to k c = answer k.bench (written k.table c)
 
 unfoldable pub after : Side → Script → Side
-after k c = record { bench = (answerTo k c).bench; table = k.table ++ made c (answerTo k c).number (answerTo k c).node }
+after k c = record { bench = (answer_to k c).bench; table = k.table ++ made c (answer_to k c).number (answer_to k c).node }
 
 unfoldable pub seen : Side → Script → Seen
-seen k c = answered (answerTo k c).number (name_of (after k c).table (answerTo k c).node) (map (heard (after k c).table) (answerTo k c).notices)
+seen k c = answered (answer_to k c).number (name_of (after k c).table (answer_to k c).node) (map (heard (after k c).table) (answer_to k c).notices)
 
 -- What a read of a bench shows, the patch's nodes being those of a table. `asks` says what a read answers, of the bench as it is here, or of the words
 -- that hold it: its own answer, or BROKEN and its zero.
@@ -122,31 +122,31 @@ read_by asks b t (Below n) = let r : ℕ × Handle = asks Handle (belowRead b (g
 read_by asks b t (First n) = counted (asks ℕ (firstRead b (given t n)))
 read_by asks b t (Vertices n out) = listed (asks (ℕ × List ℕ) (verticesRead b (given t n) out))
 read_by asks b t (Belongs u n) = truth (asks Bool (belongsRead b u (given t n)))
-read_by asks b t (At u k) = let r : ℕ × Option Handle = asks (Option Handle) (indexRead b u k) in indexed (r.0, nameIn t r.1)
-read_by asks b t (Next u k) = let r : ℕ × (ℕ × Option Handle) = asks (ℕ × Option Handle) (nextRead b u k) in found (r.0, (r.1.0, nameIn t r.1.1))
+read_by asks b t (At u k) = let r : ℕ × Option Handle = asks (Option Handle) (indexRead b u k) in indexed (r.0, name_in t r.1)
+read_by asks b t (Next u k) = let r : ℕ × (ℕ × Option Handle) = asks (ℕ × Option Handle) (next_read b u k) in found (r.0, (r.1.0, name_in t r.1.1))
 read_by asks b t (Sum u) = amount (asks ℤ (sumRead b u))
 read_by asks b t (Speed u) = amount (asks ℤ (speedRead b u))
 read_by asks b t (Count u) = counted (asks ℕ (countRead b u))
-read_by asks b t (Present u) = counted (asks ℕ (presentRead b u))
+read_by asks b t (Present u) = counted (asks ℕ (present_read b u))
 read_by asks b t (Fills u) = truth (asks Bool (fillsRead b u))
 read_by asks b t (Floored u) = truth (asks Bool (flooredRead b u))
 read_by asks b t (Check u) = judged (asks (ℕ × ℕ) (checkRead b u))
 read_by asks b t (Strict u) = judged (asks (ℕ × ℕ) (strictRead b u))
-read_by asks b t (Picture u a out) = listed (asks (ℕ × List ℕ) (pictureRead b u a out))
+read_by asks b t (Picture u a out) = listed (asks (ℕ × List ℕ) (picture_read b u a out))
 read_by asks b t (Empty g) = truth (is_empty (lent t g))
-read_by asks b t (Active g) = truth (isActive (lent t g))
-read_by asks b t (Growth g) = measured (growthOf (lent t g))
-read_by asks b t (Peek g) = let r : ℕ × Option Obstacle = peek (lent t g) in peeked (r.0, mapTaken (numberCode t) r.1)
-read_by asks b t (Pop g) = let r : ℕ × (Option Obstacle × Group) = pop (lent t g) in taken (r.0, (mapTaken (numberCode t) r.1.0, back t r.1.1))
-read_by asks b t (Spare g) = let r : ℕ × (Option Obstacle × Group) = popSparing (lent t g) in taken (r.0, (mapTaken (numberCode t) r.1.0, back t r.1.1))
-read_by asks b t (Add g o) = let r : ℕ × Group = asks Group (record { own = add b (lent t g) (mapObstacle (givenCode t) o); zero = lent t g }) in kept (r.0, back t r.1)
+read_by asks b t (Active g) = truth (is_active (lent t g))
+read_by asks b t (Growth g) = measured (growth_of (lent t g))
+read_by asks b t (Peek g) = let r : ℕ × Option Obstacle = peek (lent t g) in peeked (r.0, map_taken (number_code t) r.1)
+read_by asks b t (Pop g) = let r : ℕ × (Option Obstacle × Group) = pop (lent t g) in taken (r.0, (map_taken (number_code t) r.1.0, back t r.1.1))
+read_by asks b t (Spare g) = let r : ℕ × (Option Obstacle × Group) = pop_sparing (lent t g) in taken (r.0, (map_taken (number_code t) r.1.0, back t r.1.1))
+read_by asks b t (Add g o) = let r : ℕ × Group = asks Group (record { own = add b (lent t g) (map_obstacle (given_code t) o); zero = lent t g }) in kept (r.0, back t r.1)
 read_by asks b t (Extend g h) = let r : ℕ × Group = asks Group (record { own = extend b (lent t g) (lent t h); zero = lent t g }) in kept (r.0, back t r.1)
 
-abbrev pub readAt : Bench → Table → Read → Seen
-readAt b t r = read_by (λ A q. read b q) b t r
+abbrev pub read_at : Bench → Table → Read → Seen
+read_at b t r = read_by (λ A q. read b q) b t r
 
 abbrev pub told : Side → Read → Seen
-told k r = readAt k.bench k.table r
+told k r = read_at k.bench k.table r
 
 -- ---- a run: calls of the other patch, calls and reads of the watched one
 pub data Step : Type 0 where
@@ -167,9 +167,9 @@ reached k (theirs c ∷ xs) = reached (record { bench = (answer k.bench c).bench
 reached k (ours c ∷ xs) = reached (after k c) xs
 reached k (asked r ∷ xs) = reached k xs
 
--- from set-up with its first serial, and no handles
+-- from set_up_lem with its first serial, and no handles
 abbrev pub opened : ℕ → Side
-opened n = record { bench = (setUpCall n).bench; table = [] }
+opened n = record { bench = (set_up_call n).bench; table = [] }
 
 -- the watched patch's own steps
 unfoldable pub own : List Step → List Step

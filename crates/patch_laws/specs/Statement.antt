@@ -2,7 +2,7 @@
 use Rattle.std.specs.Prelude.{ℕ, ◌<◌, ◌^◌, ◌≡◌, ◌≢◌, List, [], ◌∷◌, length}
 use Rattle.std.proofs.Math.Option.{some}
 use Rattle.ledger_spec.specs.Numbers.{WORN}
-use Rattle.patch_laws.specs.Patch.{Patch, Apart, Within, unitsNamed, unitsOf, Table, given, name_of}
+use Rattle.patch_laws.specs.Patch.{Patch, Apart, Within, units_named, units_of, Table, given, name_of}
 use Rattle.patch_laws.specs.Runs.{Read, Value, Outer, Below, First, Vertices, Belongs, At, Next, Sum, Speed, Count, Present, Fills, Floored, Check, Strict, Picture, Empty, Active, Growth, Peek, Pop, Spare, Add, Extend, Seen, number_of, Step, theirs, ours, asked, sees, reached, opened, own}
 
 -- the interfaces that a read names; a node's handle is the patch's by its number
@@ -36,8 +36,8 @@ read_of (Extend g h) = []
 -- A step names interfaces of its own patch only, a being the other patch and p the watched one: so no fuse joins them. The other's handles may be any,
 -- and its calls may be refused or not.
 abbrev pub Fits : Patch → Patch → Step → Type 0
-Fits a p (theirs c) = Within a (unitsNamed c)
-Fits a p (ours c) = Within p (unitsOf c)
+Fits a p (theirs c) = Within a (units_named c)
+Fits a p (ours c) = Within p (units_of c)
 Fits a p (asked r) = Within p (read_of r)
 
 abbrev pub AllFit : Patch → Patch → List Step → Type 0
@@ -49,7 +49,7 @@ abbrev pub Unworn : List Seen → Type 0
 Unworn [] = Unit {0}
 Unworn (x ∷ xs) = (number_of x ≢ WORN) × Unworn xs
 
--- Two runs from set-up, with any first serials, whose watched patch makes the same calls and reads, show it the same: numbers, names, notices, values,
+-- Two runs from set_up_lem, with any first serials, whose watched patch makes the same calls and reads, show it the same: numbers, names, notices, values,
 -- verdicts and groups. The other patch's calls, how many and between which steps, are any in each. A bench has no settings of its own; one that is
 -- added must be the same in both.
 abbrev pub TwoPatches : Type 0

@@ -3,7 +3,7 @@
 use Rattle.std.specs.Prelude.{ℕ, ◌<◌, ◌^◌, ◌≡◌, ◌≢◌, List, [], ◌∷◌, ℤ}
 use Rattle.ledger_spec.specs.Numbers.{WORN}
 use Rattle.ledger_spec.specs.Calls.{Call}
-use Rattle.sound_bench.specs.Sound.{soundWords}
+use Rattle.sound_bench.specs.Sound.{sound_words}
 use Rattle.call_set_up.specs.Opened.{Opened}
 use Rattle.call_told.specs.declared.Answer.{Answer}
 use Rattle.call_told.specs.Told.{Called}
@@ -12,7 +12,7 @@ use Rattle.recorded_any.specs.Any.{RecordedAny}
 use Rattle.patch_laws.specs.Patch.{Patch, Apart, Within, Script, Table, written}
 use Rattle.patch_laws.specs.Runs.{Read, Seen, number_of, Step, theirs, ours, asked}
 use Rattle.patch_laws.specs.Statement.{Fits}
-use Rattle.patch_runs.specs.Woven.{tableAfter, seenOf, readSeen}
+use Rattle.patch_runs.specs.Woven.{table_after, seen_of, read_seen}
 
 -- a growth over a recording: its groups' words, and the slice that is lent for the lengths
 pub record Lent : Type 0 where
@@ -23,8 +23,8 @@ pub record Lent : Type 0 where
 
 pub data Turn : Type 0 where
   step : Step → Turn
-  theirGrowth : Lent → Turn
-  ourGrowth : Lent → Turn
+  their_growth : Lent → Turn
+  our_growth : Lent → Turn
 
 -- what the watched patch sees: as before, or a number, how many groups were taken, and the slice
 pub data Sight : Type 0 where
@@ -38,28 +38,28 @@ pub record Grew (b : List ℕ) (g : Lent) (r : Passed) (b' slice : List ℕ) : T
 -- from words b and the patch's handles t: the turns, and what the patch sees
 pub data Played : List ℕ → Table → List Turn → List Sight → Type 0 where
   stop : {b : List ℕ} {t : Table} → Played b t [] []
-  other : {b b' : List ℕ} {t : Table} {c : Call} {r : Answer} {xs : List Turn} {ys : List Sight} → Called (soundWords b) b c r b' → Played b' t xs ys → Played b t (step (theirs c) ∷ xs) ys
+  other : {b b' : List ℕ} {t : Table} {c : Call} {r : Answer} {xs : List Turn} {ys : List Sight} → Called (sound_words b) b c r b' → Played b' t xs ys → Played b t (step (theirs c) ∷ xs) ys
   call : {b b' : List ℕ} {t : Table} {c : Script} {r : Answer} {xs : List Turn} {ys : List Sight}
-      → Called (soundWords b) b (written t c) r b' → Played b' (tableAfter t c r) xs ys → Played b t (step (ours c) ∷ xs) (saw (seenOf (tableAfter t c r) r) ∷ ys)
-  read : {b : List ℕ} {t : Table} {q : Read} {xs : List Turn} {ys : List Sight} → Played b t xs ys → Played b t (step (asked q) ∷ xs) (saw (readSeen b t q) ∷ ys)
-  otherGrowth : {b b' s : List ℕ} {t : Table} {g : Lent} {r : Passed} {xs : List Turn} {ys : List Sight} → Grew b g r b' s → Played b' t xs ys → Played b t (theirGrowth g ∷ xs) ys
-  ownGrowth : {b b' s : List ℕ} {t : Table} {g : Lent} {r : Passed} {xs : List Turn} {ys : List Sight}
-      → Grew b g r b' s → Played b' t xs ys → Played b t (ourGrowth g ∷ xs) (wrote r.number r.taken s ∷ ys)
+      → Called (sound_words b) b (written t c) r b' → Played b' (table_after t c r) xs ys → Played b t (step (ours c) ∷ xs) (saw (seen_of (table_after t c r) r) ∷ ys)
+  read : {b : List ℕ} {t : Table} {q : Read} {xs : List Turn} {ys : List Sight} → Played b t xs ys → Played b t (step (asked q) ∷ xs) (saw (read_seen b t q) ∷ ys)
+  other_growth : {b b' s : List ℕ} {t : Table} {g : Lent} {r : Passed} {xs : List Turn} {ys : List Sight} → Grew b g r b' s → Played b' t xs ys → Played b t (their_growth g ∷ xs) ys
+  own_growth : {b b' s : List ℕ} {t : Table} {g : Lent} {r : Passed} {xs : List Turn} {ys : List Sight}
+      → Grew b g r b' s → Played b' t xs ys → Played b t (our_growth g ∷ xs) (wrote r.number r.taken s ∷ ys)
 
 -- the watched patch's own turns
-unfoldable pub ownTurns : List Turn → List Turn
-ownTurns [] = []
-ownTurns (step (theirs c) ∷ xs) = ownTurns xs
-ownTurns (step (ours c) ∷ xs) = step (ours c) ∷ ownTurns xs
-ownTurns (step (asked r) ∷ xs) = step (asked r) ∷ ownTurns xs
-ownTurns (theirGrowth g ∷ xs) = ownTurns xs
-ownTurns (ourGrowth g ∷ xs) = ourGrowth g ∷ ownTurns xs
+unfoldable pub own_turns : List Turn → List Turn
+own_turns [] = []
+own_turns (step (theirs c) ∷ xs) = own_turns xs
+own_turns (step (ours c) ∷ xs) = step (ours c) ∷ own_turns xs
+own_turns (step (asked r) ∷ xs) = step (asked r) ∷ own_turns xs
+own_turns (their_growth g ∷ xs) = own_turns xs
+own_turns (our_growth g ∷ xs) = our_growth g ∷ own_turns xs
 
 -- a turn names interfaces of its own patch only
 abbrev pub TurnFits : Patch → Patch → Turn → Type 0
 TurnFits a p (step x) = Fits a p x
-TurnFits a p (theirGrowth g) = Within a (g.unit ∷ [])
-TurnFits a p (ourGrowth g) = Within p (g.unit ∷ [])
+TurnFits a p (their_growth g) = Within a (g.unit ∷ [])
+TurnFits a p (our_growth g) = Within p (g.unit ∷ [])
 
 abbrev pub AllTurn : Patch → Patch → List Turn → Type 0
 AllTurn a p [] = Unit {0}
@@ -78,4 +78,4 @@ AllFresh (x ∷ xs) = FreshSight x × AllFresh xs
 abbrev pub TwoPlayed : Type 0
 TwoPlayed =
     (a p : Patch) → Apart a p → (m n : ℕ) → m < 2 ^ 32 → n < 2 ^ 32 → (b d : List ℕ) → Opened m b → Opened n d → (xs ys : List Turn) (zs ws : List Sight)
-    → Played b [] xs zs → Played d [] ys ws → AllTurn a p xs → AllTurn a p ys → ownTurns xs ≡ ownTurns ys → AllFresh zs → AllFresh ws → zs ≡ ws
+    → Played b [] xs zs → Played d [] ys ws → AllTurn a p xs → AllTurn a p ys → own_turns xs ≡ own_turns ys → AllFresh zs → AllFresh ws → zs ≡ ws

@@ -10,7 +10,7 @@ use lib.Dec.{eqb, ltb}
 use lib.ListN.{length, get_or, drop, replicate}
 use lib.IntN.{pos}
 use borrow.Author.Tests.{ltb-true, eqb-false}
-use Rattle.ledger_spec.specs.Bench.{setUp}
+use Rattle.ledger_spec.specs.Bench.{set_up}
 use Rattle.ledger_spec.specs.SoundTree.{all}
 use Rattle.ledger_spec.specs.Operations.{D, B, E, G, F, C, K}
 use Rattle.ledger_spec.specs.Grammar.{Line, wrong}
@@ -18,9 +18,9 @@ use Rattle.ledger_spec.specs.Bytes.{bytes}
 use Rattle.ledger_spec.specs.Program.{lines_of, answers}
 use Rattle.ledger_spec.specs.Opened.{run}
 use Rattle.patch_laws.specs.Patch.{Patch, Apart, mine}
-use Rattle.patch_texts.specs.Page.{spelled, numberFrom, Read, after, read_of, Step, theirs, ours, reads, lines, own, own_of, opened}
-use Rattle.patch_texts.specs.Inputs.{AllFit, Unworn, butSerial}
-use Rattle.patch_texts.proofs.Texts.{two-inputs}
+use Rattle.patch_texts.specs.Page.{spelled, number_from, Read, after, read_of, Step, theirs, ours, reads, lines, own, own_of, opened}
+use Rattle.patch_texts.specs.Inputs.{AllFit, Unworn, but_serial}
+use Rattle.patch_texts.proofs.Texts.{two_inputs}
 
 -- interfaces below 3 are the other's, the rest the watched patch's
 other : Patch
@@ -40,68 +40,68 @@ pub shared : List Step
 shared = theirs (some (D 0 7)) ∷ ours (some (D 3 8)) ∷ theirs (some (D 1 7)) ∷ ours (some (D 3 9)) ∷ theirs (some (F 2 0 1)) ∷ theirs (some (E 2 2)) ∷ ours (some (G 3 (pos 2))) ∷ ours (some (B 3 (0 ∷ 1 ∷ []))) ∷ theirs wrong ∷ ours (some (E 3 2)) ∷ theirs (some (C 2)) ∷ ours (some (K 3))
     ∷ theirs (some (K 2)) ∷ ours (some (E 3 2)) ∷ ours (some (D 9 1)) ∷ ours wrong ∷ []
 
-pub alone-input : List ℕ
-alone-input = bytes "D 3 8\nD 3 9\nG 3 2\nB 3 1 2\nE 3 3\nK 3\nE 3 3\nD 9 1\nX\n"
+pub alone_input : List ℕ
+alone_input = bytes "D 3 8\nD 3 9\nG 3 2\nB 3 1 2\nE 3 3\nK 3\nE 3 3\nD 9 1\nX\n"
 
-pub shared-input : List ℕ
-shared-input = bytes "D 0 7\nD 3 8\nD 1 7\nD 3 9\nF 2 0 1\nE 2 2\nG 3 2\nB 3 2 4\n?\nE 3 5\nC 2\nK 3\nK 2\nE 3 5\nD 9 1\nX\n"
+pub shared_input : List ℕ
+shared_input = bytes "D 0 7\nD 3 8\nD 1 7\nD 3 9\nF 2 0 1\nE 2 2\nG 3 2\nB 3 2 4\n?\nE 3 5\nC 2\nK 3\nK 2\nE 3 5\nD 9 1\nX\n"
 
-abbrev alone-typed : List Line
-alone-typed = some (D 3 8) ∷ some (D 3 9) ∷ some (G 3 (pos 2)) ∷ some (B 3 (1 ∷ 2 ∷ [])) ∷ some (E 3 3) ∷ some (K 3) ∷ some (E 3 3) ∷ some (D 9 1) ∷ wrong ∷ []
+abbrev alone_typed : List Line
+alone_typed = some (D 3 8) ∷ some (D 3 9) ∷ some (G 3 (pos 2)) ∷ some (B 3 (1 ∷ 2 ∷ [])) ∷ some (E 3 3) ∷ some (K 3) ∷ some (E 3 3) ∷ some (D 9 1) ∷ wrong ∷ []
 
-abbrev shared-typed : List Line
-shared-typed = some (D 0 7) ∷ some (D 3 8) ∷ some (D 1 7) ∷ some (D 3 9) ∷ some (F 2 0 1) ∷ some (E 2 2) ∷ some (G 3 (pos 2)) ∷ some (B 3 (2 ∷ 4 ∷ [])) ∷ wrong ∷ some (E 3 5) ∷ some (C 2) ∷ some (K 3) ∷ some (K 2) ∷ some (E 3 5) ∷ some (D 9 1) ∷ wrong ∷ []
+abbrev shared_typed : List Line
+shared_typed = some (D 0 7) ∷ some (D 3 8) ∷ some (D 1 7) ∷ some (D 3 9) ∷ some (F 2 0 1) ∷ some (E 2 2) ∷ some (G 3 (pos 2)) ∷ some (B 3 (2 ∷ 4 ∷ [])) ∷ wrong ∷ some (E 3 5) ∷ some (C 2) ∷ some (K 3) ∷ some (K 2) ∷ some (E 3 5) ∷ some (D 9 1) ∷ wrong ∷ []
 
-alone-said : lines_of alone-input ≡ alone-typed
-unfolding run alone-input
-alone-said = refl
+alone_said : lines_of alone_input ≡ alone_typed
+unfolding run alone_input
+alone_said = refl
 
-shared-said : lines_of shared-input ≡ shared-typed
-unfolding run shared-input
-shared-said = refl
+shared_said : lines_of shared_input ≡ shared_typed
+unfolding run shared_input
+shared_said = refl
 
-alone-lines : lines (opened 1) alone ≡ alone-typed
+alone_lines : lines (opened 1) alone ≡ alone_typed
 unfolding run spelled after lines alone
-alone-lines = refl
+alone_lines = refl
 
-shared-lines : lines (opened 1) shared ≡ shared-typed
+shared_lines : lines (opened 1) shared ≡ shared_typed
 unfolding run spelled after lines shared
-shared-lines = refl
+shared_lines = refl
 
-alone-unworn : map (λ (r : Read). eqb r.0 15) (reads (opened 1) alone) ≡ replicate 9 false
-unfolding run spelled numberFrom after read_of reads alone
-alone-unworn = refl
+alone_unworn : map (λ (r : Read). eqb r.0 15) (reads (opened 1) alone) ≡ replicate 9 false
+unfolding run spelled number_from after read_of reads alone
+alone_unworn = refl
 
-shared-unworn : map (λ (r : Read). eqb r.0 15) (reads (opened 1) shared) ≡ replicate 9 false
-unfolding run spelled numberFrom after read_of reads shared
-shared-unworn = refl
+shared_unworn : map (λ (r : Read). eqb r.0 15) (reads (opened 1) shared) ≡ replicate 9 false
+unfolding run spelled number_from after read_of reads shared
+shared_unworn = refl
 
 unworn : (rs : List Read) (n : ℕ) → map (λ (r : Read). eqb r.0 15) rs ≡ replicate n false → Unworn rs
 unworn [] n e = tt
-unworn (r ∷ rs) zero e = absurd (nil-cons (sym e))
+unworn (r ∷ rs) zero e = absurd (nil_cons (sym e))
   where
-    nil-cons : {x : Bool} {xs : List Bool} → [] ≡ x ∷ xs → ⊥
-    nil-cons z = omega (arith, ap length z)
+    nil_cons : {x : Bool} {xs : List Bool} → [] ≡ x ∷ xs → ⊥
+    nil_cons z = omega (arith, ap length z)
 unworn (r ∷ rs) (suc n) e = (λ z. eqb-false r.0 15 (ap (λ l. get_or l 0 false) e) z, unworn rs n (ap (drop 1) e))
 
-fits-shared : AllFit other watched shared
+fits_shared : AllFit other watched shared
 unfolding all mine other watched shared
-fits-shared = (refl, (refl, (refl, (refl, (refl, (refl, (refl, (refl, (refl, (refl, (refl, (refl, (refl, (refl, (refl, (refl, tt))))))))))))))))
+fits_shared = (refl, (refl, (refl, (refl, (refl, (refl, (refl, (refl, (refl, (refl, (refl, (refl, (refl, (refl, (refl, (refl, tt))))))))))))))))
 
-fits-alone : AllFit other watched alone
+fits_alone : AllFit other watched alone
 unfolding all mine other watched alone
-fits-alone = (refl, (refl, (refl, (refl, (refl, (refl, (refl, (refl, (refl, tt)))))))))
+fits_alone = (refl, (refl, (refl, (refl, (refl, (refl, (refl, (refl, (refl, tt)))))))))
 
-same-steps : own shared ≡ own alone
+same_steps : own shared ≡ own alone
 unfolding own alone shared
-same-steps = refl
+same_steps = refl
 
-pub same : map butSerial (own_of shared (answers (setUp 1) (lines_of shared-input))) ≡ map butSerial (own_of alone (answers (setUp 1) (lines_of alone-input)))
-same = two-inputs other watched disjoint shared alone fits-shared fits-alone same-steps (unworn (reads (opened 1) shared) 9 shared-unworn) (unworn (reads (opened 1) alone) 9 alone-unworn)
-    shared-input alone-input (shared-said ∙ sym shared-lines) (alone-said ∙ sym alone-lines)
+pub same : map but_serial (own_of shared (answers (set_up 1) (lines_of shared_input))) ≡ map but_serial (own_of alone (answers (set_up 1) (lines_of alone_input)))
+same = two_inputs other watched disjoint shared alone fits_shared fits_alone same_steps (unworn (reads (opened 1) shared) 9 shared_unworn) (unworn (reads (opened 1) alone) 9 alone_unworn)
+    shared_input alone_input (shared_said ∙ sym shared_lines) (alone_said ∙ sym alone_lines)
 
 -- the answers themselves, whole: the serials are others
-pub printed : (own_of alone (answers (setUp 1) (lines_of alone-input)) ≡ (0, 1, pos 1, pos 0) ∷ (0, 2, pos 2, pos 0) ∷ (0, 0, pos 2, pos 4) ∷ (0, 3, pos 1, pos 4) ∷ (0, 3, pos 2, pos 4) ∷ (0, 0, pos 2, pos 4) ∷ (8, 0, pos 2, pos 4) ∷ (3, 0, pos 0, pos 0) ∷ (1, 0, pos 0, pos 0) ∷ [])
-    × (own_of shared (answers (setUp 1) (lines_of shared-input)) ≡ (0, 2, pos 1, pos 0) ∷ (0, 4, pos 2, pos 0) ∷ (0, 0, pos 2, pos 4) ∷ (0, 5, pos 1, pos 4) ∷ (0, 5, pos 2, pos 4) ∷ (0, 0, pos 2, pos 4) ∷ (8, 0, pos 2, pos 4) ∷ (3, 0, pos 0, pos 0) ∷ (1, 0, pos 0, pos 0) ∷ [])
-unfolding run own_of alone shared alone-input shared-input
+pub printed : (own_of alone (answers (set_up 1) (lines_of alone_input)) ≡ (0, 1, pos 1, pos 0) ∷ (0, 2, pos 2, pos 0) ∷ (0, 0, pos 2, pos 4) ∷ (0, 3, pos 1, pos 4) ∷ (0, 3, pos 2, pos 4) ∷ (0, 0, pos 2, pos 4) ∷ (8, 0, pos 2, pos 4) ∷ (3, 0, pos 0, pos 0) ∷ (1, 0, pos 0, pos 0) ∷ [])
+    × (own_of shared (answers (set_up 1) (lines_of shared_input)) ≡ (0, 2, pos 1, pos 0) ∷ (0, 4, pos 2, pos 0) ∷ (0, 0, pos 2, pos 4) ∷ (0, 5, pos 1, pos 4) ∷ (0, 5, pos 2, pos 4) ∷ (0, 0, pos 2, pos 4) ∷ (8, 0, pos 2, pos 4) ∷ (3, 0, pos 0, pos 0) ∷ (1, 0, pos 0, pos 0) ∷ [])
+unfolding run own_of alone shared alone_input shared_input
 printed = (refl, refl)

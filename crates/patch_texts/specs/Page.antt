@@ -3,7 +3,7 @@
 use Rattle.std.specs.Prelude.{ℕ, zero, suc, true, false, List, [], ◌∷◌, ◌++◌, map, eqb, get_or, ℤ}
 use Rattle.std.proofs.Math.Option.{Option, none, some}
 use Rattle.ledger_spec.specs.Bench.{Bench}
-use Rattle.ledger_spec.specs.Calls.{setUpCall}
+use Rattle.ledger_spec.specs.Calls.{set_up_call}
 use Rattle.ledger_spec.specs.Operations.{D, B, E, S, G, F, C, K}
 use Rattle.ledger_spec.specs.Grammar.{Line}
 use Rattle.ledger_spec.specs.Lines.{LineAnswer, says}
@@ -12,15 +12,15 @@ use Rattle.ledger_spec.specs.Lines.{LineAnswer, says}
 abbrev pub Serials : Type 0
 Serials = List ℕ
 
-abbrev pub serialAt : Serials → ℕ → ℕ
-serialAt t k = get_or t k 0
+abbrev pub serial_at : Serials → ℕ → ℕ
+serial_at t k = get_or t k 0
 
 -- a line with serials in place of numbers
 unfoldable pub spelled : Serials → Line → Line
 spelled t (some (D u v)) = some (D u v)
-spelled t (some (B u ks)) = some (B u (map (serialAt t) ks))
-spelled t (some (E u k)) = some (E u (serialAt t k))
-spelled t (some (S u k s)) = some (S u (serialAt t k) s)
+spelled t (some (B u ks)) = some (B u (map (serial_at t) ks))
+spelled t (some (E u k)) = some (E u (serial_at t k))
+spelled t (some (S u k s)) = some (S u (serial_at t k) s)
 spelled t (some (G u l)) = some (G u l)
 spelled t (some (F p l r)) = some (F p l r)
 spelled t (some (C u)) = some (C u)
@@ -42,21 +42,21 @@ handed (some (K u)) n k = []
 handed none n k = []
 
 -- and back: the number of a serial, none where the patch was not handed it
-unfoldable pub numberFrom : ℕ → Serials → ℕ → Option ℕ
-numberFrom n [] k = none
-numberFrom n (x ∷ t) k = elim (eqb x k) [ true ↦ some n | false ↦ numberFrom (suc n) t k ]
+unfoldable pub number_from : ℕ → Serials → ℕ → Option ℕ
+number_from n [] k = none
+number_from n (x ∷ t) k = elim (eqb x k) [ true ↦ some n | false ↦ number_from (suc n) t k ]
 
 -- the second field as the patch reads it: a verdict as it is, a serial by its number
 abbrev pub field : Serials → Line → ℕ → Option ℕ
-field t (some (D u v)) k = numberFrom 0 t k
-field t (some (B u ks)) k = numberFrom 0 t k
-field t (some (E u i)) k = numberFrom 0 t k
-field t (some (S u i s)) k = numberFrom 0 t k
-field t (some (G u l)) k = numberFrom 0 t k
-field t (some (F p l r)) k = numberFrom 0 t k
-field t (some (C u)) k = numberFrom 0 t k
+field t (some (D u v)) k = number_from 0 t k
+field t (some (B u ks)) k = number_from 0 t k
+field t (some (E u i)) k = number_from 0 t k
+field t (some (S u i s)) k = number_from 0 t k
+field t (some (G u l)) k = number_from 0 t k
+field t (some (F p l r)) k = number_from 0 t k
+field t (some (C u)) k = number_from 0 t k
 field t (some (K u)) k = some k
-field t none k = numberFrom 0 t k
+field t none k = number_from 0 t k
 
 -- ---- a line by line account: the bench, and the serials that the patch was handed
 pub record Page : Type 0 where
@@ -67,14 +67,14 @@ pub record Page : Type 0 where
 abbrev pub Read : Type 0
 Read = ℕ × Option ℕ × ℤ × ℤ
 
-abbrev pub answerTo : Page → Line → LineAnswer
-answerTo k l = says k.bench (spelled k.serials l)
+abbrev pub answer_to : Page → Line → LineAnswer
+answer_to k l = says k.bench (spelled k.serials l)
 
 unfoldable pub after : Page → Line → Page
-after k l = record { bench = (answerTo k l).bench; serials = k.serials ++ handed l (answerTo k l).numbers.0 (answerTo k l).numbers.1 }
+after k l = record { bench = (answer_to k l).bench; serials = k.serials ++ handed l (answer_to k l).numbers.0 (answer_to k l).numbers.1 }
 
 unfoldable pub read_of : Page → Line → Read
-read_of k l = ((answerTo k l).numbers.0, field (after k l).serials l (answerTo k l).numbers.1, (answerTo k l).numbers.2, (answerTo k l).numbers.3)
+read_of k l = ((answer_to k l).numbers.0, field (after k l).serials l (answer_to k l).numbers.1, (answer_to k l).numbers.2, (answer_to k l).numbers.3)
 
 -- a line of the other patch, as it stands; a line of the watched one, by numbers
 pub data Step : Type 0 where
@@ -105,6 +105,6 @@ own_of (x ∷ xs) [] = []
 own_of (theirs l ∷ xs) (r ∷ rs) = own_of xs rs
 own_of (ours l ∷ xs) (r ∷ rs) = r ∷ own_of xs rs
 
--- from set-up with its first serial, and nothing handed out
+-- from set_up_lem with its first serial, and nothing handed out
 abbrev pub opened : ℕ → Page
-opened n = record { bench = (setUpCall n).bench; serials = [] }
+opened n = record { bench = (set_up_call n).bench; serials = [] }

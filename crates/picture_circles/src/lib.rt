@@ -1,17 +1,17 @@
 // The circle of a blossom in a picture: its members' indices, or those of the nodes that they touch by, as a list. Only the lent bytes are written.
 // Assumes nothing.
 ghost use Rattle.std.specs.Prelude.{◌≡◌, map, ◌<◌};
-ghost use Rattle.bench_words.specs.Store.{nodeAt};
+ghost use Rattle.bench_words.specs.Store.{node_at};
 ghost use Rattle.kinds.specs.declared.Class.TheVariants.{Blossom};
-ghost use Rattle.ledger_spec.specs.Named.{handleNamed};
+ghost use Rattle.ledger_spec.specs.Named.{handle_named};
 ghost use Rattle.bench_views.specs.Fit.{Fit};
-ghost use Rattle.bench_views.specs.View.{view, memberAt, circleOf};
+ghost use Rattle.bench_views.specs.View.{view, member_at, circle_of};
 ghost use Rattle.bench_vertices.specs.Under.{Placed};
-ghost use Rattle.picture_spec.specs.Sketch.{linked, indexOf};
+ghost use Rattle.picture_spec.specs.Sketch.{linked, index_of};
 ghost use Rattle.picture_spec.specs.Text.{array};
 ghost use Rattle.picture_pieces.specs.Drawn.{Drawn};
 ghost use Rattle.picture_indices.specs.Indices.{Indices};
-ghost use Rattle.picture_circles.specs.Member.{memberText};
+ghost use Rattle.picture_circles.specs.Member.{member_text};
 
 use bench_words::WORDS;
 use kinds::Handle;
@@ -21,7 +21,7 @@ pub fn index_of(b: &[u64; WORDS], unit: usize, index: &[u64; 512], h: Handle) ->
     requires indices { Indices b.now unit index.now }
     requires unit_bound { h.unit < 8 }
     requires slot_bound { h.slot < 64 }
-    ensures { result ≡ indexOf (view b.now) unit (handleNamed h) }
+    ensures { result ≡ index_of (view b.now) unit (handle_named h) }
 {
     let k = (h.unit as usize) * 64 + (h.slot as usize);
     index[k]
@@ -39,7 +39,7 @@ fn put_member(
 ) -> usize
     requires indices { Indices b.now unit index.now }
     requires q_bound { q < 512 }
-    ensures { Drawn out.old at (memberText touching (linked (indexOf (view b.now) unit) (memberAt (nodeAt b.now) q))) out.new result }
+    ensures { Drawn out.old at (member_text touching (linked (index_of (view b.now) unit) (member_at (node_at b.now) q))) out.new result }
 {
     if !touching {
         return picture_pieces::put_number(out, at, index[q]);
@@ -69,8 +69,8 @@ pub fn put_circle(
     requires fit { Fit b.now }
     requires indices { Indices b.now unit index.now }
     requires placed { Placed b.now k }
-    requires k_value { (nodeAt b.now k).class ≡ Blossom }
-    ensures { Drawn out.old at (array (memberText touching) (map (linked (indexOf (view b.now) unit)) (circleOf (nodeAt b.now) k))) out.new result }
+    requires k_value { (node_at b.now k).class ≡ Blossom }
+    ensures { Drawn out.old at (array (member_text touching) (map (linked (index_of (view b.now) unit)) (circle_of (node_at b.now) k))) out.new result }
 {
     let n = bench_words::load_node(b, k);
     let mut r = picture_pieces::put(out, at, b"[");

@@ -1,12 +1,12 @@
 // A node's state in a picture: the word, and the number that says the same. Assumes nothing.
-ghost use Rattle.ledger_spec.specs.Named.{stateNamed};
-ghost use Rattle.picture_spec.specs.Text.{stateText, growthText};
+ghost use Rattle.ledger_spec.specs.Named.{state_named};
+ghost use Rattle.picture_spec.specs.Text.{state_text, growth_text};
 ghost use Rattle.picture_pieces.specs.Drawn.{Drawn};
 
 use kinds::GrowState;
 
 pub fn put_state(out: &mut [u8], at: usize, state: GrowState) -> usize
-    ensures { Drawn out.old at (stateText (stateNamed state)) out.new result }
+    ensures { Drawn out.old at (state_text (state_named state)) out.new result }
 {
     match state {
         GrowState::Grow => picture_pieces::put(out, at, b"\"grow\""),
@@ -16,7 +16,7 @@ pub fn put_state(out: &mut [u8], at: usize, state: GrowState) -> usize
 }
 
 pub fn put_growth(out: &mut [u8], at: usize, state: GrowState) -> usize
-    ensures { Drawn out.old at (growthText (stateNamed state)) out.new result }
+    ensures { Drawn out.old at (growth_text (state_named state)) out.new result }
 {
     match state {
         GrowState::Grow => picture_pieces::put(out, at, b"1"),

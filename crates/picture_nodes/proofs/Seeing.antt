@@ -8,7 +8,7 @@ use native.Mathlib.Omega.{arith}
 use lib.Dec.{eqb}
 use lib.ListN.{get_or}
 use Rattle.bench_words.specs.Codec.{pick, handle_of, parent_of}
-use Rattle.bench_words.specs.Store.{nodeAt, interfaceAt}
+use Rattle.bench_words.specs.Store.{node_at, interface_at}
 use Rattle.bench_words.specs.declared.Node.{Node}
 use Rattle.kinds.specs.declared.Class.TheVariants.{Absent, Blossom, Defect}
 use Rattle.kinds.specs.declared.Handle.{Handle as Code}
@@ -19,99 +19,99 @@ use Rattle.ledger_spec.specs.Bench as plain
 use Rattle.ledger_spec.specs.Bench.{Handle, Class, defect, blossom}
 use Rattle.ledger_spec.specs.Bytes.{bytes}
 use Rattle.ledger_spec.specs.Decimals.{decimal}
-use Rattle.ledger_spec.specs.Named.{handleNamed, stateNamed, parentNamed}
+use Rattle.ledger_spec.specs.Named.{handle_named, state_named, parent_named}
 use Rattle.ledger_spec.specs.Reads.{slots_of}
-use Rattle.bench_views.specs.View.{view, slotSeen, nodeSeen, sumUp, circleOf}
-use Rattle.bench_views.proofs.Views.{view-slot}
-use Rattle.bench_views.proofs.Slots.{slot-absent, slot-defect, slot-ring}
+use Rattle.bench_views.specs.View.{view, slot_seen, node_seen, sum_up, circle_of}
+use Rattle.bench_views.proofs.Views.{view_slot}
+use Rattle.bench_views.proofs.Slots.{slot_absent, slot_defect, slot_ring}
 use Rattle.bench_orders.specs.Order.{AtIndex}
 use Rattle.bench_vertices.specs.Under.{Placed}
-use Rattle.picture_spec.specs.Sketch.{vertex, circle, linked, shape_of, indexed, seenOf, indexOf, slotSeenBy}
-use Rattle.picture_spec.specs.Text.{parentText}
+use Rattle.picture_spec.specs.Sketch.{vertex, circle, linked, shape_of, indexed, seen_of, index_of, slot_seen_by}
+use Rattle.picture_spec.specs.Text.{parent_text}
 use Rattle.picture_nodes.specs.Rest.{Lowly}
 
 -- ---- a parent
 module _ (at : Handle → ℕ) (p : Parent) where
-  pub parent-none : p ≡ Outermost → 110 ∷ 117 ∷ 108 ∷ 108 ∷ [] ≡ parentText (indexed at (parentNamed p))
-  unfolding parentText bytes
-  parent-none e = sym (ap (λ (q : Parent). parentText (indexed at (parentNamed q))) e)
+  pub parent_none : p ≡ Outermost → 110 ∷ 117 ∷ 108 ∷ 108 ∷ [] ≡ parent_text (indexed at (parent_named p))
+  unfolding parent_text bytes
+  parent_none e = sym (ap (λ (q : Parent). parent_text (indexed at (parent_named q))) e)
 
-  pub parent-some : (h : Code) → p ≡ Inside h → (i : ℕ) → i ≡ at (handleNamed h) → decimal i ≡ parentText (indexed at (parentNamed p))
-  unfolding parentText
-  parent-some h e i q = ap decimal q ∙ sym (ap (λ (x : Parent). parentText (indexed at (parentNamed x))) e)
+  pub parent_some : (h : Code) → p ≡ Inside h → (i : ℕ) → i ≡ at (handle_named h) → decimal i ≡ parent_text (indexed at (parent_named p))
+  unfolding parent_text
+  parent_some h e i q = ap decimal q ∙ sym (ap (λ (x : Parent). parent_text (indexed at (parent_named x))) e)
 
-lowly-by : (t : Bool) (w : ℕ) → Lowly (pick t Outermost (Inside (handle_of w)))
-lowly-by true w = tt
-lowly-by false w = (omega arith, omega arith)
+lowly_by : (t : Bool) (w : ℕ) → Lowly (pick t Outermost (Inside (handle_of w)))
+lowly_by true w = tt
+lowly_by false w = (omega arith, omega arith)
 
 lowly : (w : ℕ) → Lowly (parent_of w)
-lowly w = lowly-by (eqb w 0) (w - 1)
+lowly w = lowly_by (eqb w 0) (w - 1)
 
-lowly-at : (b : List ℕ) (k : ℕ) → Lowly (nodeAt b k).parent
-unfolding nodeAt
-lowly-at b k = lowly (get_or b (128 + k * 12 + 4) 0)
+lowly_at : (b : List ℕ) (k : ℕ) → Lowly (node_at b k).parent
+unfolding node_at
+lowly_at b k = lowly (get_or b (128 + k * 12 + 4) 0)
 
-pub parent-low : (b : List ℕ) (k : ℕ) (n : Node) → n ≡ nodeAt b k → Lowly n.parent
-parent-low b k n e = subst (λ (x : Node). Lowly x.parent) (sym e) (lowly-at b k)
+pub parent_low : (b : List ℕ) (k : ℕ) (n : Node) → n ≡ node_at b k → Lowly n.parent
+parent_low b k n e = subst (λ (x : Node). Lowly x.parent) (sym e) (lowly_at b k)
 
-pub inside-low : (p : Parent) (h : Code) → p ≡ Inside h → Lowly p → Lowly (Inside h)
-inside-low p h e l = subst Lowly e l
+pub inside_low : (p : Parent) (h : Code) → p ≡ Inside h → Lowly p → Lowly (Inside h)
+inside_low p h e l = subst Lowly e l
 
 -- ---- a slot, as the picture sees it
 module _ (at : Handle → ℕ) where
-  see-none : (x : Option plain.Node) → x ≡ none → seenOf at x ≡ none
-  unfolding seenOf
-  see-none x e = rw (e, seenOf)
+  see_none : (x : Option plain.Node) → x ≡ none → seen_of at x ≡ none
+  unfolding seen_of
+  see_none x e = rw (e, seen_of)
 
-  see-some : (x : Option plain.Node) (n : plain.Node) → x ≡ some n → seenOf at x ≡ some (record { shape = shape_of at n.class; state = n.state; parent = indexed at n.parent })
-  unfolding seenOf
-  see-some x n e = rw (e, seenOf)
+  see_some : (x : Option plain.Node) (n : plain.Node) → x ≡ some n → seen_of at x ≡ some (record { shape = shape_of at n.class; state = n.state; parent = indexed at n.parent })
+  unfolding seen_of
+  see_some x n e = rw (e, seen_of)
 
-  shape-defect : (v : ℕ) → shape_of at (defect v) ≡ vertex v
+  shape_defect : (v : ℕ) → shape_of at (defect v) ≡ vertex v
   unfolding shape_of
-  shape-defect v = refl
+  shape_defect v = refl
 
-  shape-ring : (ms : List plain.Member) → shape_of at (blossom ms) ≡ circle (map (linked at) ms)
+  shape_ring : (ms : List plain.Member) → shape_of at (blossom ms) ≡ circle (map (linked at) ms)
   unfolding shape_of
-  shape-ring ms = refl
+  shape_ring ms = refl
 
-module _ (b : List ℕ) (unit k p : ℕ) (I : AtIndex b unit k p) (x : Node) (e : x ≡ nodeAt b p) where
+module _ (b : List ℕ) (unit k p : ℕ) (I : AtIndex b unit k p) (x : Node) (e : x ≡ node_at b p) where
   abbrev here : ℕ × ℕ × Option plain.Node
   here = get_or (slots_of (view b) unit) k (0, 0, none)
 
   abbrev tree : Handle → ℕ
-  tree = indexOf (view b) unit
+  tree = index_of (view b) unit
 
   split : p / 64 * 64 + p % 64 ≡ p
   split = omega arith
 
-  seen : here.2 ≡ slotSeen x (sumUp 8 (interfaceAt b) (p / 64)) (circleOf (nodeAt b) p)
-  seen = ap (λ (t : ℕ × ℕ × Option plain.Node). t.2) I.at ∙ view-slot (get_or b 0 0) (interfaceAt b) (nodeAt b) (p / 64) (p % 64) I.low I.used
-      ∙ ap (λ (y : ℕ). slotSeen (nodeAt b y) (sumUp 8 (interfaceAt b) (p / 64)) (circleOf (nodeAt b) y)) split
-      ∙ ap (λ (y : Node). slotSeen y (sumUp 8 (interfaceAt b) (p / 64)) (circleOf (nodeAt b) p)) (sym e)
+  seen : here.2 ≡ slot_seen x (sum_up 8 (interface_at b) (p / 64)) (circle_of (node_at b) p)
+  seen = ap (λ (t : ℕ × ℕ × Option plain.Node). t.2) I.at ∙ view_slot (get_or b 0 0) (interface_at b) (node_at b) (p / 64) (p % 64) I.low I.used
+      ∙ ap (λ (y : ℕ). slot_seen (node_at b y) (sum_up 8 (interface_at b) (p / 64)) (circle_of (node_at b) y)) split
+      ∙ ap (λ (y : Node). slot_seen y (sum_up 8 (interface_at b) (p / 64)) (circle_of (node_at b) p)) (sym e)
 
-  pub low-place : p < 512
-  low-place = let l = I.low in omega arith
+  pub low_place : p < 512
+  low_place = let l = I.low in omega arith
 
-  pub seen-absent : x.class ≡ Absent → none ≡ slotSeenBy (view b) unit here
-  seen-absent c = sym (see-none tree here.2 (seen ∙ slot-absent x (sumUp 8 (interfaceAt b) (p / 64)) (circleOf (nodeAt b) p) c))
+  pub seen_absent : x.class ≡ Absent → none ≡ slot_seen_by (view b) unit here
+  seen_absent c = sym (see_none tree here.2 (seen ∙ slot_absent x (sum_up 8 (interface_at b) (p / 64)) (circle_of (node_at b) p) c))
 
-  pub seen-defect : (v : Vertex) → x.class ≡ Defect v
-      → some (record { shape = vertex v.0; state = stateNamed x.state; parent = indexed tree (parentNamed x.parent) }) ≡ slotSeenBy (view b) unit here
-  seen-defect v c =
-      let n = nodeSeen x (sumUp 8 (interfaceAt b) (p / 64)) (defect v.0) in
-      sym (see-some tree here.2 n (seen ∙ slot-defect x (sumUp 8 (interfaceAt b) (p / 64)) (circleOf (nodeAt b) p) v c)
-      ∙ ap (λ s. some (record { shape = s; state = stateNamed x.state; parent = indexed tree (parentNamed x.parent) })) (shape-defect tree v.0))
+  pub seen_defect : (v : Vertex) → x.class ≡ Defect v
+      → some (record { shape = vertex v.0; state = state_named x.state; parent = indexed tree (parent_named x.parent) }) ≡ slot_seen_by (view b) unit here
+  seen_defect v c =
+      let n = node_seen x (sum_up 8 (interface_at b) (p / 64)) (defect v.0) in
+      sym (see_some tree here.2 n (seen ∙ slot_defect x (sum_up 8 (interface_at b) (p / 64)) (circle_of (node_at b) p) v c)
+      ∙ ap (λ s. some (record { shape = s; state = state_named x.state; parent = indexed tree (parent_named x.parent) })) (shape_defect tree v.0))
 
-  pub seen-ring : x.class ≡ Blossom
-      → some (record { shape = circle (map (linked tree) (circleOf (nodeAt b) p)); state = stateNamed x.state; parent = indexed tree (parentNamed x.parent) }) ≡ slotSeenBy (view b) unit here
-  seen-ring c =
-      let n = nodeSeen x (sumUp 8 (interfaceAt b) (p / 64)) (blossom (circleOf (nodeAt b) p)) in
-      sym (see-some tree here.2 n (seen ∙ slot-ring x (sumUp 8 (interfaceAt b) (p / 64)) (circleOf (nodeAt b) p) c)
-      ∙ ap (λ s. some (record { shape = s; state = stateNamed x.state; parent = indexed tree (parentNamed x.parent) })) (shape-ring tree (circleOf (nodeAt b) p)))
+  pub seen_ring : x.class ≡ Blossom
+      → some (record { shape = circle (map (linked tree) (circle_of (node_at b) p)); state = state_named x.state; parent = indexed tree (parent_named x.parent) }) ≡ slot_seen_by (view b) unit here
+  seen_ring c =
+      let n = node_seen x (sum_up 8 (interface_at b) (p / 64)) (blossom (circle_of (node_at b) p)) in
+      sym (see_some tree here.2 n (seen ∙ slot_ring x (sum_up 8 (interface_at b) (p / 64)) (circle_of (node_at b) p) c)
+      ∙ ap (λ s. some (record { shape = s; state = state_named x.state; parent = indexed tree (parent_named x.parent) })) (shape_ring tree (circle_of (node_at b) p)))
 
-  pub ring-is : x.class ≡ Blossom → (nodeAt b p).class ≡ Blossom
-  ring-is c = ap (λ (y : Node). y.class) (sym e) ∙ c
+  pub ring_is : x.class ≡ Blossom → (node_at b p).class ≡ Blossom
+  ring_is c = ap (λ (y : Node). y.class) (sym e) ∙ c
 
-  pub ring-placed : x.class ≡ Blossom → Placed b p
-  ring-placed c = record { low = low-place; used = I.used; present = λ z. let q : Absent ≡ Blossom = sym z ∙ ring-is c in let q2 : ◌≡◌ {A = ℕ} 0 1 = cc in omega arith }
+  pub ring_placed : x.class ≡ Blossom → Placed b p
+  ring_placed c = record { low = low_place; used = I.used; present = λ z. let q : Absent ≡ Blossom = sym z ∙ ring_is c in let q2 : ◌≡◌ {A = ℕ} 0 1 = cc in omega arith }

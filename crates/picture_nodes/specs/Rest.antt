@@ -6,21 +6,21 @@ use Rattle.kinds.specs.declared.Parent.{Parent}
 use Rattle.kinds.specs.declared.Parent.TheVariants.{Outermost, Inside}
 use Rattle.ledger_spec.specs.Bench.{State}
 use Rattle.picture_spec.specs.Sketch.{Shape}
-use Rattle.picture_spec.specs.Text.{Names, key, circleText, touchText, vertexText, stateText, growthText, parentText}
+use Rattle.picture_spec.specs.Text.{Names, key, circle_text, touch_text, vertex_text, state_text, growth_text, parent_text}
 
 abbrev pub Lowly : Parent → Type 0
 Lowly Outermost = Unit
 Lowly (Inside h) = (h.unit < 8) × (h.slot < 64)
 
-unfoldable pub shapeText : Names → Shape → List ℕ
-shapeText ns s =
-    (123 ∷ key ns.circle) ++ (circleText s
-    ++ ((44 ∷ key ns.touching) ++ (touchText s
-    ++ ((44 ∷ key ns.vertex) ++ vertexText s))))
+unfoldable pub shape_text : Names → Shape → List ℕ
+shape_text ns s =
+    (123 ∷ key ns.circle) ++ (circle_text s
+    ++ ((44 ∷ key ns.touching) ++ (touch_text s
+    ++ ((44 ∷ key ns.vertex) ++ vertex_text s))))
 
-unfoldable pub restText : Names → State → Option ℕ → List ℕ
-restText ns s p =
-    (44 ∷ key ns.state) ++ (stateText s
-    ++ ((44 ∷ key ns.growth) ++ (growthText s
-    ++ ((44 ∷ key ns.parent) ++ (parentText p
+unfoldable pub rest_text : Names → State → Option ℕ → List ℕ
+rest_text ns s p =
+    (44 ∷ key ns.state) ++ (state_text s
+    ++ ((44 ∷ key ns.growth) ++ (growth_text s
+    ++ ((44 ∷ key ns.parent) ++ (parent_text p
     ++ (125 ∷ []))))))

@@ -3,19 +3,19 @@
 ghost use Rattle.std.specs.Prelude.{◌≡◌, map, get_or, ◌<◌};
 ghost use Rattle.std.proofs.Math.Option.{none};
 ghost use Rattle.kinds.specs.declared.Class.TheVariants.{Blossom};
-ghost use Rattle.ledger_spec.specs.Named.{stateNamed, parentNamed};
+ghost use Rattle.ledger_spec.specs.Named.{state_named, parent_named};
 ghost use Rattle.ledger_spec.specs.Reads.{slots_of};
-ghost use Rattle.bench_words.specs.Store.{nodeAt};
+ghost use Rattle.bench_words.specs.Store.{node_at};
 ghost use Rattle.bench_views.specs.Fit.{Fit};
-ghost use Rattle.bench_views.specs.View.{view, circleOf};
+ghost use Rattle.bench_views.specs.View.{view, circle_of};
 ghost use Rattle.bench_vertices.specs.Under.{Placed};
 ghost use Rattle.bench_orders.specs.Order.{AtIndex};
 ghost use Rattle.check_places.specs.Places.{Places};
-ghost use Rattle.picture_spec.specs.Sketch.{circle, linked, indexed, indexOf, slotSeenBy};
-ghost use Rattle.picture_spec.specs.Text.{namesBy, parentText, array, slotText};
+ghost use Rattle.picture_spec.specs.Sketch.{circle, linked, indexed, index_of, slot_seen_by};
+ghost use Rattle.picture_spec.specs.Text.{names_by, parent_text, array, slot_text};
 ghost use Rattle.picture_pieces.specs.Drawn.{Drawn};
 ghost use Rattle.picture_indices.specs.Indices.{Indices};
-ghost use Rattle.picture_nodes.specs.Rest.{Lowly, shapeText, restText};
+ghost use Rattle.picture_nodes.specs.Rest.{Lowly, shape_text, rest_text};
 
 use bench_words::WORDS;
 use kinds::{Class, GrowState, Parent};
@@ -31,7 +31,7 @@ fn put_parent(
 ) -> usize
     requires indices { Indices b.now unit index.now }
     requires lowly { Lowly parent }
-    ensures { Drawn out.old at (parentText (indexed (indexOf (view b.now) unit) (parentNamed parent))) out.new result }
+    ensures { Drawn out.old at (parent_text (indexed (index_of (view b.now) unit) (parent_named parent))) out.new result }
 {
     match parent {
         Parent::Outermost => put(out, at, b"null"),
@@ -52,7 +52,7 @@ fn put_rest(
 ) -> usize
     requires indices { Indices b.now unit index.now }
     requires lowly { Lowly parent }
-    ensures { Drawn out.old at (restText (namesBy short) (stateNamed state) (indexed (indexOf (view b.now) unit) (parentNamed parent))) out.new result }
+    ensures { Drawn out.old at (rest_text (names_by short) (state_named state) (indexed (index_of (view b.now) unit) (parent_named parent))) out.new result }
 {
     let p = put_either(out, at, short, b",\"g\":", b",\"grow_state\":");
     let q = picture_names::put_state(out, p, state);
@@ -76,8 +76,8 @@ fn put_ring(
     requires fit { Fit b.now }
     requires indices { Indices b.now unit index.now }
     requires placed { Placed b.now p }
-    requires p_value { (nodeAt b.now p).class ≡ Blossom }
-    ensures { Drawn out.old at (shapeText (namesBy short) (circle (map (linked (indexOf (view b.now) unit)) (circleOf (nodeAt b.now) p)))) out.new result }
+    requires p_value { (node_at b.now p).class ≡ Blossom }
+    ensures { Drawn out.old at (shape_text (names_by short) (circle (map (linked (index_of (view b.now) unit)) (circle_of (node_at b.now) p)))) out.new result }
 {
     let q = put_either(out, at, short, b"{\"o\":", b"{\"blossom\":");
     let r = picture_circles::put_circle(b, unit, index, out, q, p, false);
@@ -100,7 +100,7 @@ fn put_slot(
     requires fit { Fit b.now }
     requires indices { Indices b.now unit index.now }
     requires at_index { AtIndex b.now unit k p }
-    ensures { Drawn out.old at (slotText (namesBy short) (slotSeenBy (view b.now) unit (get_or (slots_of (view b.now) unit) k (0, 0, none)))) out.new result }
+    ensures { Drawn out.old at (slot_text (names_by short) (slot_seen_by (view b.now) unit (get_or (slots_of (view b.now) unit) k (0, 0, none)))) out.new result }
 {
     let x = bench_words::load_node(b, p);
     let class = x.class;
@@ -140,7 +140,7 @@ pub fn put_slots(
     requires fit { Fit b.now }
     requires places { Places b.now unit places.now count }
     requires indices { Indices b.now unit index.now }
-    ensures { Drawn out.old at (array (slotText (namesBy short)) (map (slotSeenBy (view b.now) unit) (slots_of (view b.now) unit))) out.new result }
+    ensures { Drawn out.old at (array (slot_text (names_by short)) (map (slot_seen_by (view b.now) unit) (slots_of (view b.now) unit))) out.new result }
 {
     let mut r = put(out, at, b"[");
     let mut k: usize = 0;

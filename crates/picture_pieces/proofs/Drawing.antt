@@ -10,14 +10,14 @@ use mathlib.Core.List.{List, [], ◌∷◌, ◌++◌, append_assoc, append-nil}
 use lib.ListN.{length, length-append, take, get_or, set}
 use lib.Seq.{sets, length-sets, take-suc, take_all, length-take-le}
 use Rattle.text_decimals.specs.Wrote.{Wrote}
-use Rattle.text_decimals.proofs.Writes.{sets-append, length-wrote}
+use Rattle.text_decimals.proofs.Writes.{sets_append, length_wrote}
 use Rattle.picture_spec.specs.Text.{comma, items}
 use Rattle.picture_pieces.specs.Drawn.{most, Drawn, either}
 
 -- ---- texts in turn
 
-pub drawn-none : {o : List ℕ} {at : ℕ} → Drawn o at [] o at
-drawn-none {o} {at} = record { long = refl; next = λ h. omega arith; full = λ m h. absurd (omega arith); stands = λ h k. refl }
+pub drawn_none : {o : List ℕ} {at : ℕ} → Drawn o at [] o at
+drawn_none {o} {at} = record { long = refl; next = λ h. omega arith; full = λ m h. absurd (omega arith); stands = λ h k. refl }
 
 pub chain : {o : List ℕ} {at : ℕ} {a o₁ : List ℕ} {p : ℕ} {b o₂ : List ℕ} {q : ℕ} → Drawn o at a o₁ p → Drawn o₁ p b o₂ q → Drawn o at (a ++ b) o₂ q
 chain {o} {at} {a} {o₁} {p} {b} {o₂} {q} v w = record {
@@ -39,7 +39,7 @@ chain {o} {at} {a} {o₁} {p} {b} {o₂} {q} v w = record {
       let x = v.next (omega arith) in
       let m = v.long in
       let s = v.stands (omega arith) (omega arith) in
-      w.stands (omega arith) (omega arith) ∙ ap (λ (z : List ℕ). sets z p b) s ∙ ap (λ (i : ℕ). sets (sets o at a) i b) x ∙ sym (sets-append a b o at);
+      w.stands (omega arith) (omega arith) ∙ ap (λ (z : List ℕ). sets z p b) s ∙ ap (λ (i : ℕ). sets (sets o at a) i b) x ∙ sym (sets_append a b o at);
 }
 
 pub same_text : {o : List ℕ} {at : ℕ} {a b o' : List ℕ} {q : ℕ} → a ≡ b → Drawn o at a o' q → Drawn o at b o' q
@@ -53,7 +53,7 @@ pub record Making (o : List ℕ) (at : ℕ) (whole left o' : List ℕ) (r : ℕ)
   pub split : done ++ left ≡ whole
 
 pub making : {o : List ℕ} {at : ℕ} {whole : List ℕ} → Making o at whole whole o at
-making = record { done = []; drawn = drawn-none; split = refl }
+making = record { done = []; drawn = drawn_none; split = refl }
 
 pub more : {o : List ℕ} {at : ℕ} {whole a b o₁ : List ℕ} {p : ℕ} {o₂ : List ℕ} {q : ℕ} → Making o at whole (a ++ b) o₁ p → Drawn o₁ p a o₂ q → Making o at whole b o₂ q
 more {o} {at} {whole} {a} {b} m w = record { done = m.done ++ a; drawn = chain m.drawn w; split = append_assoc m.done a b ∙ m.split }
@@ -66,14 +66,14 @@ made m = same_text (sym (append-nil m.done) ∙ m.split) m.drawn
 
 -- ---- one piece
 
-pub drawn-past : {o : List ℕ} {at : ℕ} {t : List ℕ} {r : ℕ} → most < at + length t → r ≡ most → Drawn o at t o r
-drawn-past h e = record { long = refl; next = λ k. absurd (omega arith); full = λ m k. e; stands = λ k l. absurd (omega arith) }
+pub drawn_past : {o : List ℕ} {at : ℕ} {t : List ℕ} {r : ℕ} → most < at + length t → r ≡ most → Drawn o at t o r
+drawn_past h e = record { long = refl; next = λ k. absurd (omega arith); full = λ m k. e; stands = λ k l. absurd (omega arith) }
 
-pub drawn-counted : {o : List ℕ} {at : ℕ} {t : List ℕ} {r : ℕ} → at + length t ≤ most → r ≡ at + length t → length o < at + length t → Drawn o at t o r
-drawn-counted f e h = record { long = refl; next = λ k. e; full = λ m k. absurd (omega arith); stands = λ k l. absurd (omega arith) }
+pub drawn_counted : {o : List ℕ} {at : ℕ} {t : List ℕ} {r : ℕ} → at + length t ≤ most → r ≡ at + length t → length o < at + length t → Drawn o at t o r
+drawn_counted f e h = record { long = refl; next = λ k. e; full = λ m k. absurd (omega arith); stands = λ k l. absurd (omega arith) }
 
-pub drawn-wrote : {o : List ℕ} {at : ℕ} {t o' : List ℕ} {r : ℕ} → at + length t ≤ most → Wrote o at t o' r → Drawn o at t o' r
-drawn-wrote {o} {at} {t} {o'} {r} f w = record { long = length-wrote o at t o' r w; next = λ k. w.next; full = λ m k. absurd (omega arith); stands = λ k l. w.stands }
+pub drawn_wrote : {o : List ℕ} {at : ℕ} {t o' : List ℕ} {r : ℕ} → at + length t ≤ most → Wrote o at t o' r → Drawn o at t o' r
+drawn_wrote {o} {at} {t} {o'} {r} f w = record { long = length_wrote o at t o' r w; next = λ k. w.next; full = λ m k. absurd (omega arith); stands = λ k l. w.stands }
 
 -- the first j bytes of a piece stand there
 pub record Copied (o : List ℕ) (at : ℕ) (t : List ℕ) (j : ℕ) (o' : List ℕ) : Type 0 where
@@ -84,40 +84,40 @@ pub copied_none : (o : List ℕ) (at : ℕ) (t : List ℕ) → Copied o at t 0 o
 copied_none o at t = record { stands = refl; few = omega arith }
 
 module _ (o : List ℕ) (at : ℕ) (t : List ℕ) (j : ℕ) (o' : List ℕ) (C : Copied o at t j o') where
-  pub copied-long : length o' ≡ length o
-  copied-long = ap length C.stands ∙ length-sets o at (take j t)
+  pub copied_long : length o' ≡ length o
+  copied_long = ap length C.stands ∙ length-sets o at (take j t)
 
   pub copied_more : j < length t → Copied o at t (j + 1) (set o' (at + j) (get_or t j 0))
   copied_more h =
       let e : take (j + 1) t ≡ take j t ++ (get_or t j 0 ∷ []) = ap (λ (k : ℕ). take k t) (add-one j) ∙ take-suc t j 0 h in
       let n : length (take j t) ≡ j = length-take-le j t C.few in
       record {
-        stands = ap (λ (x : List ℕ). set x (at + j) (get_or t j 0)) C.stands ∙ sym (ap (sets o at) e ∙ sets-append (take j t) (get_or t j 0 ∷ []) o at ∙ ap (λ (k : ℕ). set (sets o at (take j t)) (at + k) (get_or t j 0)) n);
+        stands = ap (λ (x : List ℕ). set x (at + j) (get_or t j 0)) C.stands ∙ sym (ap (sets o at) e ∙ sets_append (take j t) (get_or t j 0 ∷ []) o at ∙ ap (λ (k : ℕ). set (sets o at (take j t)) (at + k) (get_or t j 0)) n);
         few = omega arith;
       }
 
   pub copied_all : length t ≤ j → (r : ℕ) → at + length t ≤ most → r ≡ at + length t → Drawn o at t o' r
   copied_all h r f e = record {
-    long = copied-long;
+    long = copied_long;
     next = λ k. e;
     full = λ m k. absurd (omega arith);
     stands = λ k l. C.stands ∙ ap (sets o at) (take_all j t h);
   }
 
-pub either-one : (w : Bool) (s t : List ℕ) → w ≡ true → s ≡ either w s t
+pub either_one : (w : Bool) (s t : List ℕ) → w ≡ true → s ≡ either w s t
 unfolding either
-either-one w s t e = rw (e, either)
+either_one w s t e = rw (e, either)
 
-pub either-other : (w : Bool) (s t : List ℕ) → w ≡ false → t ≡ either w s t
+pub either_other : (w : Bool) (s t : List ℕ) → w ≡ false → t ≡ either w s t
 unfolding either
-either-other w s t e = rw (e, either)
+either_other w s t e = rw (e, either)
 
-pub comma-first : (i : ℕ) → i ≡ 0 → [] ≡ comma i
-comma-first i e = sym (ap comma e)
+pub comma_first : (i : ℕ) → i ≡ 0 → [] ≡ comma i
+comma_first i e = sym (ap comma e)
 
-pub comma-other : (i : ℕ) → (i ≡ 0 → ⊥) → 44 ∷ [] ≡ comma i
-comma-other zero h = absurd (h refl)
-comma-other (suc i) h = refl
+pub comma_other : (i : ℕ) → (i ≡ 0 → ⊥) → 44 ∷ [] ≡ comma i
+comma_other zero h = absurd (h refl)
+comma_other (suc i) h = refl
 
 -- ---- the items of a list in turn, before the text `end`
 
@@ -125,13 +125,13 @@ items_more : {A : Type 0} (f : A → List ℕ) (i : ℕ) (x : A) (xs : List A) (
 unfolding items
 items_more f i x xs end = append_assoc (comma i) (f x ++ items f 1 xs) end ∙ ap (λ (t : List ℕ). comma i ++ t) (append_assoc (f x) (items f 1 xs) end)
 
-pub items-on : {A : Type 0} (f : A → List ℕ) (i : ℕ) (x : A) (xs : List A) (end : List ℕ) {o : List ℕ} {at : ℕ} {whole o₁ : List ℕ} {p : ℕ} {o₂ : List ℕ} {q : ℕ} {o₃ : List ℕ} {r : ℕ}
+pub items_on : {A : Type 0} (f : A → List ℕ) (i : ℕ) (x : A) (xs : List A) (end : List ℕ) {o : List ℕ} {at : ℕ} {whole o₁ : List ℕ} {p : ℕ} {o₂ : List ℕ} {q : ℕ} {o₃ : List ℕ} {r : ℕ}
     → Making o at whole (items f i (x ∷ xs) ++ end) o₁ p → Drawn o₁ p (comma i) o₂ q → Drawn o₂ q (f x) o₃ r → Making o at whole (items f 1 xs ++ end) o₃ r
-items-on f i x xs end m v w = more (more (relabel (items_more f i x xs end) m) v) w
+items_on f i x xs end m v w = more (more (relabel (items_more f i x xs end) m) v) w
 
-pub items-end : {A : Type 0} (f : A → List ℕ) (i : ℕ) (end : List ℕ) {o : List ℕ} {at : ℕ} {whole o' : List ℕ} {r : ℕ} → Making o at whole (items f i [] ++ end) o' r → Making o at whole end o' r
+pub items_end : {A : Type 0} (f : A → List ℕ) (i : ℕ) (end : List ℕ) {o : List ℕ} {at : ℕ} {whole o' : List ℕ} {r : ℕ} → Making o at whole (items f i [] ++ end) o' r → Making o at whole end o' r
 unfolding items
-items-end f i end m = m
+items_end f i end m = m
 
 -- what stands before the last piece
 pub ends : {o : List ℕ} {at : ℕ} {whole end o₁ : List ℕ} {p : ℕ} {o₂ : List ℕ} {q : ℕ} → Making o at whole end o₁ p → Drawn o₁ p end o₂ q → Drawn o at whole o₂ q

@@ -21,13 +21,13 @@ module _ (t out : List ℕ) where
   fitting l = rw (le-ltb (length out) (length t) l, fitted)
 
   module _ (o o' : List ℕ) (n : ℕ) (D : Drawn o 0 t o' n) where
-    pub measured-small : length out < n → (19, (0, out)) ≡ fitted t out
-    measured-small l = too_long (by_cases (dec_lt most (length t))
+    pub measured_small : length out < n → (19, (0, out)) ≡ fitted t out
+    measured_small l = too_long (by_cases (dec_lt most (length t))
         (λ (g : most < length t). let x = D.full (omega arith) (omega arith) in omega arith)
         (λ (g : most < length t → ⊥). let x = D.next (omega arith) in omega arith))
 
-    pub measured-fits : length out < most → n ≤ length out → length t ≤ length out
-    measured-fits s l = by_cases (dec_lt most (length t))
+    pub measured_fits : length out < most → n ≤ length out → length t ≤ length out
+    measured_fits s l = by_cases (dec_lt most (length t))
         (λ (g : most < length t). let x = D.full (omega arith) (omega arith) in absurd (omega arith))
         (λ (g : most < length t → ⊥). let x = D.next (omega arith) in omega arith)
 

@@ -9,12 +9,12 @@ use lib.ListN.{length, drop}
 use borrow.Author.Tests.{eq-eqb, ne_eqb}
 use Rattle.ledger_spec.specs.Bench.{Bench}
 use Rattle.ledger_spec.specs.Tests.{first, outside, child}
-use Rattle.ledger_spec.specs.Refuse.{unitTests}
+use Rattle.ledger_spec.specs.Refuse.{unit_tests}
 use Rattle.ledger_spec.specs.Reads.{said}
-use Rattle.ledger_spec.specs.Check.{verdict, checkOf}
+use Rattle.ledger_spec.specs.Check.{verdict, check_of}
 use Rattle.check_sound.specs.declared.Checked.{Checked}
-use Rattle.check_sound.specs.Judged.{shownCheck}
-use Rattle.picture_spec.specs.Picture.{picture, unsound, pictureTests, pictureInto}
+use Rattle.check_sound.specs.Judged.{shown_check}
+use Rattle.picture_spec.specs.Picture.{picture, unsound, picture_tests, picture_into}
 use Rattle.picture_sound.specs.Fitted.{fitted}
 
 -- ---- two tests before others
@@ -39,20 +39,20 @@ unfolding first said
 last true z w = refl
 last false z w = refl
 
-said-no : {A : Type 0} (v z : A) (n : ℕ) → (n ≡ 0 → ⊥) → (n, z) ≡ said n v z
+said_no : {A : Type 0} (v z : A) (n : ℕ) → (n ≡ 0 → ⊥) → (n, z) ≡ said n v z
 unfolding said
-said-no v z zero f = absurd (f refl)
-said-no v z (suc n) f = refl
+said_no v z zero f = absurd (f refl)
+said_no v z (suc n) f = refl
 
-said-zero : {A : Type 0} (v z : A) (n : ℕ) → n ≡ 0 → said n v z ≡ (0, v)
+said_zero : {A : Type 0} (v z : A) (n : ℕ) → n ≡ 0 → said n v z ≡ (0, v)
 unfolding said
-said-zero v z n e = rw (e, said)
+said_zero v z n e = rw (e, said)
 
 module _ (b : Bench) (u : ℕ) where
-  module _ (r : Checked) (C : shownCheck r ≡ checkOf b u) (p : first (unitTests b u) ≡ 0) where
-    pub verdict-said : r.verdict ≡ (verdict b u).0
-    unfolding checkOf
-    verdict-said = ap (λ (w : ℕ × (ℕ × ℕ)). w.1.0) (C ∙ said-zero (verdict b u) (0, 0) (first (unitTests b u)) p)
+  module _ (r : Checked) (C : shown_check r ≡ check_of b u) (p : first (unit_tests b u) ≡ 0) where
+    pub verdict_said : r.verdict ≡ (verdict b u).0
+    unfolding check_of
+    verdict_said = ap (λ (w : ℕ × (ℕ × ℕ)). w.1.0) (C ∙ said_zero (verdict b u) (0, 0) (first (unit_tests b u)) p)
 
   module _ (a : Bool) (out : List ℕ) where
     abbrev room : Bool
@@ -64,34 +64,34 @@ module _ (b : Bench) (u : ℕ) where
     abbrev full : ℕ × List ℕ
     full = (length (picture b u a), picture b u a ++ drop (length (picture b u a)) out)
 
-    by_tests : said (first (pictureTests b u a out)) full (0, out) ≡ pictureInto b u a out
-    unfolding pictureInto
+    by_tests : said (first (picture_tests b u a out)) full (0, out) ≡ picture_into b u a out
+    unfolding picture_into
     by_tests = refl
 
-    stopped-here : (first (unitTests b u) ≡ 0 → ⊥) → first (pictureTests b u a out) ≡ first (unitTests b u)
-    unfolding pictureTests unitTests
-    stopped-here = stopped (outside u) (child b u) later
+    stopped_here : (first (unit_tests b u) ≡ 0 → ⊥) → first (picture_tests b u a out) ≡ first (unit_tests b u)
+    unfolding picture_tests unit_tests
+    stopped_here = stopped (outside u) (child b u) later
 
-    passed_here : first (unitTests b u) ≡ 0 → first (pictureTests b u a out) ≡ first later
-    unfolding pictureTests unitTests
+    passed_here : first (unit_tests b u) ≡ 0 → first (picture_tests b u a out) ≡ first later
+    unfolding picture_tests unit_tests
     passed_here = passed (outside u) (child b u) later
 
-    pub into-no : (n : ℕ) → n ≡ first (unitTests b u) → (n ≡ 0 → ⊥) → (n, (0, out)) ≡ pictureInto b u a out
-    into-no n e z =
-        said-no full (0, out) n z ∙ ap (λ (k : ℕ). said k full (0, out)) (e ∙ sym (stopped-here (λ q. z (e ∙ q)))) ∙ by_tests
+    pub into_no : (n : ℕ) → n ≡ first (unit_tests b u) → (n ≡ 0 → ⊥) → (n, (0, out)) ≡ picture_into b u a out
+    into_no n e z =
+        said_no full (0, out) n z ∙ ap (λ (k : ℕ). said k full (0, out)) (e ∙ sym (stopped_here (λ q. z (e ∙ q)))) ∙ by_tests
 
-    module _ (p : first (unitTests b u) ≡ 0) where
-      by-later : said (first later) full (0, out) ≡ pictureInto b u a out
-      by-later = ap (λ (k : ℕ). said k full (0, out)) (sym (passed_here p)) ∙ by_tests
+    module _ (p : first (unit_tests b u) ≡ 0) where
+      by_later : said (first later) full (0, out) ≡ picture_into b u a out
+      by_later = ap (λ (k : ℕ). said k full (0, out)) (sym (passed_here p)) ∙ by_tests
 
-      pub into-unsound : ((verdict b u).0 ≡ 0 → ⊥) → (24, (0, out)) ≡ pictureInto b u a out
-      into-unsound z =
+      pub into_unsound : ((verdict b u).0 ≡ 0 → ⊥) → (24, (0, out)) ≡ picture_into b u a out
+      into_unsound z =
           let n : unsound b u ≡ true = ap not (ne_eqb (verdict b u).0 0 z) in
           let f : first later ≡ 24 = ap (λ (t : Bool). first ((t, 24) ∷ (room, 19) ∷ [])) n ∙ two room in
-          said-no full (0, out) 24 (λ q. omega (arith, q)) ∙ ap (λ (k : ℕ). said k full (0, out)) (sym f) ∙ by-later
+          said_no full (0, out) 24 (λ q. omega (arith, q)) ∙ ap (λ (k : ℕ). said k full (0, out)) (sym f) ∙ by_later
 
-      pub into-written : (verdict b u).0 ≡ 0 → (w : ℕ × (ℕ × List ℕ)) → w ≡ fitted (picture b u a) out → w ≡ pictureInto b u a out
+      pub into_written : (verdict b u).0 ≡ 0 → (w : ℕ × (ℕ × List ℕ)) → w ≡ fitted (picture b u a) out → w ≡ picture_into b u a out
       unfolding fitted
-      into-written z w e =
+      into_written z w e =
           let n : unsound b u ≡ false = ap not (eq-eqb (verdict b u).0 0 z) in
-          e ∙ last room (0, out) full ∙ ap (λ (t : Bool). said (first ((t, 24) ∷ (room, 19) ∷ [])) full (0, out)) (sym n) ∙ by-later
+          e ∙ last room (0, out) full ∙ ap (λ (t : Bool). said (first ((t, 24) ∷ (room, 19) ∷ [])) full (0, out)) (sym n) ∙ by_later

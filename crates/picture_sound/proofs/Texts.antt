@@ -9,8 +9,8 @@ use Rattle.ledger_spec.specs.Bytes.{bytes}
 use Rattle.ledger_spec.specs.Decimals.{signed}
 use Rattle.ledger_spec.specs.Look.{interface}
 use Rattle.ledger_spec.specs.Reads.{slots_of}
-use Rattle.picture_spec.specs.Sketch.{Sketch, slotSeenBy, sketchOf}
-use Rattle.picture_spec.specs.Text.{short, full, namesBy, quoted, key, array, slotText, text_of}
+use Rattle.picture_spec.specs.Sketch.{Sketch, slot_seen_by, sketch_of}
+use Rattle.picture_spec.specs.Text.{short, full, names_by, quoted, key, array, slot_text, text_of}
 use Rattle.picture_spec.specs.Picture.{picture}
 use Rattle.picture_pieces.specs.Drawn.{either}
 
@@ -20,12 +20,12 @@ pieces a x y nodes = either a (123 ∷ 34 ∷ 105 ∷ 110 ∷ 116 ∷ 101 ∷ 11
     ++ (signed x ++ (either a (44 ∷ 34 ∷ 100 ∷ 34 ∷ 58 ∷ []) (44 ∷ 34 ∷ 115 ∷ 117 ∷ 109 ∷ 95 ∷ 100 ∷ 117 ∷ 97 ∷ 108 ∷ 95 ∷ 118 ∷ 97 ∷ 114 ∷ 105 ∷ 97 ∷ 98 ∷ 108 ∷ 101 ∷ 115 ∷ 34 ∷ 58 ∷ [])
     ++ (signed y ++ ((125 ∷ 44 ∷ 34 ∷ 100 ∷ 117 ∷ 97 ∷ 108 ∷ 95 ∷ 110 ∷ 111 ∷ 100 ∷ 101 ∷ 115 ∷ 34 ∷ 58 ∷ []) ++ (nodes ++ (125 ∷ []))))))
 
-pieces-text : (s : Sketch) (a : Bool) → pieces a s.speed s.sum (array (slotText (namesBy a)) s.nodes) ≡ text_of (namesBy a) s
-unfolding text_of either namesBy short full key quoted bytes
-pieces-text s true = refl
-pieces-text s false = refl
+pieces_text : (s : Sketch) (a : Bool) → pieces a s.speed s.sum (array (slot_text (names_by a)) s.nodes) ≡ text_of (names_by a) s
+unfolding text_of either names_by short full key quoted bytes
+pieces_text s true = refl
+pieces_text s false = refl
 
-pub picture-text : (b : Bench) (u : ℕ) (a : Bool) (x y : ℤ) → x ≡ (interface b u).speed → y ≡ (interface b u).sum
-    → pieces a x y (array (slotText (namesBy a)) (map (slotSeenBy b u) (slots_of b u))) ≡ picture b u a
-unfolding picture sketchOf
-picture-text b u a x y p q = ap₂ (λ (v w : ℤ). pieces a v w (array (slotText (namesBy a)) (map (slotSeenBy b u) (slots_of b u)))) p q ∙ pieces-text (sketchOf b u) a
+pub picture_text : (b : Bench) (u : ℕ) (a : Bool) (x y : ℤ) → x ≡ (interface b u).speed → y ≡ (interface b u).sum
+    → pieces a x y (array (slot_text (names_by a)) (map (slot_seen_by b u) (slots_of b u))) ≡ picture b u a
+unfolding picture sketch_of
+picture_text b u a x y p q = ap₂ (λ (v w : ℤ). pieces a v w (array (slot_text (names_by a)) (map (slot_seen_by b u) (slots_of b u)))) p q ∙ pieces_text (sketch_of b u) a

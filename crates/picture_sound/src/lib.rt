@@ -5,9 +5,9 @@ ghost use Rattle.std.proofs.Math.Option.{none};
 ghost use Rattle.ledger_spec.specs.Look.{interface};
 ghost use Rattle.bench_views.specs.Fit.{Fit};
 ghost use Rattle.bench_views.specs.View.{view};
-ghost use Rattle.read_sound.specs.Shown.{shownVertices};
+ghost use Rattle.read_sound.specs.Shown.{shown_vertices};
 ghost use Rattle.check_places.specs.Places.{Places};
-ghost use Rattle.picture_spec.specs.Picture.{picture, pictureInto};
+ghost use Rattle.picture_spec.specs.Picture.{picture, picture_into};
 ghost use Rattle.picture_pieces.specs.Drawn.{Drawn};
 ghost use Rattle.picture_indices.specs.Indices.{Indices};
 ghost use Rattle.picture_sound.specs.Fitted.{fitted};
@@ -56,7 +56,7 @@ fn write(b: &[u64; WORDS], unit: usize, short: bool, out: &mut [u8]) -> Counted
     requires fit { Fit b.now }
     requires unit_bound { unit < 8 }
     requires unit_value { (interface (view b.now) unit).parent ≡ none }
-    ensures { shownVertices result out.new ≡ fitted (picture (view b.now) unit short) out.old }
+    ensures { shown_vertices result out.new ≡ fitted (picture (view b.now) unit short) out.old }
 {
     let mut places = [0usize; 512];
     let count = check_places::list(b, unit, &mut places);
@@ -79,7 +79,7 @@ fn write(b: &[u64; WORDS], unit: usize, short: bool, out: &mut [u8]) -> Counted
 // Writes the picture to the front of a slice, whose rest stays, with abbreviated names or full ones; answers its length.
 pub fn snapshot(b: &[u64; WORDS], unit: u8, short: bool, out: &mut [u8]) -> Counted
     requires { Fit b.now }
-    ensures { shownVertices result out.new ≡ pictureInto (view b.now) unit short out.old }
+    ensures { shown_vertices result out.new ≡ picture_into (view b.now) unit short out.old }
 {
     let number = read_sound::unit_number(b, unit);
     if number != 0 {

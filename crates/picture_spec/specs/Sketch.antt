@@ -5,7 +5,7 @@ use Rattle.std.proofs.Math.Option.{Option, none, some}
 use Rattle.ledger_spec.specs.Bench.{Handle, State, Member, Class, defect, blossom, Node, Bench}
 use Rattle.ledger_spec.specs.Look.{interface}
 use Rattle.ledger_spec.specs.Reads.{slots_of}
-use Rattle.ledger_spec.specs.Check.{indexIn}
+use Rattle.ledger_spec.specs.Check.{index_in}
 
 -- a member of a circle: its index, and those of the two nodes that it touches by
 abbrev pub Linked : Type 0
@@ -39,16 +39,16 @@ module _ (at : Handle → ℕ) where
   indexed none = none
   indexed (some h) = some (at h)
 
-  unfoldable pub seenOf : Option Node → Option Seen
-  seenOf none = none
-  seenOf (some n) = some (record { shape = shape_of n.class; state = n.state; parent = indexed n.parent })
+  unfoldable pub seen_of : Option Node → Option Seen
+  seen_of none = none
+  seen_of (some n) = some (record { shape = shape_of n.class; state = n.state; parent = indexed n.parent })
 
 -- the index of a handle's place among the slots of u's tree
-abbrev pub indexOf : Bench → ℕ → Handle → ℕ
-indexOf b u h = indexIn (slots_of b u) 0 h
+abbrev pub index_of : Bench → ℕ → Handle → ℕ
+index_of b u h = index_in (slots_of b u) 0 h
 
-abbrev pub slotSeenBy : Bench → ℕ → ℕ × ℕ × Option Node → Option Seen
-slotSeenBy b u t = seenOf (indexOf b u) t.2
+abbrev pub slot_seen_by : Bench → ℕ → ℕ × ℕ × Option Node → Option Seen
+slot_seen_by b u t = seen_of (index_of b u) t.2
 
-unfoldable pub sketchOf : Bench → ℕ → Sketch
-sketchOf b u = record { speed = (interface b u).speed; sum = (interface b u).sum; nodes = map (slotSeenBy b u) (slots_of b u) }
+unfoldable pub sketch_of : Bench → ℕ → Sketch
+sketch_of b u = record { speed = (interface b u).speed; sum = (interface b u).sum; nodes = map (slot_seen_by b u) (slots_of b u) }

@@ -44,9 +44,9 @@ full = record {
 }
 
 -- abbreviated, or not
-unfoldable pub namesBy : Bool → Names
-namesBy true = short
-namesBy false = full
+unfoldable pub names_by : Bool → Names
+names_by true = short
+names_by false = full
 
 -- ---- parts
 
@@ -73,55 +73,55 @@ array f xs = 91 ∷ (items f 0 xs ++ (93 ∷ []))
 
 -- ---- a node
 
-unfoldable pub pairText : Linked → List ℕ
-pairText m = 91 ∷ (decimal m.1.0 ++ (44 ∷ (decimal m.1.1 ++ (93 ∷ []))))
+unfoldable pub pair_text : Linked → List ℕ
+pair_text m = 91 ∷ (decimal m.1.0 ++ (44 ∷ (decimal m.1.1 ++ (93 ∷ []))))
 
-abbrev pub indexText : Linked → List ℕ
-indexText m = decimal m.0
+abbrev pub index_text : Linked → List ℕ
+index_text m = decimal m.0
 
-unfoldable pub circleText : Shape → List ℕ
-circleText (vertex v) = null
-circleText (circle ms) = array indexText ms
+unfoldable pub circle_text : Shape → List ℕ
+circle_text (vertex v) = null
+circle_text (circle ms) = array index_text ms
 
-unfoldable pub touchText : Shape → List ℕ
-touchText (vertex v) = null
-touchText (circle ms) = array pairText ms
+unfoldable pub touch_text : Shape → List ℕ
+touch_text (vertex v) = null
+touch_text (circle ms) = array pair_text ms
 
-unfoldable pub vertexText : Shape → List ℕ
-vertexText (vertex v) = decimal v
-vertexText (circle ms) = null
+unfoldable pub vertex_text : Shape → List ℕ
+vertex_text (vertex v) = decimal v
+vertex_text (circle ms) = null
 
-unfoldable pub stateText : State → List ℕ
-stateText grows = quoted (bytes "grow")
-stateText stays = quoted (bytes "stay")
-stateText shrinks = quoted (bytes "shrink")
+unfoldable pub state_text : State → List ℕ
+state_text grows = quoted (bytes "grow")
+state_text stays = quoted (bytes "stay")
+state_text shrinks = quoted (bytes "shrink")
 
-unfoldable pub growthText : State → List ℕ
-growthText s = signed (rate s)
+unfoldable pub growth_text : State → List ℕ
+growth_text s = signed (rate s)
 
-unfoldable pub parentText : Option ℕ → List ℕ
-parentText none = null
-parentText (some k) = decimal k
+unfoldable pub parent_text : Option ℕ → List ℕ
+parent_text none = null
+parent_text (some k) = decimal k
 
 module _ (ns : Names) where
-  unfoldable pub nodeText : Seen → List ℕ
-  nodeText n =
-      (123 ∷ key ns.circle) ++ (circleText n.shape
-      ++ ((44 ∷ key ns.touching) ++ (touchText n.shape
-      ++ ((44 ∷ key ns.vertex) ++ (vertexText n.shape
-      ++ ((44 ∷ key ns.state) ++ (stateText n.state
-      ++ ((44 ∷ key ns.growth) ++ (growthText n.state
-      ++ ((44 ∷ key ns.parent) ++ (parentText n.parent
+  unfoldable pub node_text : Seen → List ℕ
+  node_text n =
+      (123 ∷ key ns.circle) ++ (circle_text n.shape
+      ++ ((44 ∷ key ns.touching) ++ (touch_text n.shape
+      ++ ((44 ∷ key ns.vertex) ++ (vertex_text n.shape
+      ++ ((44 ∷ key ns.state) ++ (state_text n.state
+      ++ ((44 ∷ key ns.growth) ++ (growth_text n.state
+      ++ ((44 ∷ key ns.parent) ++ (parent_text n.parent
       ++ (125 ∷ []))))))))))))
 
-  unfoldable pub slotText : Option Seen → List ℕ
-  slotText none = null
-  slotText (some n) = nodeText n
+  unfoldable pub slot_text : Option Seen → List ℕ
+  slot_text none = null
+  slot_text (some n) = node_text n
 
   -- the whole
   unfoldable pub text_of : Sketch → List ℕ
   text_of s =
       (123 ∷ (key (bytes "interface") ++ (123 ∷ key ns.speed))) ++ (signed s.speed
       ++ ((44 ∷ key ns.sum) ++ (signed s.sum
-      ++ ((125 ∷ 44 ∷ key (bytes "dual_nodes")) ++ (array slotText s.nodes
+      ++ ((125 ∷ 44 ∷ key (bytes "dual_nodes")) ++ (array slot_text s.nodes
       ++ (125 ∷ []))))))

@@ -1,11 +1,11 @@
 // The public reads: any words at all may be lent, with any handle, number and slice. The words are tested once; where they hold no sound bench the answer
 // is BROKEN (2) without a value; else the read on sound words answers. None changes the bench. Assumes nothing.
 ghost use Rattle.std.specs.Prelude.{◌≡◌, false, pos};
-ghost use Rattle.ledger_spec.specs.Named.{handleNamed};
+ghost use Rattle.ledger_spec.specs.Named.{handle_named};
 ghost use Rattle.bench_views.specs.View.{view};
-ghost use Rattle.read_sound.specs.Shown.{shownWeight, shownCount, shownBelongs, shownNode, shownAncestor, shownSecond, shownVertex, shownVertices};
-ghost use Rattle.read_marks.specs.Shown.{shownMark};
-ghost use Rattle.sound_lent.specs.Verdict.{readWords};
+ghost use Rattle.read_sound.specs.Shown.{shown_weight, shown_count, shown_belongs, shown_node, shown_ancestor, shown_second, shown_vertex, shown_vertices};
+ghost use Rattle.read_marks.specs.Shown.{shown_mark};
+ghost use Rattle.sound_lent.specs.Verdict.{read_words};
 ghost use Rattle.ledger_spec.specs.Answers.{sumRead, speedRead, countRead, fillsRead, flooredRead, indexRead, belongsRead, valueRead, outerRead, belowRead, firstRead, verticesRead};
 
 use bench_words::WORDS;
@@ -15,7 +15,7 @@ use read_sound::{Ancestor, Belongs, Counted, Indexed, Represented, Second, Weigh
 
 // BROKEN, without a value.
 fn no_weight() -> Weighed
-    ensures { shownWeight result ≡ (2, pos 0) }
+    ensures { shown_weight result ≡ (2, pos 0) }
 {
     Weighed {
         number: numbers::BROKEN,
@@ -24,7 +24,7 @@ fn no_weight() -> Weighed
 }
 
 fn no_count() -> Counted
-    ensures { shownCount result ≡ (2, 0) }
+    ensures { shown_count result ≡ (2, 0) }
 {
     Counted {
         number: numbers::BROKEN,
@@ -33,7 +33,7 @@ fn no_count() -> Counted
 }
 
 fn no_mark() -> Marked
-    ensures { shownMark result ≡ (2, false) }
+    ensures { shown_mark result ≡ (2, false) }
 {
     Marked {
         number: numbers::BROKEN,
@@ -42,7 +42,7 @@ fn no_mark() -> Marked
 }
 
 pub fn sum_dual_variables(b: &[u64; WORDS], unit: u8) -> Weighed
-    ensures { shownWeight result ≡ readWords b.now (sumRead (view b.now) unit) }
+    ensures { shown_weight result ≡ read_words b.now (sumRead (view b.now) unit) }
 {
     if !sound_lent::is_bench(b) {
         return no_weight();
@@ -51,7 +51,7 @@ pub fn sum_dual_variables(b: &[u64; WORDS], unit: u8) -> Weighed
 }
 
 pub fn sum_grow_speed(b: &[u64; WORDS], unit: u8) -> Weighed
-    ensures { shownWeight result ≡ readWords b.now (speedRead (view b.now) unit) }
+    ensures { shown_weight result ≡ read_words b.now (speedRead (view b.now) unit) }
 {
     if !sound_lent::is_bench(b) {
         return no_weight();
@@ -61,7 +61,7 @@ pub fn sum_grow_speed(b: &[u64; WORDS], unit: u8) -> Weighed
 
 // How many slots the tree has, used or emptied.
 pub fn nodes_count(b: &[u64; WORDS], unit: u8) -> Counted
-    ensures { shownCount result ≡ readWords b.now (countRead (view b.now) unit) }
+    ensures { shown_count result ≡ read_words b.now (countRead (view b.now) unit) }
 {
     if !sound_lent::is_bench(b) {
         return no_count();
@@ -71,7 +71,7 @@ pub fn nodes_count(b: &[u64; WORDS], unit: u8) -> Counted
 
 // Whether the interface gives a new node its lowest empty slot.
 pub fn is_filling(b: &[u64; WORDS], unit: u8) -> Marked
-    ensures { shownMark result ≡ readWords b.now (fillsRead (view b.now) unit) }
+    ensures { shown_mark result ≡ read_words b.now (fillsRead (view b.now) unit) }
 {
     if !sound_lent::is_bench(b) {
         return no_mark();
@@ -81,7 +81,7 @@ pub fn is_filling(b: &[u64; WORDS], unit: u8) -> Marked
 
 // Whether no value of the interface's tree may fall below 0.
 pub fn is_floored(b: &[u64; WORDS], unit: u8) -> Marked
-    ensures { shownMark result ≡ readWords b.now (flooredRead (view b.now) unit) }
+    ensures { shown_mark result ≡ read_words b.now (flooredRead (view b.now) unit) }
 {
     if !sound_lent::is_bench(b) {
         return no_mark();
@@ -91,7 +91,7 @@ pub fn is_floored(b: &[u64; WORDS], unit: u8) -> Marked
 
 // The handle at an index of the tree, nothing if its slot was emptied, RANGE (18) at or past the count.
 pub fn get_node(b: &[u64; WORDS], unit: u8, index: NodeIndex) -> Indexed
-    ensures { shownNode result ≡ readWords b.now (indexRead (view b.now) unit index.0) }
+    ensures { shown_node result ≡ read_words b.now (indexRead (view b.now) unit index.0) }
 {
     if !sound_lent::is_bench(b) {
         return Indexed {
@@ -104,7 +104,7 @@ pub fn get_node(b: &[u64; WORDS], unit: u8, index: NodeIndex) -> Indexed
 
 // Whether a node stands in the interface's tree: no in place of STALE and FOREIGN.
 pub fn check_ptr_belonging(b: &[u64; WORDS], unit: u8, h: Handle) -> Belongs
-    ensures { shownBelongs result ≡ readWords b.now (belongsRead (view b.now) unit (handleNamed h)) }
+    ensures { shown_belongs result ≡ read_words b.now (belongsRead (view b.now) unit (handle_named h)) }
 {
     if !sound_lent::is_bench(b) {
         return Belongs {
@@ -116,7 +116,7 @@ pub fn check_ptr_belonging(b: &[u64; WORDS], unit: u8, h: Handle) -> Belongs
 }
 
 pub fn get_dual_variable(b: &[u64; WORDS], h: Handle) -> Weighed
-    ensures { shownWeight result ≡ readWords b.now (valueRead (view b.now) (handleNamed h)) }
+    ensures { shown_weight result ≡ read_words b.now (valueRead (view b.now) (handle_named h)) }
 {
     if !sound_lent::is_bench(b) {
         return no_weight();
@@ -126,7 +126,7 @@ pub fn get_dual_variable(b: &[u64; WORDS], h: Handle) -> Weighed
 
 // The outermost blossom of a node, a node without a parent being its own, and how many links lead to it.
 pub fn get_ancestor_blossom(b: &[u64; WORDS], h: Handle) -> Ancestor
-    ensures { shownAncestor result ≡ readWords b.now (outerRead (view b.now) (handleNamed h)) }
+    ensures { shown_ancestor result ≡ read_words b.now (outerRead (view b.now) (handle_named h)) }
 {
     if !sound_lent::is_bench(b) {
         return Ancestor {
@@ -140,7 +140,7 @@ pub fn get_ancestor_blossom(b: &[u64; WORDS], h: Handle) -> Ancestor
 
 // The node below the outermost blossom, TOP (12) of a node without a parent.
 pub fn get_secondary_ancestor_blossom(b: &[u64; WORDS], h: Handle) -> Second
-    ensures { shownSecond result ≡ readWords b.now (belowRead (view b.now) (handleNamed h)) }
+    ensures { shown_second result ≡ read_words b.now (belowRead (view b.now) (handle_named h)) }
 {
     if !sound_lent::is_bench(b) {
         return Second {
@@ -153,7 +153,7 @@ pub fn get_secondary_ancestor_blossom(b: &[u64; WORDS], h: Handle) -> Second
 
 // The first vertex under a node.
 pub fn get_representative_vertex(b: &[u64; WORDS], h: Handle) -> Represented
-    ensures { shownVertex result ≡ readWords b.now (firstRead (view b.now) (handleNamed h)) }
+    ensures { shown_vertex result ≡ read_words b.now (firstRead (view b.now) (handle_named h)) }
 {
     if !sound_lent::is_bench(b) {
         return Represented {
@@ -167,7 +167,7 @@ pub fn get_representative_vertex(b: &[u64; WORDS], h: Handle) -> Represented
 // All vertices under a node, depth first in circle order, into the front of a slice; SMALL (19) where it is shorter than the defect size. Entries past
 // the vertices stay as they are.
 pub fn get_all_vertices(b: &[u64; WORDS], h: Handle, out: &mut [u32]) -> Counted
-    ensures { shownVertices result out.new ≡ readWords b.now (verticesRead (view b.now) (handleNamed h) out.old) }
+    ensures { shown_vertices result out.new ≡ read_words b.now (verticesRead (view b.now) (handle_named h) out.old) }
 {
     if !sound_lent::is_bench(b) {
         return no_count();

@@ -5,41 +5,41 @@ use mathlib.Core.Bool.{Bool, true, false}
 use mathlib.Core.List.{List}
 use lib.ListN.{get_or}
 use Rattle.bench_words.specs.Codec.{pick}
-use Rattle.bench_words.specs.Store.{nodeAt, interfaceAt}
+use Rattle.bench_words.specs.Store.{node_at, interface_at}
 use Rattle.bench_words.specs.declared.Interface.{Interface}
 use Rattle.ledger_spec.specs.Bench as plain
 use Rattle.ledger_spec.specs.Look.{interface}
 use Rattle.ledger_spec.specs.Tests.{first, floored}
-use Rattle.ledger_spec.specs.Refuse.{unitTests}
-use Rattle.ledger_spec.specs.Reads.{fillsOf, flooredOf}
-use Rattle.ledger_spec.proofs.Accepted.{clear-passed}
+use Rattle.ledger_spec.specs.Refuse.{unit_tests}
+use Rattle.ledger_spec.specs.Reads.{fills_of, floored_of}
+use Rattle.ledger_spec.proofs.Accepted.{clear_passed}
 use Rattle.bench_views.specs.View.{view}
-use Rattle.bench_views.proofs.Views.{interface-in}
+use Rattle.bench_views.proofs.Views.{interface_in_lem}
 use Rattle.read_sound.proofs.Saying.{refused, accepted}
 
-module _ (b : List ℕ) (u n : ℕ) (e : n ≡ first (unitTests (view b) u)) where
-  fills-no : (n ≡ 0 → ⊥) → (n, false) ≡ fillsOf (view b) u
-  unfolding fillsOf
-  fills-no q = refused (interface (view b) u).marks.fills false n (first (unitTests (view b) u)) e q
+module _ (b : List ℕ) (u n : ℕ) (e : n ≡ first (unit_tests (view b) u)) where
+  fills_no : (n ≡ 0 → ⊥) → (n, false) ≡ fills_of (view b) u
+  unfolding fills_of
+  fills_no q = refused (interface (view b) u).marks.fills false n (first (unit_tests (view b) u)) e q
 
-  floored-no : (n ≡ 0 → ⊥) → (n, false) ≡ flooredOf (view b) u
-  unfolding flooredOf
-  floored-no q = refused (floored (view b) u) false n (first (unitTests (view b) u)) e q
+  floored_no : (n ≡ 0 → ⊥) → (n, false) ≡ floored_of (view b) u
+  unfolding floored_of
+  floored_no q = refused (floored (view b) u) false n (first (unit_tests (view b) u)) e q
 
-  pub mark-no : (n ≡ 0 → ⊥) → (floor : Bool) → (n, false) ≡ pick floor (flooredOf (view b) u) (fillsOf (view b) u)
-  mark-no q true = floored-no q
-  mark-no q false = fills-no q
+  pub mark_no : (n ≡ 0 → ⊥) → (floor : Bool) → (n, false) ≡ pick floor (floored_of (view b) u) (fills_of (view b) u)
+  mark_no q true = floored_no q
+  mark_no q false = fills_no q
 
   module _ (q : n ≡ 0) where
     pub low : u < 8
-    low = (clear-passed (view b) u (sym e ∙ q)).low
+    low = (clear_passed (view b) u (sym e ∙ q)).low
 
-    pub fills-yes : (f : Interface) → f ≡ interfaceAt b u → (0, f.marks.fills) ≡ fillsOf (view b) u
-    unfolding fillsOf
-    fills-yes f i = accepted (interface (view b) u).marks.fills false n (first (unitTests (view b) u)) e q f.marks.fills
-        (ap (λ (x : Interface). x.marks.fills) i ∙ sym (ap (λ (x : plain.Interface). x.marks.fills) (interface-in (get_or b 0 0) (interfaceAt b) (nodeAt b) u low)))
+    pub fills_yes : (f : Interface) → f ≡ interface_at b u → (0, f.marks.fills) ≡ fills_of (view b) u
+    unfolding fills_of
+    fills_yes f i = accepted (interface (view b) u).marks.fills false n (first (unit_tests (view b) u)) e q f.marks.fills
+        (ap (λ (x : Interface). x.marks.fills) i ∙ sym (ap (λ (x : plain.Interface). x.marks.fills) (interface_in_lem (get_or b 0 0) (interface_at b) (node_at b) u low)))
 
-    pub floored-yes : (f : Interface) → f ≡ interfaceAt b u → (0, f.marks.floored) ≡ flooredOf (view b) u
-    unfolding flooredOf
-    floored-yes f i = accepted (floored (view b) u) false n (first (unitTests (view b) u)) e q f.marks.floored
-        (ap (λ (x : Interface). x.marks.floored) i ∙ sym (ap (λ (x : plain.Interface). x.marks.floored) (interface-in (get_or b 0 0) (interfaceAt b) (nodeAt b) u low)))
+    pub floored_yes : (f : Interface) → f ≡ interface_at b u → (0, f.marks.floored) ≡ floored_of (view b) u
+    unfolding floored_of
+    floored_yes f i = accepted (floored (view b) u) false n (first (unit_tests (view b) u)) e q f.marks.floored
+        (ap (λ (x : Interface). x.marks.floored) i ∙ sym (ap (λ (x : plain.Interface). x.marks.floored) (interface_in_lem (get_or b 0 0) (interface_at b) (node_at b) u low)))

@@ -2,5 +2,5 @@
 use Rattle.std.specs.Prelude.{ℕ, Bool}
 use Rattle.read_marks.specs.declared.Marked.{Marked}
 
-abbrev pub shownMark : Marked → ℕ × Bool
-shownMark r = (r.number, r.marked)
+abbrev pub shown_mark : Marked → ℕ × Bool
+shown_mark r = (r.number, r.marked)

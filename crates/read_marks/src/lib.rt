@@ -1,9 +1,9 @@
 // The reads of an interface's marks, on words that hold a sound bench. None changes the bench. Assumes nothing.
 ghost use Rattle.std.specs.Prelude.{◌≡◌};
 ghost use Rattle.bench_words.specs.Codec.{pick};
-ghost use Rattle.ledger_spec.specs.Reads.{fillsOf, flooredOf};
+ghost use Rattle.ledger_spec.specs.Reads.{fills_of, floored_of};
 ghost use Rattle.bench_views.specs.View.{view};
-ghost use Rattle.read_marks.specs.Shown.{shownMark};
+ghost use Rattle.read_marks.specs.Shown.{shown_mark};
 
 use bench_words::WORDS;
 
@@ -16,7 +16,7 @@ pub struct Marked {
 
 // Whether the interface bears a mark, that of its floor or that of its slots: UNIT, CHILD, or the answer.
 fn is_marked(b: &[u64; WORDS], unit: u8, floor: bool) -> Marked
-    ensures { shownMark result ≡ pick floor (flooredOf (view b.now) unit) (fillsOf (view b.now) unit) }
+    ensures { shown_mark result ≡ pick floor (floored_of (view b.now) unit) (fills_of (view b.now) unit) }
 {
     let number = read_sound::unit_number(b, unit);
     if number != 0 {
@@ -41,14 +41,14 @@ fn is_marked(b: &[u64; WORDS], unit: u8, floor: bool) -> Marked
 
 // Whether the interface gives a new node its lowest empty slot.
 pub fn is_filling(b: &[u64; WORDS], unit: u8) -> Marked
-    ensures { shownMark result ≡ fillsOf (view b.now) unit }
+    ensures { shown_mark result ≡ fills_of (view b.now) unit }
 {
     is_marked(b, unit, false)
 }
 
 // Whether no value of the interface's tree may fall below 0.
 pub fn is_floored(b: &[u64; WORDS], unit: u8) -> Marked
-    ensures { shownMark result ≡ flooredOf (view b.now) unit }
+    ensures { shown_mark result ≡ floored_of (view b.now) unit }
 {
     is_marked(b, unit, true)
 }

@@ -9,10 +9,10 @@ use lib.Dec.{leb}
 use lib.ListN.{length}
 use Rattle.ledger_spec.specs.Bench.{Bench}
 use Rattle.ledger_spec.specs.Tests.{first, outside, child}
-use Rattle.ledger_spec.specs.Refuse.{unitTests}
-use Rattle.ledger_spec.specs.Reads.{said, slots_of, indexTests}
+use Rattle.ledger_spec.specs.Refuse.{unit_tests}
+use Rattle.ledger_spec.specs.Reads.{said, slots_of, index_tests}
 use Rattle.read_sound.proofs.Saying.{refused, accepted}
-use Rattle.read_present.specs.Present.{presentIn, next_from, presentOf, next_of}
+use Rattle.read_present.specs.Present.{present_in, next_from, present_of, next_of}
 use Rattle.read_present.specs.Shown.{walk_of}
 
 -- a test after those of the interface counts only where they pass
@@ -28,20 +28,20 @@ passed_on true d t n q = absurd (omega arith)
 passed_on false true t n q = absurd (omega arith)
 passed_on false false t n q = refl
 
-module _ (b : Bench) (u n : ℕ) (e : n ≡ first (unitTests b u)) where
-  pub present-no : (n ≡ 0 → ⊥) → (n, 0) ≡ presentOf b u
-  unfolding presentOf
-  present-no q = refused (presentIn (slots_of b u)) 0 n (first (unitTests b u)) e q
+module _ (b : Bench) (u n : ℕ) (e : n ≡ first (unit_tests b u)) where
+  pub present_no : (n ≡ 0 → ⊥) → (n, 0) ≡ present_of b u
+  unfolding present_of
+  present_no q = refused (present_in (slots_of b u)) 0 n (first (unit_tests b u)) e q
 
-  pub present-yes : n ≡ 0 → (w : ℕ) → w ≡ presentIn (slots_of b u) → (0, w) ≡ presentOf b u
-  unfolding presentOf
-  present-yes q = accepted (presentIn (slots_of b u)) 0 n (first (unitTests b u)) e q
+  pub present_yes : n ≡ 0 → (w : ℕ) → w ≡ present_in (slots_of b u) → (0, w) ≡ present_of b u
+  unfolding present_of
+  present_yes q = accepted (present_in (slots_of b u)) 0 n (first (unit_tests b u)) e q
 
-  pub next-no : (k : ℕ) → (n ≡ 0 → ⊥) → (n, (0, none)) ≡ next_of b u k
-  unfolding next_of indexTests unitTests
-  next-no k q = refused (next_from 0 k (slots_of b u)) (0, none) n (first (indexTests b u k))
+  pub next_no : (k : ℕ) → (n ≡ 0 → ⊥) → (n, (0, none)) ≡ next_of b u k
+  unfolding next_of index_tests unit_tests
+  next_no k q = refused (next_from 0 k (slots_of b u)) (0, none) n (first (index_tests b u k))
       (e ∙ sym (after (outside u) (child b u) (leb (length (slots_of b u)) k) 18 (λ z. q (e ∙ z)))) q
 
-  pub next-yes : (k : ℕ) → n ≡ 0 → walk_of b u k ≡ next_of b u k
-  unfolding next_of walk_of indexTests unitTests
-  next-yes k q = ap (λ (m : ℕ). said m (next_from 0 k (slots_of b u)) (0, none)) (sym (passed_on (outside u) (child b u) (leb (length (slots_of b u)) k) 18 (sym e ∙ q)))
+  pub next_yes : (k : ℕ) → n ≡ 0 → walk_of b u k ≡ next_of b u k
+  unfolding next_of walk_of index_tests unit_tests
+  next_yes k q = ap (λ (m : ℕ). said m (next_from 0 k (slots_of b u)) (0, none)) (sym (passed_on (outside u) (child b u) (leb (length (slots_of b u)) k) 18 (sym e ∙ q)))

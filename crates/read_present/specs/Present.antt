@@ -4,8 +4,8 @@ use Rattle.std.proofs.Math.Option.{Option, none, some}
 use Rattle.bench_words.specs.Codec.{pick}
 use Rattle.ledger_spec.specs.Bench.{Handle, Node, Bench}
 use Rattle.ledger_spec.specs.Tests.{first}
-use Rattle.ledger_spec.specs.Refuse.{unitTests}
-use Rattle.ledger_spec.specs.Reads.{said, slots_of, asHandle, indexTests}
+use Rattle.ledger_spec.specs.Refuse.{unit_tests}
+use Rattle.ledger_spec.specs.Reads.{said, slots_of, as_handle, index_tests}
 use Rattle.ledger_spec.specs.Answers.{Read}
 
 -- how many of the slots hold a node
@@ -13,9 +13,9 @@ abbrev pub one : Option Node → ℕ
 one none = 0
 one (some n) = 1
 
-unfoldable pub presentIn : List (ℕ × ℕ × Option Node) → ℕ
-presentIn [] = 0
-presentIn (x ∷ xs) = one x.2 + presentIn xs
+unfoldable pub present_in : List (ℕ × ℕ × Option Node) → ℕ
+present_in [] = 0
+present_in (x ∷ xs) = one x.2 + present_in xs
 
 -- a handle at index i, if there is one, and else what follows
 abbrev pub or_else : Option Handle → ℕ → ℕ × Option Handle → ℕ × Option Handle
@@ -25,18 +25,18 @@ or_else (some h) i r = (i, some h)
 -- of slots whose first has index i: the first of index k or more that holds a node, with its index; 0 and nothing where none does
 unfoldable pub next_from : ℕ → ℕ → List (ℕ × ℕ × Option Node) → ℕ × Option Handle
 next_from i k [] = (0, none)
-next_from i k (x ∷ xs) = or_else (pick (leb k i) (asHandle x) none) i (next_from (suc i) k xs)
+next_from i k (x ∷ xs) = or_else (pick (leb k i) (as_handle x) none) i (next_from (suc i) k xs)
 
 -- ---- the reads: refused as a read of an interface is, the second by RANGE too, at the count and past it
 
-unfoldable pub presentOf : Bench → ℕ → ℕ × ℕ
-presentOf b u = said (first (unitTests b u)) (presentIn (slots_of b u)) 0
+unfoldable pub present_of : Bench → ℕ → ℕ × ℕ
+present_of b u = said (first (unit_tests b u)) (present_in (slots_of b u)) 0
 
 unfoldable pub next_of : Bench → ℕ → ℕ → ℕ × (ℕ × Option Handle)
-next_of b u k = said (first (indexTests b u k)) (next_from 0 k (slots_of b u)) (0, none)
+next_of b u k = said (first (index_tests b u k)) (next_from 0 k (slots_of b u)) (0, none)
 
-abbrev pub presentRead : Bench → ℕ → Read ℕ
-presentRead b u = record { own = presentOf b u; zero = 0 }
+abbrev pub present_read : Bench → ℕ → Read ℕ
+present_read b u = record { own = present_of b u; zero = 0 }
 
-abbrev pub nextRead : Bench → ℕ → ℕ → Read (ℕ × Option Handle)
-nextRead b u k = record { own = next_of b u k; zero = (0, none) }
+abbrev pub next_read : Bench → ℕ → ℕ → Read (ℕ × Option Handle)
+next_read b u k = record { own = next_of b u k; zero = (0, none) }

@@ -10,12 +10,12 @@ use Rattle.read_sound.specs.Shown.{maybe}
 use Rattle.read_present.specs.declared.Next.{Next}
 use Rattle.read_present.specs.Present.{next_from}
 
-abbrev pub shownNext : Next → ℕ × (ℕ × Option Handle)
-shownNext r = (r.number, (r.index.0, maybe r.node))
+abbrev pub shown_next : Next → ℕ × (ℕ × Option Handle)
+shown_next r = (r.number, (r.index.0, maybe r.node))
 
 -- the node in slot s of interface u, as a handle
-abbrev pub handIn : (ℕ → Node) → ℕ → ℕ → Handle
-handIn A u s = record { unit = u; slot = s; serial = (A (u * 64 + s)).serial.0 }
+abbrev pub hand_in : (ℕ → Node) → ℕ → ℕ → Handle
+hand_in A u s = record { unit = u; slot = s; serial = (A (u * 64 + s)).serial.0 }
 
 -- `next_of` past the tests of the interface
 unfoldable pub walk_of : Bench → ℕ → ℕ → ℕ × (ℕ × Option Handle)

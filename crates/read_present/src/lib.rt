@@ -2,18 +2,18 @@
 // tree's interfaces and pass over emptied slots unread. None changes the bench. Assumes nothing.
 ghost use Rattle.std.specs.Prelude.{◌≡◌, ◌∷◌, [], leb, ◌+◌, ◌-◌, ◌<◌, ◌≤◌};
 ghost use Rattle.std.proofs.Math.Option.{none, some};
-ghost use Rattle.slot_map.specs.Slots.{count_to, firstFrom};
-ghost use Rattle.bench_words.specs.Store.{nodeAt};
+ghost use Rattle.slot_map.specs.Slots.{count_to, first_from};
+ghost use Rattle.bench_words.specs.Store.{node_at};
 ghost use Rattle.ledger_spec.specs.Look.{interface};
 ghost use Rattle.ledger_spec.specs.Numbers.{RANGE};
 ghost use Rattle.ledger_spec.specs.Tests.{first};
 ghost use Rattle.ledger_spec.specs.Reads.{slots_of};
-ghost use Rattle.bench_views.specs.Canon.{heldIn};
+ghost use Rattle.bench_views.specs.Canon.{held_in};
 ghost use Rattle.bench_views.specs.Fit.{Fit};
 ghost use Rattle.bench_views.specs.View.{view};
-ghost use Rattle.read_sound.specs.Shown.{shownCount};
-ghost use Rattle.read_present.specs.Present.{presentIn, presentOf, next_of};
-ghost use Rattle.read_present.specs.Shown.{shownNext, handIn, walk_of};
+ghost use Rattle.read_sound.specs.Shown.{shown_count};
+ghost use Rattle.read_present.specs.Present.{present_in, present_of, next_of};
+ghost use Rattle.read_present.specs.Shown.{shown_next, hand_in, walk_of};
 
 use bench_words::WORDS;
 use kinds::{Handle, MaybeNode, NodeIndex, numbers};
@@ -32,7 +32,7 @@ pub struct Next {
 fn marked(b: &[u64; WORDS], u: usize) -> u64
     requires fit { Fit b.now }
     requires u_bound { u < 8 }
-    ensures { (result ≡ count_to (heldIn (nodeAt b.now) u) 64) × (result ≤ 64) }
+    ensures { (result ≡ count_to (held_in (node_at b.now) u) 64) × (result ≤ 64) }
 {
     let map = bench_words::load_map(b, u);
     slot_map::count(map)
@@ -43,7 +43,7 @@ fn total(b: &[u64; WORDS], unit: usize) -> u64
     requires fit { Fit b.now }
     requires unit_bound { unit < 8 }
     requires unit_value { (interface (view b.now) unit).parent ≡ none }
-    ensures { result ≡ presentIn (slots_of (view b.now) unit) }
+    ensures { result ≡ present_in (slots_of (view b.now) unit) }
 {
     let o = bench_orders::order_of(b, unit);
     let mut sum: u64 = 0;
@@ -59,7 +59,7 @@ fn total(b: &[u64; WORDS], unit: usize) -> u64
 // How many present nodes the tree has.
 pub fn present_count(b: &[u64; WORDS], unit: u8) -> Counted
     requires { Fit b.now }
-    ensures { shownCount result ≡ presentOf (view b.now) unit }
+    ensures { shown_count result ≡ present_of (view b.now) unit }
 {
     let number = read_sound::unit_number(b, unit);
     if number != 0 {
@@ -73,7 +73,7 @@ pub fn present_count(b: &[u64; WORDS], unit: u8) -> Counted
 fn next_in(b: &[u64; WORDS], u: usize, from: u64) -> Found
     requires fit { Fit b.now }
     requires u_bound { u < 8 }
-    ensures { result ≡ firstFrom (heldIn (nodeAt b.now) u) from (64 - from) }
+    ensures { result ≡ first_from (held_in (node_at b.now) u) from (64 - from) }
 {
     if 64 <= from {
         return Found::Nothing;
@@ -95,7 +95,7 @@ fn rest(index: u64, passed: u64) -> u64
 // A node found: slot s of interface u, so many slots before that interface.
 fn reached(b: &[u64; WORDS], u: usize, s: u8, passed: u64) -> Next
     requires { (u < 8) × (s < 64) × (passed ≤ 512) }
-    ensures { shownNext result ≡ (0, (passed + s, some (handIn (nodeAt b.now) u s))) }
+    ensures { shown_next result ≡ (0, (passed + s, some (hand_in (node_at b.now) u s))) }
 {
     let n = bench_words::load_node(b, u * 64 + (s as usize));
     let serial = n.serial;
@@ -125,7 +125,7 @@ fn walk(b: &[u64; WORDS], unit: usize, index: u64) -> Next
     requires fit { Fit b.now }
     requires unit_bound { unit < 8 }
     requires unit_value { (interface (view b.now) unit).parent ≡ none }
-    ensures { shownNext result ≡ walk_of (view b.now) unit index }
+    ensures { shown_next result ≡ walk_of (view b.now) unit index }
 {
     let o = bench_orders::order_of(b, unit);
     let mut passed: u64 = 0;
@@ -151,7 +151,7 @@ fn walk(b: &[u64; WORDS], unit: usize, index: u64) -> Next
 // The next present node at or after an index of the tree, with its own index; nothing if all slots from there on were emptied; RANGE (18) at or past the count.
 pub fn next_present(b: &[u64; WORDS], unit: u8, index: NodeIndex) -> Next
     requires { Fit b.now }
-    ensures { shownNext result ≡ next_of (view b.now) unit index.0 }
+    ensures { shown_next result ≡ next_of (view b.now) unit index.0 }
 {
     let number = read_sound::unit_number(b, unit);
     if number != 0 {

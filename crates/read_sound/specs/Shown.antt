@@ -4,7 +4,7 @@ use Rattle.std.proofs.Math.Option.{Option, none, some}
 use Rattle.kinds.specs.declared.MaybeNode.{MaybeNode}
 use Rattle.kinds.specs.declared.MaybeNode.TheVariants.{NoNode, Node}
 use Rattle.ledger_spec.specs.Bench.{Handle}
-use Rattle.ledger_spec.specs.Named.{handleNamed}
+use Rattle.ledger_spec.specs.Named.{handle_named}
 use Rattle.read_sound.specs.declared.Weighed.{Weighed}
 use Rattle.read_sound.specs.declared.Counted.{Counted}
 use Rattle.read_sound.specs.declared.Belongs.{Belongs}
@@ -15,29 +15,29 @@ use Rattle.read_sound.specs.declared.Represented.{Represented}
 
 abbrev pub maybe : MaybeNode → Option Handle
 maybe NoNode = none
-maybe (Node h) = some (handleNamed h)
+maybe (Node h) = some (handle_named h)
 
-abbrev pub shownWeight : Weighed → ℕ × ℤ
-shownWeight r = (r.number, r.weight)
+abbrev pub shown_weight : Weighed → ℕ × ℤ
+shown_weight r = (r.number, r.weight)
 
-abbrev pub shownCount : Counted → ℕ × ℕ
-shownCount r = (r.number, r.count)
+abbrev pub shown_count : Counted → ℕ × ℕ
+shown_count r = (r.number, r.count)
 
-abbrev pub shownBelongs : Belongs → ℕ × Bool
-shownBelongs r = (r.number, r.inside)
+abbrev pub shown_belongs : Belongs → ℕ × Bool
+shown_belongs r = (r.number, r.inside)
 
-abbrev pub shownNode : Indexed → ℕ × Option Handle
-shownNode r = (r.number, maybe r.node)
+abbrev pub shown_node : Indexed → ℕ × Option Handle
+shown_node r = (r.number, maybe r.node)
 
-abbrev pub shownAncestor : Ancestor → ℕ × (Handle × ℕ)
-shownAncestor r = (r.number, (handleNamed r.node, r.links))
+abbrev pub shown_ancestor : Ancestor → ℕ × (Handle × ℕ)
+shown_ancestor r = (r.number, (handle_named r.node, r.links))
 
-abbrev pub shownSecond : Second → ℕ × Handle
-shownSecond r = (r.number, handleNamed r.node)
+abbrev pub shown_second : Second → ℕ × Handle
+shown_second r = (r.number, handle_named r.node)
 
-abbrev pub shownVertex : Represented → ℕ × ℕ
-shownVertex r = (r.number, r.vertex.0)
+abbrev pub shown_vertex : Represented → ℕ × ℕ
+shown_vertex r = (r.number, r.vertex.0)
 
 -- with the lent list as it is left
-abbrev pub shownVertices : Counted → List ℕ → ℕ × (ℕ × List ℕ)
-shownVertices r out = (r.number, (r.count, out))
+abbrev pub shown_vertices : Counted → List ℕ → ℕ × (ℕ × List ℕ)
+shown_vertices r out = (r.number, (r.count, out))

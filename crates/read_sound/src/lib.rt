@@ -1,16 +1,16 @@
 // The reads of docs/MANUAL.md, Reads, on words that hold a sound bench: each answers its refusal number, and a value where that is 0. None changes the bench.
 // A read of an interface is refused by UNIT (3) or CHILD (4), a read of a node by STALE (8). Assumes nothing.
 ghost use Rattle.std.specs.Prelude.{◌≡◌, ◌<◌, ◌/◌, ◌%◌};
-ghost use Rattle.bench_words.specs.Store.{interfaceAt};
+ghost use Rattle.bench_words.specs.Store.{interface_at};
 ghost use Rattle.ledger_spec.specs.Look.{slot_of};
-ghost use Rattle.ledger_spec.specs.Named.{handleNamed};
+ghost use Rattle.ledger_spec.specs.Named.{handle_named};
 ghost use Rattle.ledger_spec.specs.Tests.{first};
-ghost use Rattle.ledger_spec.specs.Refuse.{unitTests};
-ghost use Rattle.ledger_spec.specs.Reads.{asHandle, sum_of, speedOf, count_of, handleAtIndex, value_of, belongs};
-ghost use Rattle.ledger_spec.specs.Walk.{outerOf, belowOf, firstVertex, verticesInto};
+ghost use Rattle.ledger_spec.specs.Refuse.{unit_tests};
+ghost use Rattle.ledger_spec.specs.Reads.{as_handle, sum_of, speed_of, count_of, handle_at_index, value_of, belongs};
+ghost use Rattle.ledger_spec.specs.Walk.{outer_of, below_of, first_vertex, vertices_into};
 ghost use Rattle.bench_views.specs.Fit.{Fit};
 ghost use Rattle.bench_views.specs.View.{view};
-ghost use Rattle.read_sound.specs.Shown.{maybe, shownWeight, shownCount, shownBelongs, shownNode, shownAncestor, shownSecond, shownVertex, shownVertices};
+ghost use Rattle.read_sound.specs.Shown.{maybe, shown_weight, shown_count, shown_belongs, shown_node, shown_ancestor, shown_second, shown_vertex, shown_vertices};
 
 use bench_links::Found;
 use bench_orders::Spot;
@@ -69,7 +69,7 @@ pub struct Represented {
 
 // UNIT, CHILD or 0: what a call that names one interface may be refused by first.
 pub fn unit_number(b: &[u64; WORDS], unit: u8) -> u8
-    ensures { result ≡ first (unitTests (view b.now) unit) }
+    ensures { result ≡ first (unit_tests (view b.now) unit) }
 {
     if 8 <= unit {
         return numbers::UNIT;
@@ -84,7 +84,7 @@ pub fn unit_number(b: &[u64; WORDS], unit: u8) -> u8
 
 pub fn sum_dual_variables(b: &[u64; WORDS], unit: u8) -> Weighed
     requires { Fit b.now }
-    ensures { shownWeight result ≡ sum_of (view b.now) unit }
+    ensures { shown_weight result ≡ sum_of (view b.now) unit }
 {
     let number = unit_number(b, unit);
     if number != 0 {
@@ -96,7 +96,7 @@ pub fn sum_dual_variables(b: &[u64; WORDS], unit: u8) -> Weighed
 
 pub fn sum_grow_speed(b: &[u64; WORDS], unit: u8) -> Weighed
     requires { Fit b.now }
-    ensures { shownWeight result ≡ speedOf (view b.now) unit }
+    ensures { shown_weight result ≡ speed_of (view b.now) unit }
 {
     let number = unit_number(b, unit);
     if number != 0 {
@@ -109,7 +109,7 @@ pub fn sum_grow_speed(b: &[u64; WORDS], unit: u8) -> Weighed
 // How many slots the tree has, used or emptied.
 pub fn nodes_count(b: &[u64; WORDS], unit: u8) -> Counted
     requires { Fit b.now }
-    ensures { shownCount result ≡ count_of (view b.now) unit }
+    ensures { shown_count result ≡ count_of (view b.now) unit }
 {
     let number = unit_number(b, unit);
     if number != 0 {
@@ -122,7 +122,7 @@ pub fn nodes_count(b: &[u64; WORDS], unit: u8) -> Counted
 // The node whose value is asked: STALE, or its value.
 pub fn get_dual_variable(b: &[u64; WORDS], h: Handle) -> Weighed
     requires { Fit b.now }
-    ensures { shownWeight result ≡ value_of (view b.now) (handleNamed h) }
+    ensures { shown_weight result ≡ value_of (view b.now) (handle_named h) }
 {
     let found = bench_links::find(b, h);
     match found {
@@ -140,8 +140,8 @@ pub fn get_dual_variable(b: &[u64; WORDS], h: Handle) -> Weighed
 // What stands in a used slot, as a handle.
 fn node_at(b: &[u64; WORDS], k: usize) -> MaybeNode
     requires k_bound { k / 64 < 8 }
-    requires k_bound_2 { k % 64 < (interfaceAt b.now (k / 64)).used }
-    ensures { maybe result ≡ asHandle (k / 64, k % 64, slot_of (view b.now) (k / 64) (k % 64)) }
+    requires k_bound_2 { k % 64 < (interface_at b.now (k / 64)).used }
+    ensures { maybe result ≡ as_handle (k / 64, k % 64, slot_of (view b.now) (k / 64) (k % 64)) }
 {
     let n = bench_words::load_node(b, k);
     let class = n.class;
@@ -159,7 +159,7 @@ fn node_at(b: &[u64; WORDS], k: usize) -> MaybeNode
 // The handle at an index of the tree, nothing if its slot was emptied, RANGE (18) at or past the count.
 pub fn get_node(b: &[u64; WORDS], unit: u8, index: NodeIndex) -> Indexed
     requires { Fit b.now }
-    ensures { shownNode result ≡ handleAtIndex (view b.now) unit index.0 }
+    ensures { shown_node result ≡ handle_at_index (view b.now) unit index.0 }
 {
     let number = unit_number(b, unit);
     if number != 0 {
@@ -184,7 +184,7 @@ pub fn get_node(b: &[u64; WORDS], unit: u8, index: NodeIndex) -> Indexed
 // Whether a node stands in the interface's tree: no in place of STALE and FOREIGN.
 pub fn check_ptr_belonging(b: &[u64; WORDS], unit: u8, h: Handle) -> Belongs
     requires { Fit b.now }
-    ensures { shownBelongs result ≡ belongs (view b.now) unit (handleNamed h) }
+    ensures { shown_belongs result ≡ belongs (view b.now) unit (handle_named h) }
 {
     let number = unit_number(b, unit);
     if number != 0 {
@@ -212,7 +212,7 @@ pub fn check_ptr_belonging(b: &[u64; WORDS], unit: u8, h: Handle) -> Belongs
 // The outermost blossom of a node, a node without a parent being its own, and how many links lead to it.
 pub fn get_ancestor_blossom(b: &[u64; WORDS], h: Handle) -> Ancestor
     requires { Fit b.now }
-    ensures { shownAncestor result ≡ outerOf (view b.now) (handleNamed h) }
+    ensures { shown_ancestor result ≡ outer_of (view b.now) (handle_named h) }
 {
     let found = bench_links::find(b, h);
     match found {
@@ -236,7 +236,7 @@ pub fn get_ancestor_blossom(b: &[u64; WORDS], h: Handle) -> Ancestor
 // The node below the outermost blossom, TOP (12) of a node without a parent.
 pub fn get_secondary_ancestor_blossom(b: &[u64; WORDS], h: Handle) -> Second
     requires { Fit b.now }
-    ensures { shownSecond result ≡ belowOf (view b.now) (handleNamed h) }
+    ensures { shown_second result ≡ below_of (view b.now) (handle_named h) }
 {
     let found = bench_links::find(b, h);
     match found {
@@ -261,7 +261,7 @@ pub fn get_secondary_ancestor_blossom(b: &[u64; WORDS], h: Handle) -> Second
 // The first vertex under a node.
 pub fn get_representative_vertex(b: &[u64; WORDS], h: Handle) -> Represented
     requires { Fit b.now }
-    ensures { shownVertex result ≡ firstVertex (view b.now) (handleNamed h) }
+    ensures { shown_vertex result ≡ first_vertex (view b.now) (handle_named h) }
 {
     let found = bench_links::find(b, h);
     match found {
@@ -279,7 +279,7 @@ pub fn get_representative_vertex(b: &[u64; WORDS], h: Handle) -> Represented
 // All vertices under a node, depth first in circle order, into the front of a slice, whose rest stays; SMALL (19) where it is shorter than the defect size.
 pub fn get_all_vertices(b: &[u64; WORDS], h: Handle, out: &mut [u32]) -> Counted
     requires { Fit b.now }
-    ensures { shownVertices result out.new ≡ verticesInto (view b.now) (handleNamed h) out.old }
+    ensures { shown_vertices result out.new ≡ vertices_into (view b.now) (handle_named h) out.old }
 {
     let found = bench_links::find(b, h);
     match found {

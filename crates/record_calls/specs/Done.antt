@@ -4,13 +4,13 @@ use Rattle.std.proofs.Math.Option.{Option, none, some}
 use Rattle.bench_views.specs.View.{view}
 use Rattle.text_numbers.specs.declared.Reply.{Reply}
 use Rattle.text_calls.specs.Turned.{Gave}
-use Rattle.record_spec.specs.Operations.{Member, Op, serialOf}
-use Rattle.record_says.specs.Says.{saysOp}
+use Rattle.record_spec.specs.Operations.{Member, Op, serial_of}
+use Rattle.record_says.specs.Says.{says_op}
 
 -- what the record that was read says
 abbrev pub DoneAt : List ℕ → Option (Op × List ℕ) → Reply → List ℕ → Type 0
 DoneAt b none r b' = Unit {0}
-DoneAt b (some x) r b' = Gave (saysOp (view b) x.0) r b'
+DoneAt b (some x) r b' = Gave (says_op (view b) x.0) r b'
 
 -- ---- members on their way to a call
 
@@ -23,5 +23,5 @@ touches (m ∷ ms) = m.first ∷ m.second ∷ touches ms
 pub record Laid (ms : List Member) (n : ℕ) (members touching members' touching' : List ℕ) : Type 0 where
   pub long : length members' ≡ length members
   pub wide : length touching' ≡ length touching
-  pub serials : take n members' ≡ map serialOf ms
+  pub serials : take n members' ≡ map serial_of ms
   pub pairs : take (2 * n) touching' ≡ touches ms

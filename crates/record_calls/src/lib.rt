@@ -2,8 +2,8 @@
 // A blossom's members and touching nodes stand in two lent slices meanwhile; what those hold says nothing. Assumes nothing.
 ghost use Rattle.std.specs.Prelude.{◌≡◌, ◌+◌, ◌*◌, ◌≤◌, length, drop, get_or};
 ghost use Rattle.bench_views.specs.Fit.{SoundWords};
-ghost use Rattle.record_spec.specs.Reader.{recordIn};
-ghost use Rattle.record_measures.specs.Measures.{membersAt};
+ghost use Rattle.record_spec.specs.Reader.{record_in};
+ghost use Rattle.record_measures.specs.Measures.{members_at};
 ghost use Rattle.record_reads.specs.Reads.{Recorded};
 ghost use Rattle.record_calls.specs.Done.{Laid, DoneAt};
 
@@ -19,7 +19,7 @@ pub const TOUCHING: usize = 130;
 // Lays the serials of the first n members from place q on, and of their pairs, two by two.
 fn lay(s: &[u8], q: usize, n: usize, members: &mut [u64], touching: &mut [u64])
     requires { (q + 12 * n ≤ length s.now) × ((n ≤ length members.old) × (2 * n ≤ length touching.old)) }
-    ensures { Laid (membersAt n s.now q) n members.old touching.old members.new touching.new }
+    ensures { Laid (members_at n s.now q) n members.old touching.old members.new touching.new }
 {
     let mut i: usize = 0;
     let mut at = q;
@@ -44,7 +44,7 @@ fn blossom(
     hints: &mut [u16; HINTS],
 ) -> Reply
     requires { SoundWords b.old × (Recorded s.now p × ((get_or s.now p 0 ≡ 66) × ((65 ≤ length members.old) × (130 ≤ length touching.old)))) }
-    ensures { DoneAt b.old (recordIn (drop p s.now)) result b.new }
+    ensures { DoneAt b.old (record_in (drop p s.now)) result b.new }
 {
     let unit = s[p + 1];
     let count = record_numbers::two_at(s, p + 2);
@@ -68,7 +68,7 @@ pub fn perform(
     hints: &mut [u16; HINTS],
 ) -> Reply
     requires { SoundWords b.old × (Recorded s.now p × ((65 ≤ length members.old) × (130 ≤ length touching.old))) }
-    ensures { DoneAt b.old (recordIn (drop p s.now)) result b.new }
+    ensures { DoneAt b.old (record_in (drop p s.now)) result b.new }
 {
     if s[p] == b'B' {
         return blossom(b, s, p, members, touching, hints);

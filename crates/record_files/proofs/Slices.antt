@@ -8,9 +8,9 @@ use mir.Syntax.{w8}
 use mir.Val.{Fits}
 use Rattle.record_spec.specs.Numbers.{Bytes}
 
-pub bytes-all : (s : List ℕ) → ((i : ℕ) → Fits w8 (get_or s i 0)) → Bytes s
-bytes-all [] h = tt
-bytes-all (b ∷ s) h = (omega (arith, h 0), bytes-all s (λ i. h (suc i)))
+pub bytes_all : (s : List ℕ) → ((i : ℕ) → Fits w8 (get_or s i 0)) → Bytes s
+bytes_all [] h = tt
+bytes_all (b ∷ s) h = (omega (arith, h 0), bytes_all s (λ i. h (suc i)))
 
-pub bytes-from : (s : List ℕ) (p : ℕ) → ((i : ℕ) → Fits w8 (get_or s i 0)) → Bytes (drop p s)
-bytes-from s p h = bytes-all (drop p s) (λ i. rw (get_or-drop p s i 0) (h (p + i)))
+pub bytes_from : (s : List ℕ) (p : ℕ) → ((i : ℕ) → Fits w8 (get_or s i 0)) → Bytes (drop p s)
+bytes_from s p h = bytes_all (drop p s) (λ i. rw (get_or-drop p s i 0) (h (p + i)))

@@ -3,31 +3,31 @@ use Rattle.std.specs.Prelude.{ℕ, ◌+◌, ◌-◌, Bool, true, false, List, lt
 use Rattle.std.proofs.Math.Option.{Option, none, some}
 use Rattle.record_spec.specs.Operations.{Op}
 use Rattle.record_spec.specs.Reader.{pick}
-use Rattle.record_spec.specs.Files.{recordsOf, fitting}
+use Rattle.record_spec.specs.Files.{records_of, fitting}
 use Rattle.record_spec.specs.Places.{at}
-use Rattle.record_spec.specs.Moves.{text_of, allSelf}
+use Rattle.record_spec.specs.Moves.{text_of, all_self}
 use Rattle.record_files.specs.declared.Scanned.{Scanned}
 use Rattle.record_files.specs.declared.Trailer.{Trailer}
 
-abbrev pub notFile : Scanned
-notFile = record { whole = false; count = 0; start = 0; text = 0; own = true }
+abbrev pub not_file : Scanned
+not_file = record { whole = false; count = 0; start = 0; text = 0; own = true }
 
-abbrev pub scannedOf : Option (List Op) → Scanned
-scannedOf none = notFile
-scannedOf (some ops) = record { whole = true; count = length ops; start = length (recordsOf ops); text = length (text_of ops); own = allSelf ops }
+abbrev pub scanned_of : Option (List Op) → Scanned
+scanned_of none = not_file
+scanned_of (some ops) = record { whole = true; count = length ops; start = length (records_of ops); text = length (text_of ops); own = all_self ops }
 
 -- ---- the trailer
 
 -- do the numbers of a trailer at place n fit
-abbrev pub fitsAt : List ℕ → ℕ → Bool
-fitsAt s n = fitting (length s) (at 4 s n) (at 4 s (n + 4)) (at 4 s (n + 8)) (at 4 s (n + 12))
+abbrev pub fits_at : List ℕ → ℕ → Bool
+fits_at s n = fitting (length s) (at 4 s n) (at 4 s (n + 4)) (at 4 s (n + 8)) (at 4 s (n + 12))
 
-abbrev pub noTrailer : Trailer
-noTrailer = record { fits = false; start = 0; count = 0 }
+abbrev pub no_trailer : Trailer
+no_trailer = record { fits = false; start = 0; count = 0 }
 
-abbrev pub trailerAt : List ℕ → ℕ → Trailer
-trailerAt s n = pick (fitsAt s n) (record { fits = true; start = at 4 s n; count = at 4 s (n + 4) }) noTrailer
+abbrev pub trailer_at : List ℕ → ℕ → Trailer
+trailer_at s n = pick (fits_at s n) (record { fits = true; start = at 4 s n; count = at 4 s (n + 4) }) no_trailer
 
 -- it takes the last 16 bytes
-abbrev pub trailerOf : List ℕ → Trailer
-trailerOf s = pick (ltb (length s) 16) noTrailer (trailerAt s (length s - 16))
+abbrev pub trailer_of : List ℕ → Trailer
+trailer_of s = pick (ltb (length s) 16) no_trailer (trailer_at s (length s - 16))

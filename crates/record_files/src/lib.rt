@@ -1,9 +1,9 @@
 // Whether a slice is a file of records, read from the trailer back, and what it holds: how many records, where the list starts, how many bytes its
 // text has, whether every pair is the member. One pass, and nothing is copied. Assumes nothing.
 ghost use Rattle.std.specs.Prelude.{◌≡◌, ◌+◌, ◌*◌, ◌≤◌, ◌<◌, length};
-ghost use Rattle.record_spec.specs.Files.{recordsIn, fitting, fileOps};
-ghost use Rattle.record_spec.specs.Places.{foursAt};
-ghost use Rattle.record_files.specs.Scans.{scannedOf, notFile as «not-file», trailerOf, noTrailer as «no-trailer»};
+ghost use Rattle.record_spec.specs.Files.{records_in, fitting, file_ops};
+ghost use Rattle.record_spec.specs.Places.{fours_at};
+ghost use Rattle.record_files.specs.Scans.{scanned_of, not_file as «not-file», trailer_of, no_trailer as «no_trailer»};
 
 // The letters DLG2, as a number of 4 bytes, and the most bytes of a file: starts and trailer numbers take 4.
 pub const MARK: u64 = 843533380;
@@ -57,7 +57,7 @@ fn is_fitting(size: usize, start: usize, count: usize, before: usize, letters: u
 // The records of t, each at its start: `count` starts stand in s from a place on. The last record ends where t ends.
 fn walk(s: &[u8], t: &[u8], list: usize, count: usize) -> Scanned
     requires { (list + 4 * count ≤ length s.now) × (count < 4294967296) }
-    ensures { result ≡ scannedOf (recordsIn 0 (foursAt count s.now list) t.now) }
+    ensures { result ≡ scanned_of (records_in 0 (fours_at count s.now list) t.now) }
 {
     let mut p: usize = 0;
     let mut entry = list;
@@ -93,7 +93,7 @@ fn walk(s: &[u8], t: &[u8], list: usize, count: usize) -> Scanned
 }
 
 fn no_trailer() -> Trailer
-    ensures { result ≡ «no-trailer» }
+    ensures { result ≡ «no_trailer» }
 {
     Trailer {
         fits: false,
@@ -104,7 +104,7 @@ fn no_trailer() -> Trailer
 
 // What the last 16 bytes say; the records and the list are not looked at.
 pub fn read_trailer(s: &[u8]) -> Trailer
-    ensures { result ≡ trailerOf s.now }
+    ensures { result ≡ trailer_of s.now }
 {
     let size = s.len();
     if size < 16 {
@@ -127,7 +127,7 @@ pub fn read_trailer(s: &[u8]) -> Trailer
 
 // What a slice holds, if it is a file.
 pub fn scan(s: &[u8]) -> Scanned
-    ensures { result ≡ scannedOf (fileOps s.now) }
+    ensures { result ≡ scanned_of (file_ops s.now) }
 {
     let t = read_trailer(s);
     if t.fits {

@@ -6,7 +6,7 @@ use Rattle.ledger_spec.specs.Numbers.{RANGE, FILE}
 use Rattle.record_spec.specs.Numbers.{then}
 use Rattle.record_spec.specs.Operations.{Op}
 use Rattle.record_spec.specs.Records.{bytes_of}
-use Rattle.record_spec.specs.Reader.{pick, recordIn}
+use Rattle.record_spec.specs.Reader.{pick, record_in}
 use Rattle.record_spec.specs.Files.{fitting}
 use Rattle.record_spec.specs.Places.{at}
 
@@ -20,10 +20,10 @@ asked none = refusal FILE
 asked (some op) = says op
 
 -- operation k of a list, the first being 0
-abbrev pub kthIn : List Op → ℕ → Asked
-kthIn [] k = refusal RANGE
-kthIn (op ∷ ops) zero = says op
-kthIn (op ∷ ops) (suc k) = kthIn ops k
+abbrev pub kth_in : List Op → ℕ → Asked
+kth_in [] k = refusal RANGE
+kth_in (op ∷ ops) zero = says op
+kth_in (op ∷ ops) (suc k) = kth_in ops k
 
 -- ---- by the list
 
@@ -37,12 +37,12 @@ unfoldable pub end_of : List ℕ → ℕ → ℕ → ℕ → ℕ
 end_of s list count k = pick (ltb (suc k) count) (at 4 s (list + 4 * suc k)) list
 
 -- the record that stands from one place to another, all of it
-unfoldable pub recordAt : List ℕ → ℕ → ℕ → Option Op
-recordAt s from to = then (recordIn (drop from s)) (λ op r. pick (eqb (from + length (bytes_of op)) to) (some op) none)
+unfoldable pub record_at : List ℕ → ℕ → ℕ → Option Op
+record_at s from to = then (record_in (drop from s)) (λ op r. pick (eqb (from + length (bytes_of op)) to) (some op) none)
 
 -- record k, of which the list says that it starts at `from`
 unfoldable pub standing : List ℕ → ℕ → ℕ → ℕ → ℕ → Asked
-standing s list count k from = asked (pick (begins k from) (recordAt (take list s) from (end_of s list count k)) none)
+standing s list count k from = asked (pick (begins k from) (record_at (take list s) from (end_of s list count k)) none)
 
 unfoldable pub listed : List ℕ → ℕ → ℕ → ℕ → Asked
 listed s list count k = pick (ltb k count) (standing s list count k (at 4 s (list + 4 * k))) (refusal RANGE)
@@ -53,5 +53,5 @@ unfoldable pub trailed : List ℕ → ℕ → ℕ → Asked
 trailed s from k =
     pick (fitting (length s) (at 4 s from) (at 4 s (from + 4)) (at 4 s (from + 8)) (at 4 s (from + 12))) (listed s (at 4 s from) (at 4 s (from + 4)) k) (refusal FILE)
 
-unfoldable pub kthOf : List ℕ → ℕ → Asked
-kthOf s k = pick (ltb (length s) 16) (refusal FILE) (trailed s (length s - 16) k)
+unfoldable pub kth_of : List ℕ → ℕ → Asked
+kth_of s k = pick (ltb (length s) 16) (refusal FILE) (trailed s (length s - 16) k)

@@ -2,8 +2,8 @@
 // trailer, list or record do not fit, RANGE where there is no such record, SMALL last. Refused, the slice is as it was. Assumes nothing.
 ghost use Rattle.std.specs.Prelude.{◌≡◌, ◌+◌, ◌*◌, ◌≤◌, ◌<◌, length};
 ghost use Rattle.record_packs.specs.Packs.{MovedAs};
-ghost use Rattle.record_gets.specs.Kth.{listed, kthOf, begins as «first-begins», end_of};
-ghost use Rattle.record_gets.specs.Words.{getInto};
+ghost use Rattle.record_gets.specs.Kth.{listed, kth_of, begins as «first-begins», end_of};
+ghost use Rattle.record_gets.specs.Words.{get_into};
 ghost use Rattle.record_gets.specs.Gets.{Finds};
 
 use kinds::numbers;
@@ -73,7 +73,7 @@ fn stand(s: &[u8], list: usize, count: usize, k: usize) -> Found
 
 // Record k, from the trailer back.
 fn find(s: &[u8], k: usize) -> Found
-    ensures { Finds (kthOf s.now k) s.now result }
+    ensures { Finds (kth_of s.now k) s.now result }
 {
     let t = record_files::read_trailer(s);
     if !t.fits {
@@ -93,7 +93,7 @@ fn find(s: &[u8], k: usize) -> Found
 
 // The words of record k, the first being 0; answers how many were written.
 pub fn get(file: &[u8], k: usize, out: &mut [u64]) -> Moved
-    ensures { MovedAs (getInto file.now k out.old) out.new result }
+    ensures { MovedAs (get_into file.now k out.old) out.new result }
 {
     let f = find(file, k);
     if f.number != 0 {

@@ -2,9 +2,9 @@
 ghost use Rattle.std.specs.Prelude.{◌≡◌, [], ◌∷◌, ◌+◌, ◌*◌, ◌≤◌, length as «long»};
 ghost use Rattle.std.proofs.lemmas.List.Edits.{sets};
 ghost use Rattle.record_spec.specs.Places.{at as «number_at»};
-ghost use Rattle.record_measures.specs.Measures.{membersAt};
-ghost use Rattle.record_gets.specs.Words.{memberWords};
-ghost use Rattle.record_gets.specs.Gets.{stateWord, frontOf, frontWords};
+ghost use Rattle.record_measures.specs.Measures.{members_at};
+ghost use Rattle.record_gets.specs.Words.{member_words};
+ghost use Rattle.record_gets.specs.Gets.{state_word, front_of, front_words};
 
 use kinds::GrowState;
 use text_lines::Line;
@@ -21,7 +21,7 @@ pub struct Front {
 }
 
 fn state_word(state: GrowState) -> u64
-    ensures { result ≡ stateWord state }
+    ensures { result ≡ state_word state }
 {
     match state {
         GrowState::Grow => 1,
@@ -70,7 +70,7 @@ fn four(letter: u64, unit: u8, third: u64, fourth: u64) -> Front
 }
 
 pub fn front_of(line: Line) -> Front
-    ensures { result ≡ frontOf line }
+    ensures { result ≡ front_of line }
 {
     match line {
         Line::Defect { unit, vertex } => three(68, unit, vertex.0 as u64, 0),
@@ -96,7 +96,7 @@ pub fn front_of(line: Line) -> Front
 // Writes the words before the members at the front.
 pub fn put_front(out: &mut [u64], f: Front)
     requires { (2 ≤ f.many) × ((f.many ≤ 4) × (f.many ≤ «long» out.old)) }
-    ensures { out.new ≡ sets out.old 0 (frontWords f) }
+    ensures { out.new ≡ sets out.old 0 (front_words f) }
 {
     out[0] = f.letter;
     out[1] = f.unit;
@@ -122,7 +122,7 @@ fn put_member(s: &[u8], p: usize, out: &mut [u64], at: usize)
 // Writes the members from place q on at a place.
 pub fn put_members(s: &[u8], q: usize, count: usize, out: &mut [u64], place: usize)
     requires { (q + 12 * count ≤ «long» s.now) × (place + 3 * count ≤ «long» out.old) }
-    ensures { out.new ≡ sets out.old place (memberWords (membersAt count s.now q)) }
+    ensures { out.new ≡ sets out.old place (member_words (members_at count s.now q)) }
 {
     let mut p = q;
     let mut at = place;

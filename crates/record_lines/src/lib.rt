@@ -2,10 +2,10 @@
 ghost use Rattle.std.specs.Prelude.{◌+◌, ◌*◌, ◌≤◌, ◌<◌, [], ◌∷◌, length, drop};
 ghost use Rattle.ledger_spec.specs.Decimals.{decimal, signed};
 ghost use Rattle.text_decimals.specs.Wrote.{Wrote};
-ghost use Rattle.record_spec.specs.Numbers.{lengthIn};
+ghost use Rattle.record_spec.specs.Numbers.{length_in};
 ghost use Rattle.record_spec.specs.Places.{at as «number_at»};
-ghost use Rattle.record_spec.specs.Reader.{recordIn};
-ghost use Rattle.record_lines.specs.Lines.{lineIn, Ready, tail, stateText, serialFields, fields_at, bytes_at};
+ghost use Rattle.record_spec.specs.Reader.{record_in};
+ghost use Rattle.record_lines.specs.Lines.{line_in, Ready, tail, state_text, serial_fields, fields_at, bytes_at};
 
 // A space and a number.
 fn put_field(out: &mut [u8], at: usize, n: u64) -> usize
@@ -37,8 +37,8 @@ fn put_below(out: &mut [u8], at: usize, n: u64) -> usize
 
 // A space and a state, by its byte.
 fn put_state(out: &mut [u8], at: usize, n: u64) -> usize
-    requires { at + length (32 ∷ stateText n) ≤ length out.old }
-    ensures { Wrote out.old at (32 ∷ stateText n) out.new result }
+    requires { at + length (32 ∷ state_text n) ≤ length out.old }
+    ensures { Wrote out.old at (32 ∷ state_text n) out.new result }
 {
     if n == 255 {
         return put_below(out, at, 1);
@@ -48,8 +48,8 @@ fn put_state(out: &mut [u8], at: usize, n: u64) -> usize
 
 // A space and a length, by its number in 8 bytes.
 fn put_length(out: &mut [u8], at: usize, n: u64) -> usize
-    requires { at + length (32 ∷ signed (lengthIn n)) ≤ length out.old }
-    ensures { Wrote out.old at (32 ∷ signed (lengthIn n)) out.new result }
+    requires { at + length (32 ∷ signed (length_in n)) ≤ length out.old }
+    ensures { Wrote out.old at (32 ∷ signed (length_in n)) out.new result }
 {
     if n < 9223372036854775808 {
         return put_field(out, at, n);
@@ -60,8 +60,8 @@ fn put_length(out: &mut [u8], at: usize, n: u64) -> usize
 
 // The serials of so many members, which stand from q on with a pair after each.
 fn put_serials(out: &mut [u8], at: usize, t: &[u8], q: usize, count: usize) -> usize
-    requires { (at + length (tail (serialFields count t.now q)) ≤ length out.old) × (q + 12 * count ≤ length t.now) }
-    ensures { Wrote out.old at (tail (serialFields count t.now q)) out.new result }
+    requires { (at + length (tail (serial_fields count t.now q)) ≤ length out.old) × (q + 12 * count ≤ length t.now) }
+    ensures { Wrote out.old at (tail (serial_fields count t.now q)) out.new result }
 {
     let mut place = at;
     let mut from = q;
@@ -77,8 +77,8 @@ fn put_serials(out: &mut [u8], at: usize, t: &[u8], q: usize, count: usize) -> u
 
 // The fields of `S` after the unit.
 fn put_serial_state(out: &mut [u8], at: usize, serial: u64, state: u64) -> usize
-    requires { at + length (tail (decimal serial ∷ stateText state ∷ [])) ≤ length out.old }
-    ensures { Wrote out.old at (tail (decimal serial ∷ stateText state ∷ [])) out.new result }
+    requires { at + length (tail (decimal serial ∷ state_text state ∷ [])) ≤ length out.old }
+    ensures { Wrote out.old at (tail (decimal serial ∷ state_text state ∷ [])) out.new result }
 {
     let p = put_field(out, at, serial);
     put_state(out, p, state)
@@ -125,8 +125,8 @@ fn put_fields(out: &mut [u8], at: usize, t: &[u8], letter: u8, q: usize) -> usiz
 
 // The line of the record at place p of t.
 pub fn put_line(out: &mut [u8], at: usize, t: &[u8], p: usize) -> usize
-    requires { Ready (recordIn (drop p t.now)) at (length out.old) }
-    ensures { Wrote out.old at (lineIn (recordIn (drop p t.now))) out.new result }
+    requires { Ready (record_in (drop p t.now)) at (length out.old) }
+    ensures { Wrote out.old at (line_in (record_in (drop p t.now))) out.new result }
 {
     let letter = t[p];
     let unit = record_numbers::byte_at(t, p + 1);

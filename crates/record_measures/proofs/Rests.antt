@@ -9,13 +9,13 @@ use lib.ListN.{length, drop, length-drop}
 use borrow.Author.Tests.{ne_eqb}
 use Rattle.ledger_spec.specs.Bench.{State}
 use Rattle.ledger_spec.specs.Operations.{D, B, E, S, G, F}
-use Rattle.record_spec.specs.Numbers.{then, number, lengthIn}
+use Rattle.record_spec.specs.Numbers.{then, number, length_in}
 use Rattle.record_spec.specs.Operations.{Member, Op}
-use Rattle.record_spec.specs.Reader.{stateIn, membersIn, rest}
+use Rattle.record_spec.specs.Reader.{state_in, members_in, rest}
 use Rattle.record_spec.specs.Places.{at}
-use Rattle.record_spec.proofs.Numbers.{then-only, then-back, same_after}
-use Rattle.record_spec.proofs.Places.{number_at, number_short, number-length}
-use Rattle.record_measures.specs.Measures.{memberAt, membersAt}
+use Rattle.record_spec.proofs.Numbers.{then_only, then_back, same_after}
+use Rattle.record_spec.proofs.Places.{number_at, number_short, number_length}
+use Rattle.record_measures.specs.Measures.{member_at, members_at}
 
 -- ---- a number that is not there
 
@@ -24,52 +24,52 @@ no_number k t q z h = number_short k (drop q t) (omega (arith, length-drop q t))
 
 -- ---- members
 
-pub members-at : (n : ℕ) (s : List ℕ) (p : ℕ) → p + 12 * n ≤ length s → membersIn n (drop p s) ≡ some (membersAt n s p, drop (p + 12 * n) s)
-unfolding membersIn membersAt
-members-at zero s p h = let e : p ≡ p + 12 * 0 = omega arith in ap (λ (n : ℕ). some ([], drop n s)) e
-members-at (suc n) s p h =
-    let m = memberAt s p in
+pub members_at_lem : (n : ℕ) (s : List ℕ) (p : ℕ) → p + 12 * n ≤ length s → members_in n (drop p s) ≡ some (members_at n s p, drop (p + 12 * n) s)
+unfolding members_in members_at
+members_at_lem zero s p h = let e : p ≡ p + 12 * 0 = omega arith in ap (λ (n : ℕ). some ([], drop n s)) e
+members_at_lem (suc n) s p h =
+    let m = member_at s p in
     let e : p + 4 + 4 ≡ p + 8 = omega arith in
     let f : p + 8 + 4 ≡ p + 12 = omega arith in
     let g : p + 12 + 12 * n ≡ p + 12 * suc n = omega arith in
-    then-back (number 4 (drop p s))
-    (λ k t. then (number 4 t) (λ x v. then (number 4 v) (λ y w. then (membersIn n w) (λ l q. some (record { serial = k; first = x; second = y } ∷ l, q)))))
+    then_back (number 4 (drop p s))
+    (λ k t. then (number 4 t) (λ x v. then (number 4 v) (λ y w. then (members_in n w) (λ l q. some (record { serial = k; first = x; second = y } ∷ l, q)))))
     (at 4 s p) (drop (p + 4) s) (number_at 4 s p (omega arith))
-    ∙ then-back (number 4 (drop (p + 4) s))
-    (λ x v. then (number 4 v) (λ y w. then (membersIn n w) (λ l q. some (record { serial = at 4 s p; first = x; second = y } ∷ l, q))))
+    ∙ then_back (number 4 (drop (p + 4) s))
+    (λ x v. then (number 4 v) (λ y w. then (members_in n w) (λ l q. some (record { serial = at 4 s p; first = x; second = y } ∷ l, q))))
     (at 4 s (p + 4)) (drop (p + 8) s) (number_at 4 s (p + 4) (omega arith) ∙ ap (λ (a : ℕ). some (at 4 s (p + 4), drop a s)) e)
-    ∙ then-back (number 4 (drop (p + 8) s))
-    (λ y w. then (membersIn n w) (λ l q. some (record { serial = at 4 s p; first = at 4 s (p + 4); second = y } ∷ l, q)))
+    ∙ then_back (number 4 (drop (p + 8) s))
+    (λ y w. then (members_in n w) (λ l q. some (record { serial = at 4 s p; first = at 4 s (p + 4); second = y } ∷ l, q)))
     (at 4 s (p + 8)) (drop (p + 12) s) (number_at 4 s (p + 8) (omega arith) ∙ ap (λ (a : ℕ). some (at 4 s (p + 8), drop a s)) f)
-    ∙ then-back (membersIn n (drop (p + 12) s)) (λ l q. some (m ∷ l, q)) (membersAt n s (p + 12)) (drop (p + 12 + 12 * n) s) (members-at n s (p + 12) (omega arith))
-    ∙ ap (λ (a : ℕ). some (m ∷ membersAt n s (p + 12), drop a s)) g
+    ∙ then_back (members_in n (drop (p + 12) s)) (λ l q. some (m ∷ l, q)) (members_at n s (p + 12)) (drop (p + 12 + 12 * n) s) (members_at_lem n s (p + 12) (omega arith))
+    ∙ ap (λ (a : ℕ). some (m ∷ members_at n s (p + 12), drop a s)) g
 
-members-length : (n : ℕ) (s : List ℕ) (ms : List Member) (r : List ℕ) → membersIn n s ≡ some (ms, r) → length s ≡ 12 * n + length r
-unfolding membersIn
-members-length zero s ms r e = omega (arith, ap length (same_after [] ms s r e))
-members-length (suc n) s ms r e =
-    let a = then-only (number 4 s)
-    (λ k t. then (number 4 t) (λ x v. then (number 4 v) (λ y w. then (membersIn n w) (λ l q. some (record { serial = k; first = x; second = y } ∷ l, q))))) (ms, r) e in
-    let b = then-only (number 4 a.after)
-    (λ x v. then (number 4 v) (λ y w. then (membersIn n w) (λ l q. some (record { serial = a.value; first = x; second = y } ∷ l, q)))) (ms, r) a.goes in
-    let c = then-only (number 4 b.after) (λ y w. then (membersIn n w) (λ l q. some (record { serial = a.value; first = b.value; second = y } ∷ l, q))) (ms, r) b.goes in
-    let d = then-only (membersIn n c.after) (λ l q. some (record { serial = a.value; first = b.value; second = c.value } ∷ l, q)) (ms, r) c.goes in
+members_length : (n : ℕ) (s : List ℕ) (ms : List Member) (r : List ℕ) → members_in n s ≡ some (ms, r) → length s ≡ 12 * n + length r
+unfolding members_in
+members_length zero s ms r e = omega (arith, ap length (same_after [] ms s r e))
+members_length (suc n) s ms r e =
+    let a = then_only (number 4 s)
+    (λ k t. then (number 4 t) (λ x v. then (number 4 v) (λ y w. then (members_in n w) (λ l q. some (record { serial = k; first = x; second = y } ∷ l, q))))) (ms, r) e in
+    let b = then_only (number 4 a.after)
+    (λ x v. then (number 4 v) (λ y w. then (members_in n w) (λ l q. some (record { serial = a.value; first = x; second = y } ∷ l, q)))) (ms, r) a.goes in
+    let c = then_only (number 4 b.after) (λ y w. then (members_in n w) (λ l q. some (record { serial = a.value; first = b.value; second = y } ∷ l, q))) (ms, r) b.goes in
+    let d = then_only (members_in n c.after) (λ l q. some (record { serial = a.value; first = b.value; second = c.value } ∷ l, q)) (ms, r) c.goes in
     let m : Member = record { serial = a.value; first = b.value; second = c.value } in
     omega (
       arith,
-      number-length 4 s a.value a.after a.read,
-      number-length 4 a.after b.value b.after b.read,
-      number-length 4 b.after c.value c.after c.read,
-      members-length n c.after d.value d.after d.read,
+      number_length 4 s a.value a.after a.read,
+      number_length 4 a.after b.value b.after b.read,
+      number_length 4 b.after c.value c.after c.read,
+      members_length n c.after d.value d.after d.read,
       ap length (same_after (m ∷ d.value) ms d.after r d.goes),
     )
 
-members-short : (n : ℕ) (s : List ℕ) → length s < 12 * n → membersIn n s ≡ none
-members-short n s h = go (membersIn n s) refl
+members_short : (n : ℕ) (s : List ℕ) → length s < 12 * n → members_in n s ≡ none
+members_short n s h = go (members_in n s) refl
   where
-    go : (o : Option (List Member × List ℕ)) → membersIn n s ≡ o → membersIn n s ≡ none
+    go : (o : Option (List Member × List ℕ)) → members_in n s ≡ o → members_in n s ≡ none
     go none e = e
-    go (some p) e = absurd (omega (arith, members-length n s p.0 p.1 e))
+    go (some p) e = absurd (omega (arith, members_length n s p.0 p.1 e))
 
 -- ---- the letters
 
@@ -80,7 +80,7 @@ stated u k o r = elim o [ none ↦ none | some g ↦ some (S u k g, r) ]
 module _ (t : List ℕ) (q u : ℕ) where
   pub rest-D : q + 4 ≤ length t → rest 68 u (drop q t) ≡ some (D u (at 4 t q), drop (q + 4) t)
   unfolding rest
-  rest-D h = then-back (number 4 (drop q t)) (λ v r. some (D u v, r)) (at 4 t q) (drop (q + 4) t) (number_at 4 t q h)
+  rest-D h = then_back (number 4 (drop q t)) (λ v r. some (D u v, r)) (at 4 t q) (drop (q + 4) t) (number_at 4 t q h)
 
   pub short-D : length t < q + 4 → rest 68 u (drop q t) ≡ none
   unfolding rest
@@ -88,47 +88,47 @@ module _ (t : List ℕ) (q u : ℕ) where
 
   pub rest-E : q + 4 ≤ length t → rest 69 u (drop q t) ≡ some (E u (at 4 t q), drop (q + 4) t)
   unfolding rest
-  rest-E h = then-back (number 4 (drop q t)) (λ v r. some (E u v, r)) (at 4 t q) (drop (q + 4) t) (number_at 4 t q h)
+  rest-E h = then_back (number 4 (drop q t)) (λ v r. some (E u v, r)) (at 4 t q) (drop (q + 4) t) (number_at 4 t q h)
 
   pub short-E : length t < q + 4 → rest 69 u (drop q t) ≡ none
   unfolding rest
   short-E h = ap (λ (o : Option (ℕ × List ℕ)). then {B = Op × List ℕ} o (λ v r. some (E u v, r))) (no_number 4 t q (omega arith) h)
 
-  in-S : q + 5 ≤ length t → rest 83 u (drop q t) ≡ stated u (at 4 t q) (stateIn (at 1 t (q + 4))) (drop (q + 4 + 1) t)
+  in-S : q + 5 ≤ length t → rest 83 u (drop q t) ≡ stated u (at 4 t q) (state_in (at 1 t (q + 4))) (drop (q + 4 + 1) t)
   unfolding rest
   in-S h =
-      then-back (number 4 (drop q t)) (λ k v. then (number 1 v) (λ n r. stated u k (stateIn n) r)) (at 4 t q) (drop (q + 4) t) (number_at 4 t q (omega arith))
-      ∙ then-back (number 1 (drop (q + 4) t)) (λ n r. stated u (at 4 t q) (stateIn n) r) (at 1 t (q + 4)) (drop (q + 4 + 1) t) (number_at 1 t (q + 4) (omega arith))
+      then_back (number 4 (drop q t)) (λ k v. then (number 1 v) (λ n r. stated u k (state_in n) r)) (at 4 t q) (drop (q + 4) t) (number_at 4 t q (omega arith))
+      ∙ then_back (number 1 (drop (q + 4) t)) (λ n r. stated u (at 4 t q) (state_in n) r) (at 1 t (q + 4)) (drop (q + 4 + 1) t) (number_at 1 t (q + 4) (omega arith))
 
-  pub rest-S : (g : State) → q + 5 ≤ length t → stateIn (at 1 t (q + 4)) ≡ some g → rest 83 u (drop q t) ≡ some (S u (at 4 t q) g, drop (q + 4 + 1) t)
+  pub rest-S : (g : State) → q + 5 ≤ length t → state_in (at 1 t (q + 4)) ≡ some g → rest 83 u (drop q t) ≡ some (S u (at 4 t q) g, drop (q + 4 + 1) t)
   rest-S g h e = in-S h ∙ ap (λ (o : Option State). stated u (at 4 t q) o (drop (q + 4 + 1) t)) e
 
-  pub bad-S : q + 5 ≤ length t → stateIn (at 1 t (q + 4)) ≡ none → rest 83 u (drop q t) ≡ none
+  pub bad-S : q + 5 ≤ length t → state_in (at 1 t (q + 4)) ≡ none → rest 83 u (drop q t) ≡ none
   bad-S h e = in-S h ∙ ap (λ (o : Option State). stated u (at 4 t q) o (drop (q + 4 + 1) t)) e
 
   pub short-S : length t < q + 5 → rest 83 u (drop q t) ≡ none
   unfolding rest
   short-S h = go (dec_le (q + 4) (length t))
     where
-      go : Dec (q + 4 ≤ length t) → then (number 4 (drop q t)) (λ k v. then (number 1 v) (λ n r. stated u k (stateIn n) r)) ≡ none
-      go (no l) = ap (λ (o : Option (ℕ × List ℕ)). then o (λ k v. then (number 1 v) (λ n r. stated u k (stateIn n) r))) (no_number 4 t q (omega arith) (omega arith))
+      go : Dec (q + 4 ≤ length t) → then (number 4 (drop q t)) (λ k v. then (number 1 v) (λ n r. stated u k (state_in n) r)) ≡ none
+      go (no l) = ap (λ (o : Option (ℕ × List ℕ)). then o (λ k v. then (number 1 v) (λ n r. stated u k (state_in n) r))) (no_number 4 t q (omega arith) (omega arith))
       go (yes l) =
-          then-back (number 4 (drop q t)) (λ k v. then (number 1 v) (λ n r. stated u k (stateIn n) r)) (at 4 t q) (drop (q + 4) t) (number_at 4 t q l)
-          ∙ ap (λ (o : Option (ℕ × List ℕ)). then o (λ n r. stated u (at 4 t q) (stateIn n) r)) (no_number 1 t (q + 4) (omega arith) (omega arith))
+          then_back (number 4 (drop q t)) (λ k v. then (number 1 v) (λ n r. stated u k (state_in n) r)) (at 4 t q) (drop (q + 4) t) (number_at 4 t q l)
+          ∙ ap (λ (o : Option (ℕ × List ℕ)). then o (λ n r. stated u (at 4 t q) (state_in n) r)) (no_number 1 t (q + 4) (omega arith) (omega arith))
 
-  pub rest-G : q + 8 ≤ length t → rest 71 u (drop q t) ≡ some (G u (lengthIn (at 8 t q)), drop (q + 8) t)
+  pub rest-G : q + 8 ≤ length t → rest 71 u (drop q t) ≡ some (G u (length_in (at 8 t q)), drop (q + 8) t)
   unfolding rest
-  rest-G h = then-back (number 8 (drop q t)) (λ n r. some (G u (lengthIn n), r)) (at 8 t q) (drop (q + 8) t) (number_at 8 t q h)
+  rest-G h = then_back (number 8 (drop q t)) (λ n r. some (G u (length_in n), r)) (at 8 t q) (drop (q + 8) t) (number_at 8 t q h)
 
   pub short-G : length t < q + 8 → rest 71 u (drop q t) ≡ none
   unfolding rest
-  short-G h = ap (λ (o : Option (ℕ × List ℕ)). then {B = Op × List ℕ} o (λ n r. some (G u (lengthIn n), r))) (no_number 8 t q (omega arith) h)
+  short-G h = ap (λ (o : Option (ℕ × List ℕ)). then {B = Op × List ℕ} o (λ n r. some (G u (length_in n), r))) (no_number 8 t q (omega arith) h)
 
   pub rest-F : q + 2 ≤ length t → rest 70 u (drop q t) ≡ some (F u (at 1 t q) (at 1 t (q + 1)), drop (q + 1 + 1) t)
   unfolding rest
   rest-F h =
-      then-back (number 1 (drop q t)) (λ a v. then (number 1 v) (λ b r. some (F u a b, r))) (at 1 t q) (drop (q + 1) t) (number_at 1 t q (omega arith))
-      ∙ then-back (number 1 (drop (q + 1) t)) (λ b r. some (F u (at 1 t q) b, r)) (at 1 t (q + 1)) (drop (q + 1 + 1) t) (number_at 1 t (q + 1) (omega arith))
+      then_back (number 1 (drop q t)) (λ a v. then (number 1 v) (λ b r. some (F u a b, r))) (at 1 t q) (drop (q + 1) t) (number_at 1 t q (omega arith))
+      ∙ then_back (number 1 (drop (q + 1) t)) (λ b r. some (F u (at 1 t q) b, r)) (at 1 t (q + 1)) (drop (q + 1 + 1) t) (number_at 1 t (q + 1) (omega arith))
 
   pub short-F : length t < q + 2 → rest 70 u (drop q t) ≡ none
   unfolding rest
@@ -137,30 +137,30 @@ module _ (t : List ℕ) (q u : ℕ) where
       go : Dec (q + 1 ≤ length t) → then {B = Op × List ℕ} (number 1 (drop q t)) (λ a v. then (number 1 v) (λ b r. some (F u a b, r))) ≡ none
       go (no l) = ap (λ (o : Option (ℕ × List ℕ)). then {B = Op × List ℕ} o (λ a v. then (number 1 v) (λ b r. some (F u a b, r)))) (no_number 1 t q (omega arith) (omega arith))
       go (yes l) =
-          then-back (number 1 (drop q t)) (λ a v. then (number 1 v) (λ b r. some (F u a b, r))) (at 1 t q) (drop (q + 1) t) (number_at 1 t q l)
+          then_back (number 1 (drop q t)) (λ a v. then (number 1 v) (λ b r. some (F u a b, r))) (at 1 t q) (drop (q + 1) t) (number_at 1 t q l)
           ∙ ap (λ (o : Option (ℕ × List ℕ)). then {B = Op × List ℕ} o (λ b r. some (F u (at 1 t q) b, r))) (no_number 1 t (q + 1) (omega arith) (omega arith))
 
-  in-B : q + 2 ≤ length t → rest 66 u (drop q t) ≡ then (membersIn (at 2 t q) (drop (q + 2) t)) (λ ms r. some (B u ms, r))
+  in-B : q + 2 ≤ length t → rest 66 u (drop q t) ≡ then (members_in (at 2 t q) (drop (q + 2) t)) (λ ms r. some (B u ms, r))
   unfolding rest
-  in-B h = then-back (number 2 (drop q t)) (λ n v. then (membersIn n v) (λ ms r. some (B u ms, r))) (at 2 t q) (drop (q + 2) t) (number_at 2 t q h)
+  in-B h = then_back (number 2 (drop q t)) (λ n v. then (members_in n v) (λ ms r. some (B u ms, r))) (at 2 t q) (drop (q + 2) t) (number_at 2 t q h)
 
-  pub rest-B : q + 2 + 12 * at 2 t q ≤ length t → rest 66 u (drop q t) ≡ some (B u (membersAt (at 2 t q) t (q + 2)), drop (q + 2 + 12 * at 2 t q) t)
+  pub rest-B : q + 2 + 12 * at 2 t q ≤ length t → rest 66 u (drop q t) ≡ some (B u (members_at (at 2 t q) t (q + 2)), drop (q + 2 + 12 * at 2 t q) t)
   rest-B h =
       in-B (omega arith)
-      ∙ then-back (membersIn (at 2 t q) (drop (q + 2) t)) (λ ms r. some (B u ms, r)) (membersAt (at 2 t q) t (q + 2)) (drop (q + 2 + 12 * at 2 t q) t) (members-at (at 2 t q) t (q + 2) h)
+      ∙ then_back (members_in (at 2 t q) (drop (q + 2) t)) (λ ms r. some (B u ms, r)) (members_at (at 2 t q) t (q + 2)) (drop (q + 2 + 12 * at 2 t q) t) (members_at_lem (at 2 t q) t (q + 2) h)
 
   pub few-B : q + 2 ≤ length t → length t < q + 2 + 12 * at 2 t q → rest 66 u (drop q t) ≡ none
   few-B h l =
       in-B h
-      ∙ ap (λ (o : Option (List Member × List ℕ)). then {B = Op × List ℕ} o (λ ms r. some (B u ms, r))) (members-short (at 2 t q) (drop (q + 2) t) (omega (arith, length-drop (q + 2) t)))
+      ∙ ap (λ (o : Option (List Member × List ℕ)). then {B = Op × List ℕ} o (λ ms r. some (B u ms, r))) (members_short (at 2 t q) (drop (q + 2) t) (omega (arith, length-drop (q + 2) t)))
 
   pub short-B : length t < q + 2 → rest 66 u (drop q t) ≡ none
   unfolding rest
-  short-B h = ap (λ (o : Option (ℕ × List ℕ)). then {B = Op × List ℕ} o (λ n v. then (membersIn n v) (λ ms r. some (B u ms, r)))) (no_number 2 t q (omega arith) h)
+  short-B h = ap (λ (o : Option (ℕ × List ℕ)). then {B = Op × List ℕ} o (λ n v. then (members_in n v) (λ ms r. some (B u ms, r)))) (no_number 2 t q (omega arith) h)
 
 -- ---- any other letter
 
-pub rest-none : (l u : ℕ) (s : List ℕ) → (l ≡ 68 → ⊥) → (l ≡ 66 → ⊥) → (l ≡ 69 → ⊥) → (l ≡ 83 → ⊥) → (l ≡ 71 → ⊥) → (l ≡ 70 → ⊥) → (l ≡ 67 → ⊥) → (l ≡ 75 → ⊥) → rest l u s ≡ none
+pub rest_none : (l u : ℕ) (s : List ℕ) → (l ≡ 68 → ⊥) → (l ≡ 66 → ⊥) → (l ≡ 69 → ⊥) → (l ≡ 83 → ⊥) → (l ≡ 71 → ⊥) → (l ≡ 70 → ⊥) → (l ≡ 67 → ⊥) → (l ≡ 75 → ⊥) → rest l u s ≡ none
 unfolding rest
-rest-none l u s a b c d e f g h =
+rest_none l u s a b c d e f g h =
     rw (ne_eqb l 68 a, ne_eqb l 66 b, ne_eqb l 69 c, ne_eqb l 83 d, ne_eqb l 71 e, ne_eqb l 70 f, ne_eqb l 67 g, ne_eqb l 75 h)

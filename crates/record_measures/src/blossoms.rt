@@ -1,6 +1,6 @@
 // B: unit, count, and for each member its serial and its pair. Assumes nothing.
 ghost use Rattle.std.specs.Prelude.{◌&&◌, ◌≡◌, ◌+◌, ◌*◌, ◌≤◌, ◌<◌, eqb, length, drop};
-ghost use Rattle.record_measures.specs.Measures.{tried, triedMembers, memberAt, membersAt, memberWeight};
+ghost use Rattle.record_measures.specs.Measures.{tried, tried_members, member_at, members_at, member_weight};
 
 use crate::Measured;
 use text_lines::Line;
@@ -23,7 +23,7 @@ fn is_self(serial: u64, first: u64, second: u64) -> bool
 
 fn weigh_member(t: &[u8], q: usize) -> Weight
     requires { q + 12 ≤ length t.now }
-    ensures { (result ≡ memberWeight (memberAt t.now q)) × (result.line ≤ 21) }
+    ensures { (result ≡ member_weight (member_at t.now q)) × (result.line ≤ 21) }
 {
     let serial = record_numbers::four_at(t, q);
     let first = record_numbers::four_at(t, q + 4);
@@ -45,7 +45,7 @@ fn weigh_member(t: &[u8], q: usize) -> Weight
 // The members after the count. No sum passes the first, so a line is counted to its end, however long it is.
 fn members(t: &[u8], unit: u64, q: usize, count: usize) -> Measured
     requires { (q + 12 * count ≤ length t.now) × ((unit < 256) × (count < 65536)) }
-    ensures { result ≡ triedMembers unit (membersAt count t.now q) }
+    ensures { result ≡ tried_members unit (members_at count t.now q) }
 {
     if count == 0 {
         return crate::nothing();

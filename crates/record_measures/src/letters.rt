@@ -1,6 +1,6 @@
 // The records of every letter but B, after the letter and the unit: what is left starts at a place. Assumes nothing.
 ghost use Rattle.std.specs.Prelude.{◌≡◌, ℕ, ◌≤◌, ◌<◌, length, drop, List};
-ghost use Rattle.record_measures.specs.Measures.{tried, stateDigits as «state-digits»};
+ghost use Rattle.record_measures.specs.Measures.{tried, state_digits as «state-digits»};
 
 use crate::Measured;
 

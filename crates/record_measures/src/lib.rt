@@ -1,8 +1,8 @@
 // A record at a place of a slice: whether one stands there, its bytes, its line's bytes with the newline, and whether every pair is the member.
 // Assumes nothing.
 ghost use Rattle.std.specs.Prelude.{◌&&◌, ◌≡◌, drop};
-ghost use Rattle.record_spec.specs.Reader.{recordIn};
-ghost use Rattle.record_measures.specs.Measures.{measuredOf, nothing as «no_record»};
+ghost use Rattle.record_spec.specs.Reader.{record_in};
+ghost use Rattle.record_measures.specs.Measures.{measured_of, nothing as «no_record»};
 
 pub mod digits; // digits.rt: how many digits a number has
 mod letters; // letters.rt: the records of every letter but B
@@ -38,7 +38,7 @@ pub fn both(a: bool, b: bool) -> bool
 
 // The record at a place, measured.
 pub fn measure(t: &[u8], p: usize) -> Measured
-    ensures { result ≡ measuredOf (recordIn (drop p t.now)) }
+    ensures { result ≡ measured_of (record_in (drop p t.now)) }
 {
     if t.len() < 2 {
         return nothing();

@@ -6,14 +6,14 @@ use mathlib.Core.List.{List}
 use Rattle.record_spec.specs.Places.{at}
 
 module _ (s : List ℕ) (p low high : ℕ) where
-  pub two-of : low ≡ at 1 s p → high ≡ at 1 s (p + 1) → low + 256 * high ≡ at 2 s p
+  pub two_of : low ≡ at 1 s p → high ≡ at 1 s (p + 1) → low + 256 * high ≡ at 2 s p
   unfolding at
-  two-of e f = let q : p + 1 ≡ suc p = omega arith in omega (arith, e, f, ap (at 1 s) q)
+  two_of e f = let q : p + 1 ≡ suc p = omega arith in omega (arith, e, f, ap (at 1 s) q)
 
-  pub four-of : low ≡ at 2 s p → high ≡ at 2 s (p + 2) → low + 65536 * high ≡ at 4 s p
+  pub four_of : low ≡ at 2 s p → high ≡ at 2 s (p + 2) → low + 65536 * high ≡ at 4 s p
   unfolding at
-  four-of e f = let q : p + 2 ≡ suc (suc p) = omega arith in omega (arith, e, f, ap (at 2 s) q)
+  four_of e f = let q : p + 2 ≡ suc (suc p) = omega arith in omega (arith, e, f, ap (at 2 s) q)
 
-  pub eight-of : low ≡ at 4 s p → high ≡ at 4 s (p + 4) → low + 4294967296 * high ≡ at 8 s p
+  pub eight_of : low ≡ at 4 s p → high ≡ at 4 s (p + 4) → low + 4294967296 * high ≡ at 8 s p
   unfolding at
-  eight-of e f = let q : p + 4 ≡ suc (suc (suc (suc p))) = omega arith in omega (arith, e, f, ap (at 4 s) q)
+  eight_of e f = let q : p + 4 ≡ suc (suc (suc (suc p))) = omega arith in omega (arith, e, f, ap (at 4 s) q)

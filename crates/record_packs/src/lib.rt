@@ -3,7 +3,7 @@
 ghost use Rattle.std.specs.Prelude.{◌+◌, ◌*◌, ◌≤◌, ◌<◌, length};
 ghost use Rattle.text_decimals.specs.Wrote.{Wrote};
 ghost use Rattle.record_spec.specs.Files.{trailer};
-ghost use Rattle.record_spec.specs.Moves.{toRecords, textOps};
+ghost use Rattle.record_spec.specs.Moves.{to_records, text_ops};
 ghost use Rattle.record_packs.specs.Packs.{Ready, Filled, MovedAs};
 
 use kinds::numbers;
@@ -31,8 +31,8 @@ fn put_trailer(out: &mut [u8], at: usize, start: u64, count: u64) -> usize
 
 // The records and the list of a text that moves: `start` bytes of records, and then where each starts.
 fn fill(text: &[u8], out: &mut [u8], start: usize)
-    requires { Ready (textOps text.now) start (length out.old) }
-    ensures { Filled (textOps text.now) out.old start out.new }
+    requires { Ready (text_ops text.now) start (length out.old) }
+    ensures { Filled (text_ops text.now) out.old start out.new }
 {
     let mut serials: [u64; SERIALS] = [0; SERIALS];
     let mut from: usize = 0;
@@ -51,7 +51,7 @@ fn fill(text: &[u8], out: &mut [u8], start: usize)
 
 // Moves a text; answers the bytes written.
 pub fn to_records(text: &[u8], out: &mut [u8]) -> Moved
-    ensures { MovedAs (toRecords text.now out.old) out.new result }
+    ensures { MovedAs (to_records text.now out.old) out.new result }
 {
     let w = record_weights::weigh(text);
     if !w.whole {

@@ -2,22 +2,22 @@
 use Rattle.std.specs.Prelude.{ℕ, suc, ◌<◌, ◌≡◌, List, ◌∷◌, length, drop}
 use Rattle.std.proofs.Math.Option.{some}
 use Rattle.record_spec.specs.Operations.{Op}
-use Rattle.record_spec.specs.Reader.{recordIn}
-use Rattle.record_spec.specs.Files.{recordsOf, fileOps}
+use Rattle.record_spec.specs.Reader.{record_in}
+use Rattle.record_spec.specs.Files.{records_of, file_ops}
 
 -- s is a file, with its list at a place, and has a record k
 pub record Listed (s : List ℕ) (list k : ℕ) : Type 0 where
   pub ops : List Op
-  pub whole : fileOps s ≡ some ops
-  pub starts : list ≡ length (recordsOf ops)
+  pub whole : file_ops s ≡ some ops
+  pub starts : list ≡ length (records_of ops)
   pub low : k < length ops
 
 -- operation k of ops stands at place p
 pub record Stands (s : List ℕ) (ops : List Op) (k p : ℕ) : Type 0 where
   pub op : Op
   pub after : List ℕ
-  pub read : recordIn (drop p s) ≡ some (op, after)
+  pub read : record_in (drop p s) ≡ some (op, after)
   pub is : drop k ops ≡ op ∷ drop (suc k) ops
 
 abbrev pub Placed : List ℕ → ℕ → ℕ → Type 0
-Placed s k p = (ops : List Op) → fileOps s ≡ some ops → Stands s ops k p
+Placed s k p = (ops : List Op) → file_ops s ≡ some ops → Stands s ops k p

@@ -1,12 +1,12 @@
 // A line's record, written at a place of a lent slice that has room for it: its letter, its unit, its numbers; a blossom's pairs are the members
 // themselves. Assumes nothing.
 ghost use Rattle.std.specs.Prelude.{◌≡◌, ◌++◌, map, ◌+◌, ◌*◌, ◌≤◌, length, take, length as «long»};
-ghost use Rattle.ledger_spec.specs.Named.{stateNamed};
+ghost use Rattle.ledger_spec.specs.Named.{state_named};
 ghost use Rattle.text_decimals.specs.Wrote.{Wrote};
 ghost use Rattle.record_spec.specs.Numbers.{bytes, complement};
 ghost use Rattle.record_spec.specs.Operations.{itself};
-ghost use Rattle.record_spec.specs.Records.{memberFields, spelled, stateByte};
-ghost use Rattle.record_puts.specs.Puts.{recordBy, head_of, Enough};
+ghost use Rattle.record_spec.specs.Records.{member_fields, spelled, state_byte};
+ghost use Rattle.record_puts.specs.Puts.{record_by, head_of, Enough};
 
 use kinds::GrowState;
 use text_lines::Line;
@@ -23,7 +23,7 @@ pub fn complement_of(z: i64) -> u64
 
 // A state's byte: -1 as 255.
 fn state_byte(state: GrowState) -> u64
-    ensures { result ≡ stateByte (stateNamed state) }
+    ensures { result ≡ state_byte (state_named state) }
 {
     match state {
         GrowState::Grow => 1,
@@ -51,7 +51,7 @@ fn put_four_after(out: &mut [u8], at: usize, letter: u64, unit: u8, n: u64) -> u
 
 fn put_state(out: &mut [u8], at: usize, unit: u8, serial: u64, state: GrowState) -> usize
     requires { at + 7 ≤ length out.old }
-    ensures { Wrote out.old at ((head_of 83 unit ++ bytes 4 serial) ++ bytes 1 (stateByte (stateNamed state))) out.new result }
+    ensures { Wrote out.old at ((head_of 83 unit ++ bytes 4 serial) ++ bytes 1 (state_byte (state_named state))) out.new result }
 {
     let p = put_four_after(out, at, 83, unit, serial);
     let n = state_byte(state);
@@ -88,7 +88,7 @@ fn put_member(out: &mut [u8], at: usize, n: u64) -> usize
 
 fn put_members(out: &mut [u8], at: usize, serials: &[u64], count: usize) -> usize
     requires { (at + 12 * count ≤ length out.old) × (count ≤ length serials.now) }
-    ensures { Wrote out.old at (spelled (memberFields (map itself (take count serials.now)))) out.new result }
+    ensures { Wrote out.old at (spelled (member_fields (map itself (take count serials.now)))) out.new result }
 {
     let mut p = at;
     let mut i: usize = 0;
@@ -102,7 +102,7 @@ fn put_members(out: &mut [u8], at: usize, serials: &[u64], count: usize) -> usiz
 
 fn put_blossom(out: &mut [u8], at: usize, unit: u8, serials: &[u64], count: usize) -> usize
     requires { (at + (4 + 12 * count) ≤ length out.old) × (count ≤ length serials.now) }
-    ensures { Wrote out.old at ((head_of 66 unit ++ bytes 2 count) ++ spelled (memberFields (map itself (take count serials.now)))) out.new result }
+    ensures { Wrote out.old at ((head_of 66 unit ++ bytes 2 count) ++ spelled (member_fields (map itself (take count serials.now)))) out.new result }
 {
     let p = put_head(out, at, 66, unit);
     let q = record_numbers::put_two(out, p, count as u64);
@@ -112,7 +112,7 @@ fn put_blossom(out: &mut [u8], at: usize, unit: u8, serials: &[u64], count: usiz
 // A line's record; a blossom's serials stand in front of a slice.
 pub fn put_record(out: &mut [u8], at: usize, line: Line, serials: &[u64]) -> usize
     requires { Enough out.old at line serials.now }
-    ensures { Wrote out.old at (recordBy line serials.now) out.new result }
+    ensures { Wrote out.old at (record_by line serials.now) out.new result }
 {
     match line {
         Line::Defect { unit, vertex } => put_four_after(out, at, 68, unit, vertex.0 as u64),

@@ -5,25 +5,25 @@ use Rattle.kinds.specs.declared.GrowState.{GrowState}
 use Rattle.kinds.specs.declared.GrowState.TheVariants.{Grow as Grows, Stay, Shrink}
 use Rattle.text_lines.specs.declared.Line.{Line}
 use Rattle.text_lines.specs.declared.Line.TheVariants.{SetState, Wrong}
-use Rattle.text_lines.specs.Shown.{lineShown}
-use Rattle.record_spec.specs.Operations.{Op, lineSaid}
-use Rattle.record_spec.specs.Reader.{recordIn, pick}
+use Rattle.text_lines.specs.Shown.{line_shown}
+use Rattle.record_spec.specs.Operations.{Op, line_said}
+use Rattle.record_spec.specs.Reader.{record_in, pick}
 
 -- a record stands at place p
 pub record Recorded (s : List ℕ) (p : ℕ) : Type 0 where
   pub op : Op
   pub after : List ℕ
-  pub read : recordIn (drop p s) ≡ some (op, after)
+  pub read : record_in (drop p s) ≡ some (op, after)
 
-abbrev pub lineOfRecord : Op → Line
-lineOfRecord op = lineShown (lineSaid op)
+abbrev pub line_of_record : Op → Line
+line_of_record op = line_shown (line_said op)
 
-abbrev pub lineFound : Option (Op × List ℕ) → Line
-lineFound none = Wrong
-lineFound (some x) = lineOfRecord x.0
+abbrev pub line_found : Option (Op × List ℕ) → Line
+line_found none = Wrong
+line_found (some x) = line_of_record x.0
 
 unfoldable pub state_of : ℕ → GrowState
 state_of n = pick (eqb n 0) Stay (pick (eqb n 1) Grows Shrink)
 
-abbrev pub stateLine : ℕ → ℕ → ℕ → Line
-stateLine u k n = SetState u (record { 0 = k }) (state_of n)
+abbrev pub state_line : ℕ → ℕ → ℕ → Line
+state_line u k n = SetState u (record { 0 = k }) (state_of n)

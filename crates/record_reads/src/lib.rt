@@ -2,11 +2,11 @@
 // and are read by their number. Nothing is copied. Assumes nothing.
 ghost use Rattle.std.specs.Prelude.{◌≡◌, ◌+◌, ◌≤◌, length, drop};
 ghost use Rattle.ledger_spec.specs.Operations.{D, B, E, G, F};
-ghost use Rattle.record_spec.specs.Numbers.{lengthIn as «length-in»};
-ghost use Rattle.record_spec.specs.Reader.{recordIn};
+ghost use Rattle.record_spec.specs.Numbers.{length_in as «length-in»};
+ghost use Rattle.record_spec.specs.Reader.{record_in};
 ghost use Rattle.record_spec.specs.Places.{at as «number_at»};
-ghost use Rattle.record_measures.specs.Measures.{membersAt};
-ghost use Rattle.record_reads.specs.Reads.{Recorded, lineFound, lineOfRecord, stateLine, state_of as «state-of»};
+ghost use Rattle.record_measures.specs.Measures.{members_at};
+ghost use Rattle.record_reads.specs.Reads.{Recorded, line_found, line_of_record, state_line, state_of as «state-of»};
 
 use kinds::{GrowState, Serial, Vertex};
 use text_lines::Line;
@@ -33,7 +33,7 @@ fn serial_at(s: &[u8], q: usize) -> Serial
 
 fn defect(s: &[u8], unit: u8, q: usize) -> Line
     requires { q + 4 ≤ length s.now }
-    ensures { result ≡ lineOfRecord (D unit («number_at» 4 s.now q)) }
+    ensures { result ≡ line_of_record (D unit («number_at» 4 s.now q)) }
 {
     let vertex = Vertex(record_numbers::four_at(s, q) as u32);
     Line::Defect { unit, vertex }
@@ -41,7 +41,7 @@ fn defect(s: &[u8], unit: u8, q: usize) -> Line
 
 fn blossom(s: &[u8], unit: u8, q: usize) -> Line
     requires { q + 2 ≤ length s.now }
-    ensures { result ≡ lineOfRecord (B unit (membersAt («number_at» 2 s.now q) s.now (q + 2))) }
+    ensures { result ≡ line_of_record (B unit (members_at («number_at» 2 s.now q) s.now (q + 2))) }
 {
     let count = record_numbers::two_at(s, q) as usize;
     Line::Blossom { unit, count }
@@ -49,7 +49,7 @@ fn blossom(s: &[u8], unit: u8, q: usize) -> Line
 
 fn expand(s: &[u8], unit: u8, q: usize) -> Line
     requires { q + 4 ≤ length s.now }
-    ensures { result ≡ lineOfRecord (E unit («number_at» 4 s.now q)) }
+    ensures { result ≡ line_of_record (E unit («number_at» 4 s.now q)) }
 {
     let serial = serial_at(s, q);
     Line::Expand { unit, serial }
@@ -57,7 +57,7 @@ fn expand(s: &[u8], unit: u8, q: usize) -> Line
 
 fn set_state(s: &[u8], unit: u8, q: usize) -> Line
     requires { q + 5 ≤ length s.now }
-    ensures { result ≡ stateLine unit («number_at» 4 s.now q) («number_at» 1 s.now (q + 4)) }
+    ensures { result ≡ state_line unit («number_at» 4 s.now q) («number_at» 1 s.now (q + 4)) }
 {
     let serial = serial_at(s, q);
     let state = state_of(record_numbers::byte_at(s, q + 4));
@@ -70,7 +70,7 @@ fn set_state(s: &[u8], unit: u8, q: usize) -> Line
 
 fn grow(s: &[u8], unit: u8, q: usize) -> Line
     requires { q + 8 ≤ length s.now }
-    ensures { result ≡ lineOfRecord (G unit («length-in» («number_at» 8 s.now q))) }
+    ensures { result ≡ line_of_record (G unit («length-in» («number_at» 8 s.now q))) }
 {
     let length = group_lent::length_of(record_numbers::eight_at(s, q));
     Line::Grow { unit, length }
@@ -78,7 +78,7 @@ fn grow(s: &[u8], unit: u8, q: usize) -> Line
 
 fn fuse(s: &[u8], parent: u8, q: usize) -> Line
     requires { q + 2 ≤ length s.now }
-    ensures { result ≡ lineOfRecord (F parent («number_at» 1 s.now q) («number_at» 1 s.now (q + 1))) }
+    ensures { result ≡ line_of_record (F parent («number_at» 1 s.now q) («number_at» 1 s.now (q + 1))) }
 {
     let left = s[q];
     let right = s[q + 1];
@@ -92,7 +92,7 @@ fn fuse(s: &[u8], parent: u8, q: usize) -> Line
 // The record at place p, as its line.
 pub fn line_at(s: &[u8], p: usize) -> Line
     requires { Recorded s.now p }
-    ensures { result ≡ lineFound (recordIn (drop p s.now)) }
+    ensures { result ≡ line_found (record_in (drop p s.now)) }
 {
     let letter = s[p];
     let unit = s[p + 1];

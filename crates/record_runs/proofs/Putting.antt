@@ -31,9 +31,9 @@ module _ (l vs : List ℤ) (i : ℕ) (h : i + length vs ≤ length l) where
   parts = sets-eq vs l i h
 
   -- the slice up to the last store, and after it
-  pub stored-front : take (i + length vs) (sets l i vs) ≡ take i l ++ vs
+  pub stored_front : take (i + length vs) (sets l i vs) ≡ take i l ++ vs
   unfolding front
-  stored-front = (λ j. take (sym long j) (parts j)) ∙ take-append_seam front (drop (i + length vs) l)
+  stored_front = (λ j. take (sym long j) (parts j)) ∙ take-append_seam front (drop (i + length vs) l)
 
-  pub stored-behind : drop (i + length vs) (sets l i vs) ≡ drop (i + length vs) l
-  stored-behind = (λ j. drop (sym long j) (parts j)) ∙ drop-append_seam front (drop (i + length vs) l)
+  pub stored_behind : drop (i + length vs) (sets l i vs) ≡ drop (i + length vs) l
+  stored_behind = (λ j. drop (sym long j) (parts j)) ∙ drop-append_seam front (drop (i + length vs) l)

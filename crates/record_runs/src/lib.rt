@@ -3,7 +3,7 @@
 ghost use Rattle.std.specs.Prelude.{◌≡◌, ◌+◌, ◌*◌, ◌≤◌, length};
 ghost use Rattle.std.proofs.lemmas.List.Edits.{sets};
 ghost use Rattle.bench_views.specs.Fit.{SoundWords};
-ghost use Rattle.record_runs.specs.Runs.{fourOf, Listing, Ready, Answers, Ran as «As-run», RanAny};
+ghost use Rattle.record_runs.specs.Runs.{four_of, Listing, Ready, Answers, Ran as «As-run», RanAny};
 
 use bench_serials::HINTS;
 use bench_words::WORDS;
@@ -27,7 +27,7 @@ fn refused(number: u8) -> Ran
 // An operation's four numbers, at a place.
 fn put(answers: &mut [i64], at: usize, r: Reply)
     requires { at + 4 ≤ length answers.old }
-    ensures { answers.new ≡ sets answers.old at (fourOf r) }
+    ensures { answers.new ≡ sets answers.old at (four_of r) }
 {
     let speed = r.speed;
     let sum = r.sum;

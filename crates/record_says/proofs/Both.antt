@@ -7,38 +7,38 @@ use lib.IntN.{ℤ, pos}
 use lib.ListN.{length}
 use Rattle.ledger_spec.specs.Bench.{Bench}
 use Rattle.record_spec.specs.Operations.{Op}
-use Rattle.record_says.specs.Says.{saysOp, answersOps, afterOps}
-use Rattle.record_says.specs.Runs.{inFours}
+use Rattle.record_says.specs.Says.{says_op, answers_ops, after_ops}
+use Rattle.record_says.specs.Runs.{in_fours}
 
-pub answers-both : (b : Bench) (xs ys : List Op) → answersOps b (xs ++ ys) ≡ answersOps b xs ++ answersOps (afterOps b xs) ys
-unfolding answersOps afterOps
-answers-both b [] ys = refl
-answers-both b (op ∷ xs) ys = ap (λ (l : List (ℕ × ℕ × ℤ × ℤ)). (saysOp b op).numbers ∷ l) (answers-both (saysOp b op).bench xs ys)
+pub answers_both : (b : Bench) (xs ys : List Op) → answers_ops b (xs ++ ys) ≡ answers_ops b xs ++ answers_ops (after_ops b xs) ys
+unfolding answers_ops after_ops
+answers_both b [] ys = refl
+answers_both b (op ∷ xs) ys = ap (λ (l : List (ℕ × ℕ × ℤ × ℤ)). (says_op b op).numbers ∷ l) (answers_both (says_op b op).bench xs ys)
 
-pub after_both : (b : Bench) (xs ys : List Op) → afterOps b (xs ++ ys) ≡ afterOps (afterOps b xs) ys
-unfolding afterOps
+pub after_both : (b : Bench) (xs ys : List Op) → after_ops b (xs ++ ys) ≡ after_ops (after_ops b xs) ys
+unfolding after_ops
 after_both b [] ys = refl
-after_both b (op ∷ xs) ys = after_both (saysOp b op).bench xs ys
+after_both b (op ∷ xs) ys = after_both (says_op b op).bench xs ys
 
-pub fours-both : (a c : List (ℕ × ℕ × ℤ × ℤ)) → inFours (a ++ c) ≡ inFours a ++ inFours c
-unfolding inFours
-fours-both [] c = refl
-fours-both (x ∷ a) c = ap (λ (l : List ℤ). pos x.0 ∷ pos x.1 ∷ x.2 ∷ x.3 ∷ l) (fours-both a c)
+pub fours_both : (a c : List (ℕ × ℕ × ℤ × ℤ)) → in_fours (a ++ c) ≡ in_fours a ++ in_fours c
+unfolding in_fours
+fours_both [] c = refl
+fours_both (x ∷ a) c = ap (λ (l : List ℤ). pos x.0 ∷ pos x.1 ∷ x.2 ∷ x.3 ∷ l) (fours_both a c)
 
 -- as the slices have them
-pub slices-both : (b : Bench) (xs ys : List Op) → inFours (answersOps b (xs ++ ys)) ≡ inFours (answersOps b xs) ++ inFours (answersOps (afterOps b xs) ys)
-slices-both b xs ys = ap inFours (answers-both b xs ys) ∙ fours-both (answersOps b xs) (answersOps (afterOps b xs) ys)
+pub slices_both : (b : Bench) (xs ys : List Op) → in_fours (answers_ops b (xs ++ ys)) ≡ in_fours (answers_ops b xs) ++ in_fours (answers_ops (after_ops b xs) ys)
+slices_both b xs ys = ap in_fours (answers_both b xs ys) ∙ fours_both (answers_ops b xs) (answers_ops (after_ops b xs) ys)
 
 -- four numbers an operation
-pub length-fours : (a : List (ℕ × ℕ × ℤ × ℤ)) → length (inFours a) ≡ 4 * length a
-unfolding inFours
-length-fours [] = refl
-length-fours (x ∷ a) = omega (arith, length-fours a)
+pub length_fours : (a : List (ℕ × ℕ × ℤ × ℤ)) → length (in_fours a) ≡ 4 * length a
+unfolding in_fours
+length_fours [] = refl
+length_fours (x ∷ a) = omega (arith, length_fours a)
 
-pub answers-many : (b : Bench) (ops : List Op) → length (answersOps b ops) ≡ length ops
-unfolding answersOps
-answers-many b [] = refl
-answers-many b (op ∷ ops) = ap suc (answers-many (saysOp b op).bench ops)
+pub answers_many : (b : Bench) (ops : List Op) → length (answers_ops b ops) ≡ length ops
+unfolding answers_ops
+answers_many b [] = refl
+answers_many b (op ∷ ops) = ap suc (answers_many (says_op b op).bench ops)
 
-pub length-slice : (b : Bench) (ops : List Op) → length (inFours (answersOps b ops)) ≡ 4 * length ops
-length-slice b ops = length-fours (answersOps b ops) ∙ ap (λ (n : ℕ). 4 * n) (answers-many b ops)
+pub length_slice : (b : Bench) (ops : List Op) → length (in_fours (answers_ops b ops)) ≡ 4 * length ops
+length_slice b ops = length_fours (answers_ops b ops) ∙ ap (λ (n : ℕ). 4 * n) (answers_many b ops)

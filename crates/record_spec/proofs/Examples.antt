@@ -6,19 +6,19 @@ use mathlib.Core.Bool.{true, false}
 use mathlib.Core.Option.{none, some}
 use mathlib.Core.List.{List, [], ◌∷◌, ◌++◌}
 use lib.ListN.{replicate}
-use Rattle.ledger_spec.specs.Decimals.{digits, decimal, signed, afterDigits, natural, between, integer}
-use Rattle.ledger_spec.specs.Fields.{upto, partsAfter}
+use Rattle.ledger_spec.specs.Decimals.{digits, decimal, signed, after_digits, natural, between, integer}
+use Rattle.ledger_spec.specs.Fields.{upto, parts_after}
 use Rattle.ledger_spec.specs.Operations.{B, K}
-use Rattle.ledger_spec.specs.Grammar.{step, allSerials, rest as lineRest, line_of}
+use Rattle.ledger_spec.specs.Grammar.{step, all_serials, rest as lineRest, line_of}
 use Rattle.ledger_spec.specs.Program.{ended, lines_of}
 use Rattle.ledger_spec.specs.Bytes.{bytes as text}
-use Rattle.text_lines.specs.Texts.{spaced, fields_of, letterOf}
-use Rattle.record_spec.specs.Numbers.{bytes, fours, number, foursIn, complement, lengthIn}
+use Rattle.text_lines.specs.Texts.{spaced, fields_of, letter_of}
+use Rattle.record_spec.specs.Numbers.{bytes, fours, number, fours_in, complement, length_in}
 use Rattle.record_spec.specs.Operations.{Op, itself, selves, self}
-use Rattle.record_spec.specs.Records.{memberFields, fields, spelled, bytes_of}
-use Rattle.record_spec.specs.Reader.{stateIn, membersIn, rest, membersGood, serialsGood, good, recordIn}
-use Rattle.record_spec.specs.Files.{mark, recordsOf, starts, trailer, fileOf, recordsIn, fitting, fileOps}
-use Rattle.record_spec.specs.Moves.{ops_of, textOps, text_of, allSelf, refused, written, toRecords, toText}
+use Rattle.record_spec.specs.Records.{member_fields, fields, spelled, bytes_of}
+use Rattle.record_spec.specs.Reader.{state_in, members_in, rest, members_good, serials_good, good, record_in}
+use Rattle.record_spec.specs.Files.{mark, records_of, starts, trailer, file_of, records_in, fitting, file_ops}
+use Rattle.record_spec.specs.Moves.{ops_of, text_ops, text_of, all_self, refused, written, to_records, to_text}
 
 abbrev lines : List ℕ
 unfolding text
@@ -35,57 +35,57 @@ file =
     0 ∷ 0 ∷ 0 ∷ 0 ∷ 6 ∷ 0 ∷ 0 ∷ 0 ∷ 34 ∷ 0 ∷ 0 ∷ 0 ∷ 40 ∷ 0 ∷ 0 ∷ 0 ∷ 47 ∷ 0 ∷ 0 ∷ 0 ∷ 57 ∷ 0 ∷ 0 ∷ 0 ∷ 61 ∷ 0 ∷ 0 ∷ 0 ∷ 63 ∷ 0 ∷ 0 ∷ 0 ∷  -- where each starts
     65 ∷ 0 ∷ 0 ∷ 0 ∷ 8 ∷ 0 ∷ 0 ∷ 0 ∷ 97 ∷ 0 ∷ 0 ∷ 0 ∷ 68 ∷ 76 ∷ 71 ∷ 50 ∷ []  -- start of that list, 8 records, 97 bytes, DLG2
 
-there : toRecords lines (replicate 115 9) ≡ record { number = 0; size = 113; output = file ++ (9 ∷ 9 ∷ []) }
-unfolding toRecords textOps ops_of lines_of ended upto partsAfter line_of lineRest step allSerials afterDigits natural between integer text written fileOf recordsOf starts trailer bytes_of fields memberFields spelled bytes fours complement letterOf
+there : to_records lines (replicate 115 9) ≡ record { number = 0; size = 113; output = file ++ (9 ∷ 9 ∷ []) }
+unfolding to_records text_ops ops_of lines_of ended upto parts_after line_of lineRest step all_serials after_digits natural between integer text written file_of records_of starts trailer bytes_of fields member_fields spelled bytes fours complement letter_of
 there = refl
 
-back : toText file (replicate 58 9) ≡ record { number = 0; size = 58; output = lines }
-unfolding toText fileOps number foursIn recordsIn fitting recordIn rest membersIn stateIn lengthIn good serialsGood membersGood spaced fields_of letterOf digits decimal signed allSelf self selves written text_of text bytes_of fields memberFields spelled bytes complement
+back : to_text file (replicate 58 9) ≡ record { number = 0; size = 58; output = lines }
+unfolding to_text file_ops number fours_in records_in fitting record_in rest members_in state_in length_in good serials_good members_good spaced fields_of letter_of digits decimal signed all_self self selves written text_of text bytes_of fields member_fields spelled bytes complement
 back = refl
 
 -- ---- refusals
 
 -- one byte too few
-small : toRecords lines (replicate 112 9) ≡ refused 19 (replicate 112 9)
-unfolding toRecords textOps ops_of lines_of ended upto partsAfter line_of lineRest step allSerials afterDigits natural between integer text written fileOf recordsOf starts trailer bytes_of fields memberFields spelled bytes fours complement letterOf
+small : to_records lines (replicate 112 9) ≡ refused 19 (replicate 112 9)
+unfolding to_records text_ops ops_of lines_of ended upto parts_after line_of lineRest step all_serials after_digits natural between integer text written file_of records_of starts trailer bytes_of fields member_fields spelled bytes fours complement letter_of
 small = refl
 
 -- a last line without newline
-unended : toRecords (text "K 0") [] ≡ refused 23 []
-unfolding toRecords textOps ops_of lines_of ended upto partsAfter line_of lineRest step afterDigits natural between text
+unended : to_records (text "K 0") [] ≡ refused 23 []
+unfolding to_records text_ops ops_of lines_of ended upto parts_after line_of lineRest step after_digits natural between text
 unended = refl
 
 -- no lines: the trailer alone
-empty : fileOf [] ≡ 0 ∷ 0 ∷ 0 ∷ 0 ∷ 0 ∷ 0 ∷ 0 ∷ 0 ∷ 0 ∷ 0 ∷ 0 ∷ 0 ∷ text "DLG2"
-unfolding fileOf recordsOf starts trailer fours bytes text
+empty : file_of [] ≡ 0 ∷ 0 ∷ 0 ∷ 0 ∷ 0 ∷ 0 ∷ 0 ∷ 0 ∷ 0 ∷ 0 ∷ 0 ∷ 0 ∷ text "DLG2"
+unfolding file_of records_of starts trailer fours bytes text
 empty = refl
 
 abbrev pair : ℕ → Op
 pair n = B 0 (itself 7 ∷ record { serial = 1; first = 1; second = n } ∷ [])
 
 -- a pair that is not the member; a serial 0 in a pair, and after a record that is SELF
-not-member : toText (fileOf (pair 2 ∷ [])) [] ≡ refused 22 []
-unfolding toText fileOps number foursIn recordsIn fitting recordIn rest membersIn good serialsGood membersGood spaced fields_of letterOf digits decimal allSelf self selves bytes_of fields memberFields spelled bytes fileOf recordsOf starts trailer fours
-not-member = refl
+not_member : to_text (file_of (pair 2 ∷ [])) [] ≡ refused 22 []
+unfolding to_text file_ops number fours_in records_in fitting record_in rest members_in good serials_good members_good spaced fields_of letter_of digits decimal all_self self selves bytes_of fields member_fields spelled bytes file_of records_of starts trailer fours
+not_member = refl
 
-no-serial : toText (fileOf (pair 2 ∷ pair 0 ∷ [])) [] ≡ refused 23 []
-unfolding toText fileOps number foursIn recordsIn fitting recordIn rest membersIn good serialsGood membersGood spaced fields_of letterOf digits decimal allSelf self selves bytes_of fields memberFields spelled bytes fileOf recordsOf starts trailer fours
-no-serial = refl
+no_serial : to_text (file_of (pair 2 ∷ pair 0 ∷ [])) [] ≡ refused 23 []
+unfolding to_text file_ops number fours_in records_in fitting record_in rest members_in good serials_good members_good spaced fields_of letter_of digits decimal all_self self selves bytes_of fields member_fields spelled bytes file_of records_of starts trailer fours
+no_serial = refl
 
 -- ten digits each: a line of 1,015 bytes, and one of 1,026
 longest : good (B 0 (replicate 92 (itself 4294967295))) ≡ true
-unfolding good serialsGood membersGood spaced fields_of letterOf digits decimal
+unfolding good serials_good members_good spaced fields_of letter_of digits decimal
 longest = refl
 
 too_long : good (B 0 (replicate 93 (itself 4294967295))) ≡ false
-unfolding good serialsGood membersGood spaced fields_of letterOf digits decimal
+unfolding good serials_good members_good spaced fields_of letter_of digits decimal
 too_long = refl
 
 -- a gap: the second record's start is one further
-gap : fileOps (75 ∷ 0 ∷ 75 ∷ 1 ∷ fours (0 ∷ 3 ∷ 4 ∷ 2 ∷ 12 ∷ mark ∷ [])) ≡ none
-unfolding fileOps number foursIn recordsIn fitting recordIn rest good serialsGood spaced fields_of letterOf digits decimal bytes_of fields spelled bytes fours
+gap : file_ops (75 ∷ 0 ∷ 75 ∷ 1 ∷ fours (0 ∷ 3 ∷ 4 ∷ 2 ∷ 12 ∷ mark ∷ [])) ≡ none
+unfolding file_ops number fours_in records_in fitting record_in rest good serials_good spaced fields_of letter_of digits decimal bytes_of fields spelled bytes fours
 gap = refl
 
-no_gap : fileOps (75 ∷ 0 ∷ 75 ∷ 1 ∷ fours (0 ∷ 2 ∷ 4 ∷ 2 ∷ 12 ∷ mark ∷ [])) ≡ some (K 0 ∷ K 1 ∷ [])
-unfolding fileOps number foursIn recordsIn fitting recordIn rest good serialsGood spaced fields_of letterOf digits decimal bytes_of fields spelled bytes fours
+no_gap : file_ops (75 ∷ 0 ∷ 75 ∷ 1 ∷ fours (0 ∷ 2 ∷ 4 ∷ 2 ∷ 12 ∷ mark ∷ [])) ≡ some (K 0 ∷ K 1 ∷ [])
+unfolding file_ops number fours_in records_in fitting record_in rest good serials_good spaced fields_of letter_of digits decimal bytes_of fields spelled bytes fours
 no_gap = refl

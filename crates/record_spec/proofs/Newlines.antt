@@ -6,15 +6,15 @@ use native.Mathlib.Decide.{dec_lt, ℕ_discrete}
 use mathlib.Core.Path.{◌≡◌, refl, sym, ◌∙◌, ap, subst}
 use mathlib.Core.List.{List, [], ◌∷◌, ◌++◌, map}
 use lib.IntN.{ℤ, pos, negsuc}
-use Rattle.text_decimals.proofs.Digits.{decimal-small, decimal-more}
+use Rattle.text_decimals.proofs.Digits.{decimal_small, decimal_more}
 use Rattle.ledger_spec.specs.Bench.{rate}
 use Rattle.ledger_spec.specs.Decimals.{decimal, signed}
-use Rattle.ledger_spec.specs.Fields.{upto, partsAfter, cut}
+use Rattle.ledger_spec.specs.Fields.{upto, parts_after, cut}
 use Rattle.ledger_spec.specs.Operations.{D, B, E, S, G, F, C, K}
 use Rattle.ledger_spec.specs.Grammar.{Fields}
-use Rattle.text_fields.proofs.Cuts.{upto-none, upto-here, upto-on, after_none, after-here, after_on}
-use Rattle.text_lines.specs.Texts.{spaced, letterOf, fields_of}
-use Rattle.record_spec.specs.Operations.{Op, serialOf, lineSaid, lineOfOp}
+use Rattle.text_fields.proofs.Cuts.{upto_none, upto_here, upto_on, after_none, after_here, after_on}
+use Rattle.text_lines.specs.Texts.{spaced, letter_of, fields_of}
+use Rattle.record_spec.specs.Operations.{Op, serial_of, line_said, line_of_op}
 
 -- ---- no newline
 
@@ -26,78 +26,78 @@ abbrev AllFree : Fields → Type 0
 AllFree [] = Unit {0}
 AllFree (f ∷ fs) = Free f × AllFree fs
 
-free-append : (a b : List ℕ) → Free a → Free b → Free (a ++ b)
-free-append [] b p q = q
-free-append (c ∷ a) b p q = (p.0, free-append a b p.1 q)
+free_append : (a b : List ℕ) → Free a → Free b → Free (a ++ b)
+free_append [] b p q = q
+free_append (c ∷ a) b p q = (p.0, free_append a b p.1 q)
 
-digit-free : (n : ℕ) → Free ((48 + n) ∷ [])
-digit-free n = (λ h. omega arith, tt)
+digit_free : (n : ℕ) → Free ((48 + n) ∷ [])
+digit_free n = (λ h. omega arith, tt)
 
-free-digits : (k n : ℕ) → n ≤ k → Free (decimal n)
-free-digits zero n h = subst Free (sym (decimal-small n (omega arith))) (digit-free n)
-free-digits (suc k) n h = go (dec_lt n 10) (free-digits k (n / 10))
+free_digits : (k n : ℕ) → n ≤ k → Free (decimal n)
+free_digits zero n h = subst Free (sym (decimal_small n (omega arith))) (digit_free n)
+free_digits (suc k) n h = go (dec_lt n 10) (free_digits k (n / 10))
   where
     go : Dec (n < 10) → (n / 10 ≤ k → Free (decimal (n / 10))) → Free (decimal n)
-    go (yes l) i = subst Free (sym (decimal-small n l)) (digit-free n)
-    go (no l) i = subst Free (sym (decimal-more n (omega arith))) (free-append (decimal (n / 10)) ((48 + n % 10) ∷ []) (i (omega arith)) (digit-free (n % 10)))
+    go (yes l) i = subst Free (sym (decimal_small n l)) (digit_free n)
+    go (no l) i = subst Free (sym (decimal_more n (omega arith))) (free_append (decimal (n / 10)) ((48 + n % 10) ∷ []) (i (omega arith)) (digit_free (n % 10)))
 
-number-free : (n : ℕ) → Free (decimal n)
-number-free n = free-digits n n (omega arith)
+number_free : (n : ℕ) → Free (decimal n)
+number_free n = free_digits n n (omega arith)
 
-signed-free : (z : ℤ) → Free (signed z)
+signed_free : (z : ℤ) → Free (signed z)
 unfolding signed
-signed-free (pos n) = number-free n
-signed-free (negsuc n) = (λ h. omega arith, number-free (suc n))
+signed_free (pos n) = number_free n
+signed_free (negsuc n) = (λ h. omega arith, number_free (suc n))
 
-numbers-free : (ns : List ℕ) → AllFree (map decimal ns)
-numbers-free [] = tt
-numbers-free (n ∷ ns) = (number-free n, numbers-free ns)
+numbers_free : (ns : List ℕ) → AllFree (map decimal ns)
+numbers_free [] = tt
+numbers_free (n ∷ ns) = (number_free n, numbers_free ns)
 
-spaced-free : (f : List ℕ) (fs : Fields) → Free f → AllFree fs → Free (spaced f fs)
+spaced_free : (f : List ℕ) (fs : Fields) → Free f → AllFree fs → Free (spaced f fs)
 unfolding spaced
-spaced-free f [] p q = p
-spaced-free f (g ∷ fs) p q = free-append f (32 ∷ spaced g fs) p (λ h. omega arith, spaced-free g fs q.0 q.1)
+spaced_free f [] p q = p
+spaced_free f (g ∷ fs) p q = free_append f (32 ∷ spaced g fs) p (λ h. omega arith, spaced_free g fs q.0 q.1)
 
-letter-free : (op : Op) → Free (letterOf (lineSaid op))
-unfolding letterOf
-letter-free (D u v) = (λ h. omega arith, tt)
-letter-free (B u ms) = (λ h. omega arith, tt)
-letter-free (E u k) = (λ h. omega arith, tt)
-letter-free (S u k g) = (λ h. omega arith, tt)
-letter-free (G u l) = (λ h. omega arith, tt)
-letter-free (F p l r) = (λ h. omega arith, tt)
-letter-free (C u) = (λ h. omega arith, tt)
-letter-free (K u) = (λ h. omega arith, tt)
+letter_free : (op : Op) → Free (letter_of (line_said op))
+unfolding letter_of
+letter_free (D u v) = (λ h. omega arith, tt)
+letter_free (B u ms) = (λ h. omega arith, tt)
+letter_free (E u k) = (λ h. omega arith, tt)
+letter_free (S u k g) = (λ h. omega arith, tt)
+letter_free (G u l) = (λ h. omega arith, tt)
+letter_free (F p l r) = (λ h. omega arith, tt)
+letter_free (C u) = (λ h. omega arith, tt)
+letter_free (K u) = (λ h. omega arith, tt)
 
-fields_free : (op : Op) → AllFree (fields_of (lineSaid op))
+fields_free : (op : Op) → AllFree (fields_of (line_said op))
 unfolding fields_of
-fields_free (D u v) = (number-free u, (number-free v, tt))
-fields_free (B u ms) = (number-free u, numbers-free (map serialOf ms))
-fields_free (E u k) = (number-free u, (number-free k, tt))
-fields_free (S u k g) = (number-free u, (number-free k, (signed-free (rate g), tt)))
-fields_free (G u l) = (number-free u, (signed-free l, tt))
-fields_free (F p l r) = (number-free p, (number-free l, (number-free r, tt)))
-fields_free (C u) = (number-free u, tt)
-fields_free (K u) = (number-free u, tt)
+fields_free (D u v) = (number_free u, (number_free v, tt))
+fields_free (B u ms) = (number_free u, numbers_free (map serial_of ms))
+fields_free (E u k) = (number_free u, (number_free k, tt))
+fields_free (S u k g) = (number_free u, (number_free k, (signed_free (rate g), tt)))
+fields_free (G u l) = (number_free u, (signed_free l, tt))
+fields_free (F p l r) = (number_free p, (number_free l, (number_free r, tt)))
+fields_free (C u) = (number_free u, tt)
+fields_free (K u) = (number_free u, tt)
 
-pub line-free : (op : Op) → Free (lineOfOp op)
-line-free op = spaced-free (letterOf (lineSaid op)) (fields_of (lineSaid op)) (letter-free op) (fields_free op)
+pub line_free : (op : Op) → Free (line_of_op op)
+line_free op = spaced_free (letter_of (line_said op)) (fields_of (line_said op)) (letter_free op) (fields_free op)
 
 -- ---- joined and cut
 
-upto-line : (f t : List ℕ) → Free f → upto 10 (f ++ (10 ∷ t)) ≡ f
-upto-line [] t p = upto-here 10 10 t refl
-upto-line (c ∷ f) t p = upto-on 10 c (f ++ (10 ∷ t)) p.0 ∙ ap (λ (l : List ℕ). c ∷ l) (upto-line f t p.1)
+upto_line : (f t : List ℕ) → Free f → upto 10 (f ++ (10 ∷ t)) ≡ f
+upto_line [] t p = upto_here 10 10 t refl
+upto_line (c ∷ f) t p = upto_on 10 c (f ++ (10 ∷ t)) p.0 ∙ ap (λ (l : List ℕ). c ∷ l) (upto_line f t p.1)
 
-after_line : (f t : List ℕ) → Free f → partsAfter 10 (f ++ (10 ∷ t)) ≡ cut 10 t
-after_line [] t p = after-here 10 10 t refl
+after_line : (f t : List ℕ) → Free f → parts_after 10 (f ++ (10 ∷ t)) ≡ cut 10 t
+after_line [] t p = after_here 10 10 t refl
 after_line (c ∷ f) t p = after_on 10 c (f ++ (10 ∷ t)) p.0 ∙ after_line f t p.1
 
 pub cut_line : (f t : List ℕ) → Free f → cut 10 (f ++ (10 ∷ t)) ≡ f ∷ cut 10 t
-cut_line f t p = λ i. upto-line f t p i ∷ after_line f t p i
+cut_line f t p = λ i. upto_line f t p i ∷ after_line f t p i
 
-pub cut-none : cut 10 [] ≡ [] ∷ []
-cut-none = λ i. upto-none 10 i ∷ after_none 10 i
+pub cut_none : cut 10 [] ≡ [] ∷ []
+cut_none = λ i. upto_none 10 i ∷ after_none 10 i
 
 -- ---- cut and joined
 
@@ -105,23 +105,23 @@ unfoldable pub joined : List ℕ → Fields → List ℕ
 joined f [] = f
 joined f (g ∷ fs) = f ++ (10 ∷ joined g fs)
 
-joined-cons : (c : ℕ) (f : List ℕ) (fs : Fields) → joined (c ∷ f) fs ≡ c ∷ joined f fs
+joined_cons : (c : ℕ) (f : List ℕ) (fs : Fields) → joined (c ∷ f) fs ≡ c ∷ joined f fs
 unfolding joined
-joined-cons c f [] = refl
-joined-cons c f (g ∷ fs) = refl
+joined_cons c f [] = refl
+joined_cons c f (g ∷ fs) = refl
 
-joined-first : (f : List ℕ) (fs : Fields) → joined [] (f ∷ fs) ≡ 10 ∷ joined f fs
+joined_first : (f : List ℕ) (fs : Fields) → joined [] (f ∷ fs) ≡ 10 ∷ joined f fs
 unfolding joined
-joined-first f fs = refl
+joined_first f fs = refl
 
-joined-none : joined [] [] ≡ []
+joined_none : joined [] [] ≡ []
 unfolding joined
-joined-none = refl
+joined_none = refl
 
-pub joined-cut : (s : List ℕ) → joined (upto 10 s) (partsAfter 10 s) ≡ s
-joined-cut [] = (λ i. joined (upto-none 10 i) (after_none 10 i)) ∙ joined-none
-joined-cut (c ∷ s) = go (ℕ_discrete c 10) (joined-cut s)
+pub joined_cut : (s : List ℕ) → joined (upto 10 s) (parts_after 10 s) ≡ s
+joined_cut [] = (λ i. joined (upto_none 10 i) (after_none 10 i)) ∙ joined_none
+joined_cut (c ∷ s) = go (ℕ_discrete c 10) (joined_cut s)
   where
-    go : Dec (c ≡ 10) → joined (upto 10 s) (partsAfter 10 s) ≡ s → joined (upto 10 (c ∷ s)) (partsAfter 10 (c ∷ s)) ≡ c ∷ s
-    go (yes p) i = (λ j. joined (upto-here 10 c s p j) (after-here 10 c s p j)) ∙ joined-first (upto 10 s) (partsAfter 10 s) ∙ (λ j. sym p j ∷ i j)
-    go (no p) i = (λ j. joined (upto-on 10 c s p j) (after_on 10 c s p j)) ∙ joined-cons c (upto 10 s) (partsAfter 10 s) ∙ ap (λ (l : List ℕ). c ∷ l) i
+    go : Dec (c ≡ 10) → joined (upto 10 s) (parts_after 10 s) ≡ s → joined (upto 10 (c ∷ s)) (parts_after 10 (c ∷ s)) ≡ c ∷ s
+    go (yes p) i = (λ j. joined (upto_here 10 c s p j) (after_here 10 c s p j)) ∙ joined_first (upto 10 s) (parts_after 10 s) ∙ (λ j. sym p j ∷ i j)
+    go (no p) i = (λ j. joined (upto_on 10 c s p j) (after_on 10 c s p j)) ∙ joined_cons c (upto 10 s) (parts_after 10 s) ∙ ap (λ (l : List ℕ). c ∷ l) i

@@ -12,10 +12,10 @@ use borrow.Author.Tests.{leb-true, le-leb}
 use Rattle.ledger_spec.specs.Decimals.{decimal}
 use Rattle.ledger_spec.specs.Operations.{D, B, E, S, G, F, C, K}
 use Rattle.ledger_spec.specs.Grammar.{Fields}
-use Rattle.text_lines.specs.Texts.{spaced, letterOf, fields_of, Serials}
-use Rattle.record_spec.specs.Operations.{Member, Op, serialOf, lineOfOp}
+use Rattle.text_lines.specs.Texts.{spaced, letter_of, fields_of, Serials}
+use Rattle.record_spec.specs.Operations.{Member, Op, serial_of, line_of_op}
 use Rattle.record_spec.specs.Records.{Pairs, Writable}
-use Rattle.record_spec.specs.Reader.{membersGood, serialsGood, good}
+use Rattle.record_spec.specs.Reader.{members_good, serials_good, good}
 
 -- ---- tests
 
@@ -46,89 +46,89 @@ Held (C u) = u < 256
 Held (K u) = u < 256
 
 -- a line has a byte for each field
-pub spaced-long : (f : List ℕ) (fs : Fields) → length fs ≤ length (spaced f fs)
+pub spaced_long : (f : List ℕ) (fs : Fields) → length fs ≤ length (spaced f fs)
 unfolding spaced
-spaced-long f [] = omega arith
-spaced-long f (g ∷ fs) = omega (arith, spaced-long g fs, length-append f (32 ∷ spaced g fs))
+spaced_long f [] = omega arith
+spaced_long f (g ∷ fs) = omega (arith, spaced_long g fs, length-append f (32 ∷ spaced g fs))
 
-count_small : (u : ℕ) (ms : List Member) → length (lineOfOp (B u ms)) ≤ 1023 → length ms < 65536
-unfolding letterOf fields_of
+count_small : (u : ℕ) (ms : List Member) → length (line_of_op (B u ms)) ≤ 1023 → length ms < 65536
+unfolding letter_of fields_of
 count_small u ms h =
-    let a = spaced-long (66 ∷ []) (decimal u ∷ map decimal (map serialOf ms)) in
-    omega (arith, a, h, length-map (map serialOf ms) decimal, length-map ms serialOf)
+    let a = spaced_long (66 ∷ []) (decimal u ∷ map decimal (map serial_of ms)) in
+    omega (arith, a, h, length-map (map serial_of ms) decimal, length-map ms serial_of)
 
-words-held : (ms : List Member) → Serials (map serialOf ms) → Pairs ms → Words ms
-words-held [] p q = tt
-words-held (m ∷ ms) p q = (omega (arith, p.0.1), omega (arith, q.0.1), omega (arith, q.1.1), words-held ms p.1 q.2)
+words_held : (ms : List Member) → Serials (map serial_of ms) → Pairs ms → Words ms
+words_held [] p q = tt
+words_held (m ∷ ms) p q = (omega (arith, p.0.1), omega (arith, q.0.1), omega (arith, q.1.1), words_held ms p.1 q.2)
 
-pub writable-held : (op : Op) → Writable op → Held op
-writable-held (D u v) w = (omega (arith, w.fit), omega (arith, w.fit))
-writable-held (B u ms) w = (omega (arith, w.fit.0), count_small u ms w.short, words-held ms w.fit.2 w.pairs)
-writable-held (E u k) w = (omega (arith, w.fit), omega (arith, w.fit))
-writable-held (S u k g) w = (omega (arith, w.fit), omega (arith, w.fit))
-writable-held (G u l) w = (omega (arith, w.fit.0), w.fit.1)
-writable-held (F p l r) w = (omega (arith, w.fit), omega (arith, w.fit), omega (arith, w.fit))
-writable-held (C u) w = omega (arith, w.fit)
-writable-held (K u) w = omega (arith, w.fit)
+pub writable_held : (op : Op) → Writable op → Held op
+writable_held (D u v) w = (omega (arith, w.fit), omega (arith, w.fit))
+writable_held (B u ms) w = (omega (arith, w.fit.0), count_small u ms w.short, words_held ms w.fit.2 w.pairs)
+writable_held (E u k) w = (omega (arith, w.fit), omega (arith, w.fit))
+writable_held (S u k g) w = (omega (arith, w.fit), omega (arith, w.fit))
+writable_held (G u l) w = (omega (arith, w.fit.0), w.fit.1)
+writable_held (F p l r) w = (omega (arith, w.fit), omega (arith, w.fit), omega (arith, w.fit))
+writable_held (C u) w = omega (arith, w.fit)
+writable_held (K u) w = omega (arith, w.fit)
 
 -- ---- what the reader tests
 
-members-good : (ms : List Member) → Serials (map serialOf ms) → Pairs ms → membersGood ms ≡ true
-unfolding membersGood
-members-good [] p q = refl
-members-good (m ∷ ms) p q =
-    joined (leb 1 m.serial && (leb 1 m.first && leb 1 m.second)) (membersGood ms)
+members_good_lem : (ms : List Member) → Serials (map serial_of ms) → Pairs ms → members_good ms ≡ true
+unfolding members_good
+members_good_lem [] p q = refl
+members_good_lem (m ∷ ms) p q =
+    joined (leb 1 m.serial && (leb 1 m.first && leb 1 m.second)) (members_good ms)
     (joined (leb 1 m.serial) (leb 1 m.first && leb 1 m.second) (le-leb 1 m.serial p.0.0)
     (joined (leb 1 m.first) (leb 1 m.second) (le-leb 1 m.first q.0.0) (le-leb 1 m.second q.1.0)))
-    (members-good ms p.1 q.2)
+    (members_good_lem ms p.1 q.2)
 
-serials-good : (op : Op) → Writable op → serialsGood op ≡ true
-unfolding serialsGood
-serials-good (D u v) w = refl
-serials-good (B u ms) w =
-    joined (leb 1 (length ms)) (membersGood ms) (le-leb 1 (length ms) (omega (arith, w.fit.1, length-map ms serialOf))) (members-good ms w.fit.2 w.pairs)
-serials-good (E u k) w = le-leb 1 k w.fit.1.0
-serials-good (S u k g) w = le-leb 1 k w.fit.1.0
-serials-good (G u l) w = refl
-serials-good (F p l r) w = refl
-serials-good (C u) w = refl
-serials-good (K u) w = refl
+serials_good_lem : (op : Op) → Writable op → serials_good op ≡ true
+unfolding serials_good
+serials_good_lem (D u v) w = refl
+serials_good_lem (B u ms) w =
+    joined (leb 1 (length ms)) (members_good ms) (le-leb 1 (length ms) (omega (arith, w.fit.1, length-map ms serial_of))) (members_good_lem ms w.fit.2 w.pairs)
+serials_good_lem (E u k) w = le-leb 1 k w.fit.1.0
+serials_good_lem (S u k g) w = le-leb 1 k w.fit.1.0
+serials_good_lem (G u l) w = refl
+serials_good_lem (F p l r) w = refl
+serials_good_lem (C u) w = refl
+serials_good_lem (K u) w = refl
 
-pub writable-good : (op : Op) → Writable op → good op ≡ true
+pub writable_good : (op : Op) → Writable op → good op ≡ true
 unfolding good
-writable-good op w = joined (serialsGood op) (leb (length (lineOfOp op)) 1023) (serials-good op w) (le-leb (length (lineOfOp op)) 1023 w.short)
+writable_good op w = joined (serials_good op) (leb (length (line_of_op op)) 1023) (serials_good_lem op w) (le-leb (length (line_of_op op)) 1023 w.short)
 
 -- ---- both together
 
-members-fit : (ms : List Member) → Words ms → membersGood ms ≡ true → Serials (map serialOf ms) × Pairs ms
-unfolding membersGood
-members-fit [] h e = (tt, tt)
-members-fit (m ∷ ms) h e =
-    let a = both (leb 1 m.serial && (leb 1 m.first && leb 1 m.second)) (membersGood ms) e in
+members_fit : (ms : List Member) → Words ms → members_good ms ≡ true → Serials (map serial_of ms) × Pairs ms
+unfolding members_good
+members_fit [] h e = (tt, tt)
+members_fit (m ∷ ms) h e =
+    let a = both (leb 1 m.serial && (leb 1 m.first && leb 1 m.second)) (members_good ms) e in
     let b = both (leb 1 m.serial) (leb 1 m.first && leb 1 m.second) a.0 in
     let c = both (leb 1 m.first) (leb 1 m.second) b.1 in
-    let i = members-fit ms h.3 a.1 in (
+    let i = members_fit ms h.3 a.1 in (
       ((leb-true 1 m.serial b.0, omega (arith, h.0)), i.0),
       ((leb-true 1 m.first c.0, omega (arith, h.1)), (leb-true 1 m.second c.1, omega (arith, h.2)), i.1),
     )
 
 -- with a short line, and good serials
-held-fit : (op : Op) → Held op → serialsGood op ≡ true → length (lineOfOp op) ≤ 1023 → Writable op
-unfolding serialsGood
-held-fit (D u v) h e s = record { fit = (omega (arith, h.0), omega (arith, h.1)); pairs = tt; short = s }
-held-fit (B u ms) h e s =
-    let a = both (leb 1 (length ms)) (membersGood ms) e in
-    let b = members-fit ms h.2 a.1 in
-    record { fit = (omega (arith, h.0), omega (arith, leb-true 1 (length ms) a.0, length-map ms serialOf), b.0); pairs = b.1; short = s }
-held-fit (E u k) h e s = record { fit = (omega (arith, h.0), (leb-true 1 k e, omega (arith, h.1))); pairs = tt; short = s }
-held-fit (S u k g) h e s = record { fit = (omega (arith, h.0), (leb-true 1 k e, omega (arith, h.1))); pairs = tt; short = s }
-held-fit (G u l) h e s = record { fit = (omega (arith, h.0), h.1); pairs = tt; short = s }
-held-fit (F p l r) h e s = record { fit = (omega (arith, h.0), omega (arith, h.1), omega (arith, h.2)); pairs = tt; short = s }
-held-fit (C u) h e s = record { fit = omega (arith, h); pairs = tt; short = s }
-held-fit (K u) h e s = record { fit = omega (arith, h); pairs = tt; short = s }
+held_fit : (op : Op) → Held op → serials_good op ≡ true → length (line_of_op op) ≤ 1023 → Writable op
+unfolding serials_good
+held_fit (D u v) h e s = record { fit = (omega (arith, h.0), omega (arith, h.1)); pairs = tt; short = s }
+held_fit (B u ms) h e s =
+    let a = both (leb 1 (length ms)) (members_good ms) e in
+    let b = members_fit ms h.2 a.1 in
+    record { fit = (omega (arith, h.0), omega (arith, leb-true 1 (length ms) a.0, length-map ms serial_of), b.0); pairs = b.1; short = s }
+held_fit (E u k) h e s = record { fit = (omega (arith, h.0), (leb-true 1 k e, omega (arith, h.1))); pairs = tt; short = s }
+held_fit (S u k g) h e s = record { fit = (omega (arith, h.0), (leb-true 1 k e, omega (arith, h.1))); pairs = tt; short = s }
+held_fit (G u l) h e s = record { fit = (omega (arith, h.0), h.1); pairs = tt; short = s }
+held_fit (F p l r) h e s = record { fit = (omega (arith, h.0), omega (arith, h.1), omega (arith, h.2)); pairs = tt; short = s }
+held_fit (C u) h e s = record { fit = omega (arith, h); pairs = tt; short = s }
+held_fit (K u) h e s = record { fit = omega (arith, h); pairs = tt; short = s }
 
-pub good-writable : (op : Op) → Held op → good op ≡ true → Writable op
+pub good_writable : (op : Op) → Held op → good op ≡ true → Writable op
 unfolding good
-good-writable op h e =
-    let a = both (serialsGood op) (leb (length (lineOfOp op)) 1023) e in
-    held-fit op h a.0 (leb-true (length (lineOfOp op)) 1023 a.1)
+good_writable op h e =
+    let a = both (serials_good op) (leb (length (line_of_op op)) 1023) e in
+    held_fit op h a.0 (leb-true (length (line_of_op op)) 1023 a.1)

@@ -4,27 +4,27 @@ use Rattle.std.proofs.Math.Option.{Option, none, some}
 use Rattle.ledger_spec.specs.Numbers.{SMALL, SELF, FILE}
 use Rattle.ledger_spec.specs.Grammar.{Line}
 use Rattle.ledger_spec.specs.Program.{lines_of}
-use Rattle.record_spec.specs.Operations.{Op, lineOfOp, opOfLine, self}
-use Rattle.record_spec.specs.Files.{fileOf, fileOps, largest}
+use Rattle.record_spec.specs.Operations.{Op, line_of_op, op_of_line, self}
+use Rattle.record_spec.specs.Files.{file_of, file_ops, largest}
 
 -- ---- a text file and its operations
 
 -- the operations of lines, none of which is LINE
 unfoldable pub ops_of : List Line → Option (List Op)
 ops_of [] = some []
-ops_of (l ∷ ls) = elim (opOfLine l) [ none ↦ none | some op ↦ elim (ops_of ls) [ none ↦ none | some ops ↦ some (op ∷ ops) ] ]
+ops_of (l ∷ ls) = elim (op_of_line l) [ none ↦ none | some op ↦ elim (ops_of ls) [ none ↦ none | some ops ↦ some (op ∷ ops) ] ]
 
-unfoldable pub textOps : List ℕ → Option (List Op)
-textOps s = ops_of (lines_of s)
+unfoldable pub text_ops : List ℕ → Option (List Op)
+text_ops s = ops_of (lines_of s)
 
 -- each line with its newline
 unfoldable pub text_of : List Op → List ℕ
 text_of [] = []
-text_of (op ∷ ops) = lineOfOp op ++ (10 ∷ text_of ops)
+text_of (op ∷ ops) = line_of_op op ++ (10 ∷ text_of ops)
 
-unfoldable pub allSelf : List Op → Bool
-allSelf [] = true
-allSelf (op ∷ ops) = self op && allSelf ops
+unfoldable pub all_self : List Op → Bool
+all_self [] = true
+all_self (op ∷ ops) = self op && all_self ops
 
 -- ---- what a move answers
 
@@ -45,15 +45,15 @@ written result out = elim (leb (length result) (length out)) [
 ]
 
 -- FILE: a bad line, or a result past 4,294,967,295 bytes
-unfoldable pub toRecords : List ℕ → List ℕ → Moved
-toRecords text out = elim (textOps text) [
+unfoldable pub to_records : List ℕ → List ℕ → Moved
+to_records text out = elim (text_ops text) [
   | none ↦ refused FILE out
-  | some ops ↦ elim (leb (length (fileOf ops)) largest) [ true ↦ written (fileOf ops) out | false ↦ refused FILE out ]
+  | some ops ↦ elim (leb (length (file_of ops)) largest) [ true ↦ written (file_of ops) out | false ↦ refused FILE out ]
 ]
 
 -- FILE: not a whole file; SELF: a pair that is not the member
-unfoldable pub toText : List ℕ → List ℕ → Moved
-toText file out = elim (fileOps file) [
+unfoldable pub to_text : List ℕ → List ℕ → Moved
+to_text file out = elim (file_ops file) [
   | none ↦ refused FILE out
-  | some ops ↦ elim (allSelf ops) [ true ↦ written (text_of ops) out | false ↦ refused SELF out ]
+  | some ops ↦ elim (all_self ops) [ true ↦ written (text_of ops) out | false ↦ refused SELF out ]
 ]

@@ -3,7 +3,7 @@ use Rattle.std.specs.Prelude.{ℕ, Bool, true, ◌&&◌, List, [], ◌∷◌, eq
 use Rattle.std.proofs.Math.Option.{Option, none, some}
 use Rattle.ledger_spec.specs.Operations.{Operation, D, B, E, S, G, F, C, K, written_by}
 use Rattle.ledger_spec.specs.Grammar.{Line}
-use Rattle.text_lines.specs.Texts.{lineText}
+use Rattle.text_lines.specs.Texts.{line_text}
 
 pub record Member : Type 0 where
   pub serial : ℕ
@@ -16,24 +16,24 @@ Op = Operation Member
 
 -- ---- to the line, which has no pairs
 
-abbrev pub serialOf : Member → ℕ
-serialOf m = m.serial
+abbrev pub serial_of : Member → ℕ
+serial_of m = m.serial
 
-abbrev pub lineSaid : Op → Line
-lineSaid op = some (written_by serialOf op)
+abbrev pub line_said : Op → Line
+line_said op = some (written_by serial_of op)
 
 -- the line's bytes without the newline
-abbrev pub lineOfOp : Op → List ℕ
-lineOfOp op = lineText (lineSaid op)
+abbrev pub line_of_op : Op → List ℕ
+line_of_op op = line_text (line_said op)
 
 -- ---- and from it, every pair the member itself
 
 abbrev pub itself : ℕ → Member
 itself k = record { serial = k; first = k; second = k }
 
-abbrev pub opOfLine : Line → Option Op
-opOfLine none = none
-opOfLine (some op) = some (written_by itself op)
+abbrev pub op_of_line : Line → Option Op
+op_of_line none = none
+op_of_line (some op) = some (written_by itself op)
 
 -- is every pair the member itself
 unfoldable pub selves : List Member → Bool

@@ -10,22 +10,22 @@ use lib.Seq.{drop-drop, drop-length}
 use Rattle.record_spec.specs.Numbers.{Bytes}
 use Rattle.record_spec.specs.Operations.{Op}
 use Rattle.record_spec.specs.Records.{bytes_of}
-use Rattle.record_spec.specs.Reader.{recordIn}
-use Rattle.record_spec.specs.Files.{recordsOf, recordsIn}
+use Rattle.record_spec.specs.Reader.{record_in}
+use Rattle.record_spec.specs.Files.{records_of, records_in}
 use Rattle.record_spec.proofs.Files.{onto}
-use Rattle.record_spec.proofs.Places.{record-ends, loop-step, loop-astray, loop-bad, loop-end, loop-more}
+use Rattle.record_spec.proofs.Places.{record_ends, loop_step, loop_astray, loop_bad, loop_end, loop_more}
 
 -- ---- bytes of a part
 
-pub take-bytes : (n : ℕ) (s : List ℕ) → Bytes s → Bytes (take n s)
-take-bytes zero s h = tt
-take-bytes (suc n) [] h = tt
-take-bytes (suc n) (b ∷ s) h = (h.0, take-bytes n s h.1)
+pub take_bytes : (n : ℕ) (s : List ℕ) → Bytes s → Bytes (take n s)
+take_bytes zero s h = tt
+take_bytes (suc n) [] h = tt
+take_bytes (suc n) (b ∷ s) h = (h.0, take_bytes n s h.1)
 
-pub drop-bytes : (n : ℕ) (s : List ℕ) → Bytes s → Bytes (drop n s)
-drop-bytes zero s h = h
-drop-bytes (suc n) [] h = tt
-drop-bytes (suc n) (b ∷ s) h = drop-bytes n s h.1
+pub drop_bytes : (n : ℕ) (s : List ℕ) → Bytes s → Bytes (drop n s)
+drop_bytes zero s h = h
+drop_bytes (suc n) [] h = tt
+drop_bytes (suc n) (b ∷ s) h = drop_bytes n s h.1
 
 -- ---- the first record
 
@@ -33,50 +33,50 @@ pub record Step (t : List ℕ) (p a : ℕ) (places : List ℕ) (rest : List Op) 
   pub op : Op
   pub more : List Op
   pub place : a ≡ p
-  pub read : recordIn (drop p t) ≡ some (op, drop (p + length (bytes_of op)) t)
+  pub read : record_in (drop p t) ≡ some (op, drop (p + length (bytes_of op)) t)
   pub fits : p + length (bytes_of op) ≤ length t
   pub first : rest ≡ op ∷ more
-  pub after : recordsIn (p + length (bytes_of op)) places (drop (p + length (bytes_of op)) t) ≡ some more
+  pub after : records_in (p + length (bytes_of op)) places (drop (p + length (bytes_of op)) t) ≡ some more
 
-pub step : (t : List ℕ) (p a : ℕ) (places : List ℕ) (rest : List Op) → Bytes t → p ≤ length t → recordsIn p (a ∷ places) (drop p t) ≡ some rest → Step t p a places rest
+pub step : (t : List ℕ) (p a : ℕ) (places : List ℕ) (rest : List Op) → Bytes t → p ≤ length t → records_in p (a ∷ places) (drop p t) ≡ some rest → Step t p a places rest
 unfolding onto
 step t p a places rest h l e = go (ℕ_discrete a p)
   where
-    here : (op : Op) → a ≡ p → recordIn (drop p t) ≡ some (op, drop (p + length (bytes_of op)) t) → p + length (bytes_of op) ≤ length t
-        → (o : Option (List Op)) → recordsIn (p + length (bytes_of op)) places (drop (p + length (bytes_of op)) t) ≡ o → onto op o ≡ some rest → Step t p a places rest
+    here : (op : Op) → a ≡ p → record_in (drop p t) ≡ some (op, drop (p + length (bytes_of op)) t) → p + length (bytes_of op) ≤ length t
+        → (o : Option (List Op)) → records_in (p + length (bytes_of op)) places (drop (p + length (bytes_of op)) t) ≡ o → onto op o ≡ some rest → Step t p a places rest
     here op q r f none x y = absurd (some-ne-none rest (sym y))
     here op q r f (some more) x y = record { op = op; more = more; place = q; read = r; fits = f; first = sym (some-injective (op ∷ more) rest y); after = x }
 
-    found : a ≡ p → recordsIn p (p ∷ places) (drop p t) ≡ some rest → (o : Option (Op × List ℕ)) → recordIn (drop p t) ≡ o → Step t p a places rest
-    found q r none x = absurd (some-ne-none rest (sym r ∙ loop-bad t p places x))
+    found : a ≡ p → records_in p (p ∷ places) (drop p t) ≡ some rest → (o : Option (Op × List ℕ)) → record_in (drop p t) ≡ o → Step t p a places rest
+    found q r none x = absurd (some-ne-none rest (sym r ∙ loop_bad t p places x))
     found q r (some z) x =
-        let b = record-ends (drop p t) z.0 z.1 (drop-bytes p t h) x in
+        let b = record_ends (drop p t) z.0 z.1 (drop_bytes p t h) x in
         let k = length (bytes_of z.0) in
         let f : z.1 ≡ drop (p + k) t = b.0 ∙ drop-drop k p t in
-        let y : recordIn (drop p t) ≡ some (z.0, drop (p + k) t) = x ∙ ap (λ (v : List ℕ). some (z.0, v)) f in
-        here z.0 q y (omega (arith, b.1, length-drop p t)) (recordsIn (p + k) places (drop (p + k) t)) refl (sym (loop-step t p places z.0 y) ∙ r)
+        let y : record_in (drop p t) ≡ some (z.0, drop (p + k) t) = x ∙ ap (λ (v : List ℕ). some (z.0, v)) f in
+        here z.0 q y (omega (arith, b.1, length-drop p t)) (records_in (p + k) places (drop (p + k) t)) refl (sym (loop_step t p places z.0 y) ∙ r)
 
     go : Dec (a ≡ p) → Step t p a places rest
-    go (yes q) = found q (ap (λ (x : ℕ). recordsIn p (x ∷ places) (drop p t)) (sym q) ∙ e) (recordIn (drop p t)) refl
-    go (no q) = absurd (some-ne-none rest (sym e ∙ loop-astray t p places a q))
+    go (yes q) = found q (ap (λ (x : ℕ). records_in p (x ∷ places) (drop p t)) (sym q) ∙ e) (record_in (drop p t)) refl
+    go (no q) = absurd (some-ne-none rest (sym e ∙ loop_astray t p places a q))
 
 -- ---- all of them
 
-pub counts : (places : List ℕ) (t : List ℕ) (p : ℕ) (ops : List Op) → Bytes t → p ≤ length t → recordsIn p places (drop p t) ≡ some ops
-    → (length places ≡ length ops) × (p + length (recordsOf ops) ≡ length t)
-unfolding recordsOf
+pub counts : (places : List ℕ) (t : List ℕ) (p : ℕ) (ops : List Op) → Bytes t → p ≤ length t → records_in p places (drop p t) ≡ some ops
+    → (length places ≡ length ops) × (p + length (records_of ops) ≡ length t)
+unfolding records_of
 counts [] t p ops h l e = go (dec_lt p (length t))
   where
-    go : Dec (p < length t) → (0 ≡ length ops) × (p + length (recordsOf ops) ≡ length t)
-    go (yes m) = absurd (some-ne-none ops (sym e ∙ loop-more p (drop p t) (omega (arith, length-drop p t))))
+    go : Dec (p < length t) → (0 ≡ length ops) × (p + length (records_of ops) ≡ length t)
+    go (yes m) = absurd (some-ne-none ops (sym e ∙ loop_more p (drop p t) (omega (arith, length-drop p t))))
     go (no m) =
         let q : p ≡ length t = omega arith in
         let d : drop p t ≡ [] = ap (λ (k : ℕ). drop k t) q ∙ drop-length t in
-        let o : [] ≡ ops = some-injective [] ops (sym (loop-end p) ∙ sym (ap (recordsIn p []) d) ∙ e) in
-        (ap length o, omega (arith, ap (λ (x : List Op). length (recordsOf x)) o, q))
+        let o : [] ≡ ops = some-injective [] ops (sym (loop_end p) ∙ sym (ap (records_in p []) d) ∙ e) in
+        (ap length o, omega (arith, ap (λ (x : List Op). length (records_of x)) o, q))
 counts (a ∷ places) t p ops h l e =
     let x = step t p a places ops h l e in
     let y = counts places t (p + length (bytes_of x.op)) x.more h x.fits x.after in (
       ap suc y.0 ∙ sym (ap length x.first),
-      omega (arith, y.1, ap (λ (z : List Op). length (recordsOf z)) x.first, length-append (bytes_of x.op) (recordsOf x.more)),
+      omega (arith, y.1, ap (λ (z : List Op). length (records_of z)) x.first, length-append (bytes_of x.op) (records_of x.more)),
     )

@@ -1,9 +1,9 @@
 // A file of records moved to text, into a lent slice: one pass tests and measures it, one writes. What is no file is FILE; then a pair that is not the
 // member SELF; a slice that is too short SMALL, last. Refused, the slice is as it was. Assumes nothing.
 ghost use Rattle.std.specs.Prelude.{◌+◌, ◌*◌, ◌≤◌, ◌<◌, length};
-ghost use Rattle.record_spec.specs.Files.{recordsIn};
-ghost use Rattle.record_spec.specs.Places.{foursAt};
-ghost use Rattle.record_spec.specs.Moves.{toText};
+ghost use Rattle.record_spec.specs.Files.{records_in};
+ghost use Rattle.record_spec.specs.Places.{fours_at};
+ghost use Rattle.record_spec.specs.Moves.{to_text};
 ghost use Rattle.record_packs.specs.Packs.{MovedAs};
 ghost use Rattle.record_unpacks.specs.Unpacks.{Ready, Filled};
 
@@ -12,8 +12,8 @@ use record_packs::Moved;
 
 // The lines of t's records, in the order of their starts: `count` of them stand in s from a place on.
 fn fill(s: &[u8], t: &[u8], list: usize, count: usize, out: &mut [u8])
-    requires { (list + 4 * count ≤ length s.now) × Ready (recordsIn 0 (foursAt count s.now list) t.now) (length out.old) }
-    ensures { Filled (recordsIn 0 (foursAt count s.now list) t.now) out.old out.new }
+    requires { (list + 4 * count ≤ length s.now) × Ready (records_in 0 (fours_at count s.now list) t.now) (length out.old) }
+    ensures { Filled (records_in 0 (fours_at count s.now list) t.now) out.old out.new }
 {
     let mut entry = list;
     let mut left = count;
@@ -28,7 +28,7 @@ fn fill(s: &[u8], t: &[u8], list: usize, count: usize, out: &mut [u8])
 
 // Moves a file of records; answers the bytes written.
 pub fn to_text(file: &[u8], out: &mut [u8]) -> Moved
-    ensures { MovedAs (toText file.now out.old) out.new result }
+    ensures { MovedAs (to_text file.now out.old) out.new result }
 {
     let w = record_files::scan(file);
     if !w.whole {

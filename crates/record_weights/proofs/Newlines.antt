@@ -10,11 +10,11 @@ use Rattle.ledger_spec.specs.Fields.{cut}
 use Rattle.ledger_spec.specs.Grammar.{Fields, line_of}
 use Rattle.ledger_spec.specs.Program.{ended, lines_of}
 use Rattle.text_fields.specs.Places.{Ends}
-use Rattle.text_fields.proofs.Ends.{from_more, from-none}
-use Rattle.record_spec.specs.Operations.{Op, opOfLine}
+use Rattle.text_fields.proofs.Ends.{from_more, from_none}
+use Rattle.record_spec.specs.Operations.{Op, op_of_line}
 use Rattle.record_spec.specs.Moves.{ops_of}
-use Rattle.record_spec.proofs.Newlines.{cut-none}
-use Rattle.record_spec.proofs.Texts.{onto, ops-step}
+use Rattle.record_spec.proofs.Newlines.{cut_none}
+use Rattle.record_spec.proofs.Texts.{onto, ops_step}
 
 -- the lines from a on, the first of which ends at e
 module _ (s : List ℕ) (a e : ℕ) (g : Ends 10 s a e) where
@@ -26,27 +26,27 @@ module _ (s : List ℕ) (a e : ℕ) (g : Ends 10 s a e) where
       ap (λ (l : Fields). ended l) (λ i. g.part i ∷ q i)
 
   -- an operation, and those of the lines after it
-  pub ops-line : e < length s → (op : Op) → opOfLine (line_of (take (e - a) (drop a s))) ≡ some op → ops_of (lines_of (drop a s)) ≡ onto op (ops_of (lines_of (drop (e + 1) s)))
-  ops-line h op q = ap ops_of (line_first h) ∙ ops-step (line_of (take (e - a) (drop a s))) (lines_of (drop (e + 1) s)) op q
+  pub ops_line : e < length s → (op : Op) → op_of_line (line_of (take (e - a) (drop a s))) ≡ some op → ops_of (lines_of (drop a s)) ≡ onto op (ops_of (lines_of (drop (e + 1) s)))
+  ops_line h op q = ap ops_of (line_first h) ∙ ops_step (line_of (take (e - a) (drop a s))) (lines_of (drop (e + 1) s)) op q
 
-  pub ops-wrong : e < length s → opOfLine (line_of (take (e - a) (drop a s))) ≡ none → ops_of (lines_of (drop a s)) ≡ none
+  pub ops_wrong : e < length s → op_of_line (line_of (take (e - a) (drop a s))) ≡ none → ops_of (lines_of (drop a s)) ≡ none
   unfolding ops_of
-  ops-wrong h q = ap ops_of (line_first h) ∙ rw (q, ops_of)
+  ops_wrong h q = ap ops_of (line_first h) ∙ rw (q, ops_of)
 
   -- a last line without newline
-  pub ops-unended : a < length s → e ≡ length s → ops_of (lines_of (drop a s)) ≡ none
+  pub ops_unended : a < length s → e ≡ length s → ops_of (lines_of (drop a s)) ≡ none
   unfolding lines_of ended ops_of
-  ops-unended l q =
+  ops_unended l q =
       let p = g.part ∙ take_all (e - a) (drop a s) (omega (arith, length-drop a s, q)) in
-      let r = g.others ∙ from-none 10 s e (omega (arith, q)) in
-      ap (λ (x : Fields). ops_of (ended x)) (λ i. p i ∷ r i) ∙ some-line (drop a s) (omega (arith, length-drop a s))
+      let r = g.others ∙ from_none 10 s e (omega (arith, q)) in
+      ap (λ (x : Fields). ops_of (ended x)) (λ i. p i ∷ r i) ∙ some_line (drop a s) (omega (arith, length-drop a s))
     where
-      some-line : (x : List ℕ) → 0 < length x → ops_of (ended (x ∷ [])) ≡ none
-      some-line [] h = absurd (omega arith)
-      some-line (c ∷ x) h = refl
+      some_line : (x : List ℕ) → 0 < length x → ops_of (ended (x ∷ [])) ≡ none
+      some_line [] h = absurd (omega arith)
+      some_line (c ∷ x) h = refl
 
-pub ops-none : (s : List ℕ) (a : ℕ) → length s ≤ a → a ≤ length s → ops_of (lines_of (drop a s)) ≡ some []
+pub ops_none : (s : List ℕ) (a : ℕ) → length s ≤ a → a ≤ length s → ops_of (lines_of (drop a s)) ≡ some []
 unfolding lines_of ended ops_of
-ops-none s a h l =
+ops_none s a h l =
     let e : a ≡ length s = omega arith in
-    ap (λ (x : List ℕ). ops_of (ended (cut 10 x))) (ap (λ (k : ℕ). drop k s) e ∙ drop-length s) ∙ ap (λ (x : Fields). ops_of (ended x)) cut-none
+    ap (λ (x : List ℕ). ops_of (ended (cut 10 x))) (ap (λ (k : ℕ). drop k s) e ∙ drop-length s) ∙ ap (λ (x : Fields). ops_of (ended x)) cut_none

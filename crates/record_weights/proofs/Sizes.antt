@@ -8,30 +8,30 @@ use lib.ListN.{length, length-map}
 use Rattle.ledger_spec.specs.Operations.{D, B, E, S, G, F, C, K}
 use Rattle.ledger_spec.specs.Grammar.{Line as Said, line_of}
 use Rattle.text_lines.specs.declared.Line.{Line}
-use Rattle.text_lines.specs.Shown.{lineShown}
-use Rattle.text_lines.specs.Texts.{letterOf}
+use Rattle.text_lines.specs.Shown.{line_shown}
+use Rattle.text_lines.specs.Texts.{letter_of}
 use Rattle.record_spec.specs.Numbers.{bytes}
-use Rattle.record_spec.specs.Operations.{Op, itself, opOfLine}
+use Rattle.record_spec.specs.Operations.{Op, itself, op_of_line}
 use Rattle.record_spec.specs.Records.{fields, spelled, bytes_of}
-use Rattle.record_spec.proofs.Texts.{line-only}
-use Rattle.record_spec.proofs.Writable.{writable-held}
+use Rattle.record_spec.proofs.Texts.{line_only}
+use Rattle.record_spec.proofs.Writable.{writable_held}
 use Rattle.record_measures.proofs.Measuring.{bytes-B}
-use Rattle.record_weights.specs.Weights.{bytesSaid, sizeBy}
+use Rattle.record_weights.specs.Weights.{bytes_said, size_by}
 
-pub size-said : (l : Said) → sizeBy (lineShown l) ≡ length (bytesSaid (opOfLine l))
-unfolding bytes_of fields spelled bytes letterOf
-size-said (some (D u v)) = refl
-size-said (some (B u ns)) = omega (arith, bytes-B u (map itself ns), length-map ns itself)
-size-said (some (E u n)) = refl
-size-said (some (S u n g)) = refl
-size-said (some (G u l)) = refl
-size-said (some (F p l r)) = refl
-size-said (some (C u)) = refl
-size-said (some (K u)) = refl
-size-said none = refl
+pub size_said : (l : Said) → size_by (line_shown l) ≡ length (bytes_said (op_of_line l))
+unfolding bytes_of fields spelled bytes letter_of
+size_said (some (D u v)) = refl
+size_said (some (B u ns)) = omega (arith, bytes-B u (map itself ns), length-map ns itself)
+size_said (some (E u n)) = refl
+size_said (some (S u n g)) = refl
+size_said (some (G u l)) = refl
+size_said (some (F p l r)) = refl
+size_said (some (C u)) = refl
+size_said (some (K u)) = refl
+size_said none = refl
 
 pub some_bytes : (op : Op) → 0 < length (bytes_of op)
-unfolding bytes_of letterOf
+unfolding bytes_of letter_of
 some_bytes (D u v) = omega arith
 some_bytes (B u ms) = omega arith
 some_bytes (E u k) = omega arith
@@ -42,11 +42,11 @@ some_bytes (C u) = omega arith
 some_bytes (K u) = omega arith
 
 -- few, since a line is short
-size_small : (f : List ℕ) (l : Said) → line_of f ≡ l → sizeBy (lineShown l) < 4294967296
+size_small : (f : List ℕ) (l : Said) → line_of f ≡ l → size_by (line_shown l) < 4294967296
 size_small f (some (D u v)) e = omega arith
 size_small f (some (B u ns)) e =
-    let w = line-only f (B u (map itself ns)) (ap opOfLine e) in
-    let h = writable-held (B u (map itself ns)) w.writable in
+    let w = line_only f (B u (map itself ns)) (ap op_of_line e) in
+    let h = writable_held (B u (map itself ns)) w.writable in
     omega (arith, h.1, length-map ns itself)
 size_small f (some (E u n)) e = omega arith
 size_small f (some (S u n g)) e = omega arith
@@ -58,29 +58,29 @@ size_small f none e = omega arith
 
 -- ---- of a line that was read
 
-module _ (f : List ℕ) (r : Line) (is : r ≡ lineShown (line_of f)) where
-  pub read_small : sizeBy r < 4294967296
-  read_small = let h = size_small f (line_of f) refl in omega (arith, h, ap sizeBy is)
+module _ (f : List ℕ) (r : Line) (is : r ≡ line_shown (line_of f)) where
+  pub read_small : size_by r < 4294967296
+  read_small = let h = size_small f (line_of f) refl in omega (arith, h, ap size_by is)
 
   pub record Has (n : ℕ) : Type 0 where
     pub op : Op
-    pub said : opOfLine (line_of f) ≡ some op
+    pub said : op_of_line (line_of f) ≡ some op
     pub size : n ≡ length (bytes_of op)
 
-  module _ (n : ℕ) (size : n ≡ sizeBy r) where
-    bytes-are : n ≡ length (bytesSaid (opOfLine (line_of f)))
-    bytes-are = size ∙ ap sizeBy is ∙ size-said (line_of f)
+  module _ (n : ℕ) (size : n ≡ size_by r) where
+    bytes_are : n ≡ length (bytes_said (op_of_line (line_of f)))
+    bytes_are = size ∙ ap size_by is ∙ size_said (line_of f)
 
-    pub read_none : n ≡ 0 → opOfLine (line_of f) ≡ none
-    read_none z = go (opOfLine (line_of f)) refl
+    pub read_none : n ≡ 0 → op_of_line (line_of f) ≡ none
+    read_none z = go (op_of_line (line_of f)) refl
       where
-        go : (o : Option Op) → opOfLine (line_of f) ≡ o → opOfLine (line_of f) ≡ none
+        go : (o : Option Op) → op_of_line (line_of f) ≡ o → op_of_line (line_of f) ≡ none
         go none e = e
-        go (some op) e = absurd (omega (arith, z, bytes-are, ap (λ (x : Option Op). length (bytesSaid x)) e, some_bytes op))
+        go (some op) e = absurd (omega (arith, z, bytes_are, ap (λ (x : Option Op). length (bytes_said x)) e, some_bytes op))
 
     pub read_some : (n ≡ 0 → ⊥) → Has n
-    read_some z = go (opOfLine (line_of f)) refl
+    read_some z = go (op_of_line (line_of f)) refl
       where
-        go : (o : Option Op) → opOfLine (line_of f) ≡ o → Has n
-        go none e = absurd (z (bytes-are ∙ ap (λ (x : Option Op). length (bytesSaid x)) e))
-        go (some op) e = record { op = op; said = e; size = bytes-are ∙ ap (λ (x : Option Op). length (bytesSaid x)) e }
+        go : (o : Option Op) → op_of_line (line_of f) ≡ o → Has n
+        go none e = absurd (z (bytes_are ∙ ap (λ (x : Option Op). length (bytes_said x)) e))
+        go (some op) e = record { op = op; said = e; size = bytes_are ∙ ap (λ (x : Option Op). length (bytes_said x)) e }

@@ -1,8 +1,8 @@
 // A text tested and weighed: whether each line is of the grammar and ended by a newline, how many there are, and how many bytes their records take.
 // The first of the two passes from text to records; it writes nothing. Assumes nothing.
 ghost use Rattle.std.specs.Prelude.{◌≡◌, ◌<◌};
-ghost use Rattle.record_spec.specs.Moves.{textOps};
-ghost use Rattle.record_weights.specs.Weights.{sizeBy, notText as «not-text», weighedOf};
+ghost use Rattle.record_spec.specs.Moves.{text_ops};
+ghost use Rattle.record_weights.specs.Weights.{size_by, not_text as «not-text», weighed_of};
 
 use text_lines::Line;
 
@@ -26,8 +26,8 @@ fn not_text() -> Weighed
 
 // How many bytes a line's record takes; 0 for a line that is not of the grammar.
 pub fn record_size(line: Line) -> usize
-    requires { sizeBy line < 4294967296 }
-    ensures { result ≡ sizeBy line }
+    requires { size_by line < 4294967296 }
+    ensures { result ≡ size_by line }
 {
     match line {
         Line::Defect { unit: _, vertex: _ } => 6,
@@ -52,7 +52,7 @@ pub fn record_size(line: Line) -> usize
 
 // What a text holds. It stops where the file would be larger than its numbers can say.
 pub fn weigh(text: &[u8]) -> Weighed
-    ensures { result ≡ weighedOf (textOps text.now) }
+    ensures { result ≡ weighed_of (text_ops text.now) }
 {
     let mut scratch: [u64; 1] = [0; 1];
     let mut start: usize = 0;

@@ -4,23 +4,23 @@ use Rattle.std.proofs.Math.Option.{Option, none, some}
 use Rattle.bench_words.specs.Codec.{pick}
 use Rattle.ledger_spec.specs.Groups.{Group, growth}
 use Rattle.group_lent.specs.Forms.{length_of}
-use Rattle.group_lent.specs.Place.{groupIn}
-use Rattle.group_lent_sound.specs.Test.{soundIn}
+use Rattle.group_lent.specs.Place.{group_in}
+use Rattle.group_lent_sound.specs.Test.{sound_in}
 
 -- a growth by its words for length and flag, which is 0 or 1
-abbrev pub growthPlayed : ℕ → ℕ → Option Group
-growthPlayed n f = pick (leb f 1) (some (growth (length_of n) (eqb f 1))) none
+abbrev pub growth_played : ℕ → ℕ → Option Group
+growth_played n f = pick (leb f 1) (some (growth (length_of n) (eqb f 1))) none
 
 -- the group that words hold, none where they hold no sound one
 unfoldable pub played : List ℕ → Option Group
-played w = pick (eqb (length w) 1413 && soundIn w) (some (groupIn w)) none
+played w = pick (eqb (length w) 1413 && sound_in w) (some (group_in w)) none
 
 -- at most k groups
-unfoldable pub recordingIn : ℕ → List ℕ → List (Option Group)
-recordingIn zero ws = []
-recordingIn (suc k) [] = []
-recordingIn (suc k) (w ∷ ws) = played (take 1413 (w ∷ ws)) ∷ recordingIn k (drop 1413 (w ∷ ws))
+unfoldable pub recording_in : ℕ → List ℕ → List (Option Group)
+recording_in zero ws = []
+recording_in (suc k) [] = []
+recording_in (suc k) (w ∷ ws) = played (take 1413 (w ∷ ws)) ∷ recording_in k (drop 1413 (w ∷ ws))
 
 -- all of them
-unfoldable pub recordingOf : List ℕ → List (Option Group)
-recordingOf ws = recordingIn (length ws) ws
+unfoldable pub recording_of : List ℕ → List (Option Group)
+recording_of ws = recording_in (length ws) ws

@@ -2,8 +2,8 @@
 // growth's three words are read; conflicts are tested whole, and end the call. Assumes nothing.
 ghost use Rattle.std.specs.Prelude.{◌≡◌, ◌<◌, length, pos};
 ghost use Rattle.ledger_spec.specs.Tests.{first};
-ghost use Rattle.recorded_spec.specs.Recorded.{groupTests, stepBy};
-ghost use Rattle.recorded_groups.specs.Recording.{growthPlayed, played, recordingOf};
+ghost use Rattle.recorded_spec.specs.Recorded.{group_tests, step_by};
+ghost use Rattle.recorded_groups.specs.Recording.{growth_played, played, recording_of};
 
 use group_lent::GROUP;
 use kinds::numbers;
@@ -13,7 +13,7 @@ const LARGEST: u64 = 9223372036854775807;
 
 // A growth, by its words for length and flag.
 fn growth_number(length: u64, flag: u64) -> u8
-    ensures { result ≡ first (groupTests (growthPlayed length flag)) }
+    ensures { result ≡ first (group_tests (growth_played length flag)) }
 {
     if 1 < flag {
         return numbers::BROKEN;
@@ -31,7 +31,7 @@ fn growth_number(length: u64, flag: u64) -> u8
 }
 
 pub fn group_number(w: &[u64]) -> u8
-    ensures { result ≡ first (groupTests (played w.now)) }
+    ensures { result ≡ first (group_tests (played w.now)) }
 {
     if w.len() != GROUP {
         return numbers::BROKEN;
@@ -47,8 +47,8 @@ pub fn group_number(w: &[u64]) -> u8
 
 // The smaller of a group's growth and what is left.
 pub fn step_by(w: &[u64], left: u64) -> u64
-    requires { (first (groupTests (played w.now)) ≡ 0) × (0 < left) }
-    ensures { stepBy (pos left) (played w.now) ≡ pos result }
+    requires { (first (group_tests (played w.now)) ≡ 0) × (0 < left) }
+    ensures { step_by (pos left) (played w.now) ≡ pos result }
 {
     let most = w[1];
     if most < left {
@@ -59,7 +59,7 @@ pub fn step_by(w: &[u64], left: u64) -> u64
 
 // How many groups, one that is cut short among them.
 pub fn count(ws: &[u64]) -> usize
-    ensures { result ≡ length (recordingOf ws.now) }
+    ensures { result ≡ length (recording_of ws.now) }
 {
     let whole = ws.len() / GROUP;
     if whole * GROUP == ws.len() {

@@ -9,32 +9,32 @@ use lib.IntN.{ℤ, pos, nat_abs}
 use lib.Signed.{lt_z}
 use lib.Seq.{sets}
 use borrow.Author.Tests.{le-ltb}
-use Rattle.bench_words.specs.Store.{nodeAt, interfaceAt}
+use Rattle.bench_words.specs.Store.{node_at, interface_at}
 use Rattle.bench_words.specs.declared.Interface.{Interface}
 use Rattle.ledger_spec.specs.Bench as plain
 use Rattle.ledger_spec.specs.Look.{interface}
 use Rattle.ledger_spec.specs.Tests.{first}
-use Rattle.ledger_spec.specs.Refuse.{unitTests, growTests}
+use Rattle.ledger_spec.specs.Refuse.{unit_tests, grow_tests}
 use Rattle.ledger_spec.specs.Calls.{Grow}
 use Rattle.ledger_spec.specs.Answers.{answer}
-use Rattle.ledger_spec.specs.Deeds.{growBy}
+use Rattle.ledger_spec.specs.Deeds.{grow_by}
 use Rattle.ledger_spec.specs.Sound.{sound}
 use Rattle.ledger_spec.proofs.Holds.{holds}
 use Rattle.ledger_spec.proofs.Passed.{Open}
-use Rattle.ledger_spec.proofs.Accepted.{clear-passed}
-use Rattle.ledger_laws.proofs.Answered.{testsOf, deed_of, answer-number, zero-bench}
+use Rattle.ledger_spec.proofs.Accepted.{clear_passed}
+use Rattle.ledger_laws.proofs.Answered.{tests_of, deed_of, answer_number, zero_bench}
 use Rattle.bench_views.specs.View.{view}
 use Rattle.bench_views.specs.Fit.{Fit, SoundWords}
 use Rattle.outcomes.specs.Outcome.{Outcome}
-use Rattle.bench_views.proofs.Views.{interface-in}
+use Rattle.bench_views.proofs.Views.{interface_in_lem}
 use Rattle.bench_floors.specs.Least.{Least}
 use Rattle.recorded_spec.specs.Recorded.{Steps, stopped}
 use Rattle.recorded_spec.specs.Sums.{Sums, sums}
-use Rattle.recorded_spec.proofs.Tests.{sums-few}
+use Rattle.recorded_spec.proofs.Tests.{sums_few}
 use Rattle.recorded_spec.proofs.Answers.{refused-unit, refused-back, refused-step, refused-small, accepted-all}
-use Rattle.recorded_groups.specs.Recording.{recordingOf}
+use Rattle.recorded_groups.specs.Recording.{recording_of}
 use Rattle.recorded_steps.specs.declared.Passed.{Passed}
-use Rattle.recorded_steps.specs.Passes.{limitNo, PassedAs, steps_of, Ready}
+use Rattle.recorded_steps.specs.Passes.{limit_no, PassedAs, steps_of, Ready}
 use Rattle.recorded_steps.proofs.Limits.{limits}
 use Rattle.recorded_sound.specs.Answers.{recordedOn, JudgedAs, RecordedAs}
 
@@ -53,55 +53,55 @@ module _ (b : List ℕ) (F : Fit b) (u : ℕ) (l : ℤ) (ws : List ℕ) (room : 
     stays = λ _. e ∙ ap (λ (k : ℕ). stopped k (view b)) (sym p);
   }
 
-  pub by-unit : (n : ℕ) → n ≡ first (unitTests (view b) u) → (n ≡ 0 → ⊥) → whole ≡ stopped n (view b)
-  by-unit n e h = refused-unit (view b) sounds u l (recordingOf ws) room n (sym e) h
+  pub by_unit : (n : ℕ) → n ≡ first (unit_tests (view b) u) → (n ≡ 0 → ⊥) → whole ≡ stopped n (view b)
+  by_unit n e h = refused-unit (view b) sounds u l (recording_of ws) room n (sym e) h
 
-  module _ (n : ℕ) (e : n ≡ first (unitTests (view b) u)) (z : n ≡ 0) where
-    open-tests : first (unitTests (view b) u) ≡ 0
-    open-tests = sym e ∙ z
+  module _ (n : ℕ) (e : n ≡ first (unit_tests (view b) u)) (z : n ≡ 0) where
+    open_tests : first (unit_tests (view b) u) ≡ 0
+    open_tests = sym e ∙ z
 
     pub here : Open (view b) u
-    here = clear-passed (view b) u open-tests
+    here = clear_passed (view b) u open_tests
 
     pub by_length : lt_z l (pos 0) ≡ true → whole ≡ stopped 5 (view b)
-    by_length h = refused-back (view b) sounds u l (recordingOf ws) room open-tests h
+    by_length h = refused-back (view b) sounds u l (recording_of ws) room open_tests h
 
     -- the progress off the words
-    pub progress-low : (interfaceAt b u).progress ≤ 1099511627776
-    progress-low = F.canon.steady.progress u here.low
+    pub progress_low : (interface_at b u).progress ≤ 1099511627776
+    progress_low = F.canon.steady.progress u here.low
 
-    module _ (f : Interface) (i : f ≡ interfaceAt b u) (floor : ℕ) (L : Least b u floor) (x : ℕ) (is : l ≡ pos x) (ahead : lt_z l (pos 0) ≡ false)
-        (p : Passed) (P : PassedAs (sums (limitNo (1099511627776 - f.progress) floor) (pos 0) (pos x) (recordingOf ws)) p) where
+    module _ (f : Interface) (i : f ≡ interface_at b u) (floor : ℕ) (L : Least b u floor) (x : ℕ) (is : l ≡ pos x) (ahead : lt_z l (pos 0) ≡ false)
+        (p : Passed) (P : PassedAs (sums (limit_no (1099511627776 - f.progress) floor) (pos 0) (pos x) (recording_of ws)) p) where
       test : ℤ → ℕ
-      test = limitNo (1099511627776 - f.progress) floor
+      test = limit_no (1099511627776 - f.progress) floor
 
-      progress-is : (interface (view b) u).progress ≡ pos f.progress
-      progress-is = ap (λ (g : plain.Interface). g.progress) (interface-in (get_or b 0 0) (interfaceAt b) (nodeAt b) u here.low) ∙ ap (λ (g : Interface). pos g.progress) (sym i)
+      progress_is : (interface (view b) u).progress ≡ pos f.progress
+      progress_is = ap (λ (g : plain.Interface). g.progress) (interface_in_lem (get_or b 0 0) (interface_at b) (node_at b) u here.low) ∙ ap (λ (g : Interface). pos g.progress) (sym i)
 
       low : f.progress ≤ 1099511627776
-      low = subst (λ (g : Interface). g.progress ≤ 1099511627776) (sym i) progress-low
+      low = subst (λ (g : Interface). g.progress ≤ 1099511627776) (sym i) progress_low
 
-      same : (m : ℕ) → first (growTests (view b) u (pos m)) ≡ test (pos m)
+      same : (m : ℕ) → first (grow_tests (view b) u (pos m)) ≡ test (pos m)
       unfolding test
-      same m = limits (view b) u here f.progress progress-is low floor L.is m
+      same m = limits (view b) u here f.progress progress_is low floor L.is m
 
       tested : Sums
-      tested = sums test (pos 0) l (recordingOf ws)
+      tested = sums test (pos 0) l (recording_of ws)
 
       Q : PassedAs tested p
       unfolding tested test
-      Q = subst (λ (y : ℤ). PassedAs (sums (limitNo (1099511627776 - f.progress) floor) (pos 0) y (recordingOf ws)) p) (sym is) P
+      Q = subst (λ (y : ℤ). PassedAs (sums (limit_no (1099511627776 - f.progress) floor) (pos 0) y (recording_of ws)) p) (sym is) P
 
-      pub by-step : (p.number ≡ 0 → ⊥) → JudgedAs b u l ws room p
+      pub by_step : (p.number ≡ 0 → ⊥) → JudgedAs b u l ws room p
       unfolding tested
-      by-step h = refuses p.number p (refused-step (view b) sounds u l (recordingOf ws) room open-tests ahead test same p.number (sym Q.number) h) h refl (Q.none-taken h)
+      by_step h = refuses p.number p (refused-step (view b) sounds u l (recording_of ws) room open_tests ahead test same p.number (sym Q.number) h) h refl (Q.none_taken h)
 
-      pub by-room : p.number ≡ 0 → room < length (recordingOf ws) → whole ≡ stopped 19 (view b)
+      pub by_room : p.number ≡ 0 → room < length (recording_of ws) → whole ≡ stopped 19 (view b)
       unfolding tested
-      by-room h r = refused-small (view b) sounds u l (recordingOf ws) room open-tests ahead test same (sym Q.number ∙ h) r
+      by_room h r = refused-small (view b) sounds u l (recording_of ws) room open_tests ahead test same (sym Q.number ∙ h) r
 
-      pub by_all : p.number ≡ 0 → length (recordingOf ws) ≤ room → JudgedAs b u l ws room p
-      unfolding tested testsOf deed_of
+      pub by_all : p.number ≡ 0 → length (recording_of ws) ≤ room → JudgedAs b u l ws room p
+      unfolding tested tests_of deed_of
       by_all h r = record {
         number = h ∙ ap (λ (s : Steps). s.number) (sym all.0);
         taken = Q.taken h ∙ ap (λ (s : Steps). length s.lengths) (sym all.0);
@@ -109,29 +109,29 @@ module _ (b : List ℕ) (F : Fit b) (u : ℕ) (l : ℤ) (ws : List ℕ) (room : 
           forward = is ∙ ap pos size;
           ready = ap (λ (s : Sums). s.number) steps ∙ sym Q.number ∙ h;
           lengths = ap (λ (s : Steps). s.lengths) all.0 ∙ ap (λ (s : Sums). s.lengths) (sym steps);
-          fits = omega (arith, sums-few (λ t. 0) (recordingOf ws) (pos 0) (pos (nat_abs l)));
-          accepted = taken-whole;
-          bench = ap (λ (s : Steps). s.bench) all.0 ∙ sym (zero-bench (view b) (Grow u l) taken-whole);
+          fits = omega (arith, sums_few (λ t. 0) (recording_of ws) (pos 0) (pos (nat_abs l)));
+          accepted = taken_whole;
+          bench = ap (λ (s : Steps). s.bench) all.0 ∙ sym (zero_bench (view b) (Grow u l) taken_whole);
         };
         stays = λ q. absurd (q h);
       }
         where
-          all : (whole ≡ record { number = 0; lengths = tested.lengths; bench = growBy (view b) u l }) × (first (growTests (view b) u l) ≡ 0) × (sums (λ t. 0) (pos 0) l (recordingOf ws) ≡ tested)
-          all = accepted-all (view b) sounds u l (recordingOf ws) room open-tests ahead test same (sym Q.number ∙ h) r
+          all : (whole ≡ record { number = 0; lengths = tested.lengths; bench = grow_by (view b) u l }) × (first (grow_tests (view b) u l) ≡ 0) × (sums (λ t. 0) (pos 0) l (recording_of ws) ≡ tested)
+          all = accepted-all (view b) sounds u l (recording_of ws) room open_tests ahead test same (sym Q.number ∙ h) r
 
-          taken-whole : (answer (view b) (Grow u l)).number ≡ 0
-          taken-whole = answer-number (view b) (Grow u l) sounds ∙ all.1
+          taken_whole : (answer (view b) (Grow u l)).number ≡ 0
+          taken_whole = answer_number (view b) (Grow u l) sounds ∙ all.1
 
           size : x ≡ nat_abs l
           size = ap nat_abs (sym is)
 
           steps : steps_of ws (nat_abs l) ≡ tested
-          steps = ap (λ (y : ℤ). sums (λ t. 0) (pos 0) y (recordingOf ws)) (ap pos (sym size) ∙ sym is) ∙ all.2
+          steps = ap (λ (y : ℤ). sums (λ t. 0) (pos 0) y (recording_of ws)) (ap pos (sym size) ∙ sym is) ∙ all.2
 
 -- ---- the whole call, from the verdict
 module _ (b : List ℕ) (u : ℕ) (l : ℤ) (ws out : List ℕ) (r : Passed) (J : JudgedAs b u l ws (length out) r) where
-  pub all-refused : SoundWords b → (r.number ≡ 0 → ⊥) → RecordedAs b u l ws out r b out
-  all-refused W h = record {
+  pub all_refused : SoundWords b → (r.number ≡ 0 → ⊥) → RecordedAs b u l ws out r b out
+  all_refused W h = record {
     number = J.number;
     taken = J.taken;
     lengths = ap (λ (s : Steps). sets out 0 (map nat_abs s.lengths)) (sym (J.stays h));

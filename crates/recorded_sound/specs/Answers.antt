@@ -6,14 +6,14 @@ use Rattle.ledger_spec.specs.Calls.{Grow}
 use Rattle.ledger_spec.specs.Answers.{answer}
 use Rattle.bench_views.specs.View.{view}
 use Rattle.bench_views.specs.Fit.{SoundWords}
-use Rattle.recorded_spec.specs.Recorded.{Steps, stopped, growRecorded}
-use Rattle.recorded_groups.specs.Recording.{recordingOf}
+use Rattle.recorded_spec.specs.Recorded.{Steps, stopped, grow_recorded}
+use Rattle.recorded_groups.specs.Recording.{recording_of}
 use Rattle.recorded_steps.specs.declared.Passed.{Passed}
 use Rattle.recorded_steps.specs.Passes.{steps_of}
 
 -- the plain ledger's answer, for the words of a bench and a recording and a slice with room for so many lengths
 abbrev pub recordedOn : List ℕ → ℕ → ℤ → List ℕ → ℕ → Steps
-recordedOn b u l ws room = growRecorded (view b) u l (recordingOf ws) room
+recordedOn b u l ws room = grow_recorded (view b) u l (recording_of ws) room
 
 -- accepted: the growth in one is accepted, and the lengths are the recording's own
 pub record Went (b : List ℕ) (u : ℕ) (l : ℤ) (ws : List ℕ) (room : ℕ) : Type 0 where

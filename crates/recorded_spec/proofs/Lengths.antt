@@ -11,44 +11,44 @@ use lib.IntN.{ℤ, pos, negsuc, ◌-ℤ◌}
 use lib.Signed.{lt_z}
 use Rattle.ledger_spec.specs.Numbers.{NOTHING, STUCK}
 use Rattle.ledger_spec.specs.Tests.{first}
-use Rattle.ledger_spec.specs.Groups.{Group, growth, conflicts, largest, eqZ, smaller}
-use Rattle.recorded_spec.specs.Recorded.{groupTests, growthIn, stepBy}
+use Rattle.ledger_spec.specs.Groups.{Group, growth, conflicts, largest, eq_z, smaller}
+use Rattle.recorded_spec.specs.Recorded.{group_tests, growth_in, step_by}
 
-pub pos-minus : (a c : ℕ) → c ≤ a → pos a -ℤ pos c ≡ pos (a - c)
-pos-minus a zero h = ap pos (omega arith)
-pos-minus a (suc c) h = ap (λ (t : Bool). cond t (negsuc (suc c - suc a)) (pos (a - suc c))) (le-ltb a (suc c) h)
+pub pos_minus : (a c : ℕ) → c ≤ a → pos a -ℤ pos c ≡ pos (a - c)
+pos_minus a zero h = ap pos (omega arith)
+pos_minus a (suc c) h = ap (λ (t : Bool). cond t (negsuc (suc c - suc a)) (pos (a - suc c))) (le-ltb a (suc c) h)
 
 -- the smaller of two numbers
 abbrev pub least : ℕ → ℕ → ℕ
 least a c = cond (ltb c a) c a
 
-pub smaller-pos : (a c : ℕ) → smaller (pos a) (pos c) ≡ pos (least a c)
-smaller-pos a c = go (ltb c a)
+pub smaller_pos : (a c : ℕ) → smaller (pos a) (pos c) ≡ pos (least a c)
+smaller_pos a c = go (ltb c a)
   where
     go : (t : Bool) → cond t (pos c) (pos a) ≡ pos (cond t c a)
     go true = refl
     go false = refl
 
-pub least-low : (a c : ℕ) → (least a c ≤ a) × (least a c ≤ c)
-least-low a c = go (ltb c a) refl
+pub least_low : (a c : ℕ) → (least a c ≤ a) × (least a c ≤ c)
+least_low a c = go (ltb c a) refl
   where
     go : (t : Bool) → ltb c a ≡ t → (cond t c a ≤ a) × (cond t c a ≤ c)
     go true e = (omega (arith, ltb-true c a e), omega arith)
     go false e = (omega arith, ltb-false c a e)
 
-pub least-some : (a c : ℕ) → 0 < a → 0 < c → 0 < least a c
-least-some a c h k = go (ltb c a)
+pub least_some : (a c : ℕ) → 0 < a → 0 < c → 0 < least a c
+least_some a c h k = go (ltb c a)
   where
     go : (t : Bool) → 0 < cond t c a
     go true = k
     go false = h
 
 -- ---- where a group lets a step go on, its growth is above 0
-pub group-grows : (g : Option Group) → first (groupTests g) ≡ 0 → lt_z (pos 0) (growthIn g) ≡ true
-unfolding first groupTests
-group-grows none e = absurd (omega (arith, e))
-group-grows (some (conflicts es ss)) e = absurd (omega (arith, e))
-group-grows (some (growth n f)) e = go (eqZ n largest) (lt_z (pos 0) n) e
+pub group_grows : (g : Option Group) → first (group_tests g) ≡ 0 → lt_z (pos 0) (growth_in g) ≡ true
+unfolding first group_tests
+group_grows none e = absurd (omega (arith, e))
+group_grows (some (conflicts es ss)) e = absurd (omega (arith, e))
+group_grows (some (growth n f)) e = go (eq_z n largest) (lt_z (pos 0) n) e
   where
     go : (x y : Bool) → first ((x, NOTHING) ∷ (not y, STUCK) ∷ []) ≡ 0 → y ≡ true
     go true y d = absurd (omega (arith, d))
@@ -64,7 +64,7 @@ above (negsuc n) e = absurd (true≢false (sym e))
 pub record Stepped (left : ℤ) (x : ℤ) : Type 0 where
   pub by : ℕ
   pub rest : ℕ
-  pub some-way : 0 < by
+  pub some_way : 0 < by
   pub is : smaller left x ≡ pos by
   pub leaves : left -ℤ smaller left x ≡ pos rest
   pub adds : left ≡ pos (by + rest)
@@ -76,11 +76,11 @@ stepped left x h k = go (above left h) (above x k)
     go (a, p, h') (c, q, k') = record {
       by = least a c;
       rest = a - least a c;
-      some-way = least-some a c h' k';
+      some_way = least_some a c h' k';
       is = e;
-      leaves = ap (λ (z : ℤ). left -ℤ z) e ∙ ap (λ (z : ℤ). z -ℤ pos (least a c)) p ∙ pos-minus a (least a c) (least-low a c).0;
-      adds = p ∙ ap pos (omega (arith, (least-low a c).0));
+      leaves = ap (λ (z : ℤ). left -ℤ z) e ∙ ap (λ (z : ℤ). z -ℤ pos (least a c)) p ∙ pos_minus a (least a c) (least_low a c).0;
+      adds = p ∙ ap pos (omega (arith, (least_low a c).0));
     }
       where
         e : smaller left x ≡ pos (least a c)
-        e = ap (λ (z : ℤ). smaller z x) p ∙ ap (smaller (pos a)) q ∙ smaller-pos a c
+        e = ap (λ (z : ℤ). smaller z x) p ∙ ap (smaller (pos a)) q ∙ smaller_pos a c

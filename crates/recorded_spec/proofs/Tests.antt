@@ -11,13 +11,13 @@ use lib.Signed.{lt_z}
 use Rattle.ledger_spec.specs.Numbers.{SHORT}
 use Rattle.ledger_spec.specs.Tests.{first}
 use Rattle.ledger_spec.specs.Groups.{Group}
-use Rattle.recorded_spec.specs.Recorded.{groupTests, growthIn, stepBy, or_else}
+use Rattle.recorded_spec.specs.Recorded.{group_tests, growth_in, step_by, or_else}
 use Rattle.recorded_spec.specs.Sums.{Sums, refused, further, sums}
-use Rattle.recorded_spec.proofs.Lengths.{group-grows, Stepped, stepped}
+use Rattle.recorded_spec.proofs.Lengths.{group_grows, Stepped, stepped}
 
 -- a step if there is length left
-abbrev ifLeft : Bool → Sums → Sums
-ifLeft t s = elim t [ true ↦ s | false ↦ refused 0 ]
+abbrev if_left : Bool → Sums → Sums
+if_left t s = elim t [ true ↦ s | false ↦ refused 0 ]
 
 module _ (f g : ℤ → ℕ) where
   -- one step, by the number of its group's own tests
@@ -29,24 +29,24 @@ module _ (f g : ℤ → ℕ) where
       go : ((by : ℕ) × (l ≡ pos by)) → further (f (pos d +ℤ l)) l s ≡ further (g (pos d +ℤ l)) l t
       go (by, h) = ap₂ (λ (n : ℕ) (x : Sums). further n l x) (ap (λ (z : ℤ). f (pos d +ℤ z)) h ∙ e (d + by) ∙ ap (λ (z : ℤ). g (pos d +ℤ z)) (sym h)) (q refl)
 
-  pub sums-ext : ((n : ℕ) → f (pos n) ≡ g (pos n)) → (gs : List (Option Group)) (d : ℕ) (left : ℤ) → sums f (pos d) left gs ≡ sums g (pos d) left gs
+  pub sums_ext : ((n : ℕ) → f (pos n) ≡ g (pos n)) → (gs : List (Option Group)) (d : ℕ) (left : ℤ) → sums f (pos d) left gs ≡ sums g (pos d) left gs
   unfolding sums
-  sums-ext e [] d left = refl
-  sums-ext e (x ∷ gs) d left = go (lt_z (pos 0) left) refl (λ n z. sums-ext e gs n z)
+  sums_ext e [] d left = refl
+  sums_ext e (x ∷ gs) d left = go (lt_z (pos 0) left) refl (λ n z. sums_ext e gs n z)
     where
       l : ℤ
-      l = stepBy left x
+      l = step_by left x
 
       go : (t : Bool) → lt_z (pos 0) left ≡ t → ((n : ℕ) (z : ℤ) → sums f (pos n) z gs ≡ sums g (pos n) z gs)
-          → ifLeft t (further (or_else (first (groupTests x)) (f (pos d +ℤ l))) l (sums f (pos d +ℤ l) (left -ℤ l) gs))
-          ≡ ifLeft t (further (or_else (first (groupTests x)) (g (pos d +ℤ l))) l (sums g (pos d +ℤ l) (left -ℤ l) gs))
+          → if_left t (further (or_else (first (group_tests x)) (f (pos d +ℤ l))) l (sums f (pos d +ℤ l) (left -ℤ l) gs))
+          ≡ if_left t (further (or_else (first (group_tests x)) (g (pos d +ℤ l))) l (sums g (pos d +ℤ l) (left -ℤ l) gs))
       go false k ih = refl
-      go true k ih = onward (first (groupTests x)) l d (sums f (pos d +ℤ l) (left -ℤ l) gs) (sums g (pos d +ℤ l) (left -ℤ l) gs) (λ z. ((s z).by, (s z).is)) e same
+      go true k ih = onward (first (group_tests x)) l d (sums f (pos d +ℤ l) (left -ℤ l) gs) (sums g (pos d +ℤ l) (left -ℤ l) gs) (λ z. ((s z).by, (s z).is)) e same
         where
-          s : first (groupTests x) ≡ 0 → Stepped left (growthIn x)
-          s z = stepped left (growthIn x) k (group-grows x z)
+          s : first (group_tests x) ≡ 0 → Stepped left (growth_in x)
+          s z = stepped left (growth_in x) k (group_grows x z)
 
-          same : first (groupTests x) ≡ 0 → sums f (pos d +ℤ l) (left -ℤ l) gs ≡ sums g (pos d +ℤ l) (left -ℤ l) gs
+          same : first (group_tests x) ≡ 0 → sums f (pos d +ℤ l) (left -ℤ l) gs ≡ sums g (pos d +ℤ l) (left -ℤ l) gs
           same z = ap (λ (y : ℤ). sums f (pos d +ℤ y) (left -ℤ l) gs) (s z).is ∙ ih (d + (s z).by) (left -ℤ l) ∙ ap (λ (y : ℤ). sums g (pos d +ℤ y) (left -ℤ l) gs) (sym (s z).is)
 
 -- ---- where all were accepted, no test is needed
@@ -56,20 +56,20 @@ module _ (f : ℤ → ℕ) where
   taken zero (suc n) l s t q e = absurd (omega (arith, e))
   taken (suc k) n l s t q e = refl
 
-  pub sums-any : (gs : List (Option Group)) (d left : ℤ) → (sums f d left gs).number ≡ 0 → sums (λ t. 0) d left gs ≡ sums f d left gs
+  pub sums_any : (gs : List (Option Group)) (d left : ℤ) → (sums f d left gs).number ≡ 0 → sums (λ t. 0) d left gs ≡ sums f d left gs
   unfolding sums
-  sums-any [] d left e = refl
-  sums-any (x ∷ gs) d left e = go (lt_z (pos 0) left) (λ c y q. sums-any gs c y q) e
+  sums_any [] d left e = refl
+  sums_any (x ∷ gs) d left e = go (lt_z (pos 0) left) (λ c y q. sums_any gs c y q) e
     where
       l : ℤ
-      l = stepBy left x
+      l = step_by left x
 
       go : (t : Bool) → ((c y : ℤ) → (sums f c y gs).number ≡ 0 → sums (λ t. 0) c y gs ≡ sums f c y gs)
-          → (ifLeft t (further (or_else (first (groupTests x)) (f (d +ℤ l))) l (sums f (d +ℤ l) (left -ℤ l) gs))).number ≡ 0
-          → ifLeft t (further (or_else (first (groupTests x)) 0) l (sums (λ t. 0) (d +ℤ l) (left -ℤ l) gs))
-          ≡ ifLeft t (further (or_else (first (groupTests x)) (f (d +ℤ l))) l (sums f (d +ℤ l) (left -ℤ l) gs))
+          → (if_left t (further (or_else (first (group_tests x)) (f (d +ℤ l))) l (sums f (d +ℤ l) (left -ℤ l) gs))).number ≡ 0
+          → if_left t (further (or_else (first (group_tests x)) 0) l (sums (λ t. 0) (d +ℤ l) (left -ℤ l) gs))
+          ≡ if_left t (further (or_else (first (group_tests x)) (f (d +ℤ l))) l (sums f (d +ℤ l) (left -ℤ l) gs))
       go false ih q = refl
-      go true ih q = taken (first (groupTests x)) (f (d +ℤ l)) l (sums f (d +ℤ l) (left -ℤ l) gs) (sums (λ t. 0) (d +ℤ l) (left -ℤ l) gs) (ih (d +ℤ l) (left -ℤ l)) q
+      go true ih q = taken (first (group_tests x)) (f (d +ℤ l)) l (sums f (d +ℤ l) (left -ℤ l) gs) (sums (λ t. 0) (d +ℤ l) (left -ℤ l) gs) (ih (d +ℤ l) (left -ℤ l)) q
 
 -- ---- no more steps than groups
 module _ (f : ℤ → ℕ) where
@@ -77,9 +77,9 @@ module _ (f : ℤ → ℕ) where
   few_on zero l s k h = omega arith
   few_on (suc n) l s k h = omega arith
 
-  pub sums-few : (gs : List (Option Group)) (d left : ℤ) → length (sums f d left gs).lengths ≤ length gs
+  pub sums_few : (gs : List (Option Group)) (d left : ℤ) → length (sums f d left gs).lengths ≤ length gs
   unfolding sums
-  sums-few [] d left = go (lt_z (pos 0) left)
+  sums_few [] d left = go (lt_z (pos 0) left)
     where
       none_yet : Bool → Sums
       none_yet t = elim t [ true ↦ refused SHORT | false ↦ refused 0 ]
@@ -87,12 +87,12 @@ module _ (f : ℤ → ℕ) where
       go : (t : Bool) → length (none_yet t).lengths ≤ 0
       go true = omega arith
       go false = omega arith
-  sums-few (x ∷ gs) d left = go (lt_z (pos 0) left) (sums-few gs (d +ℤ stepBy left x) (left -ℤ stepBy left x))
+  sums_few (x ∷ gs) d left = go (lt_z (pos 0) left) (sums_few gs (d +ℤ step_by left x) (left -ℤ step_by left x))
     where
       l : ℤ
-      l = stepBy left x
+      l = step_by left x
 
       go : (t : Bool) → length (sums f (d +ℤ l) (left -ℤ l) gs).lengths ≤ length gs
-          → length (ifLeft t (further (or_else (first (groupTests x)) (f (d +ℤ l))) l (sums f (d +ℤ l) (left -ℤ l) gs))).lengths ≤ suc (length gs)
+          → length (if_left t (further (or_else (first (group_tests x)) (f (d +ℤ l))) l (sums f (d +ℤ l) (left -ℤ l) gs))).lengths ≤ suc (length gs)
       go false h = omega arith
-      go true h = few_on (or_else (first (groupTests x)) (f (d +ℤ l))) l (sums f (d +ℤ l) (left -ℤ l) gs) (length gs) h
+      go true h = few_on (or_else (first (group_tests x)) (f (d +ℤ l))) l (sums f (d +ℤ l) (left -ℤ l) gs) (length gs) h

@@ -6,27 +6,27 @@ use Rattle.std.specs.Int.Signed.{lt_z}
 use Rattle.ledger_spec.specs.Numbers.{BROKEN, LENGTH, SMALL, NOTHING, STUCK, SHORT}
 use Rattle.ledger_spec.specs.Bench.{Bench}
 use Rattle.ledger_spec.specs.Tests.{first}
-use Rattle.ledger_spec.specs.Refuse.{unitTests, growTests}
-use Rattle.ledger_spec.specs.Deeds.{growBy}
+use Rattle.ledger_spec.specs.Refuse.{unit_tests, grow_tests}
+use Rattle.ledger_spec.specs.Deeds.{grow_by}
 use Rattle.ledger_spec.specs.Sound.{sound}
-use Rattle.ledger_spec.specs.Groups.{Group, growth, conflicts, largest, eqZ, smaller}
+use Rattle.ledger_spec.specs.Groups.{Group, growth, conflicts, largest, eq_z, smaller}
 
 -- ---- a position of the recording: a group, or none where it is broken
 
 -- what a step is refused for there, before the bench is asked
-unfoldable pub groupTests : Option Group → List (Bool × ℕ)
-groupTests none = (true, BROKEN) ∷ []
-groupTests (some (growth n f)) = (eqZ n largest, NOTHING) ∷ (not (lt_z (pos 0) n), STUCK) ∷ []
-groupTests (some (conflicts es ss)) = (true, STUCK) ∷ []
+unfoldable pub group_tests : Option Group → List (Bool × ℕ)
+group_tests none = (true, BROKEN) ∷ []
+group_tests (some (growth n f)) = (eq_z n largest, NOTHING) ∷ (not (lt_z (pos 0) n), STUCK) ∷ []
+group_tests (some (conflicts es ss)) = (true, STUCK) ∷ []
 
-abbrev pub growthIn : Option Group → ℤ
-growthIn none = pos 0
-growthIn (some (growth n f)) = n
-growthIn (some (conflicts es ss)) = pos 0
+abbrev pub growth_in : Option Group → ℤ
+growth_in none = pos 0
+growth_in (some (growth n f)) = n
+growth_in (some (conflicts es ss)) = pos 0
 
 -- how far the step goes
-abbrev pub stepBy : ℤ → Option Group → ℤ
-stepBy left g = smaller left (growthIn g)
+abbrev pub step_by : ℤ → Option Group → ℤ
+step_by left g = smaller left (growth_in g)
 
 -- ---- step by step
 
@@ -47,15 +47,15 @@ onward (suc k) l b s = stopped (suc k) b
 unfoldable pub steps : Bench → ℕ → ℤ → List (Option Group) → Steps
 steps b u left [] = elim (lt_z (pos 0) left) [ true ↦ stopped SHORT b | false ↦ stopped 0 b ]
 steps b u left (g ∷ gs) = elim (lt_z (pos 0) left) [
-  | true ↦ onward (first (groupTests g ++ growTests b u (stepBy left g))) (stepBy left g) b (steps (growBy b u (stepBy left g)) u (left -ℤ stepBy left g) gs)
+  | true ↦ onward (first (group_tests g ++ grow_tests b u (step_by left g))) (step_by left g) b (steps (grow_by b u (step_by left g)) u (left -ℤ step_by left g) gs)
   | false ↦ stopped 0 b
 ]
 
 -- ---- the call
 
 -- what comes before any position
-unfoldable pub recordedTests : Bench → ℕ → ℤ → List (Bool × ℕ)
-recordedTests b u l = unitTests b u ++ (lt_z l (pos 0), LENGTH) ∷ []
+unfoldable pub recorded_tests : Bench → ℕ → ℤ → List (Bool × ℕ)
+recorded_tests b u l = unit_tests b u ++ (lt_z l (pos 0), LENGTH) ∷ []
 
 -- the first number that is not 0
 abbrev pub or_else : ℕ → ℕ → ℕ
@@ -63,13 +63,13 @@ or_else zero n = n
 or_else (suc k) n = suc k
 
 -- there is room for `room` lengths, one a group
-unfoldable pub recordedNo : Bench → ℕ → ℤ → List (Option Group) → ℕ → ℕ
-recordedNo b u l gs room = or_else (first (recordedTests b u l)) (or_else (steps b u l gs).number (first ((ltb room (length gs), SMALL) ∷ [])))
+unfoldable pub recorded_no : Bench → ℕ → ℤ → List (Option Group) → ℕ → ℕ
+recorded_no b u l gs room = or_else (first (recorded_tests b u l)) (or_else (steps b u l gs).number (first ((ltb room (length gs), SMALL) ∷ [])))
 
 -- all steps, or where one is refused none
-abbrev pub allOrNone : ℕ → Bench → Steps → Steps
-allOrNone zero b s = record { number = 0; lengths = s.lengths; bench = s.bench }
-allOrNone (suc k) b s = stopped (suc k) b
+abbrev pub all_or_none : ℕ → Bench → Steps → Steps
+all_or_none zero b s = record { number = 0; lengths = s.lengths; bench = s.bench }
+all_or_none (suc k) b s = stopped (suc k) b
 
-unfoldable pub growRecorded : Bench → ℕ → ℤ → List (Option Group) → ℕ → Steps
-growRecorded b u l gs room = elim (sound b) [ true ↦ allOrNone (recordedNo b u l gs room) b (steps b u l gs) | false ↦ stopped BROKEN b ]
+unfoldable pub grow_recorded : Bench → ℕ → ℤ → List (Option Group) → ℕ → Steps
+grow_recorded b u l gs room = elim (sound b) [ true ↦ all_or_none (recorded_no b u l gs room) b (steps b u l gs) | false ↦ stopped BROKEN b ]

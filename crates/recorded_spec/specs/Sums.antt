@@ -6,7 +6,7 @@ use Rattle.std.specs.Int.Signed.{lt_z}
 use Rattle.ledger_spec.specs.Numbers.{SHORT}
 use Rattle.ledger_spec.specs.Tests.{first}
 use Rattle.ledger_spec.specs.Groups.{Group}
-use Rattle.recorded_spec.specs.Recorded.{groupTests, stepBy, or_else}
+use Rattle.recorded_spec.specs.Recorded.{group_tests, step_by, or_else}
 
 -- a number and the lengths of the steps
 pub record Sums : Type 0 where
@@ -23,6 +23,6 @@ further (suc k) l s = refused (suc k)
 unfoldable pub sums : (ℤ → ℕ) → ℤ → ℤ → List (Option Group) → Sums
 sums test done left [] = elim (lt_z (pos 0) left) [ true ↦ refused SHORT | false ↦ refused 0 ]
 sums test done left (g ∷ gs) = elim (lt_z (pos 0) left) [
-  | true ↦ further (or_else (first (groupTests g)) (test (done +ℤ stepBy left g))) (stepBy left g) (sums test (done +ℤ stepBy left g) (left -ℤ stepBy left g) gs)
+  | true ↦ further (or_else (first (group_tests g)) (test (done +ℤ step_by left g))) (step_by left g) (sums test (done +ℤ step_by left g) (left -ℤ step_by left g) gs)
   | false ↦ refused 0
 ]

@@ -3,8 +3,8 @@
 ghost use Rattle.std.specs.Prelude.{◌≡◌, map, ◌≤◌, ◌<◌, length, pos, nat_abs};
 ghost use Rattle.std.proofs.lemmas.List.Edits.{sets};
 ghost use Rattle.recorded_spec.specs.Sums.{sums};
-ghost use Rattle.recorded_groups.specs.Recording.{recordingOf};
-ghost use Rattle.recorded_steps.specs.Passes.{limitNo, PassedAs, StepAs, steps_of, Ready};
+ghost use Rattle.recorded_groups.specs.Recording.{recording_of};
+ghost use Rattle.recorded_steps.specs.Passes.{limit_no, PassedAs, StepAs, steps_of, Ready};
 
 use group_lent::GROUP;
 use kinds::numbers;
@@ -64,7 +64,7 @@ fn refused(number: u8) -> Passed
 
 // What a growth by so much in all is refused for: `reach` is the most that the progress leaves, `floor` the most that the values leave.
 fn limit_number(done: u64, reach: u64, floor: u64) -> u8
-    ensures { result ≡ limitNo reach floor (pos done) }
+    ensures { result ≡ limit_no reach floor (pos done) }
 {
     if reach < done {
         return numbers::LENGTH;
@@ -77,7 +77,7 @@ fn limit_number(done: u64, reach: u64, floor: u64) -> u8
 
 // Tests every step of a growth by `length`; nothing is changed.
 pub fn pass(ws: &[u64], length: u64, reach: u64, floor: u64) -> Passed
-    ensures { PassedAs (sums (limitNo reach floor) (pos 0) (pos length) (recordingOf ws.now)) result }
+    ensures { PassedAs (sums (limit_no reach floor) (pos 0) (pos length) (recording_of ws.now)) result }
 {
     let mut at: usize = 0;
     let mut taken: usize = 0;

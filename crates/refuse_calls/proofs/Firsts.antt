@@ -7,10 +7,10 @@ use mathlib.Core.List.{List, [], ◌∷◌, ◌++◌}
 use Rattle.ledger_spec.specs.Tests.{first}
 use Rattle.ledger_spec.proofs.Passed.{Failed}
 
-refused-on : (ts rest : List (Bool × ℕ)) → first ts ≢ 0 → first (ts ++ rest) ≡ first ts
+refused_on : (ts rest : List (Bool × ℕ)) → first ts ≢ 0 → first (ts ++ rest) ≡ first ts
 unfolding first
-refused-on [] rest q = absurd (q refl)
-refused-on (t ∷ ts) rest q = go t.0 q (refused-on ts rest)
+refused_on [] rest q = absurd (q refl)
+refused_on (t ∷ ts) rest q = go t.0 q (refused_on ts rest)
   where
     won : Bool → List (Bool × ℕ) → ℕ
     won c l = elim c [ true ↦ t.1 | false ↦ first l ]
@@ -25,24 +25,24 @@ passed_on [] rest f = refl
 passed_on (t ∷ ts) rest f = rw (f.0, first) (passed_on ts rest f.1)
 
 module _ (ts rest : List (Bool × ℕ)) where
-  pub refused-by : (n : ℕ) → n ≡ first ts → n ≢ 0 → n ≡ first (ts ++ rest)
-  refused-by n e q = e ∙ sym (refused-on ts rest (λ z. q (e ∙ z)))
+  pub refused_by : (n : ℕ) → n ≡ first ts → n ≢ 0 → n ≡ first (ts ++ rest)
+  refused_by n e q = e ∙ sym (refused_on ts rest (λ z. q (e ∙ z)))
 
-  pub decided-by : Failed ts → (n : ℕ) → n ≡ first rest → n ≡ first (ts ++ rest)
-  decided-by f n e = e ∙ sym (passed_on ts rest f)
+  pub decided_by : Failed ts → (n : ℕ) → n ≡ first rest → n ≡ first (ts ++ rest)
+  decided_by f n e = e ∙ sym (passed_on ts rest f)
 
 -- ---- one of two, one of three
-pub or-first : (a b : Bool) → a ≡ true → true ≡ (a || b)
-or-first a b e = rw e
+pub or_first : (a b : Bool) → a ≡ true → true ≡ (a || b)
+or_first a b e = rw e
 
-pub or-second : (a b : Bool) → a ≡ false → b ≡ (a || b)
-or-second a b e = rw e
+pub or_second : (a b : Bool) → a ≡ false → b ≡ (a || b)
+or_second a b e = rw e
 
-pub or-one : (a b c : Bool) → a ≡ true → true ≡ (a || (b || c))
-or-one a b c e = rw e
+pub or_one : (a b c : Bool) → a ≡ true → true ≡ (a || (b || c))
+or_one a b c e = rw e
 
-pub or-two : (a b c : Bool) → a ≡ false → b ≡ true → true ≡ (a || (b || c))
-or-two a b c e f = rw (e, f)
+pub or_two : (a b c : Bool) → a ≡ false → b ≡ true → true ≡ (a || (b || c))
+or_two a b c e f = rw (e, f)
 
-pub or-three : (a b c : Bool) → a ≡ false → b ≡ false → c ≡ (a || (b || c))
-or-three a b c e f = rw (e, f)
+pub or_three : (a b c : Bool) → a ≡ false → b ≡ false → c ≡ (a || (b || c))
+or_three a b c e f = rw (e, f)

@@ -8,112 +8,112 @@ use lib.Dec.{eqb, leb}
 use lib.IntN.{nat_abs}
 use lib.ListN.{length, get_or}
 use Rattle.bench_words.specs.Codec.{pick}
-use Rattle.bench_words.specs.Store.{nodeAt, interfaceAt}
+use Rattle.bench_words.specs.Store.{node_at, interface_at}
 use Rattle.bench_words.specs.declared.Interface.{Interface}
 use Rattle.ledger_spec.specs.Bench.{Bench}
 use Rattle.ledger_spec.specs.Bench as plain
 use Rattle.ledger_spec.specs.Look.{interface}
 use Rattle.ledger_spec.specs.Tests.{first, is_some, empty, outside, child, used, floored, same, late}
-use Rattle.ledger_spec.specs.Refuse.{fuseTests}
-use Rattle.ledger_spec.proofs.Lists.{or-false}
-use Rattle.bench_views.specs.View.{view, upSeen, halvesSeen, interfaceIn}
-use Rattle.bench_views.proofs.Views.{interface-in, view-count}
+use Rattle.ledger_spec.specs.Refuse.{fuse_tests}
+use Rattle.ledger_spec.proofs.Lists.{or_false}
+use Rattle.bench_views.specs.View.{view, up_seen, halves_seen, interface_in}
+use Rattle.bench_views.proofs.Views.{interface_in_lem, view_count}
 use borrow.Author.Tests.{leb-false, ne_eqb}
 use native.Mathlib.Omega.{arith}
-use Rattle.read_sound.proofs.Numbers.{first-yes, first-no, first-none}
+use Rattle.read_sound.proofs.Numbers.{first_yes, first_no, first_none}
 
 -- ---- one interface
-empty-counts : {A : Type 0} (l : List A) → empty l ≡ eqb (length l) 0
-empty-counts [] = refl
-empty-counts (x ∷ xs) = sym (ne_eqb (suc (length xs)) 0 (λ e. omega arith))
+empty_counts : {A : Type 0} (l : List A) → empty l ≡ eqb (length l) 0
+empty_counts [] = refl
+empty_counts (x ∷ xs) = sym (ne_eqb (suc (length xs)) 0 (λ e. omega arith))
 
-halves-given : (l r : ℕ) → is_some (halvesSeen l r) ≡ not (eqb l 0)
-halves-given l r = go (eqb l 0)
+halves_given : (l r : ℕ) → is_some (halves_seen l r) ≡ not (eqb l 0)
+halves_given l r = go (eqb l 0)
   where
     go : (c : Bool) → is_some {A = ℕ × ℕ} (pick c none (some (l - 1, r - 1))) ≡ not c
     go true = refl
     go false = refl
 
-module _ (b : List ℕ) (u : ℕ) (low : u < 8) (f : Interface) (i : f ≡ interfaceAt b u) where
-  seen : {X : Type 0} (φ : plain.Interface → X) → φ (interface (view b) u) ≡ φ (interfaceIn (interfaceAt b) (nodeAt b) u)
-  seen φ = ap φ (interface-in (get_or b 0 0) (interfaceAt b) (nodeAt b) u low)
+module _ (b : List ℕ) (u : ℕ) (low : u < 8) (f : Interface) (i : f ≡ interface_at b u) where
+  seen : {X : Type 0} (φ : plain.Interface → X) → φ (interface (view b) u) ≡ φ (interface_in (interface_at b) (node_at b) u)
+  seen φ = ap φ (interface_in_lem (get_or b 0 0) (interface_at b) (node_at b) u low)
 
-  pub child-is : child (view b) u ≡ is_some (upSeen f.parent)
-  child-is = seen (λ (x : plain.Interface). is_some x.parent) ∙ ap (λ (x : Interface). is_some (upSeen x.parent)) (sym i)
+  pub child_is : child (view b) u ≡ is_some (up_seen f.parent)
+  child_is = seen (λ (x : plain.Interface). is_some x.parent) ∙ ap (λ (x : Interface). is_some (up_seen x.parent)) (sym i)
 
-  pub floored-is : floored (view b) u ≡ f.marks.floored
-  floored-is = seen (λ (x : plain.Interface). x.marks.floored) ∙ ap (λ (x : Interface). x.marks.floored) (sym i)
+  pub floored_is : floored (view b) u ≡ f.marks.floored
+  floored_is = seen (λ (x : plain.Interface). x.marks.floored) ∙ ap (λ (x : Interface). x.marks.floored) (sym i)
 
-  slots-are : not (empty (interface (view b) u).slots) ≡ not (eqb f.used 0)
-  slots-are = ap not (empty-counts (interface (view b) u).slots ∙ ap (λ (k : ℕ). eqb k 0) (view-count (get_or b 0 0) (interfaceAt b) (nodeAt b) u low ∙ ap (λ (x : Interface). x.used) (sym i)))
+  slots_are : not (empty (interface (view b) u).slots) ≡ not (eqb f.used 0)
+  slots_are = ap not (empty_counts (interface (view b) u).slots ∙ ap (λ (k : ℕ). eqb k 0) (view_count (get_or b 0 0) (interface_at b) (node_at b) u low ∙ ap (λ (x : Interface). x.used) (sym i)))
 
-  fused-is : is_some (interface (view b) u).halves ≡ not (eqb f.left 0)
-  fused-is = seen (λ (x : plain.Interface). is_some x.halves) ∙ halves-given (interfaceAt b u).left (interfaceAt b u).right ∙ ap (λ (x : Interface). not (eqb x.left 0)) (sym i)
+  fused_is : is_some (interface (view b) u).halves ≡ not (eqb f.left 0)
+  fused_is = seen (λ (x : plain.Interface). is_some x.halves) ∙ halves_given (interface_at b u).left (interface_at b u).right ∙ ap (λ (x : Interface). not (eqb x.left 0)) (sym i)
 
-  pub used-is : used (interface (view b) u) ≡ (not (eqb f.used 0) || (not (eqb f.progress 0) || not (eqb f.left 0)))
-  used-is =
-      ap₂ ◌||◌ slots-are
+  pub used_is : used (interface (view b) u) ≡ (not (eqb f.used 0) || (not (eqb f.progress 0) || not (eqb f.left 0)))
+  used_is =
+      ap₂ ◌||◌ slots_are
       (ap₂ ◌||◌ (seen (λ (x : plain.Interface). not (eqb (nat_abs x.progress) 0)) ∙ ap (λ (x : Interface). not (eqb x.progress 0)) (sym i))
-      fused-is)
+      fused_is)
 
   pub late_is : late (interface (view b) u) ≡ (not (eqb f.used 0) || not (eqb f.left 0))
-  late_is = ap₂ ◌||◌ slots-are fused-is
+  late_is = ap₂ ◌||◌ slots_are fused_is
 
 -- ---- two marks
-pub differ-yes : (x y : Bool) → x ≡ true → not y ≡ not (same x y)
-differ-yes x y e = rw e
+pub differ_yes : (x y : Bool) → x ≡ true → not y ≡ not (same x y)
+differ_yes x y e = rw e
 
-pub differ-no : (x y : Bool) → x ≡ false → y ≡ not (same x y)
-differ-no true y e = absurd (true≢false e)
-differ-no false true e = refl
-differ-no false false e = refl
+pub differ_no : (x y : Bool) → x ≡ false → y ≡ not (same x y)
+differ_no true y e = absurd (true≢false e)
+differ_no false true e = refl
+differ_no false false e = refl
 
 -- ---- the five tests
 module _ (B : Bench) (p l r : ℕ) where
-  pub fuse-low : (o : Bool) → o ≡ (outside p || (outside l || outside r)) → o ≡ false → (p < 8) × (l < 8) × (r < 8)
-  fuse-low o e t =
-      let q = or-false (outside p) (outside l || outside r) (sym e ∙ t) in
-      let s = or-false (outside l) (outside r) q.1 in
+  pub fuse_low : (o : Bool) → o ≡ (outside p || (outside l || outside r)) → o ≡ false → (p < 8) × (l < 8) × (r < 8)
+  fuse_low o e t =
+      let q = or_false (outside p) (outside l || outside r) (sym e ∙ t) in
+      let s = or_false (outside l) (outside r) q.1 in
       (leb-false 8 p q.0, leb-false 8 l s.0, leb-false 8 r s.1)
 
   module _ (o : Bool) (e : o ≡ (outside p || (outside l || outside r))) where
-    pub fuse-out : o ≡ true → 3 ≡ first (fuseTests B p l r)
-    unfolding fuseTests
-    fuse-out t = sym (first-yes (outside p || (outside l || outside r)) 3 _ (sym e ∙ t))
+    pub fuse_out : o ≡ true → 3 ≡ first (fuse_tests B p l r)
+    unfolding fuse_tests
+    fuse_out t = sym (first_yes (outside p || (outside l || outside r)) 3 _ (sym e ∙ t))
 
     module _ (t : o ≡ false) (c : Bool) (e₂ : c ≡ (child B p || (child B l || child B r))) where
       rest : List (Bool × ℕ)
       rest = (eqb l r || (leb p l || leb p r), 16) ∷ (used (interface B p), 17) ∷ (not (same (floored B l) (floored B r)), 26) ∷ []
 
-      inside : first (fuseTests B p l r) ≡ first ((child B p || (child B l || child B r), 4) ∷ rest)
-      unfolding fuseTests rest
-      inside = first-no (outside p || (outside l || outside r)) 3 ((child B p || (child B l || child B r), 4) ∷ rest) (sym e ∙ t)
+      inside : first (fuse_tests B p l r) ≡ first ((child B p || (child B l || child B r), 4) ∷ rest)
+      unfolding fuse_tests rest
+      inside = first_no (outside p || (outside l || outside r)) 3 ((child B p || (child B l || child B r), 4) ∷ rest) (sym e ∙ t)
 
-      pub fuse-child : c ≡ true → 4 ≡ first (fuseTests B p l r)
-      fuse-child t₂ = sym (inside ∙ first-yes (child B p || (child B l || child B r)) 4 rest (sym e₂ ∙ t₂))
+      pub fuse_child : c ≡ true → 4 ≡ first (fuse_tests B p l r)
+      fuse_child t₂ = sym (inside ∙ first_yes (child B p || (child B l || child B r)) 4 rest (sym e₂ ∙ t₂))
 
       module _ (t₂ : c ≡ false) (d : Bool) (e₃ : d ≡ (eqb l r || (leb p l || leb p r))) where
-        tops : first (fuseTests B p l r) ≡ first rest
-        tops = inside ∙ first-no (child B p || (child B l || child B r)) 4 rest (sym e₂ ∙ t₂)
+        tops : first (fuse_tests B p l r) ≡ first rest
+        tops = inside ∙ first_no (child B p || (child B l || child B r)) 4 rest (sym e₂ ∙ t₂)
 
-        pub fuse-order : d ≡ true → 16 ≡ first (fuseTests B p l r)
+        pub fuse_order : d ≡ true → 16 ≡ first (fuse_tests B p l r)
         unfolding rest
-        fuse-order t₃ = sym (tops ∙ first-yes (eqb l r || (leb p l || leb p r)) 16 ((used (interface B p), 17) ∷ (not (same (floored B l) (floored B r)), 26) ∷ []) (sym e₃ ∙ t₃))
+        fuse_order t₃ = sym (tops ∙ first_yes (eqb l r || (leb p l || leb p r)) 16 ((used (interface B p), 17) ∷ (not (same (floored B l) (floored B r)), 26) ∷ []) (sym e₃ ∙ t₃))
 
         module _ (t₃ : d ≡ false) (w : Bool) (e₄ : w ≡ used (interface B p)) where
-          below : first (fuseTests B p l r) ≡ first ((used (interface B p), 17) ∷ (not (same (floored B l) (floored B r)), 26) ∷ [])
+          below : first (fuse_tests B p l r) ≡ first ((used (interface B p), 17) ∷ (not (same (floored B l) (floored B r)), 26) ∷ [])
           unfolding rest
-          below = tops ∙ first-no (eqb l r || (leb p l || leb p r)) 16 ((used (interface B p), 17) ∷ (not (same (floored B l) (floored B r)), 26) ∷ []) (sym e₃ ∙ t₃)
+          below = tops ∙ first_no (eqb l r || (leb p l || leb p r)) 16 ((used (interface B p), 17) ∷ (not (same (floored B l) (floored B r)), 26) ∷ []) (sym e₃ ∙ t₃)
 
-          pub fuse-used : w ≡ true → 17 ≡ first (fuseTests B p l r)
-          fuse-used t₄ = sym (below ∙ first-yes (used (interface B p)) 17 ((not (same (floored B l) (floored B r)), 26) ∷ []) (sym e₄ ∙ t₄))
+          pub fuse_used : w ≡ true → 17 ≡ first (fuse_tests B p l r)
+          fuse_used t₄ = sym (below ∙ first_yes (used (interface B p)) 17 ((not (same (floored B l) (floored B r)), 26) ∷ []) (sym e₄ ∙ t₄))
 
           module _ (t₄ : w ≡ false) (v : Bool) (e₅ : v ≡ not (same (floored B l) (floored B r))) where
-            last : first (fuseTests B p l r) ≡ first ((not (same (floored B l) (floored B r)), 26) ∷ [])
-            last = below ∙ first-no (used (interface B p)) 17 ((not (same (floored B l) (floored B r)), 26) ∷ []) (sym e₄ ∙ t₄)
+            last : first (fuse_tests B p l r) ≡ first ((not (same (floored B l) (floored B r)), 26) ∷ [])
+            last = below ∙ first_no (used (interface B p)) 17 ((not (same (floored B l) (floored B r)), 26) ∷ []) (sym e₄ ∙ t₄)
 
-            pub fuse-mixed : v ≡ true → 26 ≡ first (fuseTests B p l r)
-            fuse-mixed t₅ = sym (last ∙ first-yes (not (same (floored B l) (floored B r))) 26 [] (sym e₅ ∙ t₅))
+            pub fuse_mixed : v ≡ true → 26 ≡ first (fuse_tests B p l r)
+            fuse_mixed t₅ = sym (last ∙ first_yes (not (same (floored B l) (floored B r))) 26 [] (sym e₅ ∙ t₅))
 
-            pub fuse-fine : v ≡ false → 0 ≡ first (fuseTests B p l r)
-            fuse-fine t₅ = sym (last ∙ first-no (not (same (floored B l) (floored B r))) 26 [] (sym e₅ ∙ t₅) ∙ first-none)
+            pub fuse_fine : v ≡ false → 0 ≡ first (fuse_tests B p l r)
+            fuse_fine t₅ = sym (last ∙ first_no (not (same (floored B l) (floored B r))) 26 [] (sym e₅ ∙ t₅) ∙ first_none)

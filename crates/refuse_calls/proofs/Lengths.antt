@@ -27,8 +27,8 @@ once : (z : ℤ) → SFits w64 z → lt_z z (pos 0) ≡ false → Forward z z
 once (pos n) f e = let h : n < 9223372036854775808 = f.sfits in record { sign = e; whole = (tt, record { fits = omega arith }); is = refl; small = h }
 once (negsuc n) f e = absurd (true≢false e)
 
-pub forward-of : (z : ℤ) → SFits w64 z → lt_z z (pos 0) ≡ false → Forward z (again z)
-forward-of z f e = let t = once z f e in rw (to_z-of_z f) t
+pub forward_of : (z : ℤ) → SFits w64 z → lt_z z (pos 0) ≡ false → Forward z (again z)
+forward_of z f e = let t = once z f e in rw (to_z-of_z f) t
 
 pub forward : (z : ℤ) → SFits w64 z → lt_z (again z) (pos 0) ≡ false → Forward z (again z)
-forward z f e = forward-of z f (rw (to_z-of_z f) at e)
+forward z f e = forward_of z f (rw (to_z-of_z f) at e)

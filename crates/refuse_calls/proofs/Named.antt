@@ -6,9 +6,9 @@ use mathlib.Core.Bool.{Bool, true, false, not}
 use mathlib.Core.Option.{none}
 use mathlib.Core.List.{List, [], ◌∷◌}
 use native.Mathlib.Omega.{arith}
-use Rattle.bench_words.specs.Store.{nodeAt, interfaceAt}
+use Rattle.bench_words.specs.Store.{node_at, interface_at}
 use Rattle.bench_words.specs.declared.Node.{Node}
-use Rattle.kinds.specs.States.{blossomOf}
+use Rattle.kinds.specs.States.{blossom_of}
 use Rattle.kinds.specs.declared.Class.{Class}
 use Rattle.kinds.specs.declared.Class.TheVariants.{Absent, Blossom, Defect}
 use Rattle.kinds.specs.declared.Handle.{Handle as Code}
@@ -16,116 +16,116 @@ use Rattle.kinds.specs.declared.Parent.{Parent}
 use Rattle.kinds.specs.declared.Parent.TheVariants.{Outermost, Inside}
 use Rattle.ledger_spec.specs.Bench.{Handle, Member}
 use Rattle.ledger_spec.specs.Look as look
-use Rattle.ledger_spec.specs.Named.{parentNamed}
-use Rattle.ledger_spec.specs.Tests.{first, is_some, stale, foreign, hasParent, isDefect}
-use Rattle.ledger_spec.specs.Refuse.{unitTests, stateTests, expandTests}
+use Rattle.ledger_spec.specs.Named.{parent_named}
+use Rattle.ledger_spec.specs.Tests.{first, is_some, stale, foreign, has_parent, is_defect}
+use Rattle.ledger_spec.specs.Refuse.{unit_tests, state_tests, expand_tests}
 use Rattle.ledger_spec.proofs.Passed.{Failed, passed, has_of}
-use Rattle.bench_views.specs.View.{view, slotSeen, sumUp, circleOf}
+use Rattle.bench_views.specs.View.{view, slot_seen, sum_up, circle_of}
 use Rattle.bench_views.specs.Canon.{Canon}
 use Rattle.bench_links.specs.Find.{spot, Stands}
 use Rattle.bench_links.proofs.Finding.{stands_by}
-use Rattle.bench_links.proofs.Rising.{seen-node}
-use Rattle.read_sound.proofs.Numbers.{first-yes, first-no, first-none, stale-yes, stale-no}
-use Rattle.refuse_calls.specs.Named.{namedTests}
-use Rattle.refuse_calls.proofs.Firsts.{refused-by, decided-by}
-use Rattle.refuse_calls.proofs.Units.{unit-failed}
+use Rattle.bench_links.proofs.Rising.{seen_node}
+use Rattle.read_sound.proofs.Numbers.{first_yes, first_no, first_none, stale_yes, stale_no}
+use Rattle.refuse_calls.specs.Named.{named_tests}
+use Rattle.refuse_calls.proofs.Firsts.{refused_by, decided_by}
+use Rattle.refuse_calls.proofs.Units.{unit_failed}
 
 -- ---- a handle
-module _ (b : List ℕ) (u n : ℕ) (e : n ≡ first (unitTests (view b) u)) (h : Handle) where
-  pub named-no : n ≢ 0 → n ≡ first (namedTests (view b) u h)
-  unfolding unitTests namedTests
-  named-no q = refused-by (unitTests (view b) u) ((stale (view b) h, 8) ∷ (foreign (view b) u h, 9) ∷ []) n e q
+module _ (b : List ℕ) (u n : ℕ) (e : n ≡ first (unit_tests (view b) u)) (h : Handle) where
+  pub named_no : n ≢ 0 → n ≡ first (named_tests (view b) u h)
+  unfolding unit_tests named_tests
+  named_no q = refused_by (unit_tests (view b) u) ((stale (view b) h, 8) ∷ (foreign (view b) u h, 9) ∷ []) n e q
 
   module _ (z : n ≡ 0) where
-    named-rest : (k : ℕ) → k ≡ first ((stale (view b) h, 8) ∷ (foreign (view b) u h, 9) ∷ []) → k ≡ first (namedTests (view b) u h)
-    unfolding unitTests namedTests
-    named-rest k r = decided-by (unitTests (view b) u) ((stale (view b) h, 8) ∷ (foreign (view b) u h, 9) ∷ []) (unit-failed b u n e z) k r
+    named_rest : (k : ℕ) → k ≡ first ((stale (view b) h, 8) ∷ (foreign (view b) u h, 9) ∷ []) → k ≡ first (named_tests (view b) u h)
+    unfolding unit_tests named_tests
+    named_rest k r = decided_by (unit_tests (view b) u) ((stale (view b) h, 8) ∷ (foreign (view b) u h, 9) ∷ []) (unit_failed b u n e z) k r
 
-    pub named-stale : look.nodeNamed (view b) h ≡ none → 8 ≡ first (namedTests (view b) u h)
-    named-stale s = named-rest 8 (sym (first-yes (stale (view b) h) 8 ((foreign (view b) u h, 9) ∷ []) (stale-yes (view b) h s)))
+    pub named_stale : look.node_named (view b) h ≡ none → 8 ≡ first (named_tests (view b) u h)
+    named_stale s = named_rest 8 (sym (first_yes (stale (view b) h) 8 ((foreign (view b) u h, 9) ∷ []) (stale_yes (view b) h s)))
 
     module _ (S : Stands b h) where
       there : first ((stale (view b) h, 8) ∷ (foreign (view b) u h, 9) ∷ []) ≡ first ((foreign (view b) u h, 9) ∷ [])
-      there = let s = seen-node b h S in first-no (stale (view b) h) 8 ((foreign (view b) u h, 9) ∷ []) (stale-no (view b) h _ s.1)
+      there = let s = seen_node b h S in first_no (stale (view b) h) 8 ((foreign (view b) u h, 9) ∷ []) (stale_no (view b) h _ s.1)
 
-      pub named-foreign : foreign (view b) u h ≡ true → 9 ≡ first (namedTests (view b) u h)
-      named-foreign t = named-rest 9 (sym (there ∙ first-yes (foreign (view b) u h) 9 [] t))
+      pub named_foreign : foreign (view b) u h ≡ true → 9 ≡ first (named_tests (view b) u h)
+      named_foreign t = named_rest 9 (sym (there ∙ first_yes (foreign (view b) u h) 9 [] t))
 
-      pub named-fine : foreign (view b) u h ≡ false → 0 ≡ first (namedTests (view b) u h)
-      named-fine t = named-rest 0 (sym (there ∙ first-no (foreign (view b) u h) 9 [] t ∙ first-none))
+      pub named_fine : foreign (view b) u h ≡ false → 0 ≡ first (named_tests (view b) u h)
+      named_fine t = named_rest 0 (sym (there ∙ first_no (foreign (view b) u h) 9 [] t ∙ first_none))
 
 -- ---- what stands there
-defect-seen : (n : Node) (t : ℕ) (ms : List Member) → (n.class ≡ Absent → ⊥) → isDefect (slotSeen n t ms) ≡ not (blossomOf n.class)
-unfolding slotSeen
-defect-seen n t ms p = go n.class refl
+defect_seen : (n : Node) (t : ℕ) (ms : List Member) → (n.class ≡ Absent → ⊥) → is_defect (slot_seen n t ms) ≡ not (blossom_of n.class)
+unfolding slot_seen
+defect_seen n t ms p = go n.class refl
   where
-    go : (c : Class) → n.class ≡ c → isDefect (slotSeen n t ms) ≡ not (blossomOf n.class)
+    go : (c : Class) → n.class ≡ c → is_defect (slot_seen n t ms) ≡ not (blossom_of n.class)
     go Absent e = absurd (p e)
     go Blossom e = rw e
     go (Defect v) e = rw e
 
-module _ (b : List ℕ) (C : Canon b) (u n : ℕ) (h : Handle) (e : n ≡ first (namedTests (view b) u h)) where
-  pub state-no : n ≢ 0 → n ≡ first (stateTests (view b) u h)
-  unfolding namedTests stateTests
-  state-no q = refused-by (namedTests (view b) u h) ((hasParent (look.nodeNamed (view b) h), 11) ∷ []) n e q
+module _ (b : List ℕ) (C : Canon b) (u n : ℕ) (h : Handle) (e : n ≡ first (named_tests (view b) u h)) where
+  pub state_no : n ≢ 0 → n ≡ first (state_tests (view b) u h)
+  unfolding named_tests state_tests
+  state_no q = refused_by (named_tests (view b) u h) ((has_parent (look.node_named (view b) h), 11) ∷ []) n e q
 
-  pub expand-no : n ≢ 0 → n ≡ first (expandTests (view b) u h)
-  unfolding namedTests expandTests
-  expand-no q = refused-by (namedTests (view b) u h) ((isDefect (look.nodeNamed (view b) h), 10) ∷ (hasParent (look.nodeNamed (view b) h), 11) ∷ []) n e q
+  pub expand_no : n ≢ 0 → n ≡ first (expand_tests (view b) u h)
+  unfolding named_tests expand_tests
+  expand_no q = refused_by (named_tests (view b) u h) ((is_defect (look.node_named (view b) h), 10) ∷ (has_parent (look.node_named (view b) h), 11) ∷ []) n e q
 
   module _ (z : n ≡ 0) where
-    named-failed : Failed (namedTests (view b) u h)
-    unfolding namedTests
-    named-failed = passed (namedTests (view b) u h) tt (sym e ∙ z)
+    named_failed : Failed (named_tests (view b) u h)
+    unfolding named_tests
+    named_failed = passed (named_tests (view b) u h) tt (sym e ∙ z)
 
-    pub named-stands : Stands b h
-    unfolding namedTests
-    named-stands = let p = has_of (view b) h named-failed.1.1.0 in stands_by b C h p.0 p.1.stands p.1.serial
+    pub named_stands : Stands b h
+    unfolding named_tests
+    named_stands = let p = has_of (view b) h named_failed.1.1.0 in stands_by b C h p.0 p.1.stands p.1.serial
 
-    pub named-low : h.unit * 64 + h.slot < 512
-    named-low = let S = named-stands in omega arith
+    pub named_low : h.unit * 64 + h.slot < 512
+    named_low = let S = named_stands in omega arith
 
-    module _ (x : Node) (i : x ≡ nodeAt b (spot h)) where
-      parent_is : hasParent (look.nodeNamed (view b) h) ≡ is_some (parentNamed x.parent)
-      parent_is = ap hasParent (seen-node b h named-stands).1 ∙ ap (λ (y : Node). is_some (parentNamed y.parent)) (sym i)
+    module _ (x : Node) (i : x ≡ node_at b (spot h)) where
+      parent_is : has_parent (look.node_named (view b) h) ≡ is_some (parent_named x.parent)
+      parent_is = ap has_parent (seen_node b h named_stands).1 ∙ ap (λ (y : Node). is_some (parent_named y.parent)) (sym i)
 
-      free : x.parent ≡ Outermost → hasParent (look.nodeNamed (view b) h) ≡ false
-      free p = parent_is ∙ ap (λ (q : Parent). is_some (parentNamed q)) p
+      free : x.parent ≡ Outermost → has_parent (look.node_named (view b) h) ≡ false
+      free p = parent_is ∙ ap (λ (q : Parent). is_some (parent_named q)) p
 
-      held : (q : Code) → x.parent ≡ Inside q → hasParent (look.nodeNamed (view b) h) ≡ true
-      held q p = parent_is ∙ ap (λ (q : Parent). is_some (parentNamed q)) p
+      held : (q : Code) → x.parent ≡ Inside q → has_parent (look.node_named (view b) h) ≡ true
+      held q p = parent_is ∙ ap (λ (q : Parent). is_some (parent_named q)) p
 
-      class-is : isDefect (look.nodeNamed (view b) h) ≡ not (blossomOf x.class)
-      class-is =
-          let S = named-stands in
-          ap isDefect S.seen ∙ defect-seen (nodeAt b (spot h)) (sumUp 8 (interfaceAt b) h.unit) (circleOf (nodeAt b) (spot h)) S.present ∙ ap (λ (y : Node). not (blossomOf y.class)) (sym i)
+      class_is : is_defect (look.node_named (view b) h) ≡ not (blossom_of x.class)
+      class_is =
+          let S = named_stands in
+          ap is_defect S.seen ∙ defect_seen (node_at b (spot h)) (sum_up 8 (interface_at b) h.unit) (circle_of (node_at b) (spot h)) S.present ∙ ap (λ (y : Node). not (blossom_of y.class)) (sym i)
 
       -- ---- set state
-      state-rest : (k : ℕ) → k ≡ first ((hasParent (look.nodeNamed (view b) h), 11) ∷ []) → k ≡ first (stateTests (view b) u h)
-      unfolding namedTests stateTests
-      state-rest k r = decided-by (namedTests (view b) u h) ((hasParent (look.nodeNamed (view b) h), 11) ∷ []) named-failed k r
+      state_rest : (k : ℕ) → k ≡ first ((has_parent (look.node_named (view b) h), 11) ∷ []) → k ≡ first (state_tests (view b) u h)
+      unfolding named_tests state_tests
+      state_rest k r = decided_by (named_tests (view b) u h) ((has_parent (look.node_named (view b) h), 11) ∷ []) named_failed k r
 
-      pub state-fine : x.parent ≡ Outermost → 0 ≡ first (stateTests (view b) u h)
-      state-fine p = state-rest 0 (sym (first-no (hasParent (look.nodeNamed (view b) h)) 11 [] (free p) ∙ first-none))
+      pub state_fine : x.parent ≡ Outermost → 0 ≡ first (state_tests (view b) u h)
+      state_fine p = state_rest 0 (sym (first_no (has_parent (look.node_named (view b) h)) 11 [] (free p) ∙ first_none))
 
-      pub state-member : (q : Code) → x.parent ≡ Inside q → 11 ≡ first (stateTests (view b) u h)
-      state-member q p = state-rest 11 (sym (first-yes (hasParent (look.nodeNamed (view b) h)) 11 [] (held q p)))
+      pub state_member : (q : Code) → x.parent ≡ Inside q → 11 ≡ first (state_tests (view b) u h)
+      state_member q p = state_rest 11 (sym (first_yes (has_parent (look.node_named (view b) h)) 11 [] (held q p)))
 
       -- ---- expand
-      expand-rest : (k : ℕ) → k ≡ first ((isDefect (look.nodeNamed (view b) h), 10) ∷ (hasParent (look.nodeNamed (view b) h), 11) ∷ []) → k ≡ first (expandTests (view b) u h)
-      unfolding namedTests expandTests
-      expand-rest k r = decided-by (namedTests (view b) u h) ((isDefect (look.nodeNamed (view b) h), 10) ∷ (hasParent (look.nodeNamed (view b) h), 11) ∷ []) named-failed k r
+      expand_rest : (k : ℕ) → k ≡ first ((is_defect (look.node_named (view b) h), 10) ∷ (has_parent (look.node_named (view b) h), 11) ∷ []) → k ≡ first (expand_tests (view b) u h)
+      unfolding named_tests expand_tests
+      expand_rest k r = decided_by (named_tests (view b) u h) ((is_defect (look.node_named (view b) h), 10) ∷ (has_parent (look.node_named (view b) h), 11) ∷ []) named_failed k r
 
-      module _ (y : Bool) (j : y ≡ blossomOf x.class) where
-        pub expand-defect : y ≡ false → 10 ≡ first (expandTests (view b) u h)
-        expand-defect t = expand-rest 10 (sym (first-yes (isDefect (look.nodeNamed (view b) h)) 10 ((hasParent (look.nodeNamed (view b) h), 11) ∷ []) (class-is ∙ ap not (sym j ∙ t))))
+      module _ (y : Bool) (j : y ≡ blossom_of x.class) where
+        pub expand_defect : y ≡ false → 10 ≡ first (expand_tests (view b) u h)
+        expand_defect t = expand_rest 10 (sym (first_yes (is_defect (look.node_named (view b) h)) 10 ((has_parent (look.node_named (view b) h), 11) ∷ []) (class_is ∙ ap not (sym j ∙ t))))
 
         module _ (t : y ≡ true) where
-          ring : first ((isDefect (look.nodeNamed (view b) h), 10) ∷ (hasParent (look.nodeNamed (view b) h), 11) ∷ []) ≡ first ((hasParent (look.nodeNamed (view b) h), 11) ∷ [])
-          ring = first-no (isDefect (look.nodeNamed (view b) h)) 10 ((hasParent (look.nodeNamed (view b) h), 11) ∷ []) (class-is ∙ ap not (sym j ∙ t))
+          ring : first ((is_defect (look.node_named (view b) h), 10) ∷ (has_parent (look.node_named (view b) h), 11) ∷ []) ≡ first ((has_parent (look.node_named (view b) h), 11) ∷ [])
+          ring = first_no (is_defect (look.node_named (view b) h)) 10 ((has_parent (look.node_named (view b) h), 11) ∷ []) (class_is ∙ ap not (sym j ∙ t))
 
-          pub expand-fine : x.parent ≡ Outermost → 0 ≡ first (expandTests (view b) u h)
-          expand-fine p = expand-rest 0 (sym (ring ∙ first-no (hasParent (look.nodeNamed (view b) h)) 11 [] (free p) ∙ first-none))
+          pub expand_fine : x.parent ≡ Outermost → 0 ≡ first (expand_tests (view b) u h)
+          expand_fine p = expand_rest 0 (sym (ring ∙ first_no (has_parent (look.node_named (view b) h)) 11 [] (free p) ∙ first_none))
 
-          pub expand-member : (q : Code) → x.parent ≡ Inside q → 11 ≡ first (expandTests (view b) u h)
-          expand-member q p = expand-rest 11 (sym (ring ∙ first-yes (hasParent (look.nodeNamed (view b) h)) 11 [] (held q p)))
+          pub expand_member : (q : Code) → x.parent ≡ Inside q → 11 ≡ first (expand_tests (view b) u h)
+          expand_member q p = expand_rest 11 (sym (ring ∙ first_yes (has_parent (look.node_named (view b) h)) 11 [] (held q p)))

@@ -3,5 +3,5 @@ use Rattle.std.specs.Prelude.{ℕ, Bool, List, [], ◌∷◌}
 use Rattle.ledger_spec.specs.Bench.{Bench}
 use Rattle.ledger_spec.specs.Tests.{full, worn}
 
-abbrev pub roomTests : Bench → ℕ → List (Bool × ℕ)
-roomTests b u = (full b u, 14) ∷ (worn b, 15) ∷ []
+abbrev pub room_tests : Bench → ℕ → List (Bool × ℕ)
+room_tests b u = (full b u, 14) ∷ (worn b, 15) ∷ []

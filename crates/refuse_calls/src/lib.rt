@@ -2,16 +2,16 @@
 // only reads, and none scans the slots. (Add blossom's is where its lists are.) Assumes nothing.
 ghost use Rattle.std.specs.Prelude.{◌≡◌, ◌||◌, not, ◌<◌, eqb, leb};
 ghost use Rattle.ledger_spec.specs.Look.{interface};
-ghost use Rattle.ledger_spec.specs.Named.{handleNamed};
+ghost use Rattle.ledger_spec.specs.Named.{handle_named};
 ghost use Rattle.ledger_spec.specs.Tests.{first, outside, child, used, floored, same, late};
-ghost use Rattle.ledger_spec.specs.Refuse.{defectTests, stateTests, expandTests, growTests, fuseTests, markTests};
+ghost use Rattle.ledger_spec.specs.Refuse.{defect_tests, state_tests, expand_tests, grow_tests, fuse_tests, mark_tests};
 ghost use Rattle.bench_views.specs.Records.{Steady};
 ghost use Rattle.bench_views.specs.Canon.{Canon};
 ghost use Rattle.bench_views.specs.Fit.{Fit};
 ghost use Rattle.bench_views.specs.View.{view};
-ghost use Rattle.refuse_calls.specs.Length.{lengthTests};
-ghost use Rattle.refuse_calls.specs.Named.{namedTests};
-ghost use Rattle.refuse_calls.specs.Room.{roomTests};
+ghost use Rattle.refuse_calls.specs.Length.{length_tests};
+ghost use Rattle.refuse_calls.specs.Named.{named_tests};
+ghost use Rattle.refuse_calls.specs.Room.{room_tests};
 
 use bench_links::Found;
 use bench_words::{Interface, Up, WORDS};
@@ -21,7 +21,7 @@ use kinds::{Handle, Parent, Serial, numbers};
 pub fn room_number(b: &[u64; WORDS], unit: u8) -> u8
     requires canon { Canon b.now }
     requires unit_bound { unit < 8 }
-    ensures { result ≡ first (roomTests (view b.now) unit) }
+    ensures { result ≡ first (room_tests (view b.now) unit) }
 {
     let slot = bench_slots::free_slot(b, unit as usize);
     if Handle::SLOTS <= slot {
@@ -37,7 +37,7 @@ pub fn room_number(b: &[u64; WORDS], unit: u8) -> u8
 // UNIT, CHILD, FULL (14), WORN (15).
 pub fn defect_number(b: &[u64; WORDS], unit: u8) -> u8
     requires { Canon b.now }
-    ensures { result ≡ first (defectTests (view b.now) unit) }
+    ensures { result ≡ first (defect_tests (view b.now) unit) }
 {
     let number = read_sound::unit_number(b, unit);
     if number != 0 {
@@ -49,7 +49,7 @@ pub fn defect_number(b: &[u64; WORDS], unit: u8) -> u8
 // UNIT, CHILD, LENGTH (5): a length below 0, or one past the progress limit.
 fn length_number(b: &[u64; WORDS], unit: u8, length: i64) -> u8
     requires { Steady b.now }
-    ensures { result ≡ first (lengthTests (view b.now) unit length) }
+    ensures { result ≡ first (length_tests (view b.now) unit length) }
 {
     let number = read_sound::unit_number(b, unit);
     if number != 0 {
@@ -68,7 +68,7 @@ fn length_number(b: &[u64; WORDS], unit: u8, length: i64) -> u8
 // And BELOW (25): in a floored tree, a length past the value of a node that shrinks.
 pub fn grow_number(b: &[u64; WORDS], unit: u8, length: i64) -> u8
     requires { Fit b.now }
-    ensures { result ≡ first (growTests (view b.now) unit length) }
+    ensures { result ≡ first (grow_tests (view b.now) unit length) }
 {
     let number = length_number(b, unit, length);
     if number != 0 {
@@ -84,7 +84,7 @@ pub fn grow_number(b: &[u64; WORDS], unit: u8, length: i64) -> u8
 // UNIT, CHILD, STALE (8), FOREIGN (9): what a call on a node may be refused by first.
 pub fn named_number(b: &[u64; WORDS], unit: u8, h: Handle) -> u8
     requires { Canon b.now }
-    ensures { result ≡ first (namedTests (view b.now) unit (handleNamed h)) }
+    ensures { result ≡ first (named_tests (view b.now) unit (handle_named h)) }
 {
     let number = read_sound::unit_number(b, unit);
     if number != 0 {
@@ -105,7 +105,7 @@ pub fn named_number(b: &[u64; WORDS], unit: u8, h: Handle) -> u8
 // And INSIDE (11).
 pub fn state_number(b: &[u64; WORDS], unit: u8, h: Handle) -> u8
     requires { Canon b.now }
-    ensures { result ≡ first (stateTests (view b.now) unit (handleNamed h)) }
+    ensures { result ≡ first (state_tests (view b.now) unit (handle_named h)) }
 {
     let number = named_number(b, unit, h);
     if number != 0 {
@@ -122,7 +122,7 @@ pub fn state_number(b: &[u64; WORDS], unit: u8, h: Handle) -> u8
 // And KIND (10) before INSIDE.
 pub fn expand_number(b: &[u64; WORDS], unit: u8, h: Handle) -> u8
     requires { Canon b.now }
-    ensures { result ≡ first (expandTests (view b.now) unit (handleNamed h)) }
+    ensures { result ≡ first (expand_tests (view b.now) unit (handle_named h)) }
 {
     let number = named_number(b, unit, h);
     if number != 0 {
@@ -227,7 +227,7 @@ fn floors_differ(b: &[u64; WORDS], l: u8, r: u8) -> bool
 
 // UNIT, CHILD, PAIR (16), USED (17), MARK (26).
 pub fn fuse_number(b: &[u64; WORDS], parent: u8, left: u8, right: u8) -> u8
-    ensures { result ≡ first (fuseTests (view b.now) parent left right) }
+    ensures { result ≡ first (fuse_tests (view b.now) parent left right) }
 {
     if any_outside(parent, left, right) {
         return numbers::UNIT;
@@ -261,7 +261,7 @@ fn is_late(b: &[u64; WORDS], unit: u8) -> bool
 
 // UNIT, CHILD, MARK (26).
 pub fn mark_number(b: &[u64; WORDS], unit: u8) -> u8
-    ensures { result ≡ first (markTests (view b.now) unit) }
+    ensures { result ≡ first (mark_tests (view b.now) unit) }
 {
     let number = read_sound::unit_number(b, unit);
     if number != 0 {

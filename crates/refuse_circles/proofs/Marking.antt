@@ -11,85 +11,85 @@ use lib.Dec.{eqb}
 use Rattle.kinds.specs.declared.Handle.{Handle as Packed}
 use Rattle.kinds.specs.declared.Parent.{Parent}
 use Rattle.kinds.specs.declared.Parent.TheVariants.{Outermost, Inside}
-use Rattle.bench_words.specs.Store.{nodeAt, interfaceAt}
+use Rattle.bench_words.specs.Store.{node_at, interface_at}
 use Rattle.bench_words.specs.declared.Node.{Node}
 use Rattle.ledger_spec.specs.Bench.{Handle}
 use Rattle.ledger_spec.specs.Bench as plain
-use Rattle.ledger_spec.specs.Look.{interface, top, nodeNamed}
-use Rattle.ledger_spec.specs.Named.{parentNamed}
-use Rattle.ledger_spec.specs.Tests.{first, is_some, stale, foreign, hasParent}
-use Rattle.ledger_spec.proofs.Tops.{climb-none}
-use Rattle.bench_views.specs.View.{view, sumUp, circleOf, nodeSeen}
+use Rattle.ledger_spec.specs.Look.{interface, top, node_named}
+use Rattle.ledger_spec.specs.Named.{parent_named}
+use Rattle.ledger_spec.specs.Tests.{first, is_some, stale, foreign, has_parent}
+use Rattle.ledger_spec.proofs.Tops.{climb_none}
+use Rattle.bench_views.specs.View.{view, sum_up, circle_of, node_seen}
 use Rattle.bench_views.proofs.Rings.{slot_held}
 use Rattle.bench_links.specs.declared.Found.{Found}
 use Rattle.bench_links.specs.declared.Found.TheVariants.{At, Stale}
 use Rattle.bench_links.proofs.Finding.{found_at, found_none}
 use Rattle.bench_links.specs.Find.{spot, Held, Finds}
-use Rattle.bench_views.specs.Given.{handGiven}
-use Rattle.refuse_circles.specs.Marks.{marks, nodeMark}
+use Rattle.bench_views.specs.Given.{hand_given}
+use Rattle.refuse_circles.specs.Marks.{marks, node_mark}
 
 -- ---- what a word was found to name
-module _ (b : List ℕ) (w : ℕ) (r : Found) (f : Finds b (handGiven w) r) where
-  pub word_at : (k : ℕ) → r ≡ At k → Held b (handGiven w) k
-  unfolding handGiven
-  word_at k e = found_at b (handGiven w) f k e
+module _ (b : List ℕ) (w : ℕ) (r : Found) (f : Finds b (hand_given w) r) where
+  pub word_at : (k : ℕ) → r ≡ At k → Held b (hand_given w) k
+  unfolding hand_given
+  word_at k e = found_at b (hand_given w) f k e
 
-  pub word_none : r ≡ Stale → nodeNamed (view b) (handGiven w) ≡ none
-  unfolding handGiven
-  word_none e = found_none b (handGiven w) f e
+  pub word_none : r ≡ Stale → node_named (view b) (hand_given w) ≡ none
+  unfolding hand_given
+  word_none e = found_none b (hand_given w) f e
 
 -- ---- its number
-marks-8 : (s f p : Bool) → s ≡ true → marks s f p ≡ 8
+marks_8 : (s f p : Bool) → s ≡ true → marks s f p ≡ 8
 unfolding marks first
-marks-8 s f p e = rw e
+marks_8 s f p e = rw e
 
-marks-9 : (s f p : Bool) → s ≡ false → f ≡ true → marks s f p ≡ 9
+marks_9 : (s f p : Bool) → s ≡ false → f ≡ true → marks s f p ≡ 9
 unfolding marks first
-marks-9 s f p e g = rw (e, g)
+marks_9 s f p e g = rw (e, g)
 
-marks-11 : (s f p : Bool) → s ≡ false → f ≡ false → p ≡ true → marks s f p ≡ 11
+marks_11 : (s f p : Bool) → s ≡ false → f ≡ false → p ≡ true → marks s f p ≡ 11
 unfolding marks first
-marks-11 s f p e g h = rw (e, g, h)
+marks_11 s f p e g h = rw (e, g, h)
 
-marks-0 : (s f p : Bool) → s ≡ false → f ≡ false → p ≡ false → marks s f p ≡ 0
+marks_0 : (s f p : Bool) → s ≡ false → f ≡ false → p ≡ false → marks s f p ≡ 0
 unfolding marks first
-marks-0 s f p e g h = rw (e, g, h)
+marks_0 s f p e g h = rw (e, g, h)
 
 module _ (b : List ℕ) (u : ℕ) (h : Handle) where
-  pub mark-stale : nodeNamed (view b) h ≡ none → 8 ≡ nodeMark (view b) u h
-  mark-stale e = sym (marks-8 (stale (view b) h) (foreign (view b) u h) (hasParent (nodeNamed (view b) h)) (ap (λ (o : Option plain.Node). not (is_some o)) e))
+  pub mark_stale : node_named (view b) h ≡ none → 8 ≡ node_mark (view b) u h
+  mark_stale e = sym (marks_8 (stale (view b) h) (foreign (view b) u h) (has_parent (node_named (view b) h)) (ap (λ (o : Option plain.Node). not (is_some o)) e))
 
   module _ (k : ℕ) (H : Held b h k) where
-    pub held-unit : h.unit ≡ k / 64
-    held-unit = let S = H.stands in omega (arith, H.place, S.low)
+    pub held_unit : h.unit ≡ k / 64
+    held_unit = let S = H.stands in omega (arith, H.place, S.low)
 
-    held-node : nodeNamed (view b) h ≡ some (nodeSeen (nodeAt b (spot h)) (sumUp 8 (interfaceAt b) h.unit) (slot_held (nodeAt b (spot h)) (sumUp 8 (interfaceAt b) h.unit) (circleOf (nodeAt b) (spot h)) H.stands.present).0)
-    held-node = H.stands.seen ∙ (slot_held (nodeAt b (spot h)) (sumUp 8 (interfaceAt b) h.unit) (circleOf (nodeAt b) (spot h)) H.stands.present).1
+    held_node : node_named (view b) h ≡ some (node_seen (node_at b (spot h)) (sum_up 8 (interface_at b) h.unit) (slot_held (node_at b (spot h)) (sum_up 8 (interface_at b) h.unit) (circle_of (node_at b) (spot h)) H.stands.present).0)
+    held_node = H.stands.seen ∙ (slot_held (node_at b (spot h)) (sum_up 8 (interface_at b) h.unit) (circle_of (node_at b) (spot h)) H.stands.present).1
 
-    held-fresh : stale (view b) h ≡ false
-    held-fresh = ap (λ (o : Option plain.Node). not (is_some o)) held-node
+    held_fresh : stale (view b) h ≡ false
+    held_fresh = ap (λ (o : Option plain.Node). not (is_some o)) held_node
 
-    held-parent : hasParent (nodeNamed (view b) h) ≡ is_some (parentNamed (nodeAt b k).parent)
-    held-parent = ap hasParent held-node ∙ ap (λ (j : ℕ). is_some (parentNamed (nodeAt b j).parent)) (sym H.place)
+    held_parent : has_parent (node_named (view b) h) ≡ is_some (parent_named (node_at b k).parent)
+    held_parent = ap has_parent held_node ∙ ap (λ (j : ℕ). is_some (parent_named (node_at b j).parent)) (sym H.place)
 
     module _ (far : Bool) (e : far ≡ not (eqb (top (view b) (k / 64)) u)) where
-      held-far : foreign (view b) u h ≡ far
-      held-far = ap (λ (v : ℕ). not (eqb (top (view b) v) u)) held-unit ∙ sym e
+      held_far : foreign (view b) u h ≡ far
+      held_far = ap (λ (v : ℕ). not (eqb (top (view b) v) u)) held_unit ∙ sym e
 
-      pub mark-foreign : far ≡ true → 9 ≡ nodeMark (view b) u h
-      mark-foreign t = sym (marks-9 (stale (view b) h) (foreign (view b) u h) (hasParent (nodeNamed (view b) h)) held-fresh (held-far ∙ t))
+      pub mark_foreign : far ≡ true → 9 ≡ node_mark (view b) u h
+      mark_foreign t = sym (marks_9 (stale (view b) h) (foreign (view b) u h) (has_parent (node_named (view b) h)) held_fresh (held_far ∙ t))
 
-      module _ (near : far ≡ false) (n : Node) (f : n ≡ nodeAt b k) where
-        held-given : hasParent (nodeNamed (view b) h) ≡ is_some (parentNamed n.parent)
-        held-given = held-parent ∙ ap (λ (x : Node). is_some (parentNamed x.parent)) (sym f)
+      module _ (near : far ≡ false) (n : Node) (f : n ≡ node_at b k) where
+        held_given : has_parent (node_named (view b) h) ≡ is_some (parent_named n.parent)
+        held_given = held_parent ∙ ap (λ (x : Node). is_some (parent_named x.parent)) (sym f)
 
-        pub mark-inside : (q : Packed) → n.parent ≡ Inside q → 11 ≡ nodeMark (view b) u h
-        mark-inside q g = sym (marks-11 (stale (view b) h) (foreign (view b) u h) (hasParent (nodeNamed (view b) h)) held-fresh (held-far ∙ near) (held-given ∙ ap (λ (p : Parent). is_some (parentNamed p)) g))
+        pub mark_inside : (q : Packed) → n.parent ≡ Inside q → 11 ≡ node_mark (view b) u h
+        mark_inside q g = sym (marks_11 (stale (view b) h) (foreign (view b) u h) (has_parent (node_named (view b) h)) held_fresh (held_far ∙ near) (held_given ∙ ap (λ (p : Parent). is_some (parent_named p)) g))
 
-        pub mark-free : n.parent ≡ Outermost → 0 ≡ nodeMark (view b) u h
-        mark-free g = sym (marks-0 (stale (view b) h) (foreign (view b) u h) (hasParent (nodeNamed (view b) h)) held-fresh (held-far ∙ near) (held-given ∙ ap (λ (p : Parent). is_some (parentNamed p)) g))
+        pub mark_free : n.parent ≡ Outermost → 0 ≡ node_mark (view b) u h
+        mark_free g = sym (marks_0 (stale (view b) h) (foreign (view b) u h) (has_parent (node_named (view b) h)) held_fresh (held_far ∙ near) (held_given ∙ ap (λ (p : Parent). is_some (parent_named p)) g))
 
 -- ---- an interface's tree
 module _ (b : plain.Bench) (u : ℕ) (free : (interface b u).parent ≡ none) where
-  pub near-own : (v : ℕ) → v ≡ u → false ≡ not (eqb (top b v) u)
-  near-own v e = sym (ap not (eq-eqb (top b v) u (ap (top b) e ∙ climb-none 8 b u free)))
+  pub near_own : (v : ℕ) → v ≡ u → false ≡ not (eqb (top b v) u)
+  near_own v e = sym (ap not (eq-eqb (top b v) u (ap (top b) e ∙ climb_none 8 b u free)))

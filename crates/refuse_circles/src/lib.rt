@@ -2,17 +2,17 @@
 // words of any kind. Everything here only reads. Assumes nothing.
 ghost use Rattle.std.specs.Prelude.{◌≡◌, not, ◌<◌, eqb, drop};
 ghost use Rattle.std.proofs.Math.Option.{none};
-ghost use Rattle.ledger_spec.specs.Look.{interface, top, sameHandle};
+ghost use Rattle.ledger_spec.specs.Look.{interface, top, same_handle};
 ghost use Rattle.ledger_spec.specs.Tests.{first, any, twice, both};
 ghost use Rattle.ledger_spec.specs.Knit.{In};
 ghost use Rattle.bench_views.specs.Canon.{Canon};
 ghost use Rattle.bench_views.specs.Records.{Steady};
 ghost use Rattle.bench_views.specs.View.{view};
-ghost use Rattle.bench_views.specs.Given.{handGiven};
-ghost use Rattle.deed_circles.specs.Given.{handsGiven, pairsGiven};
-ghost use Rattle.refuse_circles.specs.Marks.{nodeMark, listMark, touchMark};
+ghost use Rattle.bench_views.specs.Given.{hand_given};
+ghost use Rattle.deed_circles.specs.Given.{hands_given, pairs_given};
+ghost use Rattle.refuse_circles.specs.Marks.{node_mark, list_mark, touch_mark};
 ghost use Rattle.refuse_circles.specs.Placed.{Placed, Blank};
-ghost use Rattle.refuse_circles.specs.Parts.{shapeTests, nodesTests};
+ghost use Rattle.refuse_circles.specs.Parts.{shape_tests, nodes_tests};
 ghost use Rattle.refuse_circles.specs.Marks as marks;
 
 use bench_links::Found;
@@ -49,7 +49,7 @@ fn is_far(b: &[u64; WORDS], unit: u8, home: usize) -> bool
 // What one node is refused by: STALE (8), FOREIGN (9), inside a blossom (11), or 0.
 fn word_number(b: &[u64; WORDS], unit: u8, w: u64) -> u8
     requires { Canon b.now × ((interface (view b.now) unit).parent ≡ none) }
-    ensures { result ≡ nodeMark (view b.now) unit (handGiven w) }
+    ensures { result ≡ node_mark (view b.now) unit (hand_given w) }
 {
     let found = bench_links::find_word(b, w);
     match found {
@@ -71,7 +71,7 @@ fn word_number(b: &[u64; WORDS], unit: u8, w: u64) -> u8
 // The lowest number that any of the words is refused by.
 fn list_number(b: &[u64; WORDS], unit: u8, ws: &[u64]) -> u8
     requires { Canon b.now × ((interface (view b.now) unit).parent ≡ none) }
-    ensures { result ≡ listMark (view b.now) unit (handsGiven ws.now) }
+    ensures { result ≡ list_mark (view b.now) unit (hands_given ws.now) }
 {
     let mut number: u8 = 0;
     let mut i: usize = 0;
@@ -85,7 +85,7 @@ fn list_number(b: &[u64; WORDS], unit: u8, ws: &[u64]) -> u8
 // Whether a word is among those from a place on.
 fn again(ws: &[u64], from: usize, w: u64) -> bool
     requires { Placed ws.now × In w ws.now }
-    ensures { result ≡ any (sameHandle (handGiven w)) (handsGiven (drop from ws.now)) }
+    ensures { result ≡ any (same_handle (hand_given w)) (hands_given (drop from ws.now)) }
 {
     let mut i = from;
     while i < ws.len() {
@@ -100,7 +100,7 @@ fn again(ws: &[u64], from: usize, w: u64) -> bool
 // Whether any of the words is given twice, each compared with those after it: for few.
 fn compared_twice(ws: &[u64]) -> bool
     requires { Placed ws.now }
-    ensures { result ≡ twice (handsGiven ws.now) }
+    ensures { result ≡ twice (hands_given ws.now) }
 {
     let mut i: usize = 0;
     while i < ws.len() {
@@ -115,7 +115,7 @@ fn compared_twice(ws: &[u64]) -> bool
 // The same by a mark at each word's position, which no two words share: for many.
 fn marked_twice(ws: &[u64], seen: &mut [u8; 512]) -> bool
     requires { Placed ws.now × Blank seen.old }
-    ensures { result ≡ twice (handsGiven ws.now) }
+    ensures { result ≡ twice (hands_given ws.now) }
 {
     let mut i: usize = 0;
     while i < ws.len() {
@@ -132,7 +132,7 @@ fn marked_twice(ws: &[u64], seen: &mut [u8; 512]) -> bool
 // Whether any of the words is given twice.
 pub fn given_twice(ws: &[u64]) -> bool
     requires { Placed ws.now }
-    ensures { result ≡ twice (handsGiven ws.now) }
+    ensures { result ≡ twice (hands_given ws.now) }
 {
     if ws.len() < 6 {
         return compared_twice(ws);
@@ -143,7 +143,7 @@ pub fn given_twice(ws: &[u64]) -> bool
 
 // A circle of none or of more than 64 (6), touching handles that are not two a member (7), or 0. One left over counts as a pair.
 pub fn shape_number(members: &[u64], touching: &[u64]) -> u8
-    ensures { result ≡ first (shapeTests (handsGiven members.now) (pairsGiven touching.now)) }
+    ensures { result ≡ first (shape_tests (hands_given members.now) (pairs_given touching.now)) }
 {
     let n = members.len();
     if n == 0 {
@@ -165,7 +165,7 @@ pub fn shape_number(members: &[u64], touching: &[u64]) -> u8
 // What touching handles are refused by: STALE (8), FOREIGN (9), or 0. They may be inside a blossom. One left over goes with a stale one.
 fn touching_number(b: &[u64; WORDS], unit: u8, touching: &[u64]) -> u8
     requires { Canon b.now × ((interface (view b.now) unit).parent ≡ none) }
-    ensures { result ≡ touchMark (view b.now) unit (both (pairsGiven touching.now)) }
+    ensures { result ≡ touch_mark (view b.now) unit (both (pairs_given touching.now)) }
 {
     if touching.len() % 2 == 1 {
         return numbers::STALE;
@@ -180,7 +180,7 @@ fn touching_number(b: &[u64; WORDS], unit: u8, touching: &[u64]) -> u8
 // What members and touching handles are refused by: STALE (8) and FOREIGN (9) of all, inside a blossom (11) of a member, or 0.
 pub fn nodes_number(b: &[u64; WORDS], unit: u8, members: &[u64], touching: &[u64]) -> u8
     requires { Canon b.now × ((interface (view b.now) unit).parent ≡ none) }
-    ensures { result ≡ first (nodesTests (view b.now) unit (handsGiven members.now) (pairsGiven touching.now)) }
+    ensures { result ≡ first (nodes_tests (view b.now) unit (hands_given members.now) (pairs_given touching.now)) }
 {
     let number = list_number(b, unit, members);
     lower(number, touching_number(b, unit, touching))

@@ -1,4 +1,4 @@
--- No value below zero, of the stored words: after any run of the public calls from set-up. Assumes nothing.
+-- No value below zero, of the stored words: after any run of the public calls from set_up_lem. Assumes nothing.
 use Prim.Native.Nat.{ℕ}
 use mathlib.Core.Path.{◌≡◌, sym, ◌∙◌, ap}
 use mathlib.Core.Bool.{true}
@@ -16,9 +16,9 @@ use Rattle.bench_views.specs.View.{view}
 use Rattle.call_set_up.specs.Opened.{Opened}
 use Rattle.call_told.specs.declared.Answer.{Answer}
 use Rattle.run_laws.specs.Ran.{Ran}
-use Rattle.run_laws.proofs.Running.{from-set-up}
+use Rattle.run_laws.proofs.Running.{from_set_up}
 
 module _ {n : ℕ} {b : List ℕ} (O : Opened n b) {cs : List Call} {rs : List Answer} {b' : List ℕ} (R : Ran b cs rs b') where
   -- a present node of a floored interface
-  pub words-afloat : (u s : ℕ) (m : Node) → floored (view b') u ≡ true → slot_of (view b') u s ≡ some m → le_z (pos 0) m.value ≡ true
-  words-afloat u s m f e = ap afloat (sym e) ∙ (says (view b') (from-set-up O R).words.sound).floors.values u s f
+  pub words_afloat : (u s : ℕ) (m : Node) → floored (view b') u ≡ true → slot_of (view b') u s ≡ some m → le_z (pos 0) m.value ≡ true
+  words_afloat u s m f e = ap afloat (sym e) ∙ (says (view b') (from_set_up O R).words.sound).floors.values u s f

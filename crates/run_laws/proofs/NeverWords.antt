@@ -7,40 +7,40 @@ use mathlib.Core.List.{List, [], ◌∷◌, ◌++◌}
 use native.Mathlib.Omega.{arith}
 use lib.ListN.{get_or}
 use Rattle.ledger_spec.specs.Bench.{Handle, Node, Bench}
-use Rattle.ledger_spec.specs.Look.{slot_of, nodeNamed}
+use Rattle.ledger_spec.specs.Look.{slot_of, node_named}
 use Rattle.ledger_spec.specs.Calls.{Call}
 use Rattle.ledger_spec.specs.Answers.{answer}
 use Rattle.ledger_spec.specs.Book.{Book, turn}
-use Rattle.ledger_spec.specs.Named.{handleNamed}
+use Rattle.ledger_spec.specs.Named.{handle_named}
 use Rattle.ledger_spec.specs.Knit.{Has}
 use Rattle.ledger_spec.proofs.Says.{says}
-use Rattle.ledger_spec.proofs.Passed.{node-has}
-use Rattle.bench_words.specs.Store.{nodeAt as row_at, interfaceAt}
+use Rattle.ledger_spec.proofs.Passed.{node_has}
+use Rattle.bench_words.specs.Store.{node_at as row_at, interface_at}
 use Rattle.bench_views.specs.View.{view}
 use Rattle.bench_views.specs.Fit.{SoundWords}
-use Rattle.bench_views.proofs.Views.{view-next}
+use Rattle.bench_views.proofs.Views.{view_next}
 use Rattle.call_told.specs.declared.Answer.{Answer}
 use Rattle.run_laws.specs.Ran.{Ran, plainly}
 use Rattle.ledger_laws.proofs.Made.{made_of, made, Different}
-use Rattle.ledger_laws.proofs.Never.{next-never-falls, never-again, made-different}
+use Rattle.ledger_laws.proofs.Never.{next_never_falls, never_again, made_different}
 use Rattle.ledger_laws.proofs.Stale.{Nameless, nameless}
 use Rattle.run_laws.proofs.Running.{Followed, follows}
 
 -- the handles that the code's answers to calls give as made
-unfoldable pub madeIn : List Call → List Answer → List Handle
-madeIn [] rs = []
-madeIn (c ∷ cs) [] = []
-madeIn (c ∷ cs) (r ∷ rs) = made_of c r.number (handleNamed r.node) ++ madeIn cs rs
+unfoldable pub made_in : List Call → List Answer → List Handle
+made_in [] rs = []
+made_in (c ∷ cs) [] = []
+made_in (c ∷ cs) (r ∷ rs) = made_of c r.number (handle_named r.node) ++ made_in cs rs
 
 -- the code's answers name the handles that the plain ledger's do
-made-same : (k : Book) (cs : List Call) → madeIn cs (plainly k cs) ≡ made k cs
-unfolding madeIn made plainly
-made-same k [] = refl
-made-same k (c ∷ cs) = ap (λ (l : List Handle). made_of c (answer k.bench c).number (answer k.bench c).node ++ l) (made-same (turn k c) cs)
+made_same : (k : Book) (cs : List Call) → made_in cs (plainly k cs) ≡ made k cs
+unfolding made_in made plainly
+made_same k [] = refl
+made_same k (c ∷ cs) = ap (λ (l : List Handle). made_of c (answer k.bench c).number (answer k.bench c).node ++ l) (made_same (turn k c) cs)
 
 -- the bench's next serial is word 0
-next-is : (b : List ℕ) → (view b).next ≡ get_or b 0 0
-next-is b = view-next (get_or b 0 0) (interfaceAt b) (row_at b)
+next_is : (b : List ℕ) → (view b).next ≡ get_or b 0 0
+next_is b = view_next (get_or b 0 0) (interface_at b) (row_at b)
 
 module _ {b : List ℕ} (W : SoundWords b) {cs : List Call} {rs : List Answer} {b' : List ℕ} (R : Ran b cs rs b') where
   abbrev book : Book
@@ -51,27 +51,27 @@ module _ {b : List ℕ} (W : SoundWords b) {cs : List Call} {rs : List Answer} {
 
   -- word 0
   pub next_word : get_or b 0 0 ≤ get_or b' 0 0
-  next_word = omega (arith, next-never-falls book cs, ap (λ (d : Bench). d.next) followed.seen, next-is b, next-is b')
+  next_word = omega (arith, next_never_falls book cs, ap (λ (d : Bench). d.next) followed.seen, next_is b, next_is b')
 
   -- the handles that this run's calls answered as made
-  pub made-words : Different (madeIn cs rs)
-  made-words = subst Different (sym (ap (madeIn cs) followed.answers ∙ made-same book cs)) (made-different book cs)
+  pub made_words : Different (made_in cs rs)
+  made_words = subst Different (sym (ap (made_in cs) followed.answers ∙ made_same book cs)) (made_different book cs)
 
   -- a handle of a serial given out before, naming no node of the words, names none of the words after
-  pub never-words : (h : Handle) → h.serial < get_or b 0 0 → nodeNamed (view b) h ≡ none → nodeNamed (view b') h ≡ none
-  never-words h l e = ap (λ (d : Bench). nodeNamed d h) followed.seen ∙ never-again book cs h (omega (arith, l, next-is b)) e
+  pub never_words : (h : Handle) → h.serial < get_or b 0 0 → node_named (view b) h ≡ none → node_named (view b') h ≡ none
+  never_words h l e = ap (λ (d : Bench). node_named d h) followed.seen ∙ never_again book cs h (omega (arith, l, next_is b)) e
 
   -- so every read of a node answers 8 there, belonging no, and every call that names it is refused
-  pub stale-words : (h : Handle) → h.serial < get_or b 0 0 → nodeNamed (view b) h ≡ none → Nameless (view b') h
-  stale-words h l e = nameless (view b') h (never-words h l e)
+  pub stale_words : (h : Handle) → h.serial < get_or b 0 0 → node_named (view b) h ≡ none → Nameless (view b') h
+  stale_words h l e = nameless (view b') h (never_words h l e)
 
 -- a handle that named a node of the words once, and later none, names none ever after
-pub gone-words : {b b₁ b₂ : List ℕ} (W : SoundWords b) {cs ds : List Call} {rs qs : List Answer} → Ran b cs rs b₁ → Ran b₁ ds qs b₂
-    → (h : Handle) (n : Node) → nodeNamed (view b) h ≡ some n → nodeNamed (view b₁) h ≡ none → Nameless (view b₂) h
-gone-words {b} {b₁} W R Q h n e f = stale-words (followed W R).words Q h (omega (arith, next_word W R, low)) f
+pub gone_words : {b b₁ b₂ : List ℕ} (W : SoundWords b) {cs ds : List Call} {rs qs : List Answer} → Ran b cs rs b₁ → Ran b₁ ds qs b₂
+    → (h : Handle) (n : Node) → node_named (view b) h ≡ some n → node_named (view b₁) h ≡ none → Nameless (view b₂) h
+gone_words {b} {b₁} W R Q h n e f = stale_words (followed W R).words Q h (omega (arith, next_word W R, low)) f
   where
     H : Has (slot_of (view b)) h n
-    H = node-has (view b) h n e
+    H = node_has (view b) h n e
 
     low : h.serial < get_or b 0 0
-    low = omega (arith, (says (view b) W.sound).sewn.knit.low h.unit h.slot n H.stands, H.serial, next-is b)
+    low = omega (arith, (says (view b) W.sound).sewn.knit.low h.unit h.slot n H.stands, H.serial, next_is b)

@@ -1,11 +1,11 @@
 // The floors of a sound bench: all interfaces of a tree bear one mark, and in a floored tree no value is below zero. Only floored interfaces have their
 // slots read. Everything here only reads, and any words may be lent whose interfaces are in range. Assumes nothing.
 ghost use Rattle.std.specs.Prelude.{◌≡◌, ◌<◌, ◌≤◌};
-ghost use Rattle.bench_words.specs.Store.{nodeAt, interfaceAt};
+ghost use Rattle.bench_words.specs.Store.{node_at, interface_at};
 ghost use Rattle.bench_words.proofs.Laws.{GoodUp};
 ghost use Rattle.bench_views.specs.Records.{Steady};
-ghost use Rattle.sound_trees.specs.Below.{allTo};
-ghost use Rattle.sound_floors.specs.Floors.{highTest, afloatTest, levelTest, slotAfloat, floorTest};
+ghost use Rattle.sound_trees.specs.Below.{all_to};
+ghost use Rattle.sound_floors.specs.Floors.{high_test, afloat_test, level_test, slot_afloat, floor_test};
 
 use bench_words::{Node, Up, WORDS};
 use kinds::{Class, GrowState};
@@ -13,7 +13,7 @@ use kinds::{Class, GrowState};
 // A value of zero or more, without a sum that could wrap.
 fn is_high(g: GrowState, bias: u64, t: u64) -> bool
     requires { t ≤ 8796093022208 }
-    ensures { result ≡ highTest g bias t }
+    ensures { result ≡ high_test g bias t }
 {
     match g {
         GrowState::Grow => Node::OFFSET - t <= bias,
@@ -25,7 +25,7 @@ fn is_high(g: GrowState, bias: u64, t: u64) -> bool
 fn is_afloat(b: &[u64; WORDS], k: usize, t: u64) -> bool
     requires k_bound { k < 512 }
     requires t_bound { t ≤ 8796093022208 }
-    ensures { result ≡ afloatTest (nodeAt b.now k) t }
+    ensures { result ≡ afloat_test (node_at b.now k) t }
 {
     let n = bench_words::load_node(b, k);
     let class = n.class;
@@ -39,7 +39,7 @@ fn is_afloat(b: &[u64; WORDS], k: usize, t: u64) -> bool
 
 fn is_level(b: &[u64; WORDS], p: Up, floored: bool) -> bool
     requires { GoodUp p }
-    ensures { result ≡ levelTest (interfaceAt b.now) p floored }
+    ensures { result ≡ level_test (interface_at b.now) p floored }
 {
     match p {
         Up::Top => true,
@@ -55,7 +55,7 @@ fn are_afloat(b: &[u64; WORDS], u: usize, used: usize, t: u64) -> bool
     requires u_bound { u < 8 }
     requires used_bound { used ≤ 64 }
     requires t_bound { t ≤ 8796093022208 }
-    ensures { result ≡ allTo (slotAfloat b.now u t) used }
+    ensures { result ≡ all_to (slot_afloat b.now u t) used }
 {
     let mut s: usize = 0;
     while s < used {
@@ -70,7 +70,7 @@ fn are_afloat(b: &[u64; WORDS], u: usize, used: usize, t: u64) -> bool
 fn is_floor(b: &[u64; WORDS], u: usize) -> bool
     requires steady { Steady b.now }
     requires u_bound { u < 8 }
-    ensures { result ≡ floorTest b.now u }
+    ensures { result ≡ floor_test b.now u }
 {
     let f = bench_words::load_interface(b, u);
     let marks = f.marks;
@@ -88,7 +88,7 @@ fn is_floor(b: &[u64; WORDS], u: usize) -> bool
 // Whether all eight keep the rules.
 pub fn are_floors(b: &[u64; WORDS]) -> bool
     requires { Steady b.now }
-    ensures { result ≡ allTo (floorTest b.now) 8 }
+    ensures { result ≡ all_to (floor_test b.now) 8 }
 {
     let mut u: usize = 0;
     while u < 8 {

@@ -2,8 +2,8 @@
 // lent whose interfaces are in range. Assumes nothing.
 ghost use Rattle.std.specs.Prelude.{◌≡◌, ◌<◌, ◌≤◌};
 ghost use Rattle.bench_views.specs.Records.{Steady};
-ghost use Rattle.sound_trees.specs.Below.{allTo};
-ghost use Rattle.sound_nodes.specs.Nodes.{Grounds, nearTest, nodeTest, slotTest, slotsTest};
+ghost use Rattle.sound_trees.specs.Below.{all_to};
+ghost use Rattle.sound_nodes.specs.Nodes.{Grounds, near_test, node_test, slot_test, slots_test};
 
 use bench_words::{Node, WORDS};
 use kinds::{GrowState, Handle};
@@ -35,7 +35,7 @@ fn ground_of(b: &[u64; WORDS], u: usize) -> Ground
 fn is_near(g: GrowState, bias: u64, t: u64, w: u64) -> bool
     requires t_bound { t ≤ 8796093022208 }
     requires w_bound { w ≤ 8796093022208 }
-    ensures { result ≡ nearTest g bias t w }
+    ensures { result ≡ near_test g bias t w }
 {
     if bias < 576460752303423488 {
         return false;
@@ -52,7 +52,7 @@ fn is_node(b: &[u64; WORDS], u: usize, s: usize, g: Ground) -> bool
     requires u_bound { u < 8 }
     requires s_bound { s < 64 }
     requires grounds { Grounds b.now u g }
-    ensures { result ≡ nodeTest b.now u s }
+    ensures { result ≡ node_test b.now u s }
 {
     let k = u * 64 + s;
     if !bench_words::coding::is_coded(b, k) {
@@ -80,7 +80,7 @@ fn is_slot(b: &[u64; WORDS], u: usize, s: usize, used: u64, map: u64, g: Ground)
     requires u_bound { u < 8 }
     requires s_bound { s < 64 }
     requires grounds { Grounds b.now u g }
-    ensures { result ≡ slotTest b.now used map u s }
+    ensures { result ≡ slot_test b.now used map u s }
 {
     if !slot_map::has(map, s as u8) {
         return bench_words::coding::is_blank(b, u * 64 + s);
@@ -94,7 +94,7 @@ fn is_slot(b: &[u64; WORDS], u: usize, s: usize, used: u64, map: u64, g: Ground)
 fn are_slots(b: &[u64; WORDS], u: usize) -> bool
     requires steady { Steady b.now }
     requires u_bound { u < 8 }
-    ensures { result ≡ slotsTest b.now u }
+    ensures { result ≡ slots_test b.now u }
 {
     let f = bench_words::load_interface(b, u);
     let used = f.used;
@@ -113,7 +113,7 @@ fn are_slots(b: &[u64; WORDS], u: usize) -> bool
 // Whether every slot of the bench is blank or holds a node that keeps the rules, as its map says.
 pub fn are_nodes(b: &[u64; WORDS]) -> bool
     requires { Steady b.now }
-    ensures { result ≡ allTo (slotsTest b.now) 8 }
+    ensures { result ≡ all_to (slots_test b.now) 8 }
 {
     let mut u: usize = 0;
     while u < 8 {

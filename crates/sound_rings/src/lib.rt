@@ -1,14 +1,14 @@
 // A node's class: a defect has no circle and size 1; a blossom's circle is walked once, each member linking back to it from its place. Everything
 // here only reads, and any words may be lent. Assumes nothing.
 ghost use Rattle.std.specs.Prelude.{◌≡◌};
-ghost use Rattle.bench_words.specs.Store.{nodeAt};
-ghost use Rattle.sound_rings.specs.Rings.{isInside, memberOf, ringTest, classTest};
+ghost use Rattle.bench_words.specs.Store.{node_at};
+ghost use Rattle.sound_rings.specs.Rings.{is_inside, member_of, ring_test, class_test};
 
 use bench_words::{Node, WORDS};
 use kinds::{Class, Handle, Parent};
 
 fn is_inside(p: Parent, h: Handle) -> bool
-    ensures { result ≡ isInside p h }
+    ensures { result ≡ is_inside p h }
 {
     match p {
         Parent::Outermost => false,
@@ -18,7 +18,7 @@ fn is_inside(p: Parent, h: Handle) -> bool
 
 // A member links back from place i; no size is larger than the bench; its touching handles were given out.
 fn is_member(m: Node, h: Handle, i: u64, next: u64) -> bool
-    ensures { result ≡ memberOf m h i next }
+    ensures { result ≡ member_of m h i next }
 {
     let parent = m.parent;
     let left = m.left;
@@ -30,7 +30,7 @@ fn is_member(m: Node, h: Handle, i: u64, next: u64) -> bool
 
 // The circle of a blossom h, walked from its first member: as many members as counted, after them nothing, and the sizes add up.
 fn is_ring(b: &[u64; WORDS], h: Handle, n: Node, next: u64) -> bool
-    ensures { result ≡ ringTest (nodeAt b.now) next h n }
+    ensures { result ≡ ring_test (node_at b.now) next h n }
 {
     if n.count == 0 {
         return false;
@@ -58,7 +58,7 @@ fn is_ring(b: &[u64; WORDS], h: Handle, n: Node, next: u64) -> bool
 
 // What a present node is.
 pub fn is_class(b: &[u64; WORDS], h: Handle, n: Node, next: u64) -> bool
-    ensures { result ≡ classTest (nodeAt b.now) next h n }
+    ensures { result ≡ class_test (node_at b.now) next h n }
 {
     let class = n.class;
     match class {

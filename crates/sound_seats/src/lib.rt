@@ -1,17 +1,17 @@
 // A node's place: outside any circle it has none; in one it is a staying member that its blossom's circle comes to after so many steps. Everything
 // here only reads, and any words may be lent. Assumes nothing.
 ghost use Rattle.std.specs.Prelude.{◌≡◌, ◌<◌};
-ghost use Rattle.bench_words.specs.Store.{nodeAt};
+ghost use Rattle.bench_words.specs.Store.{node_at};
 ghost use Rattle.bench_words.proofs.Laws.{GoodHandle, GoodParent};
 ghost use Rattle.bench_views.specs.Records.{Steady};
 ghost use Rattle.bench_views.specs.Canon.{walk};
-ghost use Rattle.sound_seats.specs.Seats.{isStay, aloneTest, seatTest, parentTest};
+ghost use Rattle.sound_seats.specs.Seats.{is_stay, alone_test, seat_test, parent_test};
 
 use bench_words::{Node, WORDS};
 use kinds::{GrowState, Handle, Parent};
 
 fn is_stay(g: GrowState) -> bool
-    ensures { result ≡ isStay g }
+    ensures { result ≡ is_stay g }
 {
     match g {
         GrowState::Grow => false,
@@ -23,7 +23,7 @@ fn is_stay(g: GrowState) -> bool
 // The link of the node at any position: there is none past the last slot.
 fn next_of(b: &[u64; WORDS], p: u64) -> u64
     requires { Steady b.now }
-    ensures { result ≡ (nodeAt b.now p).next }
+    ensures { result ≡ (node_at b.now p).next }
 {
     if 512 <= p {
         return 0;
@@ -35,7 +35,7 @@ fn next_of(b: &[u64; WORDS], p: u64) -> u64
 // So many steps along a circle.
 fn walk(b: &[u64; WORDS], first: u64, steps: u64) -> u64
     requires { Steady b.now }
-    ensures { result ≡ walk steps (nodeAt b.now) first }
+    ensures { result ≡ walk steps (node_at b.now) first }
 {
     let mut p = first;
     let mut i: u64 = 0;
@@ -47,7 +47,7 @@ fn walk(b: &[u64; WORDS], first: u64, steps: u64) -> u64
 }
 
 fn is_alone(n: Node) -> bool
-    ensures { result ≡ aloneTest n }
+    ensures { result ≡ alone_test n }
 {
     let left = n.left;
     let right = n.right;
@@ -60,7 +60,7 @@ fn is_alone(n: Node) -> bool
 fn is_seated(b: &[u64; WORDS], k: usize, top: usize, n: Node, q: Handle) -> bool
     requires steady { Steady b.now }
     requires good_handle { GoodHandle q }
-    ensures { result ≡ seatTest b.now k top n q }
+    ensures { result ≡ seat_test b.now k top n q }
 {
     let m = bench_words::load_node(b, (q.unit as usize) * 64 + (q.slot as usize));
     if 64 < m.count {
@@ -83,7 +83,7 @@ fn is_seated(b: &[u64; WORDS], k: usize, top: usize, n: Node, q: Handle) -> bool
 pub fn is_parent(b: &[u64; WORDS], k: usize, top: usize, n: Node) -> bool
     requires steady { Steady b.now }
     requires good_parent { GoodParent n.parent }
-    ensures { result ≡ parentTest b.now k top n }
+    ensures { result ≡ parent_test b.now k top n }
 {
     let parent = n.parent;
     match parent {

@@ -1,16 +1,16 @@
 -- The test that serials are all different: none but 0 stands in an earlier slot. Assumes nothing.
 use Rattle.std.specs.Prelude.{ℕ, ◌%◌, ◌≡◌, Bool, true, not, ◌||◌, List, eqb, length, get_or}
-use Rattle.bench_words.specs.Store.{nodeAt}
-use Rattle.sound_trees.specs.Below.{allTo}
+use Rattle.bench_words.specs.Store.{node_at}
+use Rattle.sound_trees.specs.Below.{all_to}
 
-abbrev pub serialAt : List ℕ → ℕ → ℕ
-serialAt b k = (nodeAt b k).serial.0
+abbrev pub serial_at : List ℕ → ℕ → ℕ
+serial_at b k = (node_at b k).serial.0
 
 abbrev pub unlike : List ℕ → ℕ → ℕ → Bool
-unlike b x j = not (eqb (serialAt b j) x)
+unlike b x j = not (eqb (serial_at b j) x)
 
-unfoldable pub onceTest : List ℕ → ℕ → Bool
-onceTest b k = eqb (serialAt b k) 0 || allTo (unlike b (serialAt b k)) k
+unfoldable pub once_test : List ℕ → ℕ → Bool
+once_test b k = eqb (serial_at b k) 0 || all_to (unlike b (serial_at b k)) k
 
 -- the marks t after serial x was marked too: r says whether its remainder was free
 pub record Marks (t : List ℕ) (x : ℕ) (t' : List ℕ) (r : Bool) : Type 0 where

@@ -1,14 +1,14 @@
 // Whether the serials of present nodes are all different: a blank slot has serial 0, and any other serial stands once. Everything here only
 // reads, and any words may be lent. Assumes nothing.
 ghost use Rattle.std.specs.Prelude.{◌≡◌, ◌<◌, ◌≤◌, length};
-ghost use Rattle.sound_trees.specs.Below.{allTo};
-ghost use Rattle.sound_serials.specs.Different.{serialAt, unlike, onceTest, Marks};
+ghost use Rattle.sound_trees.specs.Below.{all_to};
+ghost use Rattle.sound_serials.specs.Different.{serial_at, unlike, once_test, Marks};
 
 use bench_words::WORDS;
 
 fn serial_at(b: &[u64; WORDS], k: usize) -> u32
     requires { k < 512 }
-    ensures { result ≡ serialAt b.now k }
+    ensures { result ≡ serial_at b.now k }
 {
     let n = bench_words::load_node(b, k);
     n.serial.0
@@ -17,7 +17,7 @@ fn serial_at(b: &[u64; WORDS], k: usize) -> u32
 // No slot before k has this serial.
 fn is_new(b: &[u64; WORDS], k: usize, serial: u32) -> bool
     requires { k ≤ 512 }
-    ensures { result ≡ allTo (unlike b.now serial) k }
+    ensures { result ≡ all_to (unlike b.now serial) k }
 {
     let mut j: usize = 0;
     while j < k {
@@ -31,7 +31,7 @@ fn is_new(b: &[u64; WORDS], k: usize, serial: u32) -> bool
 
 fn is_once(b: &[u64; WORDS], k: usize) -> bool
     requires { k < 512 }
-    ensures { result ≡ onceTest b.now k }
+    ensures { result ≡ once_test b.now k }
 {
     let serial = serial_at(b, k);
     if serial == 0 {
@@ -42,7 +42,7 @@ fn is_once(b: &[u64; WORDS], k: usize) -> bool
 
 // Each slot against all before it.
 fn are_compared(b: &[u64; WORDS]) -> bool
-    ensures { result ≡ allTo (onceTest b.now) 512 }
+    ensures { result ≡ all_to (once_test b.now) 512 }
 {
     let mut k: usize = 0;
     while k < 512 {
@@ -82,7 +82,7 @@ fn mark(t: &mut [u8; 512], serial: u32) -> bool
 // Serials whose remainders differ are different, and those of nodes made since one clear of all do: at most 512 are. Only where two remainders meet
 // is each compared with all before it.
 pub fn are_different(b: &[u64; WORDS]) -> bool
-    ensures { result ≡ allTo (onceTest b.now) 512 }
+    ensures { result ≡ all_to (once_test b.now) 512 }
 {
     let mut t = [0u8; 512];
     all_marks(&t);

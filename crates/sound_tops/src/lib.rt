@@ -2,8 +2,8 @@
 // only reads, and any words may be lent whose interfaces are in range. Assumes nothing.
 ghost use Rattle.std.specs.Prelude.{◌≡◌, ◌<◌, ◌≤◌};
 ghost use Rattle.bench_views.specs.Records.{Steady};
-ghost use Rattle.sound_trees.specs.Below.{allTo, sum_to};
-ghost use Rattle.sound_tops.specs.Tops.{rateIn, paceUnder, paceOf, topTest};
+ghost use Rattle.sound_trees.specs.Below.{all_to, sum_to};
+ghost use Rattle.sound_tops.specs.Tops.{rate_in, pace_under, pace_of, top_test};
 
 use bench_words::{Interface, Up, WORDS};
 
@@ -11,7 +11,7 @@ use bench_words::{Interface, Up, WORDS};
 fn rates(b: &[u64; WORDS], u: usize, used: usize) -> u64
     requires u_bound { u < 8 }
     requires used_bound { used ≤ 64 }
-    ensures { (result ≡ sum_to (rateIn b.now u) used) × (result ≤ 128) }
+    ensures { (result ≡ sum_to (rate_in b.now u) used) × (result ≤ 128) }
 {
     let mut total: u64 = 0;
     let mut s: usize = 0;
@@ -28,7 +28,7 @@ fn rates(b: &[u64; WORDS], u: usize, used: usize) -> u64
 fn pace_under(b: &[u64; WORDS], top: usize, u: usize) -> u64
     requires steady { Steady b.now }
     requires u_bound { u < 8 }
-    ensures { (result ≡ paceUnder b.now top u) × (result ≤ 192) }
+    ensures { (result ≡ pace_under b.now top u) × (result ≤ 192) }
 {
     if bench_trees::top_of(b, u) != top {
         return 64;
@@ -40,7 +40,7 @@ fn pace_under(b: &[u64; WORDS], top: usize, u: usize) -> u64
 // The speed of a tree, 512 higher than it is.
 fn pace(b: &[u64; WORDS], top: usize) -> u64
     requires { Steady b.now }
-    ensures { (result ≡ paceOf b.now top) × (result ≤ 1536) }
+    ensures { (result ≡ pace_of b.now top) × (result ≤ 1536) }
 {
     let mut total: u64 = 0;
     let mut u: usize = 0;
@@ -54,7 +54,7 @@ fn pace(b: &[u64; WORDS], top: usize) -> u64
 fn is_top(b: &[u64; WORDS], u: usize) -> bool
     requires steady { Steady b.now }
     requires u_bound { u < 8 }
-    ensures { result ≡ topTest b.now u }
+    ensures { result ≡ top_test b.now u }
 {
     let f = bench_words::load_interface(b, u);
     let up = f.parent;
@@ -72,7 +72,7 @@ fn is_top(b: &[u64; WORDS], u: usize) -> bool
 // Whether every interface without a parent has a sound sum and speed.
 pub fn are_tops(b: &[u64; WORDS]) -> bool
     requires { Steady b.now }
-    ensures { result ≡ allTo (topTest b.now) 8 }
+    ensures { result ≡ all_to (top_test b.now) 8 }
 {
     let mut u: usize = 0;
     while u < 8 {

@@ -5,46 +5,46 @@ use mathlib.Core.Bool.{Bool, true, false, true≢false}
 use native.Mathlib.Decide.{ℕ_discrete}
 use native.Mathlib.Numerals.{add-one}
 use native.Mathlib.Omega.{arith}
-use Rattle.ledger_spec.proofs.Lists.{and-true, both_true}
-use Rattle.sound_trees.specs.Below.{allTo, sum_to}
+use Rattle.ledger_spec.proofs.Lists.{and_true, both_true}
+use Rattle.sound_trees.specs.Below.{all_to, sum_to}
 
-pub all-each : (f : ℕ → Bool) (n : ℕ) → allTo f n ≡ true → (i : ℕ) → i < n → f i ≡ true
-unfolding allTo
-all-each f zero e i l = absurd (omega arith)
-all-each f (suc n) e i l = go (ℕ_discrete i n) (λ k. all-each f n (and-true (allTo f n) (f n) e).0 i k)
+pub all_each : (f : ℕ → Bool) (n : ℕ) → all_to f n ≡ true → (i : ℕ) → i < n → f i ≡ true
+unfolding all_to
+all_each f zero e i l = absurd (omega arith)
+all_each f (suc n) e i l = go (ℕ_discrete i n) (λ k. all_each f n (and_true (all_to f n) (f n) e).0 i k)
   where
     go : Dec (i ≡ n) → (i < n → f i ≡ true) → f i ≡ true
-    go (yes p) ih = ap f p ∙ (and-true (allTo f n) (f n) e).1
+    go (yes p) ih = ap f p ∙ (and_true (all_to f n) (f n) e).1
     go (no p) ih = ih (omega arith)
 
-pub all_of : (f : ℕ → Bool) (n : ℕ) → ((i : ℕ) → i < n → f i ≡ true) → allTo f n ≡ true
-unfolding allTo
+pub all_of : (f : ℕ → Bool) (n : ℕ) → ((i : ℕ) → i < n → f i ≡ true) → all_to f n ≡ true
+unfolding all_to
 all_of f zero h = refl
 all_of f (suc n) h = both_true (all_of f n (λ i l. h i (omega arith))) (h n (omega arith))
 
 -- ---- a loop that tests one after the other
-pub all_none : (f : ℕ → Bool) → true ≡ allTo f 0
-unfolding allTo
+pub all_none : (f : ℕ → Bool) → true ≡ all_to f 0
+unfolding all_to
 all_none f = refl
 
-pub all_more : (f : ℕ → Bool) (n : ℕ) → allTo f n ≡ true → f n ≡ true → allTo f (n + 1) ≡ true
-unfolding allTo
-all_more f n e h = ap (allTo f) (add-one n) ∙ both_true e h
+pub all_more : (f : ℕ → Bool) (n : ℕ) → all_to f n ≡ true → f n ≡ true → all_to f (n + 1) ≡ true
+unfolding all_to
+all_more f n e h = ap (all_to f) (add-one n) ∙ both_true e h
 
-pub all-not : (f : ℕ → Bool) (n i : ℕ) → i < n → f i ≡ false → false ≡ allTo f n
-all-not f n i l e = go (allTo f n) refl
+pub all_not : (f : ℕ → Bool) (n i : ℕ) → i < n → f i ≡ false → false ≡ all_to f n
+all_not f n i l e = go (all_to f n) refl
   where
-    go : (c : Bool) → allTo f n ≡ c → false ≡ allTo f n
-    go true q = absurd (true≢false (sym (all-each f n q i l) ∙ e))
+    go : (c : Bool) → all_to f n ≡ c → false ≡ all_to f n
+    go true q = absurd (true≢false (sym (all_each f n q i l) ∙ e))
     go false q = sym q
 
-pub all_done : (f : ℕ → Bool) (n i : ℕ) → allTo f i ≡ true → i ≡ n → true ≡ allTo f n
-all_done f n i e q = sym (sym (ap (allTo f) q) ∙ e)
+pub all_done : (f : ℕ → Bool) (n i : ℕ) → all_to f i ≡ true → i ≡ n → true ≡ all_to f n
+all_done f n i e q = sym (sym (ap (all_to f) q) ∙ e)
 
 -- ---- a loop that adds up
-pub sum-none : (f : ℕ → ℕ) → sum_to f 0 ≡ 0
+pub sum_none : (f : ℕ → ℕ) → sum_to f 0 ≡ 0
 unfolding sum_to
-sum-none f = refl
+sum_none f = refl
 
 pub sum_more : (f : ℕ → ℕ) (n : ℕ) → sum_to f (n + 1) ≡ sum_to f n + f n
 unfolding sum_to

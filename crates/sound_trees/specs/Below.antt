@@ -1,9 +1,9 @@
 -- A test of every number below n, a sum over them, and a number near another. Assumes nothing.
 use Rattle.std.specs.Prelude.{ℕ, zero, suc, ◌+◌, ◌-◌, Bool, true, ◌&&◌, leb}
 
-unfoldable pub allTo : (ℕ → Bool) → ℕ → Bool
-allTo f zero = true
-allTo f (suc n) = allTo f n && f n
+unfoldable pub all_to : (ℕ → Bool) → ℕ → Bool
+all_to f zero = true
+all_to f (suc n) = all_to f n && f n
 
 unfoldable pub sum_to : (ℕ → ℕ) → ℕ → ℕ
 sum_to f zero = 0

@@ -1,17 +1,17 @@
 // The interfaces of a sound bench: their ranges, and links both ways between a parent and its halves; and W, the progress of a whole tree.
 // Everything here only reads, and any words may be lent. Assumes nothing.
 ghost use Rattle.std.specs.Prelude.{◌≡◌, ◌<◌, ◌≤◌};
-ghost use Rattle.bench_words.specs.Store.{interfaceAt};
+ghost use Rattle.bench_words.specs.Store.{interface_at};
 ghost use Rattle.bench_words.proofs.Laws.{GoodUp};
 ghost use Rattle.bench_views.specs.Records.{Steady};
-ghost use Rattle.sound_trees.specs.Below.{allTo};
-ghost use Rattle.sound_trees.specs.Links.{isUnder, upTest, downTest, interfaceTest};
-ghost use Rattle.sound_trees.specs.Width.{progressUnder, width_of};
+ghost use Rattle.sound_trees.specs.Below.{all_to};
+ghost use Rattle.sound_trees.specs.Links.{is_under, up_test, down_test, interface_test};
+ghost use Rattle.sound_trees.specs.Width.{progress_under, width_of};
 
 use bench_words::{Interface, Up, WORDS};
 
 fn is_under(p: Up, u: usize) -> bool
-    ensures { result ≡ isUnder p u }
+    ensures { result ≡ is_under p u }
 {
     match p {
         Up::Top => false,
@@ -23,7 +23,7 @@ fn is_under(p: Up, u: usize) -> bool
 fn is_half(b: &[u64; WORDS], p: Up, u: usize) -> bool
     requires good_up { GoodUp p }
     requires u_bound { u < 8 }
-    ensures { result ≡ upTest (interfaceAt b.now) p u }
+    ensures { result ≡ up_test (interface_at b.now) p u }
 {
     match p {
         Up::Top => true,
@@ -38,7 +38,7 @@ fn is_half(b: &[u64; WORDS], p: Up, u: usize) -> bool
 // Halves are none, or two of lower numbers whose parent is the interface.
 fn are_halves(b: &[u64; WORDS], l: u64, r: u64, u: usize) -> bool
     requires { u < 8 }
-    ensures { result ≡ downTest (interfaceAt b.now) l r u }
+    ensures { result ≡ down_test (interface_at b.now) l r u }
 {
     if l == 0 {
         return r == 0;
@@ -62,7 +62,7 @@ fn are_halves(b: &[u64; WORDS], l: u64, r: u64, u: usize) -> bool
 
 fn is_interface(b: &[u64; WORDS], u: usize) -> bool
     requires { u < 8 }
-    ensures { result ≡ interfaceTest b.now u }
+    ensures { result ≡ interface_test b.now u }
 {
     let f = bench_words::load_interface(b, u);
     let p = f.parent;
@@ -74,7 +74,7 @@ fn is_interface(b: &[u64; WORDS], u: usize) -> bool
 
 // Whether all eight keep the rules.
 pub fn are_trees(b: &[u64; WORDS]) -> bool
-    ensures { result ≡ allTo (interfaceTest b.now) 8 }
+    ensures { result ≡ all_to (interface_test b.now) 8 }
 {
     let mut u: usize = 0;
     while u < 8 {
@@ -90,7 +90,7 @@ pub fn are_trees(b: &[u64; WORDS]) -> bool
 fn progress_under(b: &[u64; WORDS], top: usize, u: usize) -> u64
     requires steady { Steady b.now }
     requires u_bound { u < 8 }
-    ensures { (result ≡ progressUnder b.now top u) × (result ≤ 1099511627776) }
+    ensures { (result ≡ progress_under b.now top u) × (result ≤ 1099511627776) }
 {
     if bench_trees::top_of(b, u) != top {
         return 0;

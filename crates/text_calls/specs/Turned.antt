@@ -7,11 +7,11 @@ use Rattle.ledger_spec.specs.Lines.{LineAnswer, says}
 use Rattle.bench_views.specs.View.{view}
 use Rattle.bench_views.specs.Fit.{SoundWords}
 use Rattle.text_numbers.specs.declared.Reply.{Reply}
-use Rattle.text_numbers.specs.Numbers.{numbersOf}
+use Rattle.text_numbers.specs.Numbers.{numbers_of}
 
 -- the four numbers and the bench after it are those of an answer of the ledger's, and the words after it are sound
 pub record Gave (a : LineAnswer) (r : Reply) (b' : List ℕ) : Type 0 where
-  pub numbers : numbersOf r ≡ a.numbers
+  pub numbers : numbers_of r ≡ a.numbers
   pub words : SoundWords b'
   pub seen : view b' ≡ a.bench
 

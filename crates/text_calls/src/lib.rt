@@ -5,9 +5,9 @@ ghost use Rattle.std.proofs.Math.Option.{some};
 ghost use Rattle.ledger_spec.specs.Operations.{D, E, S, G, F, C, K};
 ghost use Rattle.ledger_spec.specs.Grammar.{Line as Said};
 ghost use Rattle.ledger_spec.specs.Lines.{shown};
-ghost use Rattle.ledger_spec.specs.Named.{stateNamed};
+ghost use Rattle.ledger_spec.specs.Named.{state_named};
 ghost use Rattle.text_lines.specs.Shown.{ReadAs};
-ghost use Rattle.text_numbers.specs.Numbers.{numbersOf};
+ghost use Rattle.text_numbers.specs.Numbers.{numbers_of};
 ghost use Rattle.bench_views.specs.Fit.{SoundWords};
 ghost use Rattle.bench_views.specs.View.{view};
 ghost use Rattle.text_calls.specs.Turned.{Turned, Few, TurnedBlossom};
@@ -25,7 +25,7 @@ pub const MOST: usize = 65;
 // A call's answer, with the interface as it stands now.
 pub fn tell(b: &[u64; WORDS], unit: u8, made: Made) -> Reply
     requires { SoundWords b.now }
-    ensures { numbersOf result ≡ shown made.number made.node.serial.0 (view b.now) unit }
+    ensures { numbers_of result ≡ shown made.number made.node.serial.0 (view b.now) unit }
 {
     let node = made.node;
     text_numbers::show(b, unit, made.number, node.serial.0)
@@ -95,7 +95,7 @@ fn set_state(
     hints: &mut [u16; HINTS],
 ) -> Reply
     requires { SoundWords b.old }
-    ensures { Turned b.old (some (S unit serial.0 (stateNamed state))) result b.new }
+    ensures { Turned b.old (some (S unit serial.0 (state_named state))) result b.new }
 {
     let node = bench_serials::named(b, serial, hints);
     let made = call_sound::set_grow_state(b, unit, node, state);

@@ -35,11 +35,11 @@ by_tests : (m s d : ℕ) → tested (eqb m 77) (eqb s 32) (eqb d 49) (eqb d 48) 
 unfolding chosen
 by_tests m s d = refl
 
-no-letter : (m s d : ℕ) → (m ≡ 77 → ⊥) → none ≡ chosen (m ∷ s ∷ d ∷ [])
-no-letter m s d h = (λ i. tested (sym (ne_eqb m 77 h) i) (eqb s 32) (eqb d 49) (eqb d 48)) ∙ by_tests m s d
+no_letter : (m s d : ℕ) → (m ≡ 77 → ⊥) → none ≡ chosen (m ∷ s ∷ d ∷ [])
+no_letter m s d h = (λ i. tested (sym (ne_eqb m 77 h) i) (eqb s 32) (eqb d 49) (eqb d 48)) ∙ by_tests m s d
 
-no-space : (m s d : ℕ) → m ≡ 77 → (s ≡ 32 → ⊥) → none ≡ chosen (m ∷ s ∷ d ∷ [])
-no-space m s d e h = (λ i. tested (sym (eq-eqb m 77 e) i) (sym (ne_eqb s 32 h) i) (eqb d 49) (eqb d 48)) ∙ by_tests m s d
+no_space : (m s d : ℕ) → m ≡ 77 → (s ≡ 32 → ⊥) → none ≡ chosen (m ∷ s ∷ d ∷ [])
+no_space m s d e h = (λ i. tested (sym (eq-eqb m 77 e) i) (sym (ne_eqb s 32 h) i) (eqb d 49) (eqb d 48)) ∙ by_tests m s d
 
 one : (m s d : ℕ) → m ≡ 77 → s ≡ 32 → d ≡ 49 → some true ≡ chosen (m ∷ s ∷ d ∷ [])
 one m s d e f g = (λ i. tested (sym (eq-eqb m 77 e) i) (sym (eq-eqb s 32 f) i) (sym (eq-eqb d 49 g) i) (eqb d 48)) ∙ by_tests m s d
@@ -56,17 +56,17 @@ module _ (l : List ℕ) (h : length l ≡ 3) where
   by_bytes : (x : Option Bool) → x ≡ chosen (get_or l 0 0 ∷ get_or l 1 0 ∷ get_or l 2 0 ∷ []) → x ≡ chosen l
   by_bytes x e = e ∙ ap chosen (sym (three l h))
 
-  pub chosen-letter : (get_or l 0 0 ≡ 77 → ⊥) → none ≡ chosen l
-  chosen-letter a = by_bytes none (no-letter _ _ _ a)
+  pub chosen_letter : (get_or l 0 0 ≡ 77 → ⊥) → none ≡ chosen l
+  chosen_letter a = by_bytes none (no_letter _ _ _ a)
 
-  pub chosen-space : get_or l 0 0 ≡ 77 → (get_or l 1 0 ≡ 32 → ⊥) → none ≡ chosen l
-  chosen-space a b = by_bytes none (no-space _ _ _ a b)
+  pub chosen_space : get_or l 0 0 ≡ 77 → (get_or l 1 0 ≡ 32 → ⊥) → none ≡ chosen l
+  chosen_space a b = by_bytes none (no_space _ _ _ a b)
 
   pub chosen_plain : get_or l 0 0 ≡ 77 → get_or l 1 0 ≡ 32 → get_or l 2 0 ≡ 49 → some true ≡ chosen l
   chosen_plain a b c = by_bytes (some true) (one _ _ _ a b c)
 
-  pub chosen-lazy : get_or l 0 0 ≡ 77 → get_or l 1 0 ≡ 32 → (get_or l 2 0 ≡ 49 → ⊥) → get_or l 2 0 ≡ 48 → some false ≡ chosen l
-  chosen-lazy a b c d = by_bytes (some false) (nought _ _ _ a b c d)
+  pub chosen_lazy : get_or l 0 0 ≡ 77 → get_or l 1 0 ≡ 32 → (get_or l 2 0 ≡ 49 → ⊥) → get_or l 2 0 ≡ 48 → some false ≡ chosen l
+  chosen_lazy a b c d = by_bytes (some false) (nought _ _ _ a b c d)
 
-  pub chosen-digit : get_or l 0 0 ≡ 77 → get_or l 1 0 ≡ 32 → (get_or l 2 0 ≡ 49 → ⊥) → (get_or l 2 0 ≡ 48 → ⊥) → none ≡ chosen l
-  chosen-digit a b c d = by_bytes none (no_digit _ _ _ a b c d)
+  pub chosen_digit : get_or l 0 0 ≡ 77 → get_or l 1 0 ≡ 32 → (get_or l 2 0 ≡ 49 → ⊥) → (get_or l 2 0 ≡ 48 → ⊥) → none ≡ chosen l
+  chosen_digit a b c d = by_bytes none (no_digit _ _ _ a b c d)

@@ -12,9 +12,9 @@ use lib.Seq.{length-take-le}
 use borrow.Author.Tests.{lt-ltb}
 use Rattle.ledger_spec.specs.Bench.{Handle, Bench}
 use Rattle.ledger_spec.specs.Tests.{first, empty, outside, child}
-use Rattle.ledger_spec.specs.Deeds.{newHandle, addBlossom}
-use Rattle.ledger_spec.specs.Refuse.{blossomTests}
-use Rattle.ledger_spec.specs.Calls.{Reply, nobody, settle, Blossom, blossomCall, perform}
+use Rattle.ledger_spec.specs.Deeds.{new_handle, add_blossom}
+use Rattle.ledger_spec.specs.Refuse.{blossom_tests}
+use Rattle.ledger_spec.specs.Calls.{Reply, nobody, settle, Blossom, blossom_call, perform}
 use Rattle.ledger_spec.specs.Notices.{Notice, tells}
 use Rattle.ledger_spec.specs.Answers.{Answer, told, whole, broken, answer}
 use Rattle.ledger_spec.specs.Sound.{sound}
@@ -27,11 +27,11 @@ number true c = 3
 number false true = 4
 number false false = 6
 
-first-is : (o c x : Bool) (ts : List (Bool × ℕ)) → x ≡ true → first ((o, 3) ∷ (c, 4) ∷ (x, 6) ∷ ts) ≡ number o c
+first_is : (o c x : Bool) (ts : List (Bool × ℕ)) → x ≡ true → first ((o, 3) ∷ (c, 4) ∷ (x, 6) ∷ ts) ≡ number o c
 unfolding first number
-first-is true c x ts e = refl
-first-is false true x ts e = refl
-first-is false false x ts e = rw e
+first_is true c x ts e = refl
+first_is false true x ts e = refl
+first_is false false x ts e = rw e
 
 refused : Bool → Bool → Bench → Reply
 refused o c b = record { number = number o c; bench = b; node = nobody }
@@ -58,10 +58,10 @@ large b u = elim (sound b) [ true ↦ record { number = number (outside u) (chil
 
 module _ (b : Bench) (u : ℕ) (hs : List Handle) (h : 64 < length hs) where
   performed : perform b (Blossom u hs []) ≡ refused (outside u) (child b u) b
-  unfolding perform blossomCall blossomTests
+  unfolding perform blossom_call blossom_tests
   performed =
-      ap (λ (n : ℕ). settle n b (addBlossom b u hs []) (newHandle b u)) (first-is (outside u) (child b u) (empty hs || ltb 64 (length hs)) _ (too_many hs h))
-      ∙ settled (outside u) (child b u) b (addBlossom b u hs []) (newHandle b u)
+      ap (λ (n : ℕ). settle n b (add_blossom b u hs []) (new_handle b u)) (first_is (outside u) (child b u) (empty hs || ltb 64 (length hs)) _ (too_many hs h))
+      ∙ settled (outside u) (child b u) b (add_blossom b u hs []) (new_handle b u)
 
   replied : (ns : List Notice) → whole (perform b (Blossom u hs [])) ns ≡ record { number = number (outside u) (child b u); node = nobody; notices = []; bench = b }
   unfolding whole refused
@@ -73,12 +73,12 @@ module _ (b : Bench) (u : ℕ) (hs : List Handle) (h : 64 < length hs) where
   unfolding answer large
   answered = ap (λ (x : Answer). elim (sound b) as (λ (s : Bool). Answer) [ true ↦ x | false ↦ broken b ]) (replied (tells b (Blossom u hs [])))
 
-pub large-circle : (b : Bench) (u : ℕ) (ks js : List ℕ) → 64 < length ks → 64 < length js → says b (some (B u ks)) ≡ says b (some (B u js))
+pub large_circle : (b : Bench) (u : ℕ) (ks js : List ℕ) → 64 < length ks → 64 < length js → says b (some (B u ks)) ≡ says b (some (B u js))
 unfolding says calls
-large-circle b u ks js h k =
+large_circle b u ks js h k =
     let e = answered b u (map (named b) ks) (rw length-map h) ∙ sym (answered b u (map (named b) js) (rw length-map k)) in
     ap (λ (a : Answer). record { numbers = shown a.number a.node.serial a.bench u; bench = a.bench }) e
 
 -- 65 of them are enough
-pub first-65 : (b : Bench) (u : ℕ) (ks : List ℕ) → 64 < length ks → says b (some (B u ks)) ≡ says b (some (B u (take 65 ks)))
-first-65 b u ks h = large-circle b u ks (take 65 ks) h (omega (arith, length-take-le 65 ks h))
+pub first_65 : (b : Bench) (u : ℕ) (ks : List ℕ) → 64 < length ks → says b (some (B u ks)) ≡ says b (some (B u (take 65 ks)))
+first_65 b u ks h = large_circle b u ks (take 65 ks) h (omega (arith, length-take-le 65 ks h))

@@ -14,9 +14,9 @@ left p [] = p
 left p (c ∷ s) = elim (eqb c 10) [ true ↦ left [] s | false ↦ left (take 1024 (p ++ (c ∷ []))) s ]
 
 -- the bytes of the first line that it ends, and what stands after that line's newline in the chunk
-unfoldable pub firstLine : List ℕ → List ℕ → Option (List ℕ × List ℕ)
-firstLine p [] = none
-firstLine p (c ∷ s) = elim (eqb c 10) [ true ↦ some (p, s) | false ↦ firstLine (take 1024 (p ++ (c ∷ []))) s ]
+unfoldable pub first_line : List ℕ → List ℕ → Option (List ℕ × List ℕ)
+first_line p [] = none
+first_line p (c ∷ s) = elim (eqb c 10) [ true ↦ some (p, s) | false ↦ first_line (take 1024 (p ++ (c ∷ []))) s ]
 
 -- the input ends: a last line without newline is wrong
 abbrev pub last : List ℕ → List Line
@@ -30,9 +30,9 @@ joined [] = []
 joined (c ∷ cs) = c ++ joined cs
 
 -- the lines that its chunks end, and the last one
-unfoldable pub linesIn : List ℕ → List (List ℕ) → List Line
-linesIn p [] = last p
-linesIn p (c ∷ cs) = lines p c ++ linesIn (left p c) cs
+unfoldable pub lines_in : List ℕ → List (List ℕ) → List Line
+lines_in p [] = last p
+lines_in p (c ∷ cs) = lines p c ++ lines_in (left p c) cs
 
 -- ---- a call
 
@@ -40,9 +40,9 @@ linesIn p (c ∷ cs) = lines p c ++ linesIn (left p c) cs
 pub record Feeds (a : ℕ) (t p chunk buf : List ℕ) (ended : Bool) (held at : ℕ) : Type 0 where
   pub on : ended ≡ true → a < at
   pub short : held ≤ 1024
-  pub in-chunk : at ≤ length chunk
+  pub in_chunk : at ≤ length chunk
   pub long : length buf ≡ 1024
   pub line : ended ≡ true → (lines p t ≡ line_of (take held buf) ∷ lines [] (drop at chunk)) × (left p t ≡ left [] (drop at chunk))
   pub part : ended ≡ false → (lines p t ≡ []) × (left p t ≡ take held buf)
-  pub first : ended ≡ true → firstLine p t ≡ some (take held buf, drop at chunk)
-  pub no-first : ended ≡ false → firstLine p t ≡ none
+  pub first : ended ≡ true → first_line p t ≡ some (take held buf, drop at chunk)
+  pub no_first : ended ≡ false → first_line p t ≡ none

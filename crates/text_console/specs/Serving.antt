@@ -11,11 +11,11 @@ pub record Ready (b piece buf : List ℕ) (held : ℕ) (serials out : List ℕ) 
   pub serial : 65 ≤ length serials
   pub room : 57 * length piece ≤ length out
 
-abbrev pub heldBy : Next → ℕ
-heldBy (More h fresh) = h
-heldBy Ended = 0
-heldBy Failed = 0
+abbrev pub held_by : Next → ℕ
+held_by (More h fresh) = h
+held_by Ended = 0
+held_by Failed = 0
 
 pub record Served (b : List ℕ) (r : Next) : Type 0 where
   pub words : SoundWords b
-  pub short : heldBy r ≤ 1024
+  pub short : held_by r ≤ 1024

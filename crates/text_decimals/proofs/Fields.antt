@@ -7,45 +7,45 @@ use mathlib.Core.List.{List, [], ◌∷◌}
 use lib.ListN.{length, get_or, drop, take, length-drop}
 use lib.Seq.{take_all}
 use borrow.Author.Tests.{eq-eqb, ne_eqb}
-use Rattle.ledger_spec.specs.Decimals.{afterDigits, natural, numberWithin, integer, plusOf, minusOf}
+use Rattle.ledger_spec.specs.Decimals.{after_digits, natural, number_within, integer, plus_of, minus_of}
 
-pub natural-empty : (f : List ℕ) → length f ≡ 0 → natural f ≡ none
+pub natural_empty : (f : List ℕ) → length f ≡ 0 → natural f ≡ none
 unfolding natural
-natural-empty [] h = refl
-natural-empty (c ∷ f) h = absurd (omega arith)
+natural_empty [] h = refl
+natural_empty (c ∷ f) h = absurd (omega arith)
 
-pub natural-one : (f : List ℕ) → length f ≡ 1 → natural f ≡ afterDigits 0 f
+pub natural_one : (f : List ℕ) → length f ≡ 1 → natural f ≡ after_digits 0 f
 unfolding natural
-natural-one [] h = absurd (omega arith)
-natural-one (c ∷ []) h = refl
-natural-one (c ∷ d ∷ f) h = absurd (omega arith)
+natural_one [] h = absurd (omega arith)
+natural_one (c ∷ []) h = refl
+natural_one (c ∷ d ∷ f) h = absurd (omega arith)
 
-pub natural-zero : (f : List ℕ) → (length f ≡ 0 → ⊥) → (length f ≡ 1 → ⊥) → get_or f 0 0 ≡ 48 → natural f ≡ none
+pub natural_zero : (f : List ℕ) → (length f ≡ 0 → ⊥) → (length f ≡ 1 → ⊥) → get_or f 0 0 ≡ 48 → natural f ≡ none
 unfolding natural
-natural-zero [] h k e = absurd (h refl)
-natural-zero (c ∷ []) h k e = absurd (k refl)
-natural-zero (c ∷ d ∷ f) h k e = rw (eq-eqb c 48 e, natural)
+natural_zero [] h k e = absurd (h refl)
+natural_zero (c ∷ []) h k e = absurd (k refl)
+natural_zero (c ∷ d ∷ f) h k e = rw (eq-eqb c 48 e, natural)
 
-pub natural-more : (f : List ℕ) → (length f ≡ 0 → ⊥) → (length f ≡ 1 → ⊥) → (get_or f 0 0 ≡ 48 → ⊥) → natural f ≡ afterDigits 0 f
+pub natural_more : (f : List ℕ) → (length f ≡ 0 → ⊥) → (length f ≡ 1 → ⊥) → (get_or f 0 0 ≡ 48 → ⊥) → natural f ≡ after_digits 0 f
 unfolding natural
-natural-more [] h k e = absurd (h refl)
-natural-more (c ∷ []) h k e = absurd (k refl)
-natural-more (c ∷ d ∷ f) h k e = rw (ne_eqb c 48 e, natural)
+natural_more [] h k e = absurd (h refl)
+natural_more (c ∷ []) h k e = absurd (k refl)
+natural_more (c ∷ d ∷ f) h k e = rw (ne_eqb c 48 e, natural)
 
 pub integer_empty : (f : List ℕ) → length f ≡ 0 → integer f ≡ none
 unfolding integer
 integer_empty [] h = refl
 integer_empty (c ∷ f) h = absurd (omega arith)
 
-pub integer-minus : (f : List ℕ) → (length f ≡ 0 → ⊥) → get_or f 0 0 ≡ 45 → integer f ≡ minusOf (numberWithin 1 9223372036854775808 (drop 1 f))
+pub integer_minus : (f : List ℕ) → (length f ≡ 0 → ⊥) → get_or f 0 0 ≡ 45 → integer f ≡ minus_of (number_within 1 9223372036854775808 (drop 1 f))
 unfolding integer
-integer-minus [] h e = absurd (h refl)
-integer-minus (c ∷ f) h e = rw (eq-eqb c 45 e, integer)
+integer_minus [] h e = absurd (h refl)
+integer_minus (c ∷ f) h e = rw (eq-eqb c 45 e, integer)
 
-pub integer-plus : (f : List ℕ) → (length f ≡ 0 → ⊥) → (get_or f 0 0 ≡ 45 → ⊥) → integer f ≡ plusOf (numberWithin 0 9223372036854775807 f)
+pub integer_plus : (f : List ℕ) → (length f ≡ 0 → ⊥) → (get_or f 0 0 ≡ 45 → ⊥) → integer f ≡ plus_of (number_within 0 9223372036854775807 f)
 unfolding integer
-integer-plus [] h e = absurd (h refl)
-integer-plus (c ∷ f) h e = rw (ne_eqb c 45 e, integer)
+integer_plus [] h e = absurd (h refl)
+integer_plus (c ∷ f) h e = rw (ne_eqb c 45 e, integer)
 
 -- the part that `&f[1..]` is
 pub rest_of : (f : List ℕ) → take (length f - 1) (drop 1 f) ≡ drop 1 f

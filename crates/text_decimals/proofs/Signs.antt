@@ -31,11 +31,11 @@ pub negated : (n : ℕ) → 0 < n → neg_ℤ (pos n) ≡ negsuc (n - 1)
 negated zero h = absurd (omega arith)
 negated (suc n) h = ap negsuc (sym (less_one n))
 
-pub fits-plus : (n : ℕ) → n < 9223372036854775808 → SFits w64 (pos n)
-fits-plus n h = record { sfits = h }
+pub fits_plus : (n : ℕ) → n < 9223372036854775808 → SFits w64 (pos n)
+fits_plus n h = record { sfits = h }
 
-pub fits-minus : (n : ℕ) → (0 < n) × (n ≤ 9223372036854775808) → SFits w64 (neg_ℤ (pos n))
-fits-minus n h = rw (negated n h.0) (record { sfits = omega (arith, h.0, h.1) })
+pub fits_minus : (n : ℕ) → (0 < n) × (n ≤ 9223372036854775808) → SFits w64 (neg_ℤ (pos n))
+fits_minus n h = rw (negated n h.0) (record { sfits = omega (arith, h.0, h.1) })
 
 -- ---- written: a z below 0 is turned into y = -1 - z; each is read again from 64 bits
 
@@ -51,10 +51,10 @@ pub record Turned (z y x : ℤ) : Type 0 where
 back : (n : ℕ) → negsuc 0 -ℤ negsuc n ≡ pos n
 back n = rw (le-ltb (suc n) 1 (omega arith)) (ap pos (less_one n))
 
-turned-once : (z : ℤ) → SFits w64 z → lt_z z (pos 0) ≡ true → Turned z (negsuc 0 -ℤ z) (negsuc 0 -ℤ z)
+turned_once : (z : ℤ) → SFits w64 z → lt_z z (pos 0) ≡ true → Turned z (negsuc 0 -ℤ z) (negsuc 0 -ℤ z)
 unfolding signed
-turned-once (pos n) f e = absurd (omega (arith, ltb-true n 0 e))
-turned-once (negsuc n) f e = rw (back n) (let h : n < 9223372036854775808 = f.sfits in record {
+turned_once (pos n) f e = absurd (omega (arith, ltb-true n 0 e))
+turned_once (negsuc n) f e = rw (back n) (let h : n < 9223372036854775808 = f.sfits in record {
   fits = record { sfits = h };
   whole = (tt, record { fits = omega arith });
   more = record { fits = omega arith };
@@ -62,16 +62,16 @@ turned-once (negsuc n) f e = rw (back n) (let h : n < 9223372036854775808 = f.sf
 })
 
 pub turned : (z : ℤ) → SFits w64 z → lt_z (again z) (pos 0) ≡ true → Turned z (negsuc 0 -ℤ again z) (again (negsuc 0 -ℤ again z))
-turned z f e = let t = turned-once z f (rw (to_z-of_z f) at e) in rw (to_z-of_z f, to_z-of_z t.fits) t
+turned z f e = let t = turned_once z f (rw (to_z-of_z f) at e) in rw (to_z-of_z f, to_z-of_z t.fits) t
 
 pub record Plain (z x : ℤ) : Type 0 where
   pub whole : T (non_neg x) × Fits w64 (nat_abs x)
   pub text : signed z ≡ decimal (nat_abs x)
 
-plain-once : (z : ℤ) → SFits w64 z → lt_z z (pos 0) ≡ false → Plain z z
+plain_once : (z : ℤ) → SFits w64 z → lt_z z (pos 0) ≡ false → Plain z z
 unfolding signed
-plain-once (pos n) f e = record { whole = (tt, record { fits = let h : n < 9223372036854775808 = f.sfits in omega arith }); text = refl }
-plain-once (negsuc n) f e = absurd (true≢false e)
+plain_once (pos n) f e = record { whole = (tt, record { fits = let h : n < 9223372036854775808 = f.sfits in omega arith }); text = refl }
+plain_once (negsuc n) f e = absurd (true≢false e)
 
 pub plain : (z : ℤ) → SFits w64 z → lt_z (again z) (pos 0) ≡ false → Plain z (again z)
-plain z f e = let t = plain-once z f (rw (to_z-of_z f) at e) in rw (to_z-of_z f) t
+plain z f e = let t = plain_once z f (rw (to_z-of_z f) at e) in rw (to_z-of_z f) t

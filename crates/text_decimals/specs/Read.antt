@@ -10,6 +10,6 @@ abbrev pub number_of : MaybeNumber → Option ℕ
 number_of NoNumber = none
 number_of (Number n) = some n
 
-abbrev pub integerOf : MaybeInteger → Option ℤ
-integerOf NoInteger = none
-integerOf (Integer z) = some z
+abbrev pub integer_of : MaybeInteger → Option ℤ
+integer_of NoInteger = none
+integer_of (Integer z) = some z

@@ -1,8 +1,8 @@
 // Numbers as text: a field read as a number, and a number written at a place of a lent slice, by ledger_spec's `Decimals`.
 // Assumes nothing.
 ghost use Rattle.std.specs.Prelude.{◌≡◌, ◌+◌, ◌≤◌, ◌<◌, length, pos, neg_ℤ};
-ghost use Rattle.ledger_spec.specs.Decimals.{afterDigits, between, numberWithin, integer, decimal, signed};
-ghost use Rattle.text_decimals.specs.Read.{number_of, integerOf};
+ghost use Rattle.ledger_spec.specs.Decimals.{after_digits, between, number_within, integer, decimal, signed};
+ghost use Rattle.text_decimals.specs.Read.{number_of, integer_of};
 ghost use Rattle.text_decimals.specs.Wrote.{Wrote};
 
 // The number that a field says, if it says one.
@@ -26,7 +26,7 @@ fn wide(b: u8) -> u64
 
 // What digits say, leading zeros allowed, if it lies in a range. It never passes the range's end on the way, so no sum can overflow.
 fn value_in(f: &[u8], least: u64, most: u64) -> MaybeNumber
-    ensures { number_of result ≡ between least most (afterDigits 0 f.now) }
+    ensures { number_of result ≡ between least most (after_digits 0 f.now) }
 {
     let mut n: u64 = 0;
     let mut i = 0;
@@ -56,7 +56,7 @@ fn value_in(f: &[u8], least: u64, most: u64) -> MaybeNumber
 
 // The number that a field says, if it lies in a range, both ends included.
 pub fn number_in(f: &[u8], least: u64, most: u64) -> MaybeNumber
-    ensures { number_of result ≡ numberWithin least most f.now }
+    ensures { number_of result ≡ number_within least most f.now }
 {
     if f.len() == 0 {
         return MaybeNumber::NoNumber;
@@ -87,7 +87,7 @@ fn minus(n: u64) -> i64
 
 // The signed 64-bit number that a field says.
 pub fn integer_in(f: &[u8]) -> MaybeInteger
-    ensures { integerOf result ≡ integer f.now }
+    ensures { integer_of result ≡ integer f.now }
 {
     if f.len() == 0 {
         return MaybeInteger::NoInteger;

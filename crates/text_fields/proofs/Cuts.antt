@@ -3,28 +3,28 @@ use Prim.Native.Nat.{ℕ}
 use mathlib.Core.Path.{◌≡◌, refl}
 use mathlib.Core.List.{List, [], ◌∷◌}
 use borrow.Author.Tests.{eq-eqb, ne_eqb}
-use Rattle.ledger_spec.specs.Fields.{upto, partsAfter, cut}
+use Rattle.ledger_spec.specs.Fields.{upto, parts_after, cut}
 
-pub upto-none : (p : ℕ) → upto p [] ≡ []
+pub upto_none : (p : ℕ) → upto p [] ≡ []
 unfolding upto
-upto-none p = refl
+upto_none p = refl
 
-pub upto-here : (p c : ℕ) (s : List ℕ) → c ≡ p → upto p (c ∷ s) ≡ []
+pub upto_here : (p c : ℕ) (s : List ℕ) → c ≡ p → upto p (c ∷ s) ≡ []
 unfolding upto
-upto-here p c s e = rw (eq-eqb c p e, upto)
+upto_here p c s e = rw (eq-eqb c p e, upto)
 
-pub upto-on : (p c : ℕ) (s : List ℕ) → (c ≡ p → ⊥) → upto p (c ∷ s) ≡ c ∷ upto p s
+pub upto_on : (p c : ℕ) (s : List ℕ) → (c ≡ p → ⊥) → upto p (c ∷ s) ≡ c ∷ upto p s
 unfolding upto
-upto-on p c s e = rw (ne_eqb c p e, upto)
+upto_on p c s e = rw (ne_eqb c p e, upto)
 
-pub after_none : (p : ℕ) → partsAfter p [] ≡ []
-unfolding partsAfter
+pub after_none : (p : ℕ) → parts_after p [] ≡ []
+unfolding parts_after
 after_none p = refl
 
-pub after-here : (p c : ℕ) (s : List ℕ) → c ≡ p → partsAfter p (c ∷ s) ≡ cut p s
-unfolding partsAfter
-after-here p c s e = rw (eq-eqb c p e, partsAfter)
+pub after_here : (p c : ℕ) (s : List ℕ) → c ≡ p → parts_after p (c ∷ s) ≡ cut p s
+unfolding parts_after
+after_here p c s e = rw (eq-eqb c p e, parts_after)
 
-pub after_on : (p c : ℕ) (s : List ℕ) → (c ≡ p → ⊥) → partsAfter p (c ∷ s) ≡ partsAfter p s
-unfolding partsAfter
-after_on p c s e = rw (ne_eqb c p e, partsAfter)
+pub after_on : (p c : ℕ) (s : List ℕ) → (c ≡ p → ⊥) → parts_after p (c ∷ s) ≡ parts_after p s
+unfolding parts_after
+after_on p c s e = rw (ne_eqb c p e, parts_after)

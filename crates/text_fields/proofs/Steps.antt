@@ -9,27 +9,27 @@ use lib.ListN.{length, take, drop}
 use Rattle.text_decimals.specs.declared.MaybeNumber.{MaybeNumber}
 use Rattle.text_decimals.specs.declared.MaybeNumber.TheVariants.{NoNumber, Number}
 use Rattle.text_decimals.specs.Read.{number_of}
-use Rattle.text_decimals.proofs.Integers.{number-range}
-use Rattle.ledger_spec.specs.Decimals.{numberWithin}
+use Rattle.text_decimals.proofs.Integers.{number_range}
+use Rattle.ledger_spec.specs.Decimals.{number_within}
 use Rattle.ledger_spec.specs.Fields.{cut}
 use Rattle.ledger_spec.specs.Grammar.{Fields, step}
 use Rattle.text_fields.specs.declared.NextField.{NextField}
 use Rattle.text_fields.specs.declared.NextField.TheVariants.{At, NoField}
 use Rattle.text_fields.specs.declared.NextNumber.TheVariants.{Got, Missed}
 use Rattle.text_fields.specs.Places.{from, Ends, fields_of, Inside, FieldIs, NumberIs}
-use Rattle.text_fields.proofs.Ends.{from_more, from-none}
+use Rattle.text_fields.proofs.Ends.{from_more, from_none}
 
-pub step-some : {A : Type 0} (r : List ℕ → Option A) (f : List ℕ) (fs : Fields) (a : A) → r f ≡ some a → step r (f ∷ fs) ≡ some (a, fs)
+pub step_some : {A : Type 0} (r : List ℕ → Option A) (f : List ℕ) (fs : Fields) (a : A) → r f ≡ some a → step r (f ∷ fs) ≡ some (a, fs)
 unfolding step
-step-some r f fs a e = rw (e, step)
+step_some r f fs a e = rw (e, step)
 
-pub step-none : {A : Type 0} (r : List ℕ → Option A) (f : List ℕ) (fs : Fields) → r f ≡ none → step r (f ∷ fs) ≡ none
+pub step_none : {A : Type 0} (r : List ℕ → Option A) (f : List ℕ) (fs : Fields) → r f ≡ none → step r (f ∷ fs) ≡ none
 unfolding step
-step-none r f fs e = rw (e, step)
+step_none r f fs e = rw (e, step)
 
-pub step-empty : {A : Type 0} (r : List ℕ → Option A) → step r [] ≡ none
+pub step_empty : {A : Type 0} (r : List ℕ → Option A) → step r [] ≡ none
 unfolding step
-step-empty r = refl
+step_empty r = refl
 
 -- ---- the next field
 
@@ -39,12 +39,12 @@ field_next s e z h g = record {
   inside = (omega arith, g.low, g.high);
 }
 
-pub field-none : (s : List ℕ) (e : ℕ) → length s ≤ e → FieldIs s e NoField
-field-none s e h = record { fields = sym (from-none 32 s e h); inside = tt }
+pub field_none : (s : List ℕ) (e : ℕ) → length s ≤ e → FieldIs s e NoField
+field_none s e h = record { fields = sym (from_none 32 s e h); inside = tt }
 
 module _ (s : List ℕ) (e : ℕ) (f : NextField) (q : FieldIs s e f) where
-  pub inside-at : (a z : ℕ) → f ≡ At a z → (e < a) × (a ≤ z) × (z ≤ length s)
-  inside-at a z h = subst (λ (g : NextField). Inside s e g) h q.inside
+  pub inside_at : (a z : ℕ) → f ≡ At a z → (e < a) × (a ≤ z) × (z ≤ length s)
+  inside_at a z h = subst (λ (g : NextField). Inside s e g) h q.inside
 
   fields_at : (a z : ℕ) → f ≡ At a z → take (z - a) (drop a s) ∷ from s z ≡ from s e
   fields_at a z h = subst (λ (g : NextField). fields_of s g ≡ from s e) h q.fields
@@ -53,26 +53,26 @@ module _ (s : List ℕ) (e : ℕ) (f : NextField) (q : FieldIs s e f) where
   no_fields h = subst (λ (g : NextField). fields_of s g ≡ from s e) h q.fields
 
   pub took : {A : Type 0} (r : List ℕ → Option A) (a z : ℕ) (x : A) → f ≡ At a z → r (take (z - a) (drop a s)) ≡ some x → some (x, from s z) ≡ step r (from s e)
-  took r a z x h p = sym (ap (step r) (sym (fields_at a z h)) ∙ step-some r (take (z - a) (drop a s)) (from s z) x p)
+  took r a z x h p = sym (ap (step r) (sym (fields_at a z h)) ∙ step_some r (take (z - a) (drop a s)) (from s z) x p)
 
   pub missed : {A : Type 0} (r : List ℕ → Option A) (a z : ℕ) → f ≡ At a z → r (take (z - a) (drop a s)) ≡ none → none ≡ step r (from s e)
-  missed r a z h p = sym (ap (step r) (sym (fields_at a z h)) ∙ step-none r (take (z - a) (drop a s)) (from s z) p)
+  missed r a z h p = sym (ap (step r) (sym (fields_at a z h)) ∙ step_none r (take (z - a) (drop a s)) (from s z) p)
 
   pub ran_out : {A : Type 0} (r : List ℕ → Option A) → f ≡ NoField → none ≡ step r (from s e)
-  ran_out r h = sym (ap (step r) (sym (no_fields h)) ∙ step-empty r)
+  ran_out r h = sym (ap (step r) (sym (no_fields h)) ∙ step_empty r)
 
   -- ---- a number in it
 
   module _ (least most : ℕ) where
-    pub number-none : f ≡ NoField → NumberIs s e least most Missed
-    number-none h = record { read = ran_out (numberWithin least most) h; further = tt }
+    pub number_none : f ≡ NoField → NumberIs s e least most Missed
+    number_none h = record { read = ran_out (number_within least most) h; further = tt }
 
-    module _ (a z : ℕ) (h : f ≡ At a z) (m : MaybeNumber) (read : number_of m ≡ numberWithin least most (take (z - a) (drop a s))) where
-      pub number-some : (n : ℕ) → m ≡ Number n → NumberIs s e least most (Got n z)
-      number-some n k =
-          let i = inside-at a z h in
-          let b = number-range least most (take (z - a) (drop a s)) m n read k in
-          record { read = took (numberWithin least most) a z n h (sym read ∙ ap number_of k); further = (omega (arith, i.0, i.1), i.2, b.1) }
+    module _ (a z : ℕ) (h : f ≡ At a z) (m : MaybeNumber) (read : number_of m ≡ number_within least most (take (z - a) (drop a s))) where
+      pub number_some : (n : ℕ) → m ≡ Number n → NumberIs s e least most (Got n z)
+      number_some n k =
+          let i = inside_at a z h in
+          let b = number_range least most (take (z - a) (drop a s)) m n read k in
+          record { read = took (number_within least most) a z n h (sym read ∙ ap number_of k); further = (omega (arith, i.0, i.1), i.2, b.1) }
 
-      pub number-bad : m ≡ NoNumber → NumberIs s e least most Missed
-      number-bad k = record { read = missed (numberWithin least most) a z h (sym read ∙ ap number_of k); further = tt }
+      pub number_bad : m ≡ NoNumber → NumberIs s e least most Missed
+      number_bad k = record { read = missed (number_within least most) a z h (sym read ∙ ap number_of k); further = tt }

@@ -3,9 +3,9 @@ use Rattle.std.specs.Prelude.{ℕ, suc, ◌-◌, ◌≤◌, ◌<◌, true, false
 use Rattle.std.proofs.Math.Option.{Option, none, some}
 use Rattle.kinds.specs.declared.GrowState.TheVariants.{Grow, Stay, Shrink}
 use Rattle.ledger_spec.specs.Bench.{State, grows, stays, shrinks}
-use Rattle.ledger_spec.specs.Named.{stateNamed}
-use Rattle.ledger_spec.specs.Decimals.{numberWithin}
-use Rattle.ledger_spec.specs.Fields.{upto, partsAfter, cut}
+use Rattle.ledger_spec.specs.Named.{state_named}
+use Rattle.ledger_spec.specs.Decimals.{number_within}
+use Rattle.ledger_spec.specs.Fields.{upto, parts_after, cut}
 use Rattle.ledger_spec.specs.Grammar.{Fields, step}
 use Rattle.text_fields.specs.declared.NextField.{NextField}
 use Rattle.text_fields.specs.declared.NextField.TheVariants.{At, NoField}
@@ -17,19 +17,19 @@ use Rattle.text_fields.specs.declared.NextState.{NextState}
 use Rattle.text_fields.specs.declared.NextState.TheVariants.{To, NoState}
 
 -- the parts after a place, where a mark ends each
-unfoldable pub partsFrom : ℕ → List ℕ → ℕ → List (List ℕ)
-partsFrom mark s e = elim (ltb e (length s)) [ true ↦ cut mark (drop (suc e) s) | false ↦ [] ]
+unfoldable pub parts_from : ℕ → List ℕ → ℕ → List (List ℕ)
+parts_from mark s e = elim (ltb e (length s)) [ true ↦ cut mark (drop (suc e) s) | false ↦ [] ]
 
 -- the fields after a place
 abbrev pub from : List ℕ → ℕ → Fields
-from = partsFrom 32
+from = parts_from 32
 
 -- the part that starts at a ends at e
 pub record Ends (mark : ℕ) (s : List ℕ) (a e : ℕ) : Type 0 where
   pub low : a ≤ e
   pub high : e ≤ length s
   pub part : upto mark (drop a s) ≡ take (e - a) (drop a s)
-  pub others : partsAfter mark (drop a s) ≡ partsFrom mark s e
+  pub others : parts_after mark (drop a s) ≡ parts_from mark s e
 
 -- the next field, and where it stands: after the place e, and in the line
 abbrev pub fields_of : List ℕ → NextField → Fields
@@ -54,7 +54,7 @@ Further s e most (Got n z) = (e < z) × (z ≤ length s) × (n ≤ most)
 Further s e most Missed = Unit {0}
 
 pub record NumberIs (s : List ℕ) (e least most : ℕ) (r : NextNumber) : Type 0 where
-  pub read : next_of s r ≡ step (numberWithin least most) (from s e)
+  pub read : next_of s r ≡ step (number_within least most) (from s e)
   pub further : Further s e most r
 
 abbrev pub length_of : List ℕ → NextLength → Option (ℤ × Fields)
@@ -62,11 +62,11 @@ length_of s (Length l e) = some (l, from s e)
 length_of s NoLength = none
 
 abbrev pub state_of : List ℕ → NextState → Option (State × Fields)
-state_of s (To g e) = some (stateNamed g, from s e)
+state_of s (To g e) = some (state_named g, from s e)
 state_of s NoState = none
 
-abbrev pub toState : ℕ → Option State → NextState
-toState e none = NoState
-toState e (some grows) = To Grow e
-toState e (some stays) = To Stay e
-toState e (some shrinks) = To Shrink e
+abbrev pub to_state : ℕ → Option State → NextState
+to_state e none = NoState
+to_state e (some grows) = To Grow e
+to_state e (some stays) = To Stay e
+to_state e (some shrinks) = To Shrink e

@@ -2,8 +2,8 @@
 // the fields after it (`from`). Assumes nothing.
 ghost use Rattle.std.specs.Prelude.{◌≡◌, ◌≤◌, length};
 ghost use Rattle.std.proofs.Math.Option.{some};
-ghost use Rattle.ledger_spec.specs.Grammar.{anAmount, aState, stateIn, step};
-ghost use Rattle.text_fields.specs.Places.{from, Ends, FieldIs, NumberIs, length_of, state_of, toState};
+ghost use Rattle.ledger_spec.specs.Grammar.{an_amount, a_state, state_in, step};
+ghost use Rattle.text_fields.specs.Places.{from, Ends, FieldIs, NumberIs, length_of, state_of, to_state};
 
 use kinds::GrowState;
 use text_decimals::{MaybeInteger, MaybeNumber};
@@ -76,7 +76,7 @@ pub fn next_number(s: &[u8], place: usize, least: u64, most: u64) -> NextNumber
 
 // The signed number in the field after a place.
 pub fn next_length(s: &[u8], place: usize) -> NextLength
-    ensures { length_of s.now result ≡ step anAmount (from s.now place) }
+    ensures { length_of s.now result ≡ step an_amount (from s.now place) }
 {
     match next_field(s, place) {
         NextField::At(a, e) => match text_decimals::integer_in(&s[a..e]) {
@@ -89,7 +89,7 @@ pub fn next_length(s: &[u8], place: usize) -> NextLength
 
 // 1, 0 or -1 as a state, with the place after it.
 fn state_at(z: i64, e: usize) -> NextState
-    ensures { result ≡ toState e (stateIn (some z)) }
+    ensures { result ≡ to_state e (state_in (some z)) }
 {
     match z {
         1 => NextState::To(GrowState::Grow, e),
@@ -101,7 +101,7 @@ fn state_at(z: i64, e: usize) -> NextState
 
 // The state in the field after a place.
 pub fn next_state(s: &[u8], place: usize) -> NextState
-    ensures { state_of s.now result ≡ step aState (from s.now place) }
+    ensures { state_of s.now result ≡ step a_state (from s.now place) }
 {
     match next_length(s, place) {
         NextLength::Length(z, e) => state_at(z, e),

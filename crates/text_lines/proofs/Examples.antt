@@ -6,10 +6,10 @@ use lib.IntN.{pos, negsuc}
 use Prim.Native.String.{String}
 use Rattle.ledger_spec.specs.Bench.{grows, stays, shrinks}
 use Rattle.ledger_spec.specs.Bytes.{bytes}
-use Rattle.ledger_spec.specs.Decimals.{afterDigits, natural, between, integer}
-use Rattle.ledger_spec.specs.Fields.{upto, partsAfter}
+use Rattle.ledger_spec.specs.Decimals.{after_digits, natural, between, integer}
+use Rattle.ledger_spec.specs.Fields.{upto, parts_after}
 use Rattle.ledger_spec.specs.Operations.{D, B, E, S, G, F, C, K}
-use Rattle.ledger_spec.specs.Grammar.{Line as Said, wrong, step, allSerials, rest, line_of}
+use Rattle.ledger_spec.specs.Grammar.{Line as Said, wrong, step, all_serials, rest, line_of}
 
 abbrev table : List (String × Said)
 table =
@@ -50,7 +50,7 @@ table =
     ∷ []
 
 pub reads : String → Said
-unfolding line_of rest allSerials step upto partsAfter afterDigits natural between integer bytes
+unfolding line_of rest all_serials step upto parts_after after_digits natural between integer bytes
 reads s = line_of (bytes s)
 
 pub examples : map (λ (e : String × Said). reads e.0) table ≡ map (λ (e : String × Said). e.1) table

@@ -8,9 +8,9 @@ use lib.IntN.{ℤ}
 use Rattle.kinds.specs.declared.GrowState.{GrowState}
 use Rattle.kinds.specs.declared.GrowState.TheVariants.{Grow, Stay, Shrink}
 use Rattle.ledger_spec.specs.Bench.{State}
-use Rattle.ledger_spec.specs.Named.{stateNamed}
-use Rattle.ledger_spec.specs.Decimals.{numberWithin}
-use Rattle.ledger_spec.specs.Grammar.{Line as Said, wrong, Fields, anAmount, aState, step, follow, then, no_more}
+use Rattle.ledger_spec.specs.Named.{state_named}
+use Rattle.ledger_spec.specs.Decimals.{number_within}
+use Rattle.ledger_spec.specs.Grammar.{Line as Said, wrong, Fields, an_amount, a_state, step, follow, then, no_more}
 use Rattle.text_fields.specs.declared.NextNumber.{NextNumber}
 use Rattle.text_fields.specs.declared.NextNumber.TheVariants.{Got, Missed}
 use Rattle.text_fields.specs.declared.NextLength.{NextLength}
@@ -18,51 +18,51 @@ use Rattle.text_fields.specs.declared.NextLength.TheVariants.{Length, NoLength}
 use Rattle.text_fields.specs.declared.NextState.{NextState}
 use Rattle.text_fields.specs.declared.NextState.TheVariants.{To, NoState}
 use Rattle.text_fields.specs.Places.{from, Further, NumberIs, next_of, length_of, state_of}
-use Rattle.text_fields.proofs.Ends.{from_more, from-none}
-use Rattle.text_lines.specs.Shown.{stateShown}
+use Rattle.text_fields.proofs.Ends.{from_more, from_none}
+use Rattle.text_lines.specs.Shown.{state_shown}
 
 -- ---- a number
 
 module _ (s : List ℕ) (p least most : ℕ) (r : NextNumber) (is : NumberIs s p least most r) where
   module _ (v e : ℕ) (h : r ≡ Got v e) where
-    pub got : (k : ℕ → Fields → Said) → then (numberWithin least most) k (from s p) ≡ k v (from s e)
+    pub got : (k : ℕ → Fields → Said) → then (number_within least most) k (from s p) ≡ k v (from s e)
     got k = ap (λ (o : Option (ℕ × Fields)). follow o k) (sym is.read ∙ ap (next_of s) h)
 
-    pub got-further : (p < e) × (e ≤ length s) × (v ≤ most)
-    got-further = subst (λ (n : NextNumber). Further s p most n) h is.further
+    pub got_further : (p < e) × (e ≤ length s) × (v ≤ most)
+    got_further = subst (λ (n : NextNumber). Further s p most n) h is.further
 
-  pub missed : (k : ℕ → Fields → Said) → r ≡ Missed → then (numberWithin least most) k (from s p) ≡ wrong
+  pub missed : (k : ℕ → Fields → Said) → r ≡ Missed → then (number_within least most) k (from s p) ≡ wrong
   missed k h = ap (λ (o : Option (ℕ × Fields)). follow o k) (sym is.read ∙ ap (next_of s) h)
 
 -- ---- a length
 
-module _ (s : List ℕ) (p : ℕ) (r : NextLength) (is : length_of s r ≡ step anAmount (from s p)) (k : ℤ → Fields → Said) where
-  pub length_got : (v : ℤ) (e : ℕ) → r ≡ Length v e → then anAmount k (from s p) ≡ k v (from s e)
+module _ (s : List ℕ) (p : ℕ) (r : NextLength) (is : length_of s r ≡ step an_amount (from s p)) (k : ℤ → Fields → Said) where
+  pub length_got : (v : ℤ) (e : ℕ) → r ≡ Length v e → then an_amount k (from s p) ≡ k v (from s e)
   length_got v e h = ap (λ (o : Option (ℤ × Fields)). follow o k) (sym is ∙ ap (length_of s) h)
 
-  pub length-missed : r ≡ NoLength → then anAmount k (from s p) ≡ wrong
-  length-missed h = ap (λ (o : Option (ℤ × Fields)). follow o k) (sym is ∙ ap (length_of s) h)
+  pub length_missed : r ≡ NoLength → then an_amount k (from s p) ≡ wrong
+  length_missed h = ap (λ (o : Option (ℤ × Fields)). follow o k) (sym is ∙ ap (length_of s) h)
 
 -- ---- a state
 
-module _ (s : List ℕ) (p : ℕ) (r : NextState) (is : state_of s r ≡ step aState (from s p)) (k : State → Fields → Said) where
-  pub state-got : (g : GrowState) (e : ℕ) → r ≡ To g e → then aState k (from s p) ≡ k (stateNamed g) (from s e)
-  state-got g e h = ap (λ (o : Option (State × Fields)). follow o k) (sym is ∙ ap (state_of s) h)
+module _ (s : List ℕ) (p : ℕ) (r : NextState) (is : state_of s r ≡ step a_state (from s p)) (k : State → Fields → Said) where
+  pub state_got : (g : GrowState) (e : ℕ) → r ≡ To g e → then a_state k (from s p) ≡ k (state_named g) (from s e)
+  state_got g e h = ap (λ (o : Option (State × Fields)). follow o k) (sym is ∙ ap (state_of s) h)
 
-  pub state-missed : r ≡ NoState → then aState k (from s p) ≡ wrong
-  state-missed h = ap (λ (o : Option (State × Fields)). follow o k) (sym is ∙ ap (state_of s) h)
+  pub state_missed : r ≡ NoState → then a_state k (from s p) ≡ wrong
+  state_missed h = ap (λ (o : Option (State × Fields)). follow o k) (sym is ∙ ap (state_of s) h)
 
 -- ---- the line's end
 
 pub ended : (s : List ℕ) (e : ℕ) (l : Said) → length s ≤ e → no_more l (from s e) ≡ l
-ended s e l h = ap (no_more l) (from-none 32 s e h)
+ended s e l h = ap (no_more l) (from_none 32 s e h)
 
 pub goes_on : (s : List ℕ) (e : ℕ) (l : Said) → e < length s → no_more l (from s e) ≡ wrong
 goes_on s e l h = ap (no_more l) (from_more 32 s e h)
 
 -- ---- a state shown as the code's is the code's
 
-pub state-same : (g : GrowState) → stateShown (stateNamed g) ≡ g
-state-same Grow = refl
-state-same Stay = refl
-state-same Shrink = refl
+pub state_same : (g : GrowState) → state_shown (state_named g) ≡ g
+state_same Grow = refl
+state_same Stay = refl
+state_same Shrink = refl

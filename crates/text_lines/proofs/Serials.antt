@@ -8,19 +8,19 @@ use mathlib.Core.Option.{Option, none, some, some-ne-none, some-injective}
 use mathlib.Core.List.{List, [], ◌∷◌}
 use lib.ListN.{length, set, length-set}
 use lib.Seq.{sets}
-use Rattle.ledger_spec.specs.Grammar.{Line as Said, wrong, Fields, aSerial, step, allSerials, gathered, some-serials}
+use Rattle.ledger_spec.specs.Grammar.{Line as Said, wrong, Fields, a_serial, step, all_serials, gathered, some_serials}
 use Rattle.text_fields.specs.declared.NextNumber.{NextNumber}
 use Rattle.text_fields.specs.declared.NextNumber.TheVariants.{Got, Missed}
 use Rattle.text_fields.specs.Places.{from, next_of, NumberIs}
-use Rattle.text_fields.proofs.Ends.{from_more, from-none}
-use Rattle.text_fields.proofs.Steps.{step-some, step-none, step-empty}
+use Rattle.text_fields.proofs.Ends.{from_more, from_none}
+use Rattle.text_fields.proofs.Steps.{step_some, step_none, step_empty}
 use Rattle.text_lines.specs.declared.blossoms.Count.{Count}
 use Rattle.text_lines.specs.declared.blossoms.Count.TheVariants.{All, NotAll}
 use Rattle.text_lines.specs.declared.Line.{Line}
 use Rattle.text_lines.specs.declared.Line.TheVariants.{Blossom, Wrong}
 use Rattle.text_lines.specs.Counts.{counted}
-use Rattle.text_lines.specs.Shown.{lineShown, serialsIn, ReadAs}
-use Rattle.text_lines.proofs.Follow.{got-further}
+use Rattle.text_lines.specs.Shown.{line_shown, serials_in, ReadAs}
+use Rattle.text_lines.proofs.Follow.{got_further}
 
 -- ---- one serial, and those after it
 
@@ -28,17 +28,17 @@ abbrev pub before : ℕ → Option (List ℕ) → Option (List ℕ)
 before n none = none
 before n (some ns) = some (n ∷ ns)
 
-pub serials-none : allSerials [] ≡ some []
-unfolding allSerials
-serials-none = refl
+pub serials_none : all_serials [] ≡ some []
+unfolding all_serials
+serials_none = refl
 
-pub serials-bad : (f : List ℕ) (fs : Fields) → aSerial f ≡ none → allSerials (f ∷ fs) ≡ none
-unfolding allSerials
-serials-bad f fs e = rw (e, allSerials)
+pub serials_bad : (f : List ℕ) (fs : Fields) → a_serial f ≡ none → all_serials (f ∷ fs) ≡ none
+unfolding all_serials
+serials_bad f fs e = rw (e, all_serials)
 
-pub serials-cons : (f : List ℕ) (fs : Fields) (n : ℕ) → aSerial f ≡ some n → allSerials (f ∷ fs) ≡ before n (allSerials fs)
-unfolding allSerials
-serials-cons f fs n e = rw (e, allSerials) (go (allSerials fs))
+pub serials_cons : (f : List ℕ) (fs : Fields) (n : ℕ) → a_serial f ≡ some n → all_serials (f ∷ fs) ≡ before n (all_serials fs)
+unfolding all_serials
+serials_cons f fs n e = rw (e, all_serials) (go (all_serials fs))
   where
     go : (o : Option (List ℕ)) → elim o as (λ (o : Option (List ℕ)). Option (List ℕ)) [ none ↦ none | some ns ↦ some (n ∷ ns) ] ≡ before n o
     go none = refl
@@ -48,39 +48,39 @@ pair_left : Option (ℕ × Fields) → ℕ
 pair_left none = 0
 pair_left (some p) = p.0
 
-pair-right : Option (ℕ × Fields) → Fields
-pair-right none = []
-pair-right (some p) = p.1
+pair_right : Option (ℕ × Fields) → Fields
+pair_right none = []
+pair_right (some p) = p.1
 
-serials-step : (fs gs : Fields) (n : ℕ) → some (n, gs) ≡ step aSerial fs → allSerials fs ≡ before n (allSerials gs)
-unfolding pair_left pair-right
-serials-step [] gs n e = absurd (some-ne-none (n, gs) (e ∙ step-empty aSerial))
-serials-step (f ∷ fs) gs n e = go (aSerial f) refl
+serials_step : (fs gs : Fields) (n : ℕ) → some (n, gs) ≡ step a_serial fs → all_serials fs ≡ before n (all_serials gs)
+unfolding pair_left pair_right
+serials_step [] gs n e = absurd (some-ne-none (n, gs) (e ∙ step_empty a_serial))
+serials_step (f ∷ fs) gs n e = go (a_serial f) refl
   where
-    go : (o : Option ℕ) → aSerial f ≡ o → allSerials (f ∷ fs) ≡ before n (allSerials gs)
-    go none p = absurd (some-ne-none (n, gs) (e ∙ step-none aSerial f fs p))
+    go : (o : Option ℕ) → a_serial f ≡ o → all_serials (f ∷ fs) ≡ before n (all_serials gs)
+    go none p = absurd (some-ne-none (n, gs) (e ∙ step_none a_serial f fs p))
     go (some m) p =
-        let y : ◌≡◌ {A = Option (ℕ × Fields)} (some (m, fs)) (some (n, gs)) = sym (e ∙ step-some aSerial f fs m p) in
-        serials-cons f fs m p ∙ (λ i. before (ap pair_left y i) (allSerials (ap pair-right y i)))
+        let y : ◌≡◌ {A = Option (ℕ × Fields)} (some (m, fs)) (some (n, gs)) = sym (e ∙ step_some a_serial f fs m p) in
+        serials_cons f fs m p ∙ (λ i. before (ap pair_left y i) (all_serials (ap pair_right y i)))
 
-serials-stop : (f : List ℕ) (fs : Fields) → none ≡ step aSerial (f ∷ fs) → allSerials (f ∷ fs) ≡ none
-serials-stop f fs e = go (aSerial f) refl
+serials_stop : (f : List ℕ) (fs : Fields) → none ≡ step a_serial (f ∷ fs) → all_serials (f ∷ fs) ≡ none
+serials_stop f fs e = go (a_serial f) refl
   where
-    go : (o : Option ℕ) → aSerial f ≡ o → allSerials (f ∷ fs) ≡ none
-    go none p = serials-bad f fs p
-    go (some m) p = absurd (some-ne-none (m, fs) (sym (e ∙ step-some aSerial f fs m p)))
+    go : (o : Option ℕ) → a_serial f ≡ o → all_serials (f ∷ fs) ≡ none
+    go none p = serials_bad f fs p
+    go (some m) p = absurd (some-ne-none (m, fs) (sym (e ∙ step_some a_serial f fs m p)))
 
 -- ---- from a place of the line
 
-at-end : (s : List ℕ) (e : ℕ) → length s ≤ e → allSerials (from s e) ≡ some []
-at-end s e h = ap allSerials (from-none 32 s e h) ∙ serials-none
+at_end : (s : List ℕ) (e : ℕ) → length s ≤ e → all_serials (from s e) ≡ some []
+at_end s e h = ap all_serials (from_none 32 s e h) ∙ serials_none
 
 module _ (s : List ℕ) (e : ℕ) (r : NextNumber) (is : NumberIs s e 1 4294967295 r) where
-  at-got : (v z : ℕ) → r ≡ Got v z → allSerials (from s e) ≡ before v (allSerials (from s z))
-  at-got v z h = serials-step (from s e) (from s z) v (sym (ap (next_of s) h) ∙ is.read)
+  at_got : (v z : ℕ) → r ≡ Got v z → all_serials (from s e) ≡ before v (all_serials (from s z))
+  at_got v z h = serials_step (from s e) (from s z) v (sym (ap (next_of s) h) ∙ is.read)
 
-  at-missed : e < length s → r ≡ Missed → allSerials (from s e) ≡ none
-  at-missed l h = rw (from_more 32 s e l) (serials-stop _ _ (rw (from_more 32 s e l) at (sym (ap (next_of s) h) ∙ is.read)))
+  at_missed : e < length s → r ≡ Missed → all_serials (from s e) ≡ none
+  at_missed l h = rw (from_more 32 s e l) (serials_stop _ _ (rw (from_more 32 s e l) at (sym (ap (next_of s) h) ∙ is.read)))
 
 -- ---- counting
 
@@ -90,97 +90,97 @@ more n (some ns) = All (n + length ns)
 
 pub record Counting (s : List ℕ) (start e n : ℕ) : Type 0 where
   pub few : n ≤ e
-  pub same : counted (allSerials (from s start)) ≡ more n (allSerials (from s e))
+  pub same : counted (all_serials (from s start)) ≡ more n (all_serials (from s e))
 
-more-zero : (o : Option (List ℕ)) → counted o ≡ more 0 o
-more-zero none = refl
-more-zero (some ns) = simp zero-add
+more_zero : (o : Option (List ℕ)) → counted o ≡ more 0 o
+more_zero none = refl
+more_zero (some ns) = simp zero-add
 
-more-one : (n v : ℕ) (o : Option (List ℕ)) → more n (before v o) ≡ more (n + 1) o
-more-one n v none = refl
-more-one n v (some ns) = ap All (shift n (length ns))
+more_one : (n v : ℕ) (o : Option (List ℕ)) → more n (before v o) ≡ more (n + 1) o
+more_one n v none = refl
+more_one n v (some ns) = ap All (shift n (length ns))
   where
     shift : (a k : ℕ) → a + suc k ≡ a + 1 + k
     shift a k = omega arith
 
-pub count-start : (s : List ℕ) (e : ℕ) → Counting s e e 0
-count-start s e = record { few = omega arith; same = more-zero (allSerials (from s e)) }
+pub count_start : (s : List ℕ) (e : ℕ) → Counting s e e 0
+count_start s e = record { few = omega arith; same = more_zero (all_serials (from s e)) }
 
 module _ (s : List ℕ) (start e n : ℕ) (g : Counting s start e n) where
   pub count_turn : (r : NextNumber) → NumberIs s e 1 4294967295 r → (v z : ℕ) → r ≡ Got v z → Counting s start z (n + 1)
   count_turn r is v z h =
-      let i = got-further s e 1 4294967295 r is v z h in
-      record { few = omega (arith, g.few, i.0); same = g.same ∙ ap (more n) (at-got s e r is v z h) ∙ more-one n v (allSerials (from s z)) }
+      let i = got_further s e 1 4294967295 r is v z h in
+      record { few = omega (arith, g.few, i.0); same = g.same ∙ ap (more n) (at_got s e r is v z h) ∙ more_one n v (all_serials (from s z)) }
 
-  pub count-bad : (r : NextNumber) → NumberIs s e 1 4294967295 r → e < length s → r ≡ Missed → NotAll ≡ counted (allSerials (from s start))
-  count-bad r is l h = sym (g.same ∙ ap (more n) (at-missed s e r is l h))
+  pub count_bad : (r : NextNumber) → NumberIs s e 1 4294967295 r → e < length s → r ≡ Missed → NotAll ≡ counted (all_serials (from s start))
+  count_bad r is l h = sym (g.same ∙ ap (more n) (at_missed s e r is l h))
 
-  pub count-end : length s ≤ e → All n ≡ counted (allSerials (from s start))
-  count-end l = sym (g.same ∙ ap (more n) (at-end s e l) ∙ ap All (add-zero n))
+  pub count_end : length s ≤ e → All n ≡ counted (all_serials (from s start))
+  count_end l = sym (g.same ∙ ap (more n) (at_end s e l) ∙ ap All (add-zero n))
 
 -- ---- storing
 
 pub record Storing (s out₀ : List ℕ) (start e n : ℕ) (out : List ℕ) : Type 0 where
   pub long : length out ≡ length out₀
   pub few : n ≤ e
-  pub to-come : (ns : List ℕ) → allSerials (from s start) ≡ some ns → (ms : List ℕ) × (allSerials (from s e) ≡ some ms) × (sets out n ms ≡ sets out₀ 0 ns)
+  pub to_come : (ns : List ℕ) → all_serials (from s start) ≡ some ns → (ms : List ℕ) × (all_serials (from s e) ≡ some ms) × (sets out n ms ≡ sets out₀ 0 ns)
 
-pub store-start : (s out : List ℕ) (e : ℕ) → Storing s out e e 0 out
-store-start s out e = record { long = refl; few = omega arith; to-come = λ ns h. (ns, h, refl) }
+pub store_start : (s out : List ℕ) (e : ℕ) → Storing s out e e 0 out
+store_start s out e = record { long = refl; few = omega arith; to_come = λ ns h. (ns, h, refl) }
 
-pub before-some : (v : ℕ) (o : Option (List ℕ)) (ms : List ℕ) → before v o ≡ some ms → (ks : List ℕ) × (o ≡ some ks) × (ms ≡ v ∷ ks)
-before-some v none ms h = absurd (some-ne-none ms (sym h))
-before-some v (some ks) ms h = (ks, refl, sym (some-injective (v ∷ ks) ms h))
+pub before_some : (v : ℕ) (o : Option (List ℕ)) (ms : List ℕ) → before v o ≡ some ms → (ks : List ℕ) × (o ≡ some ks) × (ms ≡ v ∷ ks)
+before_some v none ms h = absurd (some-ne-none ms (sym h))
+before_some v (some ks) ms h = (ks, refl, sym (some-injective (v ∷ ks) ms h))
 
 module _ (s out₀ : List ℕ) (start e n : ℕ) (out : List ℕ) (g : Storing s out₀ start e n out) where
-  pub store-turn : (r : NextNumber) → NumberIs s e 1 4294967295 r → (v z : ℕ) → r ≡ Got v z → (out' : List ℕ) → out' ≡ set out n v → Storing s out₀ start z (n + 1) out'
-  store-turn r is v z h out' o =
-      let i = got-further s e 1 4294967295 r is v z h in
+  pub store_turn : (r : NextNumber) → NumberIs s e 1 4294967295 r → (v z : ℕ) → r ≡ Got v z → (out' : List ℕ) → out' ≡ set out n v → Storing s out₀ start z (n + 1) out'
+  store_turn r is v z h out' o =
+      let i = got_further s e 1 4294967295 r is v z h in
       record {
         long = ap length o ∙ length-set out n v ∙ g.long;
         few = omega (arith, g.few, i.0);
-        to-come = λ ns t.
-            let w = g.to-come ns t in
-            let k = before-some v (allSerials (from s z)) w.0 (sym (at-got s e r is v z h) ∙ w.1) in
+        to_come = λ ns t.
+            let w = g.to_come ns t in
+            let k = before_some v (all_serials (from s z)) w.0 (sym (at_got s e r is v z h) ∙ w.1) in
             (k.0, k.1, rw (o, add-one) (sym (ap (sets out n) k.2) ∙ w.2));
       }
 
-  pub store-bad : (r : NextNumber) → NumberIs s e 1 4294967295 r → e < length s → r ≡ Missed → (ns : List ℕ) → allSerials (from s start) ≡ some ns → out ≡ sets out₀ 0 ns
-  store-bad r is l h ns t = let w = g.to-come ns t in absurd (some-ne-none w.0 (sym w.1 ∙ at-missed s e r is l h))
+  pub store_bad : (r : NextNumber) → NumberIs s e 1 4294967295 r → e < length s → r ≡ Missed → (ns : List ℕ) → all_serials (from s start) ≡ some ns → out ≡ sets out₀ 0 ns
+  store_bad r is l h ns t = let w = g.to_come ns t in absurd (some-ne-none w.0 (sym w.1 ∙ at_missed s e r is l h))
 
-  pub store-end : length s ≤ e → (ns : List ℕ) → allSerials (from s start) ≡ some ns → out ≡ sets out₀ 0 ns
-  store-end l ns t =
-      let w = g.to-come ns t in
-      ap (sets out n) (some-injective [] w.0 (sym (at-end s e l) ∙ w.1)) ∙ w.2
+  pub store_end : length s ≤ e → (ns : List ℕ) → all_serials (from s start) ≡ some ns → out ≡ sets out₀ 0 ns
+  store_end l ns t =
+      let w = g.to_come ns t in
+      ap (sets out n) (some-injective [] w.0 (sym (at_end s e l) ∙ w.1)) ∙ w.2
 
 -- ---- the line
 
 pub read_as : (m l : Said) (out out' : List ℕ) (r : Line) → l ≡ m → ReadAs m out out' r → ReadAs l out out' r
-read_as m l out out' r e p = record { line = p.line ∙ ap lineShown (sym e); stored = p.stored ∙ ap (λ (k : Said). sets out 0 (serialsIn k)) (sym e) }
+read_as m l out out' r e p = record { line = p.line ∙ ap line_shown (sym e); stored = p.stored ∙ ap (λ (k : Said). sets out 0 (serials_in k)) (sym e) }
 
-pub read-wrong : (l : Said) (out : List ℕ) → l ≡ wrong → ReadAs l out out Wrong
-read-wrong l out e = read_as wrong l out out Wrong e (record { line = refl; stored = refl })
+pub read_wrong : (l : Said) (out : List ℕ) → l ≡ wrong → ReadAs l out out Wrong
+read_wrong l out e = read_as wrong l out out Wrong e (record { line = refl; stored = refl })
 
-some_more : (s : List ℕ) (u e : ℕ) → e < length s → some-serials u (from s e) ≡ gathered u (allSerials (from s e))
+some_more : (s : List ℕ) (u e : ℕ) → e < length s → some_serials u (from s e) ≡ gathered u (all_serials (from s e))
 some_more s u e h = rw (from_more 32 s e h)
 
 counted_none : (o : Option (List ℕ)) → NotAll ≡ counted o → o ≡ none
 counted_none none h = refl
 counted_none (some ns) h = absurd (let z : ◌≡◌ {A = ℕ} 0 1 = cc in omega arith)
 
-counted-all : (o : Option (List ℕ)) (k : ℕ) → All k ≡ counted o → (ns : List ℕ) × (o ≡ some ns) × (k ≡ length ns)
-counted-all none k h = absurd (let z : ◌≡◌ {A = ℕ} 0 1 = cc in omega arith)
-counted-all (some ns) k h = (ns, refl, cc)
+counted_all : (o : Option (List ℕ)) (k : ℕ) → All k ≡ counted o → (ns : List ℕ) × (o ≡ some ns) × (k ≡ length ns)
+counted_all none k h = absurd (let z : ◌≡◌ {A = ℕ} 0 1 = cc in omega arith)
+counted_all (some ns) k h = (ns, refl, cc)
 
-pub blossom-end : (s out : List ℕ) (u e : ℕ) → length s ≤ e → ReadAs (some-serials u (from s e)) out out Wrong
-blossom-end s out u e l = read-wrong (some-serials u (from s e)) out (ap (some-serials u) (from-none 32 s e l))
+pub blossom_end : (s out : List ℕ) (u e : ℕ) → length s ≤ e → ReadAs (some_serials u (from s e)) out out Wrong
+blossom_end s out u e l = read_wrong (some_serials u (from s e)) out (ap (some_serials u) (from_none 32 s e l))
 
-module _ (s out : List ℕ) (u e : ℕ) (k : Count) (l : e < length s) (q : k ≡ counted (allSerials (from s e))) where
-  pub blossom-bad : k ≡ NotAll → ReadAs (some-serials u (from s e)) out out Wrong
-  blossom-bad h = read-wrong (some-serials u (from s e)) out (some_more s u e l ∙ ap (gathered u) (counted_none (allSerials (from s e)) (sym h ∙ q)))
+module _ (s out : List ℕ) (u e : ℕ) (k : Count) (l : e < length s) (q : k ≡ counted (all_serials (from s e))) where
+  pub blossom_bad : k ≡ NotAll → ReadAs (some_serials u (from s e)) out out Wrong
+  blossom_bad h = read_wrong (some_serials u (from s e)) out (some_more s u e l ∙ ap (gathered u) (counted_none (all_serials (from s e)) (sym h ∙ q)))
 
-  pub blossom-good : (out' : List ℕ) (n : ℕ) → k ≡ All n → ((ns : List ℕ) → allSerials (from s e) ≡ some ns → out' ≡ sets out 0 ns) → ReadAs (some-serials u (from s e)) out out' (Blossom u n)
-  blossom-good out' n h o =
-      let w = counted-all (allSerials (from s e)) n (sym h ∙ q) in
-      read_as (gathered u (some w.0)) (some-serials u (from s e)) out out' (Blossom u n) (some_more s u e l ∙ ap (gathered u) w.1)
+  pub blossom_good : (out' : List ℕ) (n : ℕ) → k ≡ All n → ((ns : List ℕ) → all_serials (from s e) ≡ some ns → out' ≡ sets out 0 ns) → ReadAs (some_serials u (from s e)) out out' (Blossom u n)
+  blossom_good out' n h o =
+      let w = counted_all (all_serials (from s e)) n (sym h ∙ q) in
+      read_as (gathered u (some w.0)) (some_serials u (from s e)) out out' (Blossom u n) (some_more s u e l ∙ ap (gathered u) w.1)
       (record { line = ap (Blossom u) w.2; stored = o w.0 w.1 })

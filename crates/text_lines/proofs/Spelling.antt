@@ -8,18 +8,18 @@ use mathlib.Core.List.{List, [], ◌∷◌, map}
 use lib.ListN.{length, length-map}
 use borrow.Author.Tests.{ne_eqb}
 use lib.IntN.{ℤ, pos, negsuc}
-use Rattle.text_decimals.proofs.Values.{between-said}
-use Rattle.text_decimals.proofs.Back.{only-number, only-signed, integer-fits}
+use Rattle.text_decimals.proofs.Values.{between_said}
+use Rattle.text_decimals.proofs.Back.{only_number, only_signed, integer_fits}
 use Rattle.ledger_spec.specs.Bench.{State, grows, stays, shrinks, rate}
-use Rattle.ledger_spec.specs.Decimals.{decimal, natural, numberWithin, integer}
-use Rattle.ledger_spec.specs.Fields.{upto, partsAfter, cut}
+use Rattle.ledger_spec.specs.Decimals.{decimal, natural, number_within, integer}
+use Rattle.ledger_spec.specs.Fields.{upto, parts_after, cut}
 use Rattle.ledger_spec.specs.Operations.{D, E, S, G, F, C, K}
-use Rattle.ledger_spec.specs.Grammar.{Line, wrong, Fields, aUnit, aVertex, aSerial, anAmount, aState, stateIn, letter, follow, then, no_more, allSerials, gathered, some-serials, rest, line_of}
-use Rattle.text_fields.proofs.Steps.{step-some, step-none, step-empty}
-use Rattle.text_lines.specs.Texts.{spaced, letterOf, fields_of, lineText, Serials, Fit}
-use Rattle.text_lines.proofs.Serials.{serials-none, serials-cons, serials-bad, before-some}
-use Rattle.text_lines.proofs.Spaces.{spaced-cut}
-use Rattle.text_lines.proofs.Whole.{line-long, line-short}
+use Rattle.ledger_spec.specs.Grammar.{Line, wrong, Fields, a_unit, a_vertex, a_serial, an_amount, a_state, state_in, letter, follow, then, no_more, all_serials, gathered, some_serials, rest, line_of}
+use Rattle.text_fields.proofs.Steps.{step_some, step_none, step_empty}
+use Rattle.text_lines.specs.Texts.{spaced, letter_of, fields_of, line_text, Serials, Fit}
+use Rattle.text_lines.proofs.Serials.{serials_none, serials_cons, serials_bad, before_some}
+use Rattle.text_lines.proofs.Spaces.{spaced_cut}
+use Rattle.text_lines.proofs.Whole.{line_long, line_short}
 
 -- ---- one field back
 
@@ -32,76 +32,76 @@ pub record Taken {A : Type 0} (r : List ℕ → Option A) (k : A → Fields → 
   goes : k value others ≡ l
 
 taken : {A : Type 0} (r : List ℕ → Option A) (k : A → Fields → Line) (fs : Fields) (l : Line) → (l ≡ wrong → ⊥) → then r k fs ≡ l → Taken r k fs l
-taken r k [] l n e = absurd (n (sym e ∙ ap (λ (o : Option (_ × Fields)). follow o k) (step-empty r)))
+taken r k [] l n e = absurd (n (sym e ∙ ap (λ (o : Option (_ × Fields)). follow o k) (step_empty r)))
 taken r k (f ∷ fs) l n e = go (r f) refl
   where
     go : (o : Option _) → r f ≡ o → Taken r k (f ∷ fs) l
-    go none p = absurd (n (sym e ∙ ap (λ (o : Option (_ × Fields)). follow o k) (step-none r f fs p)))
-    go (some a) p = record { field = f; others = fs; value = a; are = refl; read = p; goes = sym (ap (λ (o : Option (_ × Fields)). follow o k) (step-some r f fs a p)) ∙ e }
+    go none p = absurd (n (sym e ∙ ap (λ (o : Option (_ × Fields)). follow o k) (step_none r f fs p)))
+    go (some a) p = record { field = f; others = fs; value = a; are = refl; read = p; goes = sym (ap (λ (o : Option (_ × Fields)). follow o k) (step_some r f fs a p)) ∙ e }
 
 ends : (m : Line) (fs : Fields) (l : Line) → (l ≡ wrong → ⊥) → no_more m fs ≡ l → (fs ≡ []) × (m ≡ l)
 ends m [] l n e = (refl, e)
 ends m (f ∷ fs) l n e = absurd (n (sym e))
 
-number-from : (least most : ℕ) (f : List ℕ) (n : ℕ) → numberWithin least most f ≡ some n → (f ≡ decimal n) × (least ≤ n) × (n ≤ most)
-number-from least most f n e = let w = between-said least most n (natural f) e in (only-number least most f n e, w.1, w.2)
+number_from : (least most : ℕ) (f : List ℕ) (n : ℕ) → number_within least most f ≡ some n → (f ≡ decimal n) × (least ≤ n) × (n ≤ most)
+number_from least most f n e = let w = between_said least most n (natural f) e in (only_number least most f n e, w.1, w.2)
 
-state-from : (o : Option ℤ) (g : State) → stateIn o ≡ some g → o ≡ some (rate g)
-state-from none g e = absurd (some-ne-none g (sym e))
-state-from (some (pos zero)) g e = ap (λ (x : State). some (rate x)) (some-injective stays g e)
-state-from (some (pos (suc zero))) g e = ap (λ (x : State). some (rate x)) (some-injective grows g e)
-state-from (some (pos (suc (suc n)))) g e = absurd (some-ne-none g (sym e))
-state-from (some (negsuc zero)) g e = ap (λ (x : State). some (rate x)) (some-injective shrinks g e)
-state-from (some (negsuc (suc n))) g e = absurd (some-ne-none g (sym e))
+state_from : (o : Option ℤ) (g : State) → state_in o ≡ some g → o ≡ some (rate g)
+state_from none g e = absurd (some-ne-none g (sym e))
+state_from (some (pos zero)) g e = ap (λ (x : State). some (rate x)) (some-injective stays g e)
+state_from (some (pos (suc zero))) g e = ap (λ (x : State). some (rate x)) (some-injective grows g e)
+state_from (some (pos (suc (suc n)))) g e = absurd (some-ne-none g (sym e))
+state_from (some (negsuc zero)) g e = ap (λ (x : State). some (rate x)) (some-injective shrinks g e)
+state_from (some (negsuc (suc n))) g e = absurd (some-ne-none g (sym e))
 
-serials-from : (fs : Fields) (ns : List ℕ) → allSerials fs ≡ some ns → (fs ≡ map decimal ns) × Serials ns
-serials-from [] ns e = go ns (some-injective [] ns (sym serials-none ∙ e))
+serials_from : (fs : Fields) (ns : List ℕ) → all_serials fs ≡ some ns → (fs ≡ map decimal ns) × Serials ns
+serials_from [] ns e = go ns (some-injective [] ns (sym serials_none ∙ e))
   where
     go : (ms : List ℕ) → [] ≡ ms → ([] ≡ map decimal ms) × Serials ms
     go ms p = subst (λ (x : List ℕ). ([] ≡ map decimal x) × Serials x) p (refl, tt)
-serials-from (f ∷ fs) ns e = go (aSerial f) refl (serials-from fs)
+serials_from (f ∷ fs) ns e = go (a_serial f) refl (serials_from fs)
   where
-    go : (o : Option ℕ) → aSerial f ≡ o → ((ms : List ℕ) → allSerials fs ≡ some ms → (fs ≡ map decimal ms) × Serials ms) → (f ∷ fs ≡ map decimal ns) × Serials ns
-    go none p i = absurd (some-ne-none ns (sym e ∙ serials-bad f fs p))
+    go : (o : Option ℕ) → a_serial f ≡ o → ((ms : List ℕ) → all_serials fs ≡ some ms → (fs ≡ map decimal ms) × Serials ms) → (f ∷ fs ≡ map decimal ns) × Serials ns
+    go none p i = absurd (some-ne-none ns (sym e ∙ serials_bad f fs p))
     go (some n) p i =
-        let k = before-some n (allSerials fs) ns (sym (serials-cons f fs n p) ∙ e) in
-        let w = number-from 1 4294967295 f n p in
+        let k = before_some n (all_serials fs) ns (sym (serials_cons f fs n p) ∙ e) in
+        let w = number_from 1 4294967295 f n p in
         let j = i k.0 k.1 in
         subst (λ (x : List ℕ). (f ∷ fs ≡ map decimal x) × Serials x) (sym k.2) ((λ t. w.0 t ∷ j.0 t), ((w.1, w.2), j.1))
 
-letter-from : (f : List ℕ) (c : ℕ) → letter f ≡ some c → f ≡ c ∷ []
-letter-from [] c e = absurd (some-ne-none c (sym e))
-letter-from (d ∷ []) c e = ap (λ (x : ℕ). x ∷ []) (some-injective d c e)
-letter-from (d ∷ b ∷ f) c e = absurd (some-ne-none c (sym e))
+letter_from : (f : List ℕ) (c : ℕ) → letter f ≡ some c → f ≡ c ∷ []
+letter_from [] c e = absurd (some-ne-none c (sym e))
+letter_from (d ∷ []) c e = ap (λ (x : ℕ). x ∷ []) (some-injective d c e)
+letter_from (d ∷ b ∷ f) c e = absurd (some-ne-none c (sym e))
 
 -- ---- the fields after letter and unit
 
 record Spelt (c u : ℕ) (fs : Fields) (l : Line) : Type 0 where
-  letters : letterOf l ≡ c ∷ []
+  letters : letter_of l ≡ c ∷ []
   fields : fields_of l ≡ decimal u ∷ fs
   fits : u ≤ 255 → Fit l
 
 module _ (c u : ℕ) (fs : Fields) (l : Line) (command : l ≡ wrong → ⊥) where
-  spelt-D : c ≡ 68 → then aVertex (λ v. no_more (some (D u v))) fs ≡ l → Spelt c u fs l
-  unfolding letterOf fields_of
+  spelt-D : c ≡ 68 → then a_vertex (λ v. no_more (some (D u v))) fs ≡ l → Spelt c u fs l
+  unfolding letter_of fields_of
   spelt-D p e =
-      let t = taken aVertex (λ v. no_more (some (D u v))) fs l command e in
+      let t = taken a_vertex (λ v. no_more (some (D u v))) fs l command e in
       let x = ends (some (D u t.value)) t.others l command t.goes in
-      let w = number-from 0 4294967295 t.field t.value t.read in
+      let w = number_from 0 4294967295 t.field t.value t.read in
       subst (λ (m : Line). Spelt c u fs m) x.1 (record {
         letters = ap (λ (d : ℕ). d ∷ []) (sym p);
         fields = ap (λ (r : Fields). decimal u ∷ r) (sym (t.are ∙ (λ i. w.0 i ∷ x.0 i)));
         fits = λ h. (h, w.2);
       })
 
-  spelt-B : c ≡ 66 → some-serials u fs ≡ l → Spelt c u fs l
-  unfolding letterOf fields_of
+  spelt-B : c ≡ 66 → some_serials u fs ≡ l → Spelt c u fs l
+  unfolding letter_of fields_of
   spelt-B p e = some_go fs refl
     where
-      from-serials : (gs : Fields) → fs ≡ gs → (1 ≤ length gs) → (o : Option (List ℕ)) → allSerials gs ≡ o → gathered u o ≡ l → Spelt c u fs l
-      from-serials gs q k none r s = absurd (command (sym s))
-      from-serials gs q k (some ns) r s =
-          let w = serials-from gs ns r in
+      from_serials : (gs : Fields) → fs ≡ gs → (1 ≤ length gs) → (o : Option (List ℕ)) → all_serials gs ≡ o → gathered u o ≡ l → Spelt c u fs l
+      from_serials gs q k none r s = absurd (command (sym s))
+      from_serials gs q k (some ns) r s =
+          let w = serials_from gs ns r in
           subst (λ (m : Line). Spelt c u fs m) s (record {
             letters = ap (λ (d : ℕ). d ∷ []) (sym p);
             fields = ap (λ (x : Fields). decimal u ∷ x) (sym (q ∙ w.0));
@@ -109,55 +109,55 @@ module _ (c u : ℕ) (fs : Fields) (l : Line) (command : l ≡ wrong → ⊥) wh
           })
 
       some_go : (gs : Fields) → fs ≡ gs → Spelt c u fs l
-      some_go [] q = absurd (command (sym e ∙ ap (some-serials u) q))
-      some_go (f ∷ gs) q = from-serials (f ∷ gs) q (omega arith) (allSerials (f ∷ gs)) refl (ap (some-serials u) (sym q) ∙ e)
+      some_go [] q = absurd (command (sym e ∙ ap (some_serials u) q))
+      some_go (f ∷ gs) q = from_serials (f ∷ gs) q (omega arith) (all_serials (f ∷ gs)) refl (ap (some_serials u) (sym q) ∙ e)
 
-  spelt-E : c ≡ 69 → then aSerial (λ n. no_more (some (E u n))) fs ≡ l → Spelt c u fs l
-  unfolding letterOf fields_of
+  spelt-E : c ≡ 69 → then a_serial (λ n. no_more (some (E u n))) fs ≡ l → Spelt c u fs l
+  unfolding letter_of fields_of
   spelt-E p e =
-      let t = taken aSerial (λ n. no_more (some (E u n))) fs l command e in
+      let t = taken a_serial (λ n. no_more (some (E u n))) fs l command e in
       let x = ends (some (E u t.value)) t.others l command t.goes in
-      let w = number-from 1 4294967295 t.field t.value t.read in
+      let w = number_from 1 4294967295 t.field t.value t.read in
       subst (λ (m : Line). Spelt c u fs m) x.1 (record {
         letters = ap (λ (d : ℕ). d ∷ []) (sym p);
         fields = ap (λ (r : Fields). decimal u ∷ r) (sym (t.are ∙ (λ i. w.0 i ∷ x.0 i)));
         fits = λ h. (h, (w.1, w.2));
       })
 
-  spelt-S : c ≡ 83 → then aSerial (λ n. then aState (λ g. no_more (some (S u n g)))) fs ≡ l → Spelt c u fs l
-  unfolding letterOf fields_of
+  spelt-S : c ≡ 83 → then a_serial (λ n. then a_state (λ g. no_more (some (S u n g)))) fs ≡ l → Spelt c u fs l
+  unfolding letter_of fields_of
   spelt-S p e =
-      let t = taken aSerial (λ n. then aState (λ g. no_more (some (S u n g)))) fs l command e in
-      let v = taken aState (λ g. no_more (some (S u t.value g))) t.others l command t.goes in
+      let t = taken a_serial (λ n. then a_state (λ g. no_more (some (S u n g)))) fs l command e in
+      let v = taken a_state (λ g. no_more (some (S u t.value g))) t.others l command t.goes in
       let x = ends (some (S u t.value v.value)) v.others l command v.goes in
-      let w = number-from 1 4294967295 t.field t.value t.read in
-      let y = only-signed v.field (rate v.value) (state-from (integer v.field) v.value v.read) in
+      let w = number_from 1 4294967295 t.field t.value t.read in
+      let y = only_signed v.field (rate v.value) (state_from (integer v.field) v.value v.read) in
       subst (λ (m : Line). Spelt c u fs m) x.1 (record {
         letters = ap (λ (d : ℕ). d ∷ []) (sym p);
         fields = ap (λ (r : Fields). decimal u ∷ r) (sym (t.are ∙ (λ i. w.0 i ∷ (v.are ∙ (λ j. y j ∷ x.0 j)) i)));
         fits = λ h. (h, (w.1, w.2));
       })
 
-  spelt-G : c ≡ 71 → then anAmount (λ n. no_more (some (G u n))) fs ≡ l → Spelt c u fs l
-  unfolding letterOf fields_of
+  spelt-G : c ≡ 71 → then an_amount (λ n. no_more (some (G u n))) fs ≡ l → Spelt c u fs l
+  unfolding letter_of fields_of
   spelt-G p e =
-      let t = taken anAmount (λ n. no_more (some (G u n))) fs l command e in
+      let t = taken an_amount (λ n. no_more (some (G u n))) fs l command e in
       let x = ends (some (G u t.value)) t.others l command t.goes in
-      let w = only-signed t.field t.value t.read in
+      let w = only_signed t.field t.value t.read in
       subst (λ (m : Line). Spelt c u fs m) x.1 (record {
         letters = ap (λ (d : ℕ). d ∷ []) (sym p);
         fields = ap (λ (r : Fields). decimal u ∷ r) (sym (t.are ∙ (λ i. w i ∷ x.0 i)));
-        fits = λ h. (h, integer-fits t.field t.value t.read);
+        fits = λ h. (h, integer_fits t.field t.value t.read);
       })
 
-  spelt-F : c ≡ 70 → then aUnit (λ a. then aUnit (λ b. no_more (some (F u a b)))) fs ≡ l → Spelt c u fs l
-  unfolding letterOf fields_of
+  spelt-F : c ≡ 70 → then a_unit (λ a. then a_unit (λ b. no_more (some (F u a b)))) fs ≡ l → Spelt c u fs l
+  unfolding letter_of fields_of
   spelt-F p e =
-      let t = taken aUnit (λ a. then aUnit (λ b. no_more (some (F u a b)))) fs l command e in
-      let v = taken aUnit (λ b. no_more (some (F u t.value b))) t.others l command t.goes in
+      let t = taken a_unit (λ a. then a_unit (λ b. no_more (some (F u a b)))) fs l command e in
+      let v = taken a_unit (λ b. no_more (some (F u t.value b))) t.others l command t.goes in
       let x = ends (some (F u t.value v.value)) v.others l command v.goes in
-      let w = number-from 0 255 t.field t.value t.read in
-      let y = number-from 0 255 v.field v.value v.read in
+      let w = number_from 0 255 t.field t.value t.read in
+      let y = number_from 0 255 v.field v.value v.read in
       subst (λ (m : Line). Spelt c u fs m) x.1 (record {
         letters = ap (λ (d : ℕ). d ∷ []) (sym p);
         fields = ap (λ (r : Fields). decimal u ∷ r) (sym (t.are ∙ (λ i. w.0 i ∷ (v.are ∙ (λ j. y.0 j ∷ x.0 j)) i)));
@@ -165,7 +165,7 @@ module _ (c u : ℕ) (fs : Fields) (l : Line) (command : l ≡ wrong → ⊥) wh
       })
 
   spelt-C : c ≡ 67 → no_more (some (C u)) fs ≡ l → Spelt c u fs l
-  unfolding letterOf fields_of
+  unfolding letter_of fields_of
   spelt-C p e =
       let x = ends (some (C u)) fs l command e in
       subst (λ (m : Line). Spelt c u fs m) x.1 (record {
@@ -175,7 +175,7 @@ module _ (c u : ℕ) (fs : Fields) (l : Line) (command : l ≡ wrong → ⊥) wh
       })
 
   spelt-K : c ≡ 75 → no_more (some (K u)) fs ≡ l → Spelt c u fs l
-  unfolding letterOf fields_of
+  unfolding letter_of fields_of
   spelt-K p e =
       let x = ends (some (K u)) fs l command e in
       subst (λ (m : Line). Spelt c u fs m) x.1 (record {
@@ -185,9 +185,9 @@ module _ (c u : ℕ) (fs : Fields) (l : Line) (command : l ≡ wrong → ⊥) wh
       })
 
   -- the letter says which
-  rest-spelt : rest c u fs ≡ l → Spelt c u fs l
+  rest_spelt : rest c u fs ≡ l → Spelt c u fs l
   unfolding rest
-  rest-spelt e = go-D (ℕ_discrete c 68)
+  rest_spelt e = go-D (ℕ_discrete c 68)
     where
       go-K : (c ≡ 68 → ⊥) → (c ≡ 66 → ⊥) → (c ≡ 69 → ⊥) → (c ≡ 83 → ⊥) → (c ≡ 71 → ⊥) → (c ≡ 70 → ⊥) → (c ≡ 67 → ⊥) → Dec (c ≡ 75) → Spelt c u fs l
       go-K d b x s g f k (yes p) = spelt-K p (rw p at e)
@@ -225,24 +225,24 @@ module _ (c u : ℕ) (fs : Fields) (l : Line) (command : l ≡ wrong → ⊥) wh
 -- ---- the line
 
 pub record Reads (s : List ℕ) (l : Line) : Type 0 where
-  pub text : s ≡ lineText l
+  pub text : s ≡ line_text l
   pub fit : Fit l
   pub short : length s ≤ 1023
 
-pub line-spelt : (s : List ℕ) (l : Line) → (l ≡ wrong → ⊥) → line_of s ≡ l → Reads s l
-line-spelt s l command e = go (dec_le (length s) 1023)
+pub line_spelt : (s : List ℕ) (l : Line) → (l ≡ wrong → ⊥) → line_of s ≡ l → Reads s l
+line_spelt s l command e = go (dec_le (length s) 1023)
   where
     go : Dec (length s ≤ 1023) → Reads s l
-    go (no h) = absurd (command (sym e ∙ line-long s (omega arith)))
+    go (no h) = absurd (command (sym e ∙ line_long s (omega arith)))
     go (yes h) =
-        let t = taken letter (λ c. then aUnit (rest c)) (cut 32 s) l command (sym (line-short s h) ∙ e) in
-        let v = taken aUnit (rest t.value) t.others l command t.goes in
-        let k = rest-spelt t.value v.value v.others l command v.goes in
-        let w = number-from 0 255 v.field v.value v.read in
+        let t = taken letter (λ c. then a_unit (rest c)) (cut 32 s) l command (sym (line_short s h) ∙ e) in
+        let v = taken a_unit (rest t.value) t.others l command t.goes in
+        let k = rest_spelt t.value v.value v.others l command v.goes in
+        let w = number_from 0 255 v.field v.value v.read in
         let a : upto 32 s ≡ t.field = cc in
-        let b : partsAfter 32 s ≡ t.others = cc in
+        let b : parts_after 32 s ≡ t.others = cc in
         record {
-          text = sym (spaced-cut s) ∙ (λ i. spaced ((a ∙ letter-from t.field t.value t.read ∙ sym k.letters) i) ((b ∙ v.are ∙ ap (λ (x : List ℕ). x ∷ v.others) w.0 ∙ sym k.fields) i));
+          text = sym (spaced_cut s) ∙ (λ i. spaced ((a ∙ letter_from t.field t.value t.read ∙ sym k.letters) i) ((b ∙ v.are ∙ ap (λ (x : List ℕ). x ∷ v.others) w.0 ∙ sym k.fields) i));
           fit = k.fits w.2;
           short = h;
         }

@@ -24,19 +24,19 @@ fields_of (some (C u)) = decimal u ∷ []
 fields_of (some (K u)) = decimal u ∷ []
 fields_of none = []
 
-unfoldable pub letterOf : Line → List ℕ
-letterOf (some (D u v)) = 68 ∷ []
-letterOf (some (B u ns)) = 66 ∷ []
-letterOf (some (E u n)) = 69 ∷ []
-letterOf (some (S u n g)) = 83 ∷ []
-letterOf (some (G u l)) = 71 ∷ []
-letterOf (some (F p l r)) = 70 ∷ []
-letterOf (some (C u)) = 67 ∷ []
-letterOf (some (K u)) = 75 ∷ []
-letterOf none = []
+unfoldable pub letter_of : Line → List ℕ
+letter_of (some (D u v)) = 68 ∷ []
+letter_of (some (B u ns)) = 66 ∷ []
+letter_of (some (E u n)) = 69 ∷ []
+letter_of (some (S u n g)) = 83 ∷ []
+letter_of (some (G u l)) = 71 ∷ []
+letter_of (some (F p l r)) = 70 ∷ []
+letter_of (some (C u)) = 67 ∷ []
+letter_of (some (K u)) = 75 ∷ []
+letter_of none = []
 
-abbrev pub lineText : Line → List ℕ
-lineText l = spaced (letterOf l) (fields_of l)
+abbrev pub line_text : Line → List ℕ
+line_text l = spaced (letter_of l) (fields_of l)
 
 -- ---- the numbers that a line can say
 

@@ -2,7 +2,7 @@
 ghost use Rattle.std.specs.Prelude.{◌≡◌, List, ℕ, set};
 ghost use Rattle.std.proofs.Math.Option.{some};
 ghost use Rattle.std.proofs.lemmas.List.Edits.{sets};
-ghost use Rattle.ledger_spec.specs.Grammar.{allSerials as «all-serials», «some-serials»};
+ghost use Rattle.ledger_spec.specs.Grammar.{all_serials as «all-serials», «some_serials»};
 ghost use Rattle.text_fields.specs.Places.{from};
 ghost use Rattle.text_lines.specs.Counts.{counted};
 ghost use Rattle.text_lines.specs.Shown.{ReadAs};
@@ -58,7 +58,7 @@ fn store_serials(s: &[u8], place: usize, out: &mut [u64])
 }
 
 pub fn blossom(s: &[u8], serials: &mut [u64], unit: u8, place: usize) -> Line
-    ensures { ReadAs («some-serials» unit (from s.now place)) serials.old serials.new result }
+    ensures { ReadAs («some_serials» unit (from s.now place)) serials.old serials.new result }
 {
     if place < s.len() {
         let Count::All(count) = count_serials(s, place) else {

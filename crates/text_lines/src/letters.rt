@@ -2,16 +2,16 @@
 ghost use Rattle.std.specs.Prelude.{◌≡◌};
 ghost use Rattle.std.proofs.Math.Option.{some};
 ghost use Rattle.ledger_spec.specs.Operations.{D, E, S, G, F, C, K};
-ghost use Rattle.ledger_spec.specs.Grammar.{aUnit as «a_unit», aVertex as «a-vertex», aSerial as «a-serial», anAmount, aState as «a-state», then, no_more};
+ghost use Rattle.ledger_spec.specs.Grammar.{a_unit as «a_unit», a_vertex as «a-vertex», a_serial as «a-serial», an_amount, a_state as «a-state», then, no_more};
 ghost use Rattle.text_fields.specs.Places.{from};
-ghost use Rattle.text_lines.specs.Shown.{lineShown};
+ghost use Rattle.text_lines.specs.Shown.{line_shown};
 
 use crate::Line;
 use kinds::{Serial, Vertex};
 use text_fields::{NextLength, NextNumber, NextState};
 
 pub fn defect(s: &[u8], unit: u8, place: usize) -> Line
-    ensures { result ≡ lineShown (then «a-vertex» (λ v. no_more (some (D unit v))) (from s.now place)) }
+    ensures { result ≡ line_shown (then «a-vertex» (λ v. no_more (some (D unit v))) (from s.now place)) }
 {
     let NextNumber::Got(v, e) = text_fields::next_number(s, place, 0, 4294967295) else {
         return Line::Wrong;
@@ -26,7 +26,7 @@ pub fn defect(s: &[u8], unit: u8, place: usize) -> Line
 }
 
 pub fn expand(s: &[u8], unit: u8, place: usize) -> Line
-    ensures { result ≡ lineShown (then «a-serial» (λ n. no_more (some (E unit n))) (from s.now place)) }
+    ensures { result ≡ line_shown (then «a-serial» (λ n. no_more (some (E unit n))) (from s.now place)) }
 {
     let NextNumber::Got(n, e) = text_fields::next_number(s, place, 1, 4294967295) else {
         return Line::Wrong;
@@ -41,7 +41,7 @@ pub fn expand(s: &[u8], unit: u8, place: usize) -> Line
 }
 
 pub fn set_state(s: &[u8], unit: u8, place: usize) -> Line
-    ensures { result ≡ lineShown (then «a-serial» (λ n. then «a-state» (λ g. no_more (some (S unit n g)))) (from s.now place)) }
+    ensures { result ≡ line_shown (then «a-serial» (λ n. then «a-state» (λ g. no_more (some (S unit n g)))) (from s.now place)) }
 {
     let NextNumber::Got(n, e) = text_fields::next_number(s, place, 1, 4294967295) else {
         return Line::Wrong;
@@ -60,7 +60,7 @@ pub fn set_state(s: &[u8], unit: u8, place: usize) -> Line
 }
 
 pub fn grow(s: &[u8], unit: u8, place: usize) -> Line
-    ensures { result ≡ lineShown (then anAmount (λ l. no_more (some (G unit l))) (from s.now place)) }
+    ensures { result ≡ line_shown (then an_amount (λ l. no_more (some (G unit l))) (from s.now place)) }
 {
     let NextLength::Length(l, e) = text_fields::next_length(s, place) else {
         return Line::Wrong;
@@ -72,7 +72,7 @@ pub fn grow(s: &[u8], unit: u8, place: usize) -> Line
 }
 
 pub fn fuse(s: &[u8], parent: u8, place: usize) -> Line
-    ensures { result ≡ lineShown (then «a_unit» (λ l. then «a_unit» (λ m. no_more (some (F parent l m)))) (from s.now place)) }
+    ensures { result ≡ line_shown (then «a_unit» (λ l. then «a_unit» (λ m. no_more (some (F parent l m)))) (from s.now place)) }
 {
     let NextNumber::Got(l, e) = text_fields::next_number(s, place, 0, 255) else {
         return Line::Wrong;
@@ -91,7 +91,7 @@ pub fn fuse(s: &[u8], parent: u8, place: usize) -> Line
 }
 
 pub fn clear(s: &[u8], unit: u8, place: usize) -> Line
-    ensures { result ≡ lineShown (no_more (some (C unit)) (from s.now place)) }
+    ensures { result ≡ line_shown (no_more (some (C unit)) (from s.now place)) }
 {
     if place < s.len() {
         return Line::Wrong;
@@ -100,7 +100,7 @@ pub fn clear(s: &[u8], unit: u8, place: usize) -> Line
 }
 
 pub fn check(s: &[u8], unit: u8, place: usize) -> Line
-    ensures { result ≡ lineShown (no_more (some (K unit)) (from s.now place)) }
+    ensures { result ≡ line_shown (no_more (some (K unit)) (from s.now place)) }
 {
     if place < s.len() {
         return Line::Wrong;

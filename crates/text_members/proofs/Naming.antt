@@ -8,46 +8,46 @@ use native.Mathlib.Decide.{ℕ_discrete}
 use lib.ListN.{length, get_or, set, length-set}
 use lib.Seq.{get_or-set_same, get_or-set_other}
 use Rattle.kinds.specs.declared.Handle.{Handle}
-use Rattle.bench_words.specs.Codec.{handle_of, handleWord}
-use Rattle.bench_words.proofs.Laws.{handle-back}
+use Rattle.bench_words.specs.Codec.{handle_of, handle_word}
+use Rattle.bench_words.proofs.Laws.{handle_back}
 use Rattle.ledger_spec.specs.Bench.{Bench}
-use Rattle.ledger_spec.specs.Look.{nodeNamed}
-use Rattle.ledger_spec.specs.Named.{handleNamed}
+use Rattle.ledger_spec.specs.Look.{node_named}
+use Rattle.ledger_spec.specs.Named.{handle_named}
 use Rattle.bench_views.specs.View.{view}
 use Rattle.bench_views.specs.Fit.{SoundWords}
 use Rattle.bench_views.proofs.Fits.{fit_of}
 use Rattle.bench_links.specs.declared.Found.TheVariants.{At, Stale}
-use Rattle.bench_links.proofs.Finding.{out-unit}
-use Rattle.bench_views.specs.Given.{nowhere, handGiven}
-use Rattle.deed_circles.proofs.Givens.{given-fine}
+use Rattle.bench_links.proofs.Finding.{out_unit}
+use Rattle.bench_views.specs.Given.{nowhere, hand_given}
+use Rattle.deed_circles.proofs.Givens.{given_fine}
 use Rattle.bench_serials.specs.Seek.{Seeks}
-use Rattle.bench_serials.proofs.Scanning.{not_yet, seeks-none}
+use Rattle.bench_serials.proofs.Scanning.{not_yet, seeks_none}
 use Rattle.text_members.specs.Names.{Names, AllNamed}
 
-nobody-given : handGiven 2199023255552 ≡ nowhere
-unfolding handGiven
-nobody-given = refl
+nobody_given : hand_given 2199023255552 ≡ nowhere
+unfolding hand_given
+nobody_given = refl
 
 module _ (b : List ℕ) (W : SoundWords b) (k : ℕ) where
   -- no node has the serial
-  pub names-none : Seeks b k Stale → Names (view b) k 2199023255552
-  names-none s = inr (
-    ap (nodeNamed (view b)) nobody-given ∙ out-unit b nowhere (omega arith),
-    ap (nodeNamed (view b)) (sym s.same) ∙ s.finds,
+  pub names_none : Seeks b k Stale → Names (view b) k 2199023255552
+  names_none s = inr (
+    ap (node_named (view b)) nobody_given ∙ out_unit b nowhere (omega arith),
+    ap (node_named (view b)) (sym s.same) ∙ s.finds,
   )
 
-  pub names-late : 4294967295 < k → Names (view b) k 2199023255552
-  names-late l =
+  pub names_late : 4294967295 < k → Names (view b) k 2199023255552
+  names_late l =
       let F = fit_of b W in
-      names-none (seeks-none b k F (not_yet b k F (omega (arith, F.next))))
+      names_none (seeks_none b k F (not_yet b k F (omega (arith, F.next))))
 
-  pub names_at : k ≤ 4294967295 → (p : ℕ) → Seeks b k (At p) → (w : ℕ) → w ≡ handleWord (record { unit = p / 64; slot = p % 64; serial = record { 0 = k } }) → Names (view b) k w
+  pub names_at : k ≤ 4294967295 → (p : ℕ) → Seeks b k (At p) → (w : ℕ) → w ≡ handle_word (record { unit = p / 64; slot = p % 64; serial = record { 0 = k } }) → Names (view b) k w
   names_at l p s w q =
       let m = s.finds.low in
       let low : p / 64 < 8 = omega arith in
       let slot : p % 64 < 64 = omega arith in
       let h : Handle = record { unit = p / 64; slot = p % 64; serial = record { 0 = k } } in
-      inl (given-fine w (omega arith) ∙ ap (λ (v : ℕ). handleNamed (handle_of v)) q ∙ ap handleNamed (handle-back h (low, slot, omega arith)) ∙ s.same)
+      inl (given_fine w (omega arith) ∙ ap (λ (v : ℕ). handle_named (handle_of v)) q ∙ ap handle_named (handle_back h (low, slot, omega arith)) ∙ s.same)
 
 -- ---- one serial after the other
 pub record Passed (b : Bench) (ks ws : List ℕ) (n i : ℕ) : Type 0 where
@@ -60,8 +60,8 @@ pub passed_none : (b : Bench) (ks : List ℕ) (n : ℕ) → Passed b ks ks n 0
 passed_none b ks n = record { low = omega arith; long = refl; done = λ j l. absurd (omega arith); kept = λ j l. refl }
 
 module _ (b : Bench) (ks ws : List ℕ) (n i : ℕ) (p : Passed b ks ws n i) where
-  pub passed-one : n ≤ length ks → i < n → (w : ℕ) → Names b (get_or ws i 0) w → Passed b ks (set ws i w) n (i + 1)
-  passed-one r l w a = record {
+  pub passed_one : n ≤ length ks → i < n → (w : ℕ) → Names b (get_or ws i 0) w → Passed b ks (set ws i w) n (i + 1)
+  passed_one r l w a = record {
     low = omega arith;
     long = length-set ws i w ∙ p.long;
     done = λ j m. by_cases (ℕ_discrete j i)
@@ -72,5 +72,5 @@ module _ (b : Bench) (ks ws : List ℕ) (n i : ℕ) (p : Passed b ks ws n i) whe
     kept = λ j m. get_or-set_other ws i j w 0 (λ e. omega arith) ∙ p.kept j (omega arith);
   }
 
-  pub passed-all : n ≤ i → AllNamed b n ks ws
-  passed-all l = record { long = p.long; each = λ j m. p.done j (omega arith) }
+  pub passed_all : n ≤ i → AllNamed b n ks ws
+  passed_all l = record { long = p.long; each = λ j m. p.done j (omega arith) }

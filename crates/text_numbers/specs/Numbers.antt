@@ -2,5 +2,5 @@
 use Rattle.std.specs.Prelude.{ℕ, ℤ}
 use Rattle.text_numbers.specs.declared.Reply.{Reply}
 
-abbrev pub numbersOf : Reply → ℕ × ℕ × ℤ × ℤ
-numbersOf r = (r.number, r.serial, r.speed, r.sum)
+abbrev pub numbers_of : Reply → ℕ × ℕ × ℤ × ℤ
+numbers_of r = (r.number, r.serial, r.speed, r.sum)

@@ -3,7 +3,7 @@ ghost use Rattle.std.specs.Prelude.{◌≡◌, pos};
 ghost use Rattle.ledger_spec.specs.Lines.{shown};
 ghost use Rattle.bench_views.specs.Fit.{SoundWords};
 ghost use Rattle.bench_views.specs.View.{view};
-ghost use Rattle.text_numbers.specs.Numbers.{numbersOf};
+ghost use Rattle.text_numbers.specs.Numbers.{numbers_of};
 
 use bench_words::WORDS;
 
@@ -17,7 +17,7 @@ pub struct Reply {
 
 // An answer that shows no interface: speed and sum are both 0.
 pub fn silent(number: u8, serial: u32) -> Reply
-    ensures { numbersOf result ≡ (number, serial, pos 0, pos 0) }
+    ensures { numbers_of result ≡ (number, serial, pos 0, pos 0) }
 {
     Reply {
         number,
@@ -30,7 +30,7 @@ pub fn silent(number: u8, serial: u32) -> Reply
 // An answer that shows the interface that the line names, unless UNIT (3) was answered or it has a parent.
 pub fn show(b: &[u64; WORDS], unit: u8, number: u8, serial: u32) -> Reply
     requires { SoundWords b.now }
-    ensures { numbersOf result ≡ shown number serial (view b.now) unit }
+    ensures { numbers_of result ≡ shown number serial (view b.now) unit }
 {
     if number == 3 {
         return silent(number, serial);

@@ -1,10 +1,10 @@
 -- What a session owes for a line, for a chunk and for the input's end, on words. Assumes nothing.
 use Rattle.std.specs.Prelude.{ℕ, ◌+◌, ◌*◌, ◌≤◌, ◌≡◌, Bool, true, false, List, length, drop}
 use Rattle.text_decimals.specs.Wrote.{Wrote}
-use Rattle.ledger_spec.specs.Bench.{Bench, setUp}
+use Rattle.ledger_spec.specs.Bench.{Bench, set_up}
 use Rattle.ledger_spec.specs.Grammar.{line_of}
 use Rattle.ledger_spec.specs.Opening.{opening}
-use Rattle.ledger_spec.specs.Program.{answers, texts, program, programLeaves}
+use Rattle.ledger_spec.specs.Program.{answers, texts, program, program_leaves}
 use Rattle.text_chunks.specs.Chunks.{last}
 use Rattle.text_chunks.specs.Answering.{LineAnswered, ChunkAnswered}
 use Rattle.text_chunks.specs.Opening.{FirstAnswered, OpeningAnswered}
@@ -14,7 +14,7 @@ use Rattle.bench_views.specs.Fit.{SoundWords}
 -- the empty bench, first serial 1
 pub record Started (b : List ℕ) : Type 0 where
   pub words : SoundWords b
-  pub seen : view b ≡ setUp 1
+  pub seen : view b ≡ set_up 1
 
 pub record LineDone (b line b' out : List ℕ) (at : ℕ) (out' : List ℕ) (r : ℕ) : Type 0 where
   pub words : SoundWords b'
@@ -60,4 +60,4 @@ pub record Finished (held : ℕ) (out : List ℕ) (at : ℕ) (out' : List ℕ) (
 pub record AllDone (input out b' out' : List ℕ) (r : ℕ) : Type 0 where
   pub text : Wrote out 0 (program input) out' r
   pub words : SoundWords b'
-  pub seen : view b' ≡ programLeaves input
+  pub seen : view b' ≡ program_leaves input

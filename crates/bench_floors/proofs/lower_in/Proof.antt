@@ -3,7 +3,7 @@ use Prim.Native.Nat.{◌+◌, ◌-◌, ◌*◌}
 use mathlib.Core.Path.{refl}
 use native.Mathlib.Omega.{arith}
 use borrow.Author.Rules.{rules}
-use Rattle.bench_floors.proofs.Along.{Lowering, lowering-starts, lowering-ends, lowering-on, slot-low, slot-there}
+use Rattle.bench_floors.proofs.Along.{Lowering, lowering_starts, lowering_ends, lowering_on, slot_low, slot_there}
 use Rattle.bench_floors.proofs.lower_in.Statement.{statement}
 use Rattle.bench_floors.proofs.lower_in.Tie as tie
 
@@ -20,23 +20,23 @@ load-interface-requires : tie.Need-load-interface-requires invariant-loop decrea
 load-interface-requires c κs = search rules
 
 loop-holds : tie.Need-loop-init invariant-loop decreases-loop
-loop-holds c = let s = c.before.before in lowering-starts s.args.b.now s.args.u s.args.m
+loop-holds c = let s = c.before.before in lowering_starts s.args.b.now s.args.u s.args.m
 
 mul-lower : tie.Need-overflow-mul-lower invariant-loop decreases-loop
 mul-lower c = search rules
 
 add-lower : tie.Need-overflow-add-lower invariant-loop decreases-loop
 add-lower c = let s = c.before.before.before.before in
-    let l = slot-low s.args.b.now s.requires.0 s.args.u s.requires.1 c.before.before.load-interface.result c.before.before.load-interface.ensures c.before.loop.s c.loop-test.true in
+    let l = slot_low s.args.b.now s.requires.0 s.args.u s.requires.1 c.before.before.load-interface.result c.before.before.load-interface.ensures c.before.loop.s c.loop-test.true in
     record { fits = omega (arith, l, s.requires.1) }
 
 lower-requires : tie.Need-lower-requires invariant-loop decreases-loop
 lower-requires c κs = let s = c.before.before.before.before in
-    (s.requires.0, slot-there s.args.b.now s.requires.0 s.args.u s.requires.1 c.before.before.load-interface.result c.before.before.load-interface.ensures c.before.loop.s c.loop-test.true c.before.before.before.climb.result.total c.before.before.before.climb.ensures.total)
+    (s.requires.0, slot_there s.args.b.now s.requires.0 s.args.u s.requires.1 c.before.before.load-interface.result c.before.before.load-interface.ensures c.before.loop.s c.loop-test.true c.before.before.before.climb.result.total c.before.before.before.climb.ensures.total)
 
 add-s : tie.Need-overflow-add-s invariant-loop decreases-loop
 add-s c = let s = c.before.before.before.before.before in
-    let l = slot-low s.args.b.now s.requires.0 s.args.u s.requires.1 c.before.before.before.load-interface.result c.before.before.before.load-interface.ensures c.before.before.loop.s c.before.loop-test.true in
+    let l = slot_low s.args.b.now s.requires.0 s.args.u s.requires.1 c.before.before.before.load-interface.result c.before.before.before.load-interface.ensures c.before.before.loop.s c.before.loop-test.true in
     record { fits = omega (arith, l) }
 
 loop-less : tie.Need-loop-smaller invariant-loop decreases-loop
@@ -46,14 +46,14 @@ loop-again : tie.Need-loop-preserved invariant-loop decreases-loop
 loop-again c = let s = c.before.before.before.before.before in
     let f = c.before.before.before.load-interface in
     let i = c.before.before.loop in
-    lowering-on s.args.b.now s.args.u s.args.m s.requires.1 f.result f.ensures i.s i.low i.invariant c.before.loop-test.true (s.args.u * 64 + i.s) refl
-    (slot-low s.args.b.now s.requires.0 s.args.u s.requires.1 f.result f.ensures i.s c.before.loop-test.true) c.lower.result c.lower.ensures
+    lowering_on s.args.b.now s.args.u s.args.m s.requires.1 f.result f.ensures i.s i.low i.invariant c.before.loop-test.true (s.args.u * 64 + i.s) refl
+    (slot_low s.args.b.now s.requires.0 s.args.u s.requires.1 f.result f.ensures i.s c.before.loop-test.true) c.lower.result c.lower.ensures
 
 returns : tie.Need-returns invariant-loop decreases-loop
 returns c = let s = c.before.before.before.before in
     let f = c.before.before.load-interface in
     let i = c.before.loop in
-    lowering-ends s.args.b.now s.args.u s.args.m s.requires.1 f.result f.ensures i.s i.low i.invariant c.loop-test.false
+    lowering_ends s.args.b.now s.args.u s.args.m s.requires.1 f.result f.ensures i.s i.low i.invariant c.loop-test.false
 
 pub lower-in-spec : {M : Type 1} → statement M
 lower-in-spec =

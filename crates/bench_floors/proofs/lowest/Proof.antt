@@ -4,9 +4,9 @@ use mathlib.Core.Path.{refl}
 use native.Mathlib.Omega.{arith}
 use lib.ListN.{get_or}
 use borrow.Author.Rules.{rules}
-use borrow.Author.Tests.{not-true, not-false}
-use Rattle.bench_orders.proofs.Counting.{unit-low}
-use Rattle.bench_floors.proofs.Along.{Leasting, unfloored, leasting-starts, leasting-ends, leasting-on}
+use borrow.Author.Tests.{not_true, not_false}
+use Rattle.bench_orders.proofs.Counting.{unit_low}
+use Rattle.bench_floors.proofs.Along.{Leasting, unfloored, leasting_starts, leasting_ends, leasting_on}
 use Rattle.bench_floors.proofs.lowest.Statement.{statement}
 use Rattle.bench_floors.proofs.lowest.Tie as tie
 
@@ -21,14 +21,14 @@ load-interface-requires c κs = search rules
 
 returns : tie.Need-returns invariant-loop decreases-loop
 returns c = let s = c.before.before.before.before in
-    unfloored s.args.b.now s.requires.0 s.args.unit s.requires.1.0 s.requires.1.1 c.before.before.before.load-interface.result c.before.before.before.load-interface.ensures (not-true c.before.before.before.load-interface.result.marks.floored c.if1.true)
+    unfloored s.args.b.now s.requires.0 s.args.unit s.requires.1.0 s.requires.1.1 c.before.before.before.load-interface.result c.before.before.before.load-interface.ensures (not_true c.before.before.before.load-interface.result.marks.floored c.if1.true)
 
 order-of-requires : tie.Need-order-of-requires invariant-loop decreases-loop
 order-of-requires c κs = search rules
 
 loop-holds : tie.Need-loop-init invariant-loop decreases-loop
 loop-holds c = let s = c.before.before.before.before.before in
-    leasting-starts s.args.b.now s.requires.0 s.args.unit s.requires.1.0 s.requires.1.1 c.before.before.before.before.load-interface.result c.before.before.before.before.load-interface.ensures
+    leasting_starts s.args.b.now s.requires.0 s.args.unit s.requires.1.0 s.requires.1.1 c.before.before.before.before.load-interface.result c.before.before.before.before.load-interface.ensures
 
 mul-u : tie.Need-overflow-mul-u invariant-loop decreases-loop
 mul-u c = search rules
@@ -41,7 +41,7 @@ lower-in-requires c κs =
     let s = c.before.before.before.before.before.before.before.before in
     let o = c.before.before.before.order-of in
     let i = c.before.before.loop.i in
-    (s.requires.0, unit-low s.args.b.now s.requires.0 s.args.unit s.requires.1.0 o.result o.ensures i (get_or o.result.units i 0) c.before.loop-test.true refl)
+    (s.requires.0, unit_low s.args.b.now s.requires.0 s.args.unit s.requires.1.0 o.result o.ensures i (get_or o.result.units i 0) c.before.loop-test.true refl)
 
 add-i : tie.Need-overflow-add-i invariant-loop decreases-loop
 add-i c = omega (arith, c.before.before.loop-test.true, c.before.before.before.before.order-of.ensures.few)
@@ -56,7 +56,7 @@ loop-again c =
     let at-load-interface = at-if1.before.before.before in
     let s = c.before.before.before.before.before.before.before.before.before in
     let i = c.before.before.before.loop in
-    leasting-on s.args.b.now s.requires.0 s.args.unit s.requires.1.0 s.requires.1.1 at-load-interface.load-interface.result at-load-interface.load-interface.ensures (not-false at-load-interface.load-interface.result.marks.floored at-if1.if1.false) at-order-of.order-of.result at-order-of.order-of.ensures i.i i.low i.invariant
+    leasting_on s.args.b.now s.requires.0 s.args.unit s.requires.1.0 s.requires.1.1 at-load-interface.load-interface.result at-load-interface.load-interface.ensures (not_false at-load-interface.load-interface.result.marks.floored at-if1.if1.false) at-order-of.order-of.result at-order-of.order-of.ensures i.i i.low i.invariant
     c.before.before.loop-test.true (get_or at-order-of.order-of.result.units i.i 0) refl c.lower_in.result c.lower_in.ensures
 
 returns-2 : tie.Need-returns-2 invariant-loop decreases-loop
@@ -65,7 +65,7 @@ returns-2 c =
     let s = c.before.before.before.before.before.before.before in
     let o = c.before.before.order-of in
     let i = c.before.loop in
-    leasting-ends s.args.b.now s.requires.0 s.args.unit s.requires.1.0 s.requires.1.1 at-load-interface.load-interface.result at-load-interface.load-interface.ensures (not-false at-load-interface.load-interface.result.marks.floored c.before.before.before.if1.false) o.result o.ensures i.i i.low i.invariant c.loop-test.false
+    leasting_ends s.args.b.now s.requires.0 s.args.unit s.requires.1.0 s.requires.1.1 at-load-interface.load-interface.result at-load-interface.load-interface.ensures (not_false at-load-interface.load-interface.result.marks.floored c.before.before.before.if1.false) o.result o.ensures i.i i.low i.invariant c.loop-test.false
 
 pub lowest-spec : {M : Type 1} → statement M
 lowest-spec =

@@ -2,16 +2,16 @@
 use Prim.Native.Nat.{◌+◌, ◌*◌}
 use mathlib.Core.Path.{refl}
 use borrow.Author.Rules.{rules}
-use Rattle.ledger_spec.specs.Named.{handleNamed}
-use Rattle.bench_links.proofs.Finding.{out-unit, out-slot, gone, renamed, found}
+use Rattle.ledger_spec.specs.Named.{handle_named}
+use Rattle.bench_links.proofs.Finding.{out_unit, out_slot, gone, renamed, found}
 use Rattle.bench_links.proofs.find.Statement.{statement}
 use Rattle.bench_links.proofs.find.Tie as tie
 
 returns : tie.Need-returns
-returns c = out-unit c.before.before.args.b.now (handleNamed c.before.before.args.h) c.if1.true
+returns c = out_unit c.before.before.args.b.now (handle_named c.before.before.args.h) c.if1.true
 
 returns-2 : tie.Need-returns-2
-returns-2 c = out-slot c.before.before.before.before.args.b.now (handleNamed c.before.before.before.before.args.h) c.before.before.before.before.requires c.before.before.if1.false c.if2.true
+returns-2 c = out_slot c.before.before.before.before.args.b.now (handle_named c.before.before.before.before.args.h) c.before.before.before.before.requires c.before.before.if1.false c.if2.true
 
 cast-k : tie.Need-overflow-cast-k
 cast-k c = search rules
@@ -36,7 +36,7 @@ returns-3 c =
     let at-if2 = c.before.before.before.before.before in
     let at-if1 = at-if2.before.before in
     let start = at-if1.before.before in
-    gone start.args.b.now start.requires (handleNamed start.args.h) c.before.before.load-node.result c.before.before.load-node.ensures at-if1.if1.false at-if2.if2.false c.before.is-absent.ensures c.if3.true
+    gone start.args.b.now start.requires (handle_named start.args.h) c.before.before.load-node.result c.before.before.load-node.ensures at-if1.if1.false at-if2.if2.false c.before.is-absent.ensures c.if3.true
 
 returns-4 : tie.Need-returns-4
 returns-4 c =
@@ -45,7 +45,7 @@ returns-4 c =
     let at-if2 = at-load-node.before.before.before in
     let at-if1 = at-if2.before.before in
     let start = at-if1.before.before in
-    renamed start.args.b.now start.requires (handleNamed start.args.h) at-load-node.load-node.result at-load-node.load-node.ensures at-if1.if1.false at-if2.if2.false at-is-absent.is-absent.ensures c.before.before.before.if3.false c.if4.true
+    renamed start.args.b.now start.requires (handle_named start.args.h) at-load-node.load-node.result at-load-node.load-node.ensures at-if1.if1.false at-if2.if2.false at-is-absent.is-absent.ensures c.before.before.before.if3.false c.if4.true
 
 returns-5 : tie.Need-returns-5
 returns-5 c =
@@ -54,7 +54,7 @@ returns-5 c =
     let at-if2 = at-load-node.before.before.before in
     let at-if1 = at-if2.before.before in
     let start = at-if1.before.before in
-    found start.args.b.now start.requires (handleNamed start.args.h) at-load-node.load-node.result at-load-node.load-node.ensures at-if1.if1.false at-if2.if2.false at-is-absent.is-absent.ensures c.before.before.before.if3.false c.if4.false (start.args.h.unit * 64 + start.args.h.slot) refl
+    found start.args.b.now start.requires (handle_named start.args.h) at-load-node.load-node.result at-load-node.load-node.ensures at-if1.if1.false at-if2.if2.false at-is-absent.is-absent.ensures c.before.before.before.if3.false c.if4.false (start.args.h.unit * 64 + start.args.h.slot) refl
 
 pub find_spec : {M : Type 1} → statement M
 find_spec =

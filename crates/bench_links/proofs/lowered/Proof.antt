@@ -4,7 +4,7 @@ use borrow.Author.Rules.{rules}
 use mir.Syntax.{w64}
 use mir.Facts.{to_z-of_z, to_z_pos}
 use Rattle.bench_views.specs.View.{off}
-use Rattle.bench_links.proofs.Weighing.{lowered-fits}
+use Rattle.bench_links.proofs.Weighing.{lowered_fits}
 use Rattle.bench_links.proofs.lowered.Statement.{statement}
 use Rattle.bench_links.proofs.lowered.Tie as tie
 
@@ -15,11 +15,11 @@ cast-result-2 : tie.Need-overflow-cast-result-2
 cast-result-2 c = search rules
 
 sub-result : tie.Need-overflow-sub-result
-sub-result c = rw (to_z_pos w64 {n = c.args.x} (omega arith), to_z_pos w64 {n = c.args.c} (omega arith)) (lowered-fits c.args.x c.args.c c.requires.0 c.requires.1)
+sub-result c = rw (to_z_pos w64 {n = c.args.x} (omega arith), to_z_pos w64 {n = c.args.c} (omega arith)) (lowered_fits c.args.x c.args.c c.requires.0 c.requires.1)
 
 returns : tie.Need-returns
 unfolding off
-returns c = rw (to_z_pos w64 {n = c.args.x} (omega arith), to_z_pos w64 {n = c.args.c} (omega arith)) (to_z-of_z (lowered-fits c.args.x c.args.c c.requires.0 c.requires.1))
+returns c = rw (to_z_pos w64 {n = c.args.x} (omega arith), to_z_pos w64 {n = c.args.c} (omega arith)) (to_z-of_z (lowered_fits c.args.x c.args.c c.requires.0 c.requires.1))
 
 pub lowered-spec : {M : Type 1} → statement M
 lowered-spec = tie.close (tie.spec cast-result cast-result-2 sub-result returns)

@@ -4,19 +4,19 @@ use mathlib.Core.Path.{◌≡◌, refl}
 use native.Mathlib.Omega.{arith}
 use borrow.Author.Rules.{rules}
 use Rattle.kinds.specs.declared.Parent.TheVariants.{Inside}
-use Rattle.ledger_spec.specs.Named.{handleNamed}
-use Rattle.bench_links.proofs.Rising.{Going, going-starts, spot-low, going-ends, going_on, going-spent}
+use Rattle.ledger_spec.specs.Named.{handle_named}
+use Rattle.bench_links.proofs.Rising.{Going, going_starts, spot_low, going_ends, going_on, going_spent}
 use Rattle.bench_links.proofs.outermost.Statement.{statement}
 use Rattle.bench_links.proofs.outermost.Tie as tie
 
 abbrev invariant-loop : tie.invariant-loop
-invariant-loop b at₀ under₀ links₀ at under links = Going b (handleNamed at₀) (handleNamed at) (handleNamed under) links
+invariant-loop b at₀ under₀ links₀ at under links = Going b (handle_named at₀) (handle_named at) (handle_named under) links
 
 abbrev decreases-loop : tie.decreases-loop
 decreases-loop b at₀ under₀ links₀ at under links = 512 - links
 
 loop-holds : tie.Need-loop-init invariant-loop decreases-loop
-loop-holds c = going-starts c.args.b.now (handleNamed c.args.h) c.requires.0 c.requires.1
+loop-holds c = going_starts c.args.b.now (handle_named c.args.h) c.requires.0 c.requires.1
 
 cast-k : tie.Need-overflow-cast-k invariant-loop decreases-loop
 cast-k c = search rules
@@ -33,7 +33,7 @@ add-k c = search rules
 load-node-requires : tie.Need-load-node-requires invariant-loop decreases-loop
 load-node-requires c κs =
     let l = c.before.before.before.loop in
-    spot-low c.before.before.before.before.args.b.now (handleNamed c.before.before.before.before.args.h) (handleNamed l.at) (handleNamed l.under) l.links l.invariant
+    spot_low c.before.before.before.before.args.b.now (handle_named c.before.before.before.before.args.h) (handle_named l.at) (handle_named l.under) l.links l.invariant
 
 enum_told : tie.Need-enum-told invariant-loop decreases-loop
 enum_told c = search rules
@@ -41,7 +41,7 @@ enum_told c = search rules
 returns : tie.Need-returns invariant-loop decreases-loop
 returns c =
     let l = c.before.before.before.before.before.before.loop in
-    going-ends c.before.before.before.before.before.before.before.args.b.now (handleNamed c.before.before.before.before.before.before.before.args.h) (handleNamed l.at) (handleNamed l.under) l.links l.invariant c.before.before.load-node.result c.before.before.load-node.ensures (cc)
+    going_ends c.before.before.before.before.before.before.before.args.b.now (handle_named c.before.before.before.before.before.before.before.args.h) (handle_named l.at) (handle_named l.under) l.links l.invariant c.before.before.load-node.result c.before.before.load-node.ensures (cc)
     (record { node = l.at; under = l.under; links = l.links }) refl refl refl
 
 enum-known-parent : tie.Need-enum-known-parent invariant-loop decreases-loop
@@ -57,13 +57,13 @@ loop-again : tie.Need-loop-preserved invariant-loop decreases-loop
 loop-again c =
     let l = c.before.before.before.before.before.before.before.loop in
     let q : c.before.before.before.load-node.result.parent ≡ Inside c.before.parent.given.0.0 = cc in
-    going_on c.before.before.before.before.before.before.before.before.args.b.now (handleNamed c.before.before.before.before.before.before.before.before.args.h) (handleNamed l.at) (handleNamed l.under) l.links l.invariant c.before.before.before.load-node.result c.before.before.before.load-node.ensures
+    going_on c.before.before.before.before.before.before.before.before.args.b.now (handle_named c.before.before.before.before.before.before.before.before.args.h) (handle_named l.at) (handle_named l.under) l.links l.invariant c.before.before.before.load-node.result c.before.before.before.load-node.ensures
     (omega (arith, c.before.before.before.before.before.before.loop-test.true)) c.before.parent.given.0.0 q
 
 returns-2 : tie.Need-returns-2 invariant-loop decreases-loop
 returns-2 c =
     let l = c.before.loop in
-    going-spent c.before.before.args.b.now (handleNamed c.before.before.args.h) (handleNamed l.at) (handleNamed l.under) l.links l.invariant (omega (arith, c.loop-test.false))
+    going_spent c.before.before.args.b.now (handle_named c.before.before.args.h) (handle_named l.at) (handle_named l.under) l.links l.invariant (omega (arith, c.loop-test.false))
     (record { node = l.at; under = l.under; links = l.links }) refl refl refl
 
 pub outermost-spec : {M : Type 1} → statement M

@@ -3,9 +3,9 @@ use mathlib.Core.Path.{ap, ◌∙◌}
 use mir.Facts.{to_z-of_z}
 use native.Mathlib.Omega.{arith}
 use borrow.Author.Rules.{rules}
-use Rattle.ledger_spec.specs.Named.{handleNamed}
+use Rattle.ledger_spec.specs.Named.{handle_named}
 use Rattle.bench_views.specs.View.{off}
-use Rattle.bench_links.proofs.Weighing.{bias-room, value-small, value-seen}
+use Rattle.bench_links.proofs.Weighing.{bias_room, value_small, value_seen}
 use Rattle.bench_links.proofs.value.Statement.{statement}
 use Rattle.bench_links.proofs.value.Tie as tie
 
@@ -28,11 +28,11 @@ load-node-requires : tie.Need-load-node-requires
 load-node-requires c κs = search rules
 
 valued-requires : tie.Need-valued-requires
-valued-requires c κs = bias-room c.before.before.before.before.args.b.now (handleNamed c.before.before.before.before.args.h) c.before.before.before.before.requires.1 c.load-node.result c.load-node.ensures c.before.before.climb.result.total c.before.before.before.before.requires.0 c.before.before.climb.ensures.small
+valued-requires c κs = bias_room c.before.before.before.before.args.b.now (handle_named c.before.before.before.before.args.h) c.before.before.before.before.requires.1 c.load-node.result c.load-node.ensures c.before.before.climb.result.total c.before.before.before.before.requires.0 c.before.before.climb.ensures.small
 
 lowered-requires : tie.Need-lowered-requires
 lowered-requires c κs =
-    let v = value-small c.before.before.before.before.before.args.b.now (handleNamed c.before.before.before.before.before.args.h) c.before.before.before.before.before.requires.1 c.before.load-node.result c.before.load-node.ensures c.before.before.before.climb.result.total c.before.before.before.before.before.requires.0 c.before.before.before.climb.ensures.small in
+    let v = value_small c.before.before.before.before.before.args.b.now (handle_named c.before.before.before.before.before.args.h) c.before.before.before.before.before.requires.1 c.before.load-node.result c.before.load-node.ensures c.before.before.before.climb.result.total c.before.before.before.before.before.requires.0 c.before.before.before.climb.ensures.small in
     (omega (arith, c.valued.ensures), omega arith)
 
 returns : tie.Need-returns
@@ -41,7 +41,7 @@ returns c =
     let start = at-climb.before.before in
     to_z-of_z (record { sfits = c.lowered.type-inv }) ∙ c.lowered.ensures
     ∙ ap (off 1152921504606846976) c.before.valued.ensures
-    ∙ value-seen start.args.b.now (handleNamed start.args.h) start.requires.1 c.before.before.load-node.result c.before.before.load-node.ensures at-climb.climb.result.total at-climb.climb.ensures.total
+    ∙ value_seen start.args.b.now (handle_named start.args.h) start.requires.1 c.before.before.load-node.result c.before.before.load-node.ensures at-climb.climb.result.total at-climb.climb.ensures.total
 
 pub value_spec : {M : Type 1} → statement M
 value_spec =

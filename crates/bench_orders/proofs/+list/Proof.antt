@@ -8,7 +8,7 @@ use borrow.Fn.Kinds.{In}
 use borrow.Fn.PlainCycle.{Measures, is, falls, and}
 use lib.ListN.{length}
 use Rattle.bench_orders.specs.Order.{Longer}
-use Rattle.bench_orders.proofs.Listing.{alone, right_there, left-lower, right-lower, parts, joined}
+use Rattle.bench_orders.proofs.Listing.{alone, right_there, left_lower, right_lower, parts, joined}
 use Rattle.bench_orders.proofs.list.Reads as list
 use Rattle.bench_orders.proofs.list.Kinds as list-kinds
 use Rattle.bench_orders.proofs.+list.Lts-list as list-lts
@@ -85,7 +85,7 @@ list-list-requires t c κs =
     let b = s.args.b.now in
     let u = s.args.unit in
     let f = c.before.before.before.load-interface in
-    let l = left-lower b u s.requires.1.1.0 f.result f.ensures c.before.if1.false s.requires.1.0 in
+    let l = left_lower b u s.requires.1.1.0 f.result f.ensures c.before.if1.false s.requires.1.0 in
     let p = parts b u s.requires.1.1.0 f.result f.ensures c.before.if1.false s.requires.1.0 in
     (omega (arith, l, s.requires.0), (s.requires.1.0, (omega (arith, l, s.requires.1.1.0), omega (arith, p, s.requires.1.1.1))))
 
@@ -115,7 +115,7 @@ list-list-requires-2 t c κs =
     let b = s.args.b.now in
     let u = s.args.unit in
     let f = c.before.before.before.before.before.load-interface in
-    let l = right-lower b u s.requires.1.1.0 f.result f.ensures c.before.before.before.if1.false s.requires.1.0 in
+    let l = right_lower b u s.requires.1.1.0 f.result f.ensures c.before.before.before.if1.false s.requires.1.0 in
     let p = parts b u s.requires.1.1.0 f.result f.ensures c.before.before.before.if1.false s.requires.1.0 in
     (omega (arith, l, s.requires.0), (s.requires.1.0, (omega (arith, l, s.requires.1.1.0), omega (arith, p, s.requires.1.1.1, c.before.list.ensures.count))))
 

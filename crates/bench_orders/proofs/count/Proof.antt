@@ -4,7 +4,7 @@ use mathlib.Core.Path.{refl}
 use native.Mathlib.Omega.{arith}
 use lib.ListN.{get_or}
 use borrow.Author.Rules.{rules}
-use Rattle.bench_orders.proofs.Counting.{Counted, unit-low, used-small, count-on, count-ends}
+use Rattle.bench_orders.proofs.Counting.{Counted, unit_low, used_small, count_on, count_ends}
 use Rattle.bench_orders.proofs.count.Statement.{statement}
 use Rattle.bench_orders.proofs.count.Tie as tie
 
@@ -31,14 +31,14 @@ load-interface-requires c κs =
     let s = c.before.before.before.before in
     let o = c.before.before.before.order-of in
     let i = c.before.before.loop.i in
-    unit-low s.args.b.now s.requires.0 s.args.unit s.requires.1.0 o.result o.ensures i (get_or o.result.units i 0) c.before.loop-test.true refl
+    unit_low s.args.b.now s.requires.0 s.args.unit s.requires.1.0 o.result o.ensures i (get_or o.result.units i 0) c.before.loop-test.true refl
 
 add_total : tie.Need-overflow-add-total invariant-loop decreases-loop
 add_total c =
     let s = c.before.before.before.before.before.before in
     let o = c.before.before.before.before.before.order-of in
     let i = c.before.before.before.before.loop.i in
-    let u = used-small s.args.b.now s.requires.0 s.args.unit s.requires.1.0 o.result o.ensures i (get_or o.result.units i 0) c.before.before.before.loop-test.true refl c.before.load-interface.result c.before.load-interface.ensures in
+    let u = used_small s.args.b.now s.requires.0 s.args.unit s.requires.1.0 o.result o.ensures i (get_or o.result.units i 0) c.before.before.before.loop-test.true refl c.before.load-interface.result c.before.load-interface.ensures in
     omega (arith, u, c.before.before.before.before.loop.invariant.small, c.before.before.before.loop-test.true, o.ensures.few)
 
 add-i : tie.Need-overflow-add-i invariant-loop decreases-loop
@@ -52,13 +52,13 @@ loop-again c =
     let s = c.before.before.before.before.before.before in
     let o = c.before.before.before.before.before.order-of in
     let i = c.before.before.before.before.loop.i in
-    count-on s.args.b.now s.requires.0 s.args.unit s.requires.1.0 o.result o.ensures i (get_or o.result.units i 0) c.before.before.before.loop-test.true refl c.before.load-interface.result c.before.load-interface.ensures c.before.before.before.before.loop.total c.before.before.before.before.loop.invariant
+    count_on s.args.b.now s.requires.0 s.args.unit s.requires.1.0 o.result o.ensures i (get_or o.result.units i 0) c.before.before.before.loop-test.true refl c.before.load-interface.result c.before.load-interface.ensures c.before.before.before.before.loop.total c.before.before.before.before.loop.invariant
 
 returns : tie.Need-returns invariant-loop decreases-loop
 returns c =
     let s = c.before.before.before in
     let o = c.before.before.order-of in
-    count-ends s.args.b.now s.requires.0 s.args.unit s.requires.1.0 o.result o.ensures c.before.loop.i c.before.loop.total c.loop-test.false c.before.loop.invariant
+    count_ends s.args.b.now s.requires.0 s.args.unit s.requires.1.0 o.result o.ensures c.before.loop.i c.before.loop.total c.loop-test.false c.before.loop.invariant
 
 pub count_spec : {M : Type 1} → statement M
 count_spec =

@@ -4,13 +4,13 @@ use mathlib.Core.Path.{refl, sym, ◌∙◌}
 use native.Mathlib.Omega.{arith}
 use borrow.Author.Rules.{rules}
 use lib.ListN.{get_or}
-use Rattle.ledger_spec.specs.Named.{handleNamed}
-use Rattle.bench_orders.proofs.Counting.{Passed, unit-low, used-small, pass_on, index-there, index-ends}
+use Rattle.ledger_spec.specs.Named.{handle_named}
+use Rattle.bench_orders.proofs.Counting.{Passed, unit_low, used_small, pass_on, index_there, index_ends}
 use Rattle.bench_orders.proofs.index_of.Statement.{statement}
 use Rattle.bench_orders.proofs.index_of.Tie as tie
 
 abbrev invariant-loop : tie.invariant-loop
-invariant-loop b unit h o passed₀ i₀ passed i = Passed b unit (handleNamed h) i passed
+invariant-loop b unit h o passed₀ i₀ passed i = Passed b unit (handle_named h) i passed
 
 abbrev decreases-loop : tie.decreases-loop
 decreases-loop b unit h o passed₀ i₀ passed i = o.count - i
@@ -55,14 +55,14 @@ returns c =
     let o = c.before.before.before.before.before.before.order-of in
     let i = c.before.before.before.before.before.loop.i in
     sym (c.before.before.before.before.before.loop.invariant.index
-    ∙ index-there s.args.b.now s.requires.0 s.args.unit s.requires.1.0 o.result o.ensures i (get_or o.result.units i 0) c.before.before.before.before.loop-test.true refl c.before.before.before.before.before.loop.passed (handleNamed s.args.h) c.before.if1.true s.requires.1.1.1.slot)
+    ∙ index_there s.args.b.now s.requires.0 s.args.unit s.requires.1.0 o.result o.ensures i (get_or o.result.units i 0) c.before.before.before.before.loop-test.true refl c.before.before.before.before.before.loop.passed (handle_named s.args.h) c.before.if1.true s.requires.1.1.1.slot)
 
 load-interface-requires : tie.Need-load-interface-requires invariant-loop decreases-loop
 load-interface-requires c κs =
     let s = c.before.before.before.before.before.before in
     let o = c.before.before.before.before.before.order-of in
     let i = c.before.before.before.before.loop.i in
-    unit-low s.args.b.now s.requires.0 s.args.unit s.requires.1.0 o.result o.ensures i (get_or o.result.units i 0) c.before.before.before.loop-test.true refl
+    unit_low s.args.b.now s.requires.0 s.args.unit s.requires.1.0 o.result o.ensures i (get_or o.result.units i 0) c.before.before.before.loop-test.true refl
 
 add-passed : tie.Need-overflow-add-passed invariant-loop decreases-loop
 add-passed c =
@@ -71,7 +71,7 @@ add-passed c =
     let at-order-of = at-loop.before in
     let s = c.before.before.before.before.before.before.before.before in
     let i = at-loop.loop.i in
-    let u = used-small s.args.b.now s.requires.0 s.args.unit s.requires.1.0 at-order-of.order-of.result at-order-of.order-of.ensures i (get_or at-order-of.order-of.result.units i 0) at-loop-test.loop-test.true refl c.before.load-interface.result c.before.load-interface.ensures in
+    let u = used_small s.args.b.now s.requires.0 s.args.unit s.requires.1.0 at-order-of.order-of.result at-order-of.order-of.ensures i (get_or at-order-of.order-of.result.units i 0) at-loop-test.loop-test.true refl c.before.load-interface.result c.before.load-interface.ensures in
     omega (arith, u, at-loop.loop.invariant.small, at-loop-test.loop-test.true, at-order-of.order-of.ensures.few)
 
 add-i : tie.Need-overflow-add-i invariant-loop decreases-loop
@@ -91,13 +91,13 @@ loop-again c =
     let s = c.before.before.before.before.before.before.before.before in
     let i = at-loop.loop.i in
     pass_on s.args.b.now s.requires.0 s.args.unit s.requires.1.0 at-order-of.order-of.result at-order-of.order-of.ensures i (get_or at-order-of.order-of.result.units i 0) at-loop-test.loop-test.true refl c.before.load-interface.result c.before.load-interface.ensures
-    at-loop.loop.passed (handleNamed s.args.h) at-loop.loop.invariant c.before.before.if1.false
+    at-loop.loop.passed (handle_named s.args.h) at-loop.loop.invariant c.before.before.if1.false
 
 returns-2 : tie.Need-returns-2 invariant-loop decreases-loop
 returns-2 c =
     let s = c.before.before.before in
     let o = c.before.before.order-of in
-    index-ends s.args.b.now s.requires.0 s.args.unit s.requires.1.0 o.result o.ensures (handleNamed s.args.h) c.before.loop.i c.before.loop.passed c.loop-test.false c.before.loop.invariant
+    index_ends s.args.b.now s.requires.0 s.args.unit s.requires.1.0 o.result o.ensures (handle_named s.args.h) c.before.loop.i c.before.loop.passed c.loop-test.false c.before.loop.invariant
 
 pub index-of-spec : {M : Type 1} → statement M
 index-of-spec =

@@ -4,7 +4,7 @@ use mathlib.Core.Path.{refl}
 use native.Mathlib.Omega.{arith}
 use borrow.Author.Rules.{rules}
 use lib.ListN.{get_or}
-use Rattle.bench_orders.proofs.Counting.{Sought, unit-low, used-small, seek-on, seek-ends, seek-past}
+use Rattle.bench_orders.proofs.Counting.{Sought, unit_low, used_small, seek_on, seek_ends, seek_past}
 use Rattle.bench_orders.proofs.locate.Statement.{statement}
 use Rattle.bench_orders.proofs.locate.Tie as tie
 
@@ -31,14 +31,14 @@ load-interface-requires c κs =
     let s = c.before.before.before.before in
     let o = c.before.before.before.order-of in
     let i = c.before.before.loop.i in
-    unit-low s.args.b.now s.requires.0 s.args.unit s.requires.1.0 o.result o.ensures i (get_or o.result.units i 0) c.before.loop-test.true refl
+    unit_low s.args.b.now s.requires.0 s.args.unit s.requires.1.0 o.result o.ensures i (get_or o.result.units i 0) c.before.loop-test.true refl
 
 mul-t15 : tie.Need-overflow-mul-t15 invariant-loop decreases-loop
 mul-t15 c =
     let s = c.before.before.before.before.before.before.before in
     let o = c.before.before.before.before.before.before.order-of in
     let i = c.before.before.before.before.before.loop.i in
-    let u = unit-low s.args.b.now s.requires.0 s.args.unit s.requires.1.0 o.result o.ensures i (get_or o.result.units i 0) c.before.before.before.before.loop-test.true refl in
+    let u = unit_low s.args.b.now s.requires.0 s.args.unit s.requires.1.0 o.result o.ensures i (get_or o.result.units i 0) c.before.before.before.before.loop-test.true refl in
     omega (arith, u)
 
 add-t17 : tie.Need-overflow-add-t17 invariant-loop decreases-loop
@@ -46,8 +46,8 @@ add-t17 c =
     let s = c.before.before.before.before.before.before.before in
     let o = c.before.before.before.before.before.before.order-of in
     let i = c.before.before.before.before.before.loop.i in
-    let u = unit-low s.args.b.now s.requires.0 s.args.unit s.requires.1.0 o.result o.ensures i (get_or o.result.units i 0) c.before.before.before.before.loop-test.true refl in
-    let n = used-small s.args.b.now s.requires.0 s.args.unit s.requires.1.0 o.result o.ensures i (get_or o.result.units i 0) c.before.before.before.before.loop-test.true refl c.before.before.load-interface.result c.before.before.load-interface.ensures in
+    let u = unit_low s.args.b.now s.requires.0 s.args.unit s.requires.1.0 o.result o.ensures i (get_or o.result.units i 0) c.before.before.before.before.loop-test.true refl in
+    let n = used_small s.args.b.now s.requires.0 s.args.unit s.requires.1.0 o.result o.ensures i (get_or o.result.units i 0) c.before.before.before.before.loop-test.true refl c.before.before.load-interface.result c.before.before.load-interface.ensures in
     omega (arith, u, n, c.if1.true)
 
 returns : tie.Need-returns invariant-loop decreases-loop
@@ -55,7 +55,7 @@ returns c =
     let s = c.before.before.before.before.before.before.before in
     let o = c.before.before.before.before.before.before.order-of in
     let i = c.before.before.before.before.before.loop.i in
-    seek-ends s.args.b.now s.requires.0 s.args.unit s.requires.1.0 o.result o.ensures i (get_or o.result.units i 0) c.before.before.before.before.loop-test.true refl c.before.before.load-interface.result c.before.before.load-interface.ensures
+    seek_ends s.args.b.now s.requires.0 s.args.unit s.requires.1.0 o.result o.ensures i (get_or o.result.units i 0) c.before.before.before.before.loop-test.true refl c.before.before.load-interface.result c.before.before.load-interface.ensures
     s.args.index c.before.before.before.before.before.loop.rest (get_or o.result.units i 0 * 64 + c.before.before.before.before.before.loop.rest) c.before.before.before.before.before.loop.invariant c.if1.true refl
 
 add-i : tie.Need-overflow-add-i invariant-loop decreases-loop
@@ -74,13 +74,13 @@ loop-again c =
     let at-order-of = at-loop.before in
     let s = c.before.before.before.before.before.before.before.before in
     let i = at-loop.loop.i in
-    seek-on s.args.b.now s.requires.0 s.args.unit s.requires.1.0 at-order-of.order-of.result at-order-of.order-of.ensures i (get_or at-order-of.order-of.result.units i 0) at-loop-test.loop-test.true refl c.before.before.before.load-interface.result c.before.before.before.load-interface.ensures s.args.index at-loop.loop.rest at-loop.loop.invariant c.before.if1.false
+    seek_on s.args.b.now s.requires.0 s.args.unit s.requires.1.0 at-order-of.order-of.result at-order-of.order-of.ensures i (get_or at-order-of.order-of.result.units i 0) at-loop-test.loop-test.true refl c.before.before.before.load-interface.result c.before.before.before.load-interface.ensures s.args.index at-loop.loop.rest at-loop.loop.invariant c.before.if1.false
 
 returns-2 : tie.Need-returns-2 invariant-loop decreases-loop
 returns-2 c =
     let s = c.before.before.before in
     let o = c.before.before.order-of in
-    seek-past s.args.b.now s.requires.0 s.args.unit s.requires.1.0 o.result o.ensures s.args.index c.before.loop.rest c.before.loop.i c.loop-test.false c.before.loop.invariant
+    seek_past s.args.b.now s.requires.0 s.args.unit s.requires.1.0 o.result o.ensures s.args.index c.before.loop.rest c.before.loop.i c.loop-test.false c.before.loop.invariant
 
 pub locate-spec : {M : Type 1} → statement M
 locate-spec =

@@ -2,10 +2,10 @@
 use mathlib.Core.Path.{◌≡◌, ap}
 use borrow.Author.Rules.{rules}
 use Rattle.ledger_spec.specs.Bench.{Handle}
-use Rattle.ledger_spec.specs.Named.{handleNamed}
+use Rattle.ledger_spec.specs.Named.{handle_named}
 use Rattle.bench_links.specs.declared.Found.TheVariants.{At, Stale}
 use Rattle.bench_links.proofs.Finding.{found_at}
-use Rattle.bench_serials.proofs.Scanning.{held_at, all-at, all_none, seeks-one, seeks-none}
+use Rattle.bench_serials.proofs.Scanning.{held_at, all_at, all_none, seeks_one, seeks_none}
 use Rattle.bench_serials.proofs.look.Statement.{statement}
 use Rattle.bench_serials.proofs.look.Tie as tie
 
@@ -35,22 +35,22 @@ returns c =
     let s = c.before.before.before.before.before in
     let k = c.before.hinted.given.0.0 in
     let q : c.before.before.before.find.result ≡ At k = cc in
-    let h = handleNamed c.before.before.before.before.handle-at.result in
-    seeks-one s.args.b.now s.args.serial.0 s.requires.0 k
-    (held_at s.args.b.now s.args.serial.0 h k (ap (λ (x : Handle). x.serial) c.before.before.before.before.handle-at.ensures) (found_at s.args.b.now h c.before.before.before.find.ensures k q))
+    let h = handle_named c.before.before.before.before.handle_at_lem.result in
+    seeks_one s.args.b.now s.args.serial.0 s.requires.0 k
+    (held_at s.args.b.now s.args.serial.0 h k (ap (λ (x : Handle). x.serial) c.before.before.before.before.handle_at_lem.ensures) (found_at s.args.b.now h c.before.before.before.find.ensures k q))
 
 returns-2 : tie.Need-returns-2
 returns-2 c =
     let s = c.before.before.before.before.before.before.before.before in
     let k = c.before.found.given.0.0 in
     let q : c.before.before.before.scan.result ≡ At k = cc in
-    seeks-one s.args.b.now s.args.serial.0 s.requires.0 k (all-at s.args.b.now s.args.serial.0 k c.before.before.before.scan.ensures q)
+    seeks_one s.args.b.now s.args.serial.0 s.requires.0 k (all_at s.args.b.now s.args.serial.0 k c.before.before.before.scan.ensures q)
 
 returns-3 : tie.Need-returns-3
 returns-3 c =
     let s = c.before.before.before.before.before.before.before in
     let q : c.before.before.scan.result ≡ Stale = cc in
-    seeks-none s.args.b.now s.args.serial.0 s.requires.0 (all_none s.args.b.now s.args.serial.0 c.before.before.scan.ensures q)
+    seeks_none s.args.b.now s.args.serial.0 s.requires.0 (all_none s.args.b.now s.args.serial.0 c.before.before.scan.ensures q)
 
 pub look_spec : {M : Type 1} → statement M
 look_spec =

@@ -2,7 +2,7 @@
 use mathlib.Core.Path.{◌≡◌, ◌∙◌}
 use borrow.Author.Rules.{rules}
 use Rattle.bench_links.specs.declared.Found.TheVariants.{At, Stale}
-use Rattle.bench_serials.proofs.Scanning.{seek-at, seek-none}
+use Rattle.bench_serials.proofs.Scanning.{seek_at, seek_none}
 use Rattle.bench_serials.proofs.named.Statement.{statement}
 use Rattle.bench_serials.proofs.named.Tie as tie
 
@@ -17,7 +17,7 @@ handle-at-requires c κs =
     let s = c.before.before.before.before.before in
     let k = c.before.found.given.0.0 in
     let q : c.before.before.before.seek.result ≡ At k = cc in
-    (seek-at s.args.b.now s.args.serial.0 k c.before.before.before.seek.ensures.0 q).finds.low
+    (seek_at s.args.b.now s.args.serial.0 k c.before.before.before.seek.ensures.0 q).finds.low
 
 enum_told : tie.Need-enum-told
 enum_told c = search rules
@@ -27,13 +27,13 @@ returns c =
     let s = c.before.before.before.before.before.before in
     let k = c.before.before.found.given.0.0 in
     let q : c.before.before.before.before.seek.result ≡ At k = cc in
-    c.handle-at.ensures ∙ (seek-at s.args.b.now s.args.serial.0 k c.before.before.before.before.seek.ensures.0 q).same
+    c.handle_at_lem.ensures ∙ (seek_at s.args.b.now s.args.serial.0 k c.before.before.before.before.seek.ensures.0 q).same
 
 returns-2 : tie.Need-returns-2
 returns-2 c =
     let s = c.before.before.before.before in
     let q : c.before.before.seek.result ≡ Stale = cc in
-    (seek-none s.args.b.now s.args.serial.0 c.before.before.seek.ensures.0 q).same
+    (seek_none s.args.b.now s.args.serial.0 c.before.before.seek.ensures.0 q).same
 
 pub named-spec : {M : Type 1} → statement M
 named-spec =

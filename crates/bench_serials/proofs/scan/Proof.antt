@@ -4,7 +4,7 @@ use mathlib.Core.Path.{◌≡◌, subst}
 use native.Mathlib.Omega.{arith}
 use borrow.Author.Rules.{rules}
 use Rattle.bench_links.specs.declared.Found.TheVariants.{At, Stale}
-use Rattle.bench_serials.proofs.Scanning.{Clear, unit-more, all-units, not_yet, scan-at, scan-none}
+use Rattle.bench_serials.proofs.Scanning.{Clear, unit_more, all_units, not_yet, scan_at, scan_none}
 use Rattle.bench_serials.proofs.scan.Statement.{statement}
 use Rattle.bench_serials.proofs.scan.Tie as tie
 
@@ -37,7 +37,7 @@ returns-2 c =
     let s = c.before.before.before.before.before.before.before.before.before in
     let k = c.before.found.given.0.0 in
     let q : c.before.before.before.scan-unit.result ≡ At k = cc in
-    scan-at s.args.b.now c.before.before.before.before.before.loop.u s.args.serial.0 k c.before.before.before.scan-unit.ensures q
+    scan_at s.args.b.now c.before.before.before.before.before.loop.u s.args.serial.0 k c.before.before.before.scan-unit.ensures q
 
 enum_told : tie.Need-enum-told invariant-loop decreases-loop
 enum_told c = search rules
@@ -52,10 +52,10 @@ loop-again : tie.Need-loop-preserved invariant-loop decreases-loop
 loop-again c =
     let s = c.before.before.before.before.before.before.before.before in
     let q : c.before.before.scan-unit.result ≡ Stale = cc in
-    unit-more s.args.b.now s.args.serial.0 c.before.before.before.before.loop.u c.before.before.before.before.loop.invariant (scan-none s.args.b.now c.before.before.before.before.loop.u s.args.serial.0 c.before.before.scan-unit.ensures q)
+    unit_more s.args.b.now s.args.serial.0 c.before.before.before.before.loop.u c.before.before.before.before.loop.invariant (scan_none s.args.b.now c.before.before.before.before.loop.u s.args.serial.0 c.before.before.scan-unit.ensures q)
 
 returns-3 : tie.Need-returns-3 invariant-loop decreases-loop
-returns-3 c = all-units c.before.before.before.before.before.args.b.now c.before.before.before.before.before.args.serial.0 c.before.loop.u c.loop-test.false c.before.loop.invariant
+returns-3 c = all_units c.before.before.before.before.before.args.b.now c.before.before.before.before.before.args.serial.0 c.before.loop.u c.loop-test.false c.before.loop.invariant
 
 pub scan-spec : {M : Type 1} → statement M
 scan-spec =

@@ -5,7 +5,7 @@ use mathlib.Core.Option.{none}
 use native.Mathlib.Omega.{arith}
 use borrow.Author.Rules.{rules}
 use Rattle.bench_words.specs.declared.Interface.{Interface}
-use Rattle.ledger_spec.specs.Look.{nodeNamed}
+use Rattle.ledger_spec.specs.Look.{node_named}
 use Rattle.bench_views.specs.View.{view}
 use Rattle.bench_links.specs.declared.Found.TheVariants.{At, Stale}
 use Rattle.bench_links.proofs.Finding.{found_at, found_none}
@@ -15,7 +15,7 @@ use Rattle.bench_serials.proofs.scan_unit.Statement.{statement}
 use Rattle.bench_serials.proofs.scan_unit.Tie as tie
 
 abbrev invariant-loop : tie.invariant-loop
-invariant-loop b unit serial f s₀ s = (t : ℕ) → t < s → nodeNamed (view b) (handle unit t serial.0) ≡ none
+invariant-loop b unit serial f s₀ s = (t : ℕ) → t < s → node_named (view b) (handle unit t serial.0) ≡ none
 
 abbrev decreases-loop : tie.decreases-loop
 decreases-loop b unit serial f s₀ s = f.used - s

@@ -3,7 +3,7 @@ use mathlib.Core.Path.{◌≡◌, refl}
 use native.Mathlib.Omega.{arith}
 use borrow.Author.Rules.{rules}
 use Rattle.bench_links.specs.declared.Found.TheVariants.{At, Stale}
-use Rattle.bench_serials.proofs.Scanning.{seek-at, seek-none}
+use Rattle.bench_serials.proofs.Scanning.{seek_at, seek_none}
 use Rattle.bench_serials.proofs.seek.Statement.{statement}
 use Rattle.bench_serials.proofs.seek.Tie as tie
 
@@ -30,7 +30,7 @@ cast-hints c =
     let s = c.before.before.before.before.before.before.before in
     let k = c.before.found.given.0.0 in
     let q : c.before.before.before.look.result ≡ At k = cc in
-    let h = (seek-at s.args.b.now s.args.serial.0 k c.before.before.before.look.ensures q).finds.low in
+    let h = (seek_at s.args.b.now s.args.serial.0 k c.before.before.before.look.ensures q).finds.low in
     record { fits = omega arith }
 
 mul-hints : tie.Need-overflow-mul-hints
@@ -47,13 +47,13 @@ returns c =
     let s = c.before.before.before.before.before.before.before in
     let k = c.before.found.given.0.0 in
     let q : c.before.before.before.look.result ≡ At k = cc in
-    (seek-at s.args.b.now s.args.serial.0 k c.before.before.before.look.ensures q, refl)
+    (seek_at s.args.b.now s.args.serial.0 k c.before.before.before.look.ensures q, refl)
 
 returns-2 : tie.Need-returns-2
 returns-2 c =
     let s = c.before.before.before.before.before.before in
     let q : c.before.before.look.result ≡ Stale = cc in
-    (seek-none s.args.b.now s.args.serial.0 c.before.before.look.ensures q, refl)
+    (seek_none s.args.b.now s.args.serial.0 c.before.before.look.ensures q, refl)
 
 pub seek-spec : {M : Type 1} → statement M
 seek-spec =

@@ -1,6 +1,6 @@
 -- By the mode: the used count, or what the map's lowest clear bit says. Assumes nothing.
 use native.Mathlib.Omega.{arith}
-use Rattle.bench_slots.proofs.Free.{used-small, next-slot, lowest-slot, no_slot}
+use Rattle.bench_slots.proofs.Free.{used_small, next_slot, lowest_slot, no_slot}
 use borrow.Author.Rules.{rules}
 use Rattle.bench_slots.proofs.free_slot.Statement.{statement}
 use Rattle.bench_slots.proofs.free_slot.Tie as tie
@@ -9,13 +9,13 @@ load-interface-requires : tie.Need-load-interface-requires
 load-interface-requires c κs = search rules
 
 cast-result : tie.Need-overflow-cast-result
-cast-result c = let s = c.before.before.before.before.before in omega (arith, used-small s.args.b.now s.requires.0 s.args.unit s.requires.1 c.before.before.before.before.load-interface.result c.before.before.before.before.load-interface.ensures)
+cast-result c = let s = c.before.before.before.before.before in omega (arith, used_small s.args.b.now s.requires.0 s.args.unit s.requires.1 c.before.before.before.before.load-interface.result c.before.before.before.before.load-interface.ensures)
 
 returns : tie.Need-returns
 returns c =
     let s = c.before.before.before.before.before in
     let f = c.before.before.before.before.load-interface in
-    next-slot s.args.b.now s.requires.0 s.args.unit s.requires.1 f.result f.ensures c.before.if1.true
+    next_slot s.args.b.now s.requires.0 s.args.unit s.requires.1 f.result f.ensures c.before.if1.true
 
 load-map-requires : tie.Need-load-map-requires
 load-map-requires c κs = search rules
@@ -35,7 +35,7 @@ returns-2 c =
     let f = c.before.before.before.before.before.before.before.before.load-interface in
     let m = c.before.before.before.before.load-map in
     let r = c.before.before.before.lowest-clear in
-    lowest-slot s.args.b.now s.requires.0 s.args.unit s.requires.1 f.result f.ensures c.before.before.before.before.before.if1.false m.result m.ensures r.result r.ensures c.before.found.given.0.0 c.before.found.given.1
+    lowest_slot s.args.b.now s.requires.0 s.args.unit s.requires.1 f.result f.ensures c.before.before.before.before.before.if1.false m.result m.ensures r.result r.ensures c.before.found.given.0.0 c.before.found.given.1
 
 returns-3 : tie.Need-returns-3
 returns-3 c =

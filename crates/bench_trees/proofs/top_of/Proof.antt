@@ -3,7 +3,7 @@ use mathlib.Core.Path.{◌≡◌}
 use native.Mathlib.Omega.{arith}
 use borrow.Author.Rules.{rules}
 use Rattle.bench_words.specs.declared.Up.TheVariants.{Under}
-use Rattle.bench_trees.proofs.Climbing.{Rising, rising-starts, rising-ends, rising-on, rising-spent}
+use Rattle.bench_trees.proofs.Climbing.{Rising, rising_starts, rising_ends, rising_on, rising_spent}
 use Rattle.bench_trees.proofs.top_of.Statement.{statement}
 use Rattle.bench_trees.proofs.top_of.Tie as tie
 
@@ -14,7 +14,7 @@ abbrev decreases-loop : tie.decreases-loop
 decreases-loop b unit u₀ left₀ u left = left
 
 loop-holds : tie.Need-loop-init invariant-loop decreases-loop
-loop-holds c = rising-starts c.args.b.now c.args.unit c.requires
+loop-holds c = rising_starts c.args.b.now c.args.unit c.requires
 
 load-interface-requires : tie.Need-load-interface-requires invariant-loop decreases-loop
 load-interface-requires c κs = search rules
@@ -30,7 +30,7 @@ returns c =
     let l = c.before.before.before.before.loop in
     let f = c.before.before.load-interface in
     let start = c.before.before.before.before.before in
-    (rising-ends start.args.b.now start.args.unit l.u l.left l.invariant f.result f.ensures (cc), l.invariant.low)
+    (rising_ends start.args.b.now start.args.unit l.u l.left l.invariant f.result f.ensures (cc), l.invariant.low)
 
 enum-known-up : tie.Need-enum-known-up invariant-loop decreases-loop
 enum-known-up c = search rules
@@ -48,12 +48,12 @@ loop-again c =
     let start = c.before.before.before.before.before.before in
     let p = c.before.up.given.0.0 in
     let q : f.result.parent ≡ Under p = cc in
-    rising-on start.args.b.now start.args.unit l.u l.left l.invariant f.result f.ensures c.before.before.before.before.loop-test.true p q
+    rising_on start.args.b.now start.args.unit l.u l.left l.invariant f.result f.ensures c.before.before.before.before.loop-test.true p q
 
 returns-2 : tie.Need-returns-2 invariant-loop decreases-loop
 returns-2 c =
     let l = c.before.loop in
-    (rising-spent c.before.before.args.b.now c.before.before.args.unit l.u l.left l.invariant (omega arith), l.invariant.low)
+    (rising_spent c.before.before.args.b.now c.before.before.args.unit l.u l.left l.invariant (omega arith), l.invariant.low)
 
 pub top-of-spec : {M : Type 1} → statement M
 top-of-spec =

@@ -7,9 +7,9 @@ use borrow.Fn.Kinds.{In}
 use borrow.Fn.PlainCycle.{Measures, is, falls, and}
 use lib.ListN.{length, length-set}
 use Rattle.kinds.specs.declared.Class.TheVariants.{Absent, Blossom, Defect}
-use Rattle.bench_words.specs.Store.{nodeAt}
+use Rattle.bench_words.specs.Store.{node_at}
 use Rattle.bench_words.specs.declared.Node.{Node}
-use Rattle.bench_vertices.proofs.Circling.{Going, never, one-vertex, wrote_one, going-starts, going_on, going-ends, next-placed, next-older, next-room}
+use Rattle.bench_vertices.proofs.Circling.{Going, never, one_vertex, wrote_one, going_starts, going_on, going_ends, next_placed, next_older, next_room}
 use Rattle.bench_vertices.proofs.all_vertices.Reads as all-vertices
 use Rattle.bench_vertices.proofs.all_vertices.Kinds as all-vertices-kinds
 use Rattle.bench_vertices.proofs.+all_vertices.Lts-all_vertices as all-vertices-lts
@@ -18,7 +18,7 @@ use Rattle.bench_vertices.proofs.+all_vertices.{statement}
 use Rattle.bench_vertices.proofs.+all_vertices.Tie.{close}
 
 abbrev μ-all-vertices : Measures 2 all-vertices-kinds.ps ℕ
-μ-all-vertices κs a = (nodeAt a.0.now a.1.0).serial.0
+μ-all-vertices κs a = (node_at a.0.now a.1.0).serial.0
 
 abbrev all-vertices-at : ℕ → In 2 all-vertices-kinds.ps
 all-vertices-at t =
@@ -80,7 +80,7 @@ all-vertices-slice-write-out t c =
     let s = c.before.before.before.before.before in
     let n = c.before.before.before.load-node in
     let q : n.result.class ≡ Defect c.before.class.given.0.0 = cc in
-    omega (arith, s.requires.1.1.1, ap length (one-vertex s.args.b.now s.requires.1.0 s.args.k s.requires.1.1.0 n.result n.ensures c.before.class.given.0.0 q))
+    omega (arith, s.requires.1.1.1, ap length (one_vertex s.args.b.now s.requires.1.0 s.args.k s.requires.1.1.0 n.result n.ensures c.before.class.given.0.0 q))
 
 all-vertices-add-result : (t : ℕ) → all-vertices-lts.Need-overflow-add-result (
   load-node-reads.Asked,
@@ -92,7 +92,7 @@ all-vertices-add-result t c =
     let s = c.before.before.before.before.before in
     let n = c.before.before.before.load-node in
     let q : n.result.class ≡ Defect c.before.class.given.0.0 = cc in
-    omega (arith, s.requires.1.1.1, s.well-formed, ap length (one-vertex s.args.b.now s.requires.1.0 s.args.k s.requires.1.1.0 n.result n.ensures c.before.class.given.0.0 q))
+    omega (arith, s.requires.1.1.1, s.well-formed, ap length (one_vertex s.args.b.now s.requires.1.0 s.args.k s.requires.1.1.0 n.result n.ensures c.before.class.given.0.0 q))
 
 all-vertices-enum-told-2 : (t : ℕ) → all-vertices-lts.Need-enum-told-2 (
   load-node-reads.Asked,
@@ -112,7 +112,7 @@ all-vertices-loop-holds t c =
     let s = c.before.before.before.before in
     let n = c.before.before.load-node in
     let q : n.result.class ≡ Blossom = cc in
-    going-starts s.args.b.now s.requires.1.0 s.args.k s.requires.1.1.0 n.result n.ensures q s.args.at s.args.out.now
+    going_starts s.args.b.now s.requires.1.0 s.args.k s.requires.1.1.0 n.result n.ensures q s.args.at s.args.out.now
 
 all-vertices-all-vertices-requires : (t : ℕ) → all-vertices-lts.Need-all-vertices-requires (
   load-node-reads.Asked,
@@ -123,13 +123,13 @@ all-vertices-all-vertices-requires : (t : ℕ) → all-vertices-lts.Need-all-ver
 all-vertices-all-vertices-requires t c κs =
     let s = c.before.before.before.before.before.before.before in
     let l = c.before.before.loop in
-    let f = next-older s.args.b.now s.requires.1.0 s.args.k s.requires.1.1.0 s.args.at s.args.out.now l.i l.p l.m l.out l.invariant c.before.loop-test.true in (
+    let f = next_older s.args.b.now s.requires.1.0 s.args.k s.requires.1.1.0 s.args.at s.args.out.now l.i l.p l.m l.out l.invariant c.before.loop-test.true in (
       omega (arith, f, s.requires.0),
       (
         s.requires.1.0,
         (
-          next-placed s.args.b.now s.requires.1.0 s.args.k s.requires.1.1.0 s.args.at s.args.out.now l.i l.p l.m l.out l.invariant c.before.loop-test.true,
-          next-room s.args.b.now s.requires.1.0 s.args.k s.requires.1.1.0 s.args.at s.args.out.now l.i l.p l.m l.out l.invariant c.before.loop-test.true s.requires.1.1.1,
+          next_placed s.args.b.now s.requires.1.0 s.args.k s.requires.1.1.0 s.args.at s.args.out.now l.i l.p l.m l.out l.invariant c.before.loop-test.true,
+          next_room s.args.b.now s.requires.1.0 s.args.k s.requires.1.1.0 s.args.at s.args.out.now l.i l.p l.m l.out l.invariant c.before.loop-test.true s.requires.1.1.1,
         ),
       ),
     )
@@ -143,7 +143,7 @@ all-vertices-load-node-requires-2 : (t : ℕ) → all-vertices-lts.Need-load-nod
 all-vertices-load-node-requires-2 t c κs =
     let s = c.before.before.before.before.before.before.before.before.before.before in
     let l = c.before.before.before.before.before.loop in
-    (next-placed s.args.b.now s.requires.1.0 s.args.k s.requires.1.1.0 s.args.at s.args.out.now l.i l.p l.m l.out l.invariant c.before.before.before.before.loop-test.true).low
+    (next_placed s.args.b.now s.requires.1.0 s.args.k s.requires.1.1.0 s.args.at s.args.out.now l.i l.p l.m l.out l.invariant c.before.before.before.before.loop-test.true).low
 
 all-vertices-sub-m : (t : ℕ) → all-vertices-lts.Need-overflow-sub-m (
   load-node-reads.Asked,
@@ -222,7 +222,7 @@ all-vertices-returns-3 : (t : ℕ) → all-vertices-lts.Need-returns-3 (
 all-vertices-returns-3 t c =
     let s = c.before.before.before.before.before.before in
     let l = c.before.loop in
-    going-ends s.args.b.now s.requires.1.0 s.args.k s.requires.1.1.0 s.args.at s.args.out.now l.i l.p l.m l.out l.invariant (omega (arith, c.loop-test.false))
+    going_ends s.args.b.now s.requires.1.0 s.args.k s.requires.1.1.0 s.args.at s.args.out.now l.i l.p l.m l.out l.invariant (omega (arith, c.loop-test.false))
 
 pub +all-vertices-spec : {M : Type 1} → statement M
 +all-vertices-spec = close μ-all-vertices λ t. all-vertices-lts.spec (

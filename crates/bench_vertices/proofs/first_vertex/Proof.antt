@@ -2,8 +2,8 @@
 use mathlib.Core.Path.{◌≡◌, refl, ◌∙◌}
 use borrow.Author.Rules.{rules}
 use Rattle.kinds.specs.declared.Class.TheVariants.{Absent, Blossom, Defect}
-use Rattle.bench_words.specs.Store.{nodeAt}
-use Rattle.bench_vertices.proofs.Circling.{Down, never, first-own, first-placed, first-older, first_under}
+use Rattle.bench_words.specs.Store.{node_at}
+use Rattle.bench_vertices.proofs.Circling.{Down, never, first_own, first_placed, first_older, first_under}
 use Rattle.bench_vertices.proofs.first_vertex.Statement.{statement}
 use Rattle.bench_vertices.proofs.first_vertex.Tie as tie
 
@@ -11,7 +11,7 @@ abbrev invariant-loop : tie.invariant-loop
 invariant-loop b k p₀ p = Down b k p
 
 abbrev decreases-loop : tie.decreases-loop
-decreases-loop b k p₀ p = (nodeAt b p).serial.0
+decreases-loop b k p₀ p = (node_at b p).serial.0
 
 loop-holds : tie.Need-loop-init invariant-loop decreases-loop
 loop-holds c = record { placed = c.requires.1; same = refl }
@@ -40,7 +40,7 @@ returns-2 c =
     let n = c.before.before.before.load-node in
     let v = c.before.class.given.0.0 in
     let q : n.result.class ≡ Defect v = cc in
-    first-own s.args.b.now s.requires.0 l.p l.invariant.placed n.result n.ensures v q ∙ l.invariant.same
+    first_own s.args.b.now s.requires.0 l.p l.invariant.placed n.result n.ensures v q ∙ l.invariant.same
 
 enum-told-2 : tie.Need-enum-told-2 invariant-loop decreases-loop
 enum-told-2 c = search rules
@@ -51,7 +51,7 @@ loop-less c =
     let l = c.before.before.before.loop in
     let n = c.before.before.load-node in
     let q : n.result.class ≡ Blossom = cc in
-    first-older s.args.b.now s.requires.0 l.p l.invariant.placed n.result n.ensures q
+    first_older s.args.b.now s.requires.0 l.p l.invariant.placed n.result n.ensures q
 
 loop-again : tie.Need-loop-preserved invariant-loop decreases-loop
 loop-again c =
@@ -60,7 +60,7 @@ loop-again c =
     let n = c.before.before.load-node in
     let q : n.result.class ≡ Blossom = cc in
     record {
-      placed = first-placed s.args.b.now s.requires.0 l.p l.invariant.placed n.result n.ensures q;
+      placed = first_placed s.args.b.now s.requires.0 l.p l.invariant.placed n.result n.ensures q;
       same = first_under s.args.b.now s.requires.0 l.p l.invariant.placed n.result n.ensures q ∙ l.invariant.same;
     }
 

@@ -1,5 +1,5 @@
 -- Each field is its word, read by its codec. Assumes nothing.
-use Rattle.bench_words.specs.Store.{interfaceAt}
+use Rattle.bench_words.specs.Store.{interface_at}
 use borrow.Author.Rules.{rules}
 use Rattle.bench_words.proofs.load_interface.Statement.{statement}
 use Rattle.bench_words.proofs.load_interface.Tie as tie
@@ -86,7 +86,7 @@ element-copy-out-t39 : tie.Need-element-copy-out-t39
 element-copy-out-t39 c = search rules
 
 returns : tie.Need-returns
-unfolding interfaceAt
+unfolding interface_at
 returns c =
     let at-marks-of = c.before.before.before.before.before.before in
     let at-up-of = at-marks-of.before.before in

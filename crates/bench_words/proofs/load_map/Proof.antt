@@ -1,5 +1,5 @@
 -- The word is read where the definition has it. Assumes nothing.
-use Rattle.bench_words.specs.Store.{mapAt}
+use Rattle.bench_words.specs.Store.{map_at}
 use borrow.Author.Rules.{rules}
 use Rattle.bench_words.proofs.load_map.Statement.{statement}
 use Rattle.bench_words.proofs.load_map.Tie as tie
@@ -17,7 +17,7 @@ element-copy-out-result : tie.Need-element-copy-out-result
 element-copy-out-result c = search rules
 
 returns : tie.Need-returns
-unfolding mapAt
+unfolding map_at
 returns c = search rules
 
 pub load-map-spec : {M : Type 1} → statement M

@@ -1,5 +1,5 @@
 -- Each field is its word, read by its codec. Assumes nothing.
-use Rattle.bench_words.specs.Store.{nodeAt}
+use Rattle.bench_words.specs.Store.{node_at}
 use borrow.Author.Rules.{rules}
 use Rattle.bench_words.proofs.load_node.Statement.{statement}
 use Rattle.bench_words.proofs.load_node.Tie as tie
@@ -137,7 +137,7 @@ element-copy-out-t56 : tie.Need-element-copy-out-t56
 element-copy-out-t56 c = search rules
 
 returns : tie.Need-returns
-unfolding nodeAt
+unfolding node_at
 returns c =
     let at-handle-of2 = c.before.before.before.before.before.before.before in
     let at-handle-of = at-handle-of2.before.before in

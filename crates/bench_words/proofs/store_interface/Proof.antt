@@ -1,5 +1,5 @@
 -- The words are written one after the other, as the definition has it. Assumes nothing.
-use Rattle.bench_words.specs.Store.{storeInterface}
+use Rattle.bench_words.specs.Store.{store_interface}
 use borrow.Author.Rules.{rules}
 use Rattle.bench_words.proofs.store_interface.Statement.{statement}
 use Rattle.bench_words.proofs.store_interface.Tie as tie
@@ -86,7 +86,7 @@ element-write-b-8 : tie.Need-element-write-b-8
 element-write-b-8 c = search rules
 
 returns : tie.Need-returns
-unfolding storeInterface
+unfolding store_interface
 returns c = cc
 
 pub store-interface-spec : {M : Type 1} → statement M

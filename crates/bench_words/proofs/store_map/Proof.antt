@@ -1,5 +1,5 @@
 -- The word is written where the definition has it. Assumes nothing.
-use Rattle.bench_words.specs.Store.{storeMap}
+use Rattle.bench_words.specs.Store.{store_map}
 use borrow.Author.Rules.{rules}
 use Rattle.bench_words.proofs.store_map.Statement.{statement}
 use Rattle.bench_words.proofs.store_map.Tie as tie
@@ -17,7 +17,7 @@ element-write-b : tie.Need-element-write-b
 element-write-b c = search rules
 
 returns : tie.Need-returns
-unfolding storeMap
+unfolding store_map
 returns c = search rules
 
 pub store-map-spec : {M : Type 1} → statement M

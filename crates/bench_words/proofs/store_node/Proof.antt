@@ -1,5 +1,5 @@
 -- The words are written one after the other, as the definition has it. Assumes nothing.
-use Rattle.bench_words.specs.Store.{storeNode}
+use Rattle.bench_words.specs.Store.{store_node}
 use borrow.Author.Rules.{rules}
 use Rattle.bench_words.proofs.store_node.Statement.{statement}
 use Rattle.bench_words.proofs.store_node.Tie as tie
@@ -137,7 +137,7 @@ element-write-b-12 : tie.Need-element-write-b-12
 element-write-b-12 c = search rules
 
 returns : tie.Need-returns
-unfolding storeNode
+unfolding store_node
 returns c = cc
 
 pub store-node-spec : {M : Type 1} → statement M

@@ -1,7 +1,7 @@
 -- BROKEN on words that hold no sound bench; else the call on sound words. Assumes nothing.
 use borrow.Author.Rules.{rules}
 use mathlib.Core.Path.{refl}
-use Rattle.call_any.proofs.Public.{no-bench, sound-bench, answers}
+use Rattle.call_any.proofs.Public.{no_bench, sound_bench, answers}
 use Rattle.call_any.proofs.set_grow_state.Statement.{statement}
 use Rattle.call_any.proofs.set_grow_state.Tie as tie
 
@@ -12,13 +12,13 @@ refused-requires : tie.Need-refused-requires
 refused-requires c κs = search rules
 
 returns : tie.Need-returns
-returns c = no-bench c.before.before.is-bench.ensures c.before.if1.true c.refused.ensures refl
+returns c = no_bench c.before.before.is-bench.ensures c.before.if1.true c.refused.ensures refl
 
 set-grow-state-requires : tie.Need-set-grow-state-requires
-set-grow-state-requires c κs = sound-bench c.before.before.is-bench.ensures c.before.if1.false
+set-grow-state-requires c κs = sound_bench c.before.before.is-bench.ensures c.before.if1.false
 
 returns-2 : tie.Need-returns-2
-returns-2 c = answers c.before.before.before.is-bench.ensures c.before.before.if1.false c.set-grow-state.ensures
+returns-2 c = answers c.before.before.before.is-bench.ensures c.before.before.if1.false c.set_grow_state.ensures
 
 pub set-grow-state-spec : {M : Type 1} → statement M
 set-grow-state-spec =

@@ -8,7 +8,7 @@ set-up-in-requires : tie.Need-set-up-in-requires
 set-up-in-requires c κs = search rules
 
 returns : tie.Need-returns
-returns c = lazily c.set-up-in.ensures
+returns c = lazily c.set_up_in.ensures
 
 pub set-up-spec : {M : Type 1} → statement M
 set-up-spec = tie.close (tie.spec set-up-in-requires returns)

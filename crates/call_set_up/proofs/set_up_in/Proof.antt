@@ -1,6 +1,6 @@
 -- 0 is refused and the bench is from serial 1; any other is the first serial. Assumes nothing.
 use borrow.Author.Rules.{rules}
-use Rattle.call_set_up.proofs.Opening.{opens, opens-worn}
+use Rattle.call_set_up.proofs.Opening.{opens, opens_worn}
 use Rattle.call_set_up.proofs.set_up_in.Statement.{statement}
 use Rattle.call_set_up.proofs.set_up_in.Tie as tie
 
@@ -8,7 +8,7 @@ set-up-in-requires : tie.Need-set-up-in-requires
 set-up-in-requires c κs = search rules
 
 returns : tie.Need-returns
-returns c = opens-worn _ c.before.before.before.args.first c.before.before.before.ranges.first.fits _ c.before.before.if1.true c.set-up-in.ensures
+returns c = opens_worn _ c.before.before.before.args.first c.before.before.before.ranges.first.fits _ c.before.before.if1.true c.set_up_in.ensures
 
 set-up-in-requires-2 : tie.Need-set-up-in-requires-2
 set-up-in-requires-2 c κs = search rules

@@ -13,14 +13,14 @@ refused-requires : tie.Need-refused-requires
 refused-requires c κs = search rules
 
 returns : tie.Need-returns
-returns c = stops c.before.before.before.set-grow-state.ensures.0 c.before.if1.true c.refused.ensures
+returns c = stops c.before.before.before.set_grow_state.ensures.0 c.before.if1.true c.refused.ensures
 
 state-requires : tie.Need-state-requires
 state-requires c κs = search rules
 
 returns-2 : tie.Need-returns-2
 unfolding tells
-returns-2 c = let m = c.before.before.before.before.set-grow-state in goes m.ensures.0 c.before.before.if1.false m.ensures.1 refl c.before.state.ensures
+returns-2 c = let m = c.before.before.before.before.set_grow_state in goes m.ensures.0 c.before.before.if1.false m.ensures.1 refl c.before.state.ensures
 
 pub set-grow-state-spec : {M : Type 1} → statement M
 set-grow-state-spec =

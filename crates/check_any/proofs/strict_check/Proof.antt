@@ -1,7 +1,7 @@
 -- The verdict on the words decides: BROKEN, or the check on sound words. Assumes nothing.
 use borrow.Author.Rules.{rules}
 use mathlib.Core.Path.{◌∙◌}
-use Rattle.sound_lent.proofs.Asking.{no-bench, a-bench, fits}
+use Rattle.sound_lent.proofs.Asking.{no_bench, a_bench, fits}
 use Rattle.check_any.proofs.strict_check.Statement.{statement}
 use Rattle.check_any.proofs.strict_check.Tie as tie
 
@@ -12,13 +12,13 @@ broken-requires : tie.Need-broken-requires
 broken-requires c κs = search rules
 
 returns : tie.Need-returns
-returns c = c.broken.ensures ∙ no-bench _ _ _ c.before.before.is-bench.ensures c.before.if1.true
+returns c = c.broken.ensures ∙ no_bench _ _ _ c.before.before.is-bench.ensures c.before.if1.true
 
 strict-check-requires : tie.Need-strict-check-requires
 strict-check-requires c κs = fits c.before.is-bench.ensures c.if1.false
 
 returns-2 : tie.Need-returns-2
-returns-2 c = a-bench _ _ _ c.before.before.is-bench.ensures c.before.if1.false c.strict-check.ensures
+returns-2 c = a_bench _ _ _ c.before.before.is-bench.ensures c.before.if1.false c.strict-check.ensures
 
 pub strict-check-spec : {M : Type 1} → statement M
 strict-check-spec = tie.close (tie.spec is-bench-requires broken-requires returns strict-check-requires returns-2)

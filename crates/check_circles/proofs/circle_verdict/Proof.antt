@@ -3,8 +3,8 @@ use mathlib.Core.Path.{refl, ap}
 use native.Mathlib.Omega.{arith}
 use borrow.Author.Rules.{rules}
 use Rattle.bench_words.specs.declared.Node.{Node}
-use Rattle.ledger_spec.specs.Named.{handleNamed}
-use Rattle.check_circles.proofs.Circling.{Going, going-starts, going-ends, next-placed, next-outer, going_on, going-found}
+use Rattle.ledger_spec.specs.Named.{handle_named}
+use Rattle.check_circles.proofs.Circling.{Going, going_starts, going_ends, next_placed, next_outer, going_on, going_found}
 use Rattle.check_circles.proofs.circle_verdict.Statement.{statement}
 use Rattle.check_circles.proofs.circle_verdict.Tie as tie
 
@@ -23,7 +23,7 @@ outer-requires c κs = (c.before.requires.0, (c.before.requires.1.1.0, c.before.
 loop-holds : tie.Need-loop-init invariant-loop decreases-loop
 loop-holds c =
     let s = c.before.before in
-    going-starts s.args.b.now s.args.k s.args.strict c.before.load-node.result c.before.load-node.ensures
+    going_starts s.args.b.now s.args.k s.args.strict c.before.load-node.result c.before.load-node.ensures
 
 member-verdict-requires : tie.Need-member-verdict-requires invariant-loop decreases-loop
 member-verdict-requires c κs =
@@ -31,14 +31,14 @@ member-verdict-requires c κs =
     let b = s.args.b.now in
     let l = c.before.loop in
     let o = c.before.before.outer in
-    (s.requires.0, (s.requires.1.0, (next-placed b s.requires.0 s.args.k s.requires.1.1.0 s.requires.1.1.1 s.args.strict l.p l.m l.invariant c.loop-test.true, next-outer b s.requires.0 s.args.k s.requires.1.1.0 s.requires.1.1.1 s.args.strict l.p l.m l.invariant c.loop-test.true (handleNamed o.result) o.ensures.0)))
+    (s.requires.0, (s.requires.1.0, (next_placed b s.requires.0 s.args.k s.requires.1.1.0 s.requires.1.1.1 s.args.strict l.p l.m l.invariant c.loop-test.true, next_outer b s.requires.0 s.args.k s.requires.1.1.0 s.requires.1.1.1 s.args.strict l.p l.m l.invariant c.loop-test.true (handle_named o.result) o.ensures.0)))
 
 handle-at-requires : tie.Need-handle-at-requires invariant-loop decreases-loop
 handle-at-requires c κs =
     let s = c.before.before.before.before.before.before in
     let b = s.args.b.now in
     let l = c.before.before.before.loop in
-    (next-placed b s.requires.0 s.args.k s.requires.1.1.0 s.requires.1.1.1 s.args.strict l.p l.m l.invariant c.before.before.loop-test.true).low
+    (next_placed b s.requires.0 s.args.k s.requires.1.1.0 s.requires.1.1.1 s.args.strict l.p l.m l.invariant c.before.before.loop-test.true).low
 
 returns : tie.Need-returns invariant-loop decreases-loop
 returns c =
@@ -46,14 +46,14 @@ returns c =
     let b = s.args.b.now in
     let l = c.before.before.before.before.loop in
     let v = c.before.before.member-verdict in
-    going-found b s.requires.0 s.args.k s.requires.1.1.0 s.requires.1.1.1 s.args.strict l.p l.m l.invariant c.before.before.before.loop-test.true (record { verdict = v.result; node = c.handle-at.result }) v.ensures c.before.if1.true c.handle-at.ensures
+    going_found b s.requires.0 s.args.k s.requires.1.1.0 s.requires.1.1.1 s.args.strict l.p l.m l.invariant c.before.before.before.loop-test.true (record { verdict = v.result; node = c.handle_at_lem.result }) v.ensures c.before.if1.true c.handle_at_lem.ensures
 
 load-node-requires-2 : tie.Need-load-node-requires-2 invariant-loop decreases-loop
 load-node-requires-2 c κs =
     let s = c.before.before.before.before.before.before in
     let b = s.args.b.now in
     let l = c.before.before.before.loop in
-    (next-placed b s.requires.0 s.args.k s.requires.1.1.0 s.requires.1.1.1 s.args.strict l.p l.m l.invariant c.before.before.loop-test.true).low
+    (next_placed b s.requires.0 s.args.k s.requires.1.1.0 s.requires.1.1.1 s.args.strict l.p l.m l.invariant c.before.before.loop-test.true).low
 
 sub-m : tie.Need-overflow-sub-m invariant-loop decreases-loop
 sub-m c = search rules
@@ -77,7 +77,7 @@ returns-2 c =
     let s = c.before.before.before.before.before in
     let b = s.args.b.now in
     let l = c.before.before.loop in
-    going-ends b s.requires.0 s.args.k s.requires.1.1.0 s.requires.1.1.1 s.args.strict l.p l.m l.invariant (omega (arith, c.before.loop-test.false)) (record { verdict = 0; node = c.nobody.result }) refl c.nobody.ensures
+    going_ends b s.requires.0 s.args.k s.requires.1.1.0 s.requires.1.1.1 s.args.strict l.p l.m l.invariant (omega (arith, c.before.loop-test.false)) (record { verdict = 0; node = c.nobody.result }) refl c.nobody.ensures
 
 pub circle-verdict-spec : {M : Type 1} → statement M
 circle-verdict-spec =

@@ -2,10 +2,10 @@
 use mathlib.Core.Path.{◌≡◌, ap₂, ◌∙◌}
 use borrow.Author.Rules.{rules}
 use Rattle.kinds.specs.declared.Class.TheVariants.{Absent, Blossom, Defect}
-use Rattle.ledger_spec.specs.Named.{handleNamed}
+use Rattle.ledger_spec.specs.Named.{handle_named}
 use Rattle.bench_vertices.proofs.Circling.{never}
 use Rattle.check_circles.specs.Found.{larger}
-use Rattle.check_circles.proofs.Standing.{stands-defect, stands-ring}
+use Rattle.check_circles.proofs.Standing.{stands_defect, stands_ring}
 use Rattle.check_circles.proofs.member_verdict.Statement.{statement}
 use Rattle.check_circles.proofs.member_verdict.Tie as tie
 
@@ -52,7 +52,7 @@ returns-2 c =
     let n = c.before.before.before.before.before.before.load-node in
     let v = c.before.enum-told2.given.0.0 in
     let q : n.result.class ≡ Defect v = cc in
-    c.own-verdict.ensures ∙ stands-defect s.args.b.now s.requires.0 s.args.k s.requires.1.1.0 n.result n.ensures s.args.strict v q
+    c.own-verdict.ensures ∙ stands_defect s.args.b.now s.requires.0 s.args.k s.requires.1.1.0 n.result n.ensures s.args.strict v q
 
 returns-3 : tie.Need-returns-3
 returns-3 c =
@@ -60,7 +60,7 @@ returns-3 c =
     let n = c.before.before.before.before.before.before.before.before.load-node in
     let q : n.result.class ≡ Blossom = cc in
     c.larger-of.ensures ∙ ap₂ larger c.before.before.touch.ensures c.before.touch2.ensures
-    ∙ stands-ring s.args.b.now s.requires.0 s.args.k s.requires.1.1.0 n.result n.ensures s.args.strict q (handleNamed s.args.outer) s.requires.1.1.1
+    ∙ stands_ring s.args.b.now s.requires.0 s.args.k s.requires.1.1.0 n.result n.ensures s.args.strict q (handle_named s.args.outer) s.requires.1.1.1
 
 pub member-verdict-spec : {M : Type 1} → statement M
 member-verdict-spec =

@@ -2,20 +2,20 @@
 use mathlib.Core.Path.{◌≡◌, ap, sym, ◌∙◌, subst}
 use mathlib.Core.Bool.{Bool}
 use borrow.Author.Rules.{rules}
-use Rattle.bench_words.specs.Store.{nodeAt}
+use Rattle.bench_words.specs.Store.{node_at}
 use Rattle.ledger_spec.specs.Bench.{Handle}
-use Rattle.ledger_spec.specs.Look.{sameHandle}
-use Rattle.ledger_spec.specs.Named.{handleNamed}
+use Rattle.ledger_spec.specs.Look.{same_handle}
+use Rattle.ledger_spec.specs.Named.{handle_named}
 use Rattle.ledger_laws.specs.Clean.{Descends}
 use Rattle.bench_links.specs.declared.Found.TheVariants.{At, Stale}
 use Rattle.bench_links.proofs.Finding.{found_at, found_none}
-use Rattle.bench_links.proofs.Rising.{seen-some}
-use Rattle.bench_views.specs.View.{view, handleAt}
-use Rattle.bench_vertices.proofs.Named.{held-placed}
+use Rattle.bench_links.proofs.Rising.{seen_some}
+use Rattle.bench_views.specs.View.{view, handle_at}
+use Rattle.bench_vertices.proofs.Named.{held_placed}
 use Rattle.check_nests.proofs.Reading.{held_back}
-use Rattle.check_circles.specs.Found.{underVerdict}
-use Rattle.check_circles.proofs.Touching.{same-named}
-use Rattle.check_circles.proofs.Arriving.{under-self, under-gone, under-below}
+use Rattle.check_circles.specs.Found.{under_verdict}
+use Rattle.check_circles.proofs.Touching.{same_named}
+use Rattle.check_circles.proofs.Arriving.{under_self, under_gone, under_below}
 use Rattle.check_circles.proofs.under_verdict.Statement.{statement}
 use Rattle.check_circles.proofs.under_verdict.Tie as tie
 
@@ -29,9 +29,9 @@ returns : tie.Need-returns
 returns c =
     let s = c.before.before.before in
     let b = s.args.b.now in
-    let h = handleNamed s.args.h in
-    let m = handleAt (nodeAt b) s.args.k in
-    under-self (view b) m h (sym (ap (sameHandle h) c.before.before.handle-at.ensures) ∙ sym (same-named s.args.h c.before.before.handle-at.result) ∙ sym c.before.same.ensures ∙ c.if1.true)
+    let h = handle_named s.args.h in
+    let m = handle_at (node_at b) s.args.k in
+    under_self (view b) m h (sym (ap (same_handle h) c.before.before.handle_at_lem.ensures) ∙ sym (same_named s.args.h c.before.before.handle_at_lem.result) ∙ sym c.before.same.ensures ∙ c.if1.true)
 
 find-requires : tie.Need-find-requires
 find-requires c κs = search rules
@@ -46,31 +46,31 @@ is-within-requires : tie.Need-is-within-requires
 is-within-requires c κs =
     let s = c.before.before.before.before.before.before.before in
     let b = s.args.b.now in
-    let h = handleNamed s.args.h in
-    let m = handleAt (nodeAt b) s.args.k in
+    let h = handle_named s.args.h in
+    let m = handle_at (node_at b) s.args.k in
     let k = c.before.found.given.0.0 in
     let q : c.before.before.before.find.result ≡ At k = cc in
     let H = found_at b h c.before.before.before.find.ensures k q in
-    (s.requires.0, (s.requires.1.1, (held-placed b h k H, s.requires.1.0)))
+    (s.requires.0, (s.requires.1.1, (held_placed b h k H, s.requires.1.0)))
 
 returns-2 : tie.Need-returns-2
 returns-2 c =
     let s = c.before.before.before.before.before.before.before.before.before in
     let b = s.args.b.now in
-    let h = handleNamed s.args.h in
-    let m = handleAt (nodeAt b) s.args.k in
+    let h = handle_named s.args.h in
+    let m = handle_at (node_at b) s.args.k in
     let k = c.before.before.before.found.given.0.0 in
     let q : c.before.before.before.before.before.find.result ≡ At k = cc in
     let H = found_at b h c.before.before.before.before.before.find.ensures k q in
-    let n = seen-some b h H.stands in
-    under-below (view b) m s.requires.0.facts h n.0 n.1 (subst (λ (x : Handle). Descends (view b) m x) (held_back b h k H) (c.before.is_within.ensures c.if2.true))
+    let n = seen_some b h H.stands in
+    under_below (view b) m s.requires.0.facts h n.0 n.1 (subst (λ (x : Handle). Descends (view b) m x) (held_back b h k H) (c.before.is_within.ensures c.if2.true))
 
 rise-requires : tie.Need-rise-requires
 rise-requires c κs =
     let s = c.before.before.before.before.before.before.before.before.before in
     let b = s.args.b.now in
-    let h = handleNamed s.args.h in
-    let m = handleAt (nodeAt b) s.args.k in
+    let h = handle_named s.args.h in
+    let m = handle_at (node_at b) s.args.k in
     let k = c.before.before.before.found.given.0.0 in
     let q : c.before.before.before.before.before.find.result ≡ At k = cc in
     let H = found_at b h c.before.before.before.before.before.find.ensures k q in
@@ -80,10 +80,10 @@ returns-3 : tie.Need-returns-3
 returns-3 c =
     let s = c.before.before.before.before.before.before in
     let b = s.args.b.now in
-    let h = handleNamed s.args.h in
-    let m = handleAt (nodeAt b) s.args.k in
+    let h = handle_named s.args.h in
+    let m = handle_at (node_at b) s.args.k in
     let q : c.before.before.find.result ≡ Stale = cc in
-    under-gone (view b) m h (sym (ap (sameHandle h) c.before.before.before.before.before.handle-at.ensures) ∙ sym (same-named s.args.h c.before.before.before.before.before.handle-at.result) ∙ sym c.before.before.before.before.same.ensures ∙ c.before.before.before.if1.false)
+    under_gone (view b) m h (sym (ap (same_handle h) c.before.before.before.before.before.handle_at_lem.ensures) ∙ sym (same_named s.args.h c.before.before.before.before.before.handle_at_lem.result) ∙ sym c.before.before.before.before.same.ensures ∙ c.before.before.before.if1.false)
     (found_none b h c.before.before.find.ensures q)
 
 returns-4 : tie.Need-returns-4
@@ -91,9 +91,9 @@ returns-4 c =
     let at-handle-at = c.before.before.before.before.before.before.before.before.before in
     let s = c.before.before.before.before.before.before.before.before.before.before in
     let b = s.args.b.now in
-    let h = handleNamed s.args.h in
-    let m = handleAt (nodeAt b) s.args.k in
-    c.rise.ensures ∙ ap (λ (x : Handle). underVerdict (view b) x h) at-handle-at.handle-at.ensures
+    let h = handle_named s.args.h in
+    let m = handle_at (node_at b) s.args.k in
+    c.rise.ensures ∙ ap (λ (x : Handle). under_verdict (view b) x h) at-handle-at.handle_at_lem.ensures
 
 pub under-verdict-spec : {M : Type 1} → statement M
 under-verdict-spec =

@@ -4,7 +4,7 @@ use native.Mathlib.Omega.{arith}
 use borrow.Author.Rules.{rules}
 use lib.ListN.{get_or}
 use Rattle.bench_words.specs.declared.Node.{Node}
-use Rattle.check_nests.proofs.Filling.{Going, going-starts, next-placed, next_small, going_on}
+use Rattle.check_nests.proofs.Filling.{Going, going_starts, next_placed, next_small, going_on}
 use Rattle.check_nests.proofs.fill.Statement.{statement}
 use Rattle.check_nests.proofs.fill.Tie as tie
 
@@ -35,10 +35,10 @@ sub-x c = search rules
 loop-holds : tie.Need-loop-init invariant-loop decreases-loop
 loop-holds c =
     let s = c.before.before.before in
-    going-starts s.args.b.now s.args.k (get_or s.args.t.now s.args.k 0) s.args.t.now s.requires.0 s.requires.1.0 s.requires.1.1 refl (omega (arith, c.before.if1.false)) c.load-node.result c.load-node.ensures
+    going_starts s.args.b.now s.args.k (get_or s.args.t.now s.args.k 0) s.args.t.now s.requires.0 s.requires.1.0 s.requires.1.1 refl (omega (arith, c.before.if1.false)) c.load-node.result c.load-node.ensures
 
 load-node-requires-2 : tie.Need-load-node-requires-2 invariant-loop decreases-loop
-load-node-requires-2 c κs = (next-placed c.before.loop.invariant c.loop-test.true).low
+load-node-requires-2 c κs = (next_placed c.before.loop.invariant c.loop-test.true).low
 
 mul-t : tie.Need-overflow-mul-t invariant-loop decreases-loop
 mul-t c = record { fits = omega (arith, c.before.before.loop.invariant.small) }
@@ -50,10 +50,10 @@ add-t-2 : tie.Need-overflow-add-t-2 invariant-loop decreases-loop
 add-t-2 c = record { fits = omega (arith, c.before.before.loop.invariant.small) }
 
 mul-t-2 : tie.Need-overflow-mul-t-2 invariant-loop decreases-loop
-mul-t-2 c = record { fits = omega (arith, (next-placed c.before.before.loop.invariant c.before.loop-test.true).low) }
+mul-t-2 c = record { fits = omega (arith, (next_placed c.before.before.loop.invariant c.before.loop-test.true).low) }
 
 element-write-t : tie.Need-element-write-t invariant-loop decreases-loop
-element-write-t c = (next-placed c.before.before.loop.invariant c.before.loop-test.true).low
+element-write-t c = (next_placed c.before.before.loop.invariant c.before.loop-test.true).low
 
 add-x : tie.Need-overflow-add-x invariant-loop decreases-loop
 add-x c = record { fits = omega (arith, next_small c.before.before.before.loop.invariant c.before.before.loop-test.true, ap (λ (y : Node). y.size) c.before.load-node2.ensures) }

@@ -1,12 +1,12 @@
 -- The walk up ends at a node without a parent. Assumes nothing.
 use mathlib.Core.Path.{ap, ◌∙◌}
 use borrow.Author.Rules.{rules}
-use Rattle.ledger_spec.specs.Named.{handleNamed}
+use Rattle.ledger_spec.specs.Named.{handle_named}
 use Rattle.ledger_spec.specs.Walk.{outermost}
-use Rattle.bench_views.specs.View.{view, handleAt}
-use Rattle.bench_words.specs.Store.{nodeAt}
+use Rattle.bench_views.specs.View.{view, handle_at}
+use Rattle.bench_words.specs.Store.{node_at}
 use Rattle.bench_vertices.proofs.Circling.{standing}
-use Rattle.check_nests.proofs.Reading.{root-of}
+use Rattle.check_nests.proofs.Reading.{root_of}
 use Rattle.check_nests.proofs.note.Statement.{statement}
 use Rattle.check_nests.proofs.note.Tie as tie
 
@@ -25,7 +25,7 @@ handle-at-requires c κs = search rules
 outermost-requires : tie.Need-outermost-requires
 outermost-requires c κs =
     let s = c.before.before.before in
-    (s.requires.0, rw c.handle-at.ensures (standing s.args.b.now s.requires.0 s.args.k s.requires.1.0))
+    (s.requires.0, rw c.handle_at_lem.ensures (standing s.args.b.now s.requires.0 s.args.k s.requires.1.0))
 
 returns-2 : tie.Need-returns-2
 returns-2 c = search rules
@@ -47,8 +47,8 @@ spread-requires c κs =
     let s = c.before.before.before.before.before.before.before.before.before.before in
     let b = s.args.b.now in
     let o = c.before.before.before.before.before.before.outermost in
-    let h = c.before.before.before.before.before.before.before.handle-at in
-    let r = root-of b s.requires.0 (handleAt (nodeAt b) s.args.k) (handleNamed o.result.node) (standing b s.requires.0 s.args.k s.requires.1.0) o.ensures.stands (o.ensures.node ∙ ap (outermost (view b)) h.ensures) in
+    let h = c.before.before.before.before.before.before.before.handle_at_lem in
+    let r = root_of b s.requires.0 (handle_at (node_at b) s.args.k) (handle_named o.result.node) (standing b s.requires.0 s.args.k s.requires.1.0) o.ensures.stands (o.ensures.node ∙ ap (outermost (view b)) h.ensures) in
     (s.requires.0, (r.placed, (r.free, s.requires.1.1)))
 
 returns-3 : tie.Need-returns-3

@@ -3,8 +3,8 @@ use Prim.Native.Nat.{◌-◌, ◌<◌}
 use native.Mathlib.Omega.{arith}
 use borrow.Author.Rules.{rules}
 use Rattle.check_nests.specs.Nest.{Nests}
-use Rattle.check_nests.proofs.Filling.{nests-set}
-use Rattle.check_nests.proofs.Reading.{root-noted}
+use Rattle.check_nests.proofs.Filling.{nests_set}
+use Rattle.check_nests.proofs.Reading.{root_noted}
 use Rattle.check_nests.proofs.spread.Statement.{statement}
 use Rattle.check_nests.proofs.spread.Tie as tie
 
@@ -24,7 +24,7 @@ element-write-t : tie.Need-element-write-t invariant-loop decreases-loop
 element-write-t c = c.requires.1.0.low
 
 loop-holds : tie.Need-loop-init invariant-loop decreases-loop
-loop-holds c = (c.requires.1.0.low, nests-set c.args.b.now c.args.t.now c.args.k _ c.requires.1.0.low c.requires.1.1.1 (root-noted c.args.b.now c.requires.0 c.args.k c.requires.1.0 c.requires.1.1.0))
+loop-holds c = (c.requires.1.0.low, nests_set c.args.b.now c.args.t.now c.args.k _ c.requires.1.0.low c.requires.1.1.1 (root_noted c.args.b.now c.requires.0 c.args.k c.requires.1.0 c.requires.1.1.0))
 
 fill-requires : tie.Need-fill-requires invariant-loop decreases-loop
 fill-requires c κs = (c.before.before.before.requires.0, c.before.before.loop.invariant)

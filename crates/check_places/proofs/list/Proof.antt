@@ -4,8 +4,8 @@ use mathlib.Core.Path.{refl}
 use native.Mathlib.Omega.{arith}
 use borrow.Author.Rules.{rules}
 use lib.ListN.{get_or}
-use Rattle.check_places.proofs.Filling.{Listing, listing-starts, room, reach, listing-on, listing-ends}
-use Rattle.bench_orders.proofs.Counting.{unit-low}
+use Rattle.check_places.proofs.Filling.{Listing, listing_starts, room, reach, listing_on, listing_ends}
+use Rattle.bench_orders.proofs.Counting.{unit_low}
 use Rattle.check_places.proofs.list.Statement.{statement}
 use Rattle.check_places.proofs.list.Tie as tie
 
@@ -19,7 +19,7 @@ order-of-requires : tie.Need-order-of-requires invariant-loop decreases-loop
 order-of-requires c κs = search rules
 
 loop-holds : tie.Need-loop-init invariant-loop decreases-loop
-loop-holds c = (omega arith, listing-starts c.before.args.b.now c.before.args.unit c.before.args.out.now c.before.requires.1.1.1)
+loop-holds c = (omega arith, listing_starts c.before.args.b.now c.before.args.unit c.before.args.out.now c.before.requires.1.1.1)
 
 mul-u : tie.Need-overflow-mul-u invariant-loop decreases-loop
 mul-u c = search rules
@@ -31,7 +31,7 @@ load-interface-requires : tie.Need-load-interface-requires invariant-loop decrea
 load-interface-requires c κs =
     let s = c.before.before.before.before in
     let o = c.before.before.before.order-of in
-    unit-low s.args.b.now s.requires.0 s.args.unit s.requires.1.0 o.result o.ensures c.before.before.loop.i (get_or o.result.units c.before.before.loop.i 0) c.before.loop-test.true refl
+    unit_low s.args.b.now s.requires.0 s.args.unit s.requires.1.0 o.result o.ensures c.before.before.loop.i (get_or o.result.units c.before.before.loop.i 0) c.before.loop-test.true refl
 
 mul-fill : tie.Need-overflow-mul-fill invariant-loop decreases-loop
 mul-fill c =
@@ -67,7 +67,7 @@ loop-again c =
     let o = c.before.before.before.before.before.before.order-of in
     let l = c.before.before.before.before.before.loop in (
       omega (arith, c.before.before.before.before.loop-test.true),
-      listing-on s.args.b.now s.requires.0 s.args.unit s.requires.1.0 o.result o.ensures l.i l.n l.out l.invariant.1 (get_or o.result.units l.i 0) c.before.before.before.before.loop-test.true refl c.before.before.load-interface.result c.before.before.load-interface.ensures
+      listing_on s.args.b.now s.requires.0 s.args.unit s.requires.1.0 o.result o.ensures l.i l.n l.out l.invariant.1 (get_or o.result.units l.i 0) c.before.before.before.before.loop-test.true refl c.before.before.load-interface.result c.before.before.load-interface.ensures
           c.fill.new.0 c.fill.result c.fill.ensures,
     )
 
@@ -76,7 +76,7 @@ returns c =
     let s = c.before.before.before in
     let o = c.before.before.order-of in
     let l = c.before.loop in
-    listing-ends s.args.b.now s.requires.0 s.args.unit s.requires.1.0 o.result o.ensures l.i l.n l.out c.loop-test.false (omega (arith, l.invariant.0, o.ensures.few)) l.invariant.1
+    listing_ends s.args.b.now s.requires.0 s.args.unit s.requires.1.0 o.result o.ensures l.i l.n l.out c.loop-test.false (omega (arith, l.invariant.0, o.ensures.few)) l.invariant.1
 
 pub list-spec : {M : Type 1} → statement M
 list-spec =

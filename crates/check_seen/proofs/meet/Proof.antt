@@ -4,8 +4,8 @@ use mathlib.Core.Path.{◌≡◌}
 use mathlib.Core.Bool.{true≢false}
 use native.Mathlib.Omega.{arith}
 use borrow.Author.Rules.{rules}
-use Rattle.check_seen.proofs.Noting.{noted-is, kept-now}
-use Rattle.check_seen.proofs.Looking.{Looked, look-starts, look-ends, look-found, look-few, look-falls, look-on}
+use Rattle.check_seen.proofs.Noting.{noted_is, kept_now}
+use Rattle.check_seen.proofs.Looking.{Looked, look_starts, look_ends, look_found, look_few, look_falls, look_on}
 use Rattle.check_seen.proofs.meet.Statement.{statement}
 use Rattle.check_seen.proofs.meet.Tie as tie
 
@@ -25,57 +25,57 @@ element-copy-out-p : tie.Need-element-copy-out-p invariant-loop decreases-loop
 element-copy-out-p c = search rules
 
 loop-holds : tie.Need-loop-init invariant-loop decreases-loop
-loop-holds c = look-starts c.before.args.t.now c.before.args.n c.before.args.v c.before.requires.0
+loop-holds c = look_starts c.before.args.t.now c.before.args.n c.before.args.v c.before.requires.0
 
 cast-at : tie.Need-overflow-cast-at invariant-loop decreases-loop
-cast-at c = record { fits = omega (arith, look-few c.before.before.before.args.t.now c.before.before.before.args.n c.before.before.before.args.v c.before.before.before.requires.0 c.before.loop.cell c.before.loop.rest c.before.loop.p c.before.loop.invariant c.loop-test.true, c.before.before.before.requires.1) }
+cast-at c = record { fits = omega (arith, look_few c.before.before.before.args.t.now c.before.before.before.args.n c.before.before.before.args.v c.before.before.before.requires.0 c.before.loop.cell c.before.loop.rest c.before.loop.p c.before.loop.invariant c.loop-test.true, c.before.before.before.requires.1) }
 
 mul_at : tie.Need-overflow-mul-at invariant-loop decreases-loop
-mul_at c = record { fits = omega (arith, look-few c.before.before.before.args.t.now c.before.before.before.args.n c.before.before.before.args.v c.before.before.before.requires.0 c.before.loop.cell c.before.loop.rest c.before.loop.p c.before.loop.invariant c.loop-test.true, c.before.before.before.requires.1) }
+mul_at c = record { fits = omega (arith, look_few c.before.before.before.args.t.now c.before.before.before.args.n c.before.before.before.args.v c.before.before.before.requires.0 c.before.loop.cell c.before.loop.rest c.before.loop.p c.before.loop.invariant c.loop-test.true, c.before.before.before.requires.1) }
 
 add_at : tie.Need-overflow-add-at invariant-loop decreases-loop
-add_at c = record { fits = omega (arith, look-few c.before.before.before.args.t.now c.before.before.before.args.n c.before.before.before.args.v c.before.before.before.requires.0 c.before.loop.cell c.before.loop.rest c.before.loop.p c.before.loop.invariant c.loop-test.true, c.before.before.before.requires.1) }
+add_at c = record { fits = omega (arith, look_few c.before.before.before.args.t.now c.before.before.before.args.n c.before.before.before.args.v c.before.before.before.requires.0 c.before.loop.cell c.before.loop.rest c.before.loop.p c.before.loop.invariant c.loop-test.true, c.before.before.before.requires.1) }
 
 mul-if1 : tie.Need-overflow-mul-if1 invariant-loop decreases-loop
-mul-if1 c = record { fits = omega (arith, look-few c.before.before.before.args.t.now c.before.before.before.args.n c.before.before.before.args.v c.before.before.before.requires.0 c.before.loop.cell c.before.loop.rest c.before.loop.p c.before.loop.invariant c.loop-test.true, c.before.before.before.requires.1) }
+mul-if1 c = record { fits = omega (arith, look_few c.before.before.before.args.t.now c.before.before.before.args.n c.before.before.before.args.v c.before.before.before.requires.0 c.before.loop.cell c.before.loop.rest c.before.loop.p c.before.loop.invariant c.loop-test.true, c.before.before.before.requires.1) }
 
 element-copy-out-if1 : tie.Need-element-copy-out-if1 invariant-loop decreases-loop
-element-copy-out-if1 c = omega (arith, look-few c.before.before.before.args.t.now c.before.before.before.args.n c.before.before.before.args.v c.before.before.before.requires.0 c.before.loop.cell c.before.loop.rest c.before.loop.p c.before.loop.invariant c.loop-test.true, c.before.before.before.requires.1)
+element-copy-out-if1 c = omega (arith, look_few c.before.before.before.args.t.now c.before.before.before.args.n c.before.before.before.args.v c.before.before.before.requires.0 c.before.loop.cell c.before.loop.rest c.before.loop.p c.before.loop.invariant c.loop-test.true, c.before.before.before.requires.1)
 
 returns : tie.Need-returns invariant-loop decreases-loop
 returns c =
     record {
-      answer = look-found c.before.before.before.before.before.args.t.now c.before.before.before.before.before.args.n c.before.before.before.before.before.args.v c.before.before.before.before.before.requires.0 c.before.before.before.loop.cell c.before.before.before.loop.rest c.before.before.before.loop.p c.before.before.before.loop.invariant c.before.before.loop-test.true c.if1.true;
+      answer = look_found c.before.before.before.before.before.args.t.now c.before.before.before.before.before.args.n c.before.before.before.before.before.args.v c.before.before.before.before.before.requires.0 c.before.before.before.loop.cell c.before.before.before.loop.rest c.before.before.before.loop.p c.before.before.before.loop.invariant c.before.before.loop-test.true c.if1.true;
       kept = λ e. absurd (true≢false e);
       noted = λ e. absurd (true≢false e);
     }
 
 add-cell : tie.Need-overflow-add-cell invariant-loop decreases-loop
-add-cell c = record { fits = omega (arith, look-few c.before.before.before.before.before.args.t.now c.before.before.before.before.before.args.n c.before.before.before.before.before.args.v c.before.before.before.before.before.requires.0 c.before.before.before.loop.cell c.before.before.before.loop.rest c.before.before.before.loop.p c.before.before.before.loop.invariant c.before.before.loop-test.true, c.before.before.before.before.before.requires.1) }
+add-cell c = record { fits = omega (arith, look_few c.before.before.before.before.before.args.t.now c.before.before.before.before.before.args.n c.before.before.before.before.before.args.v c.before.before.before.before.before.requires.0 c.before.before.before.loop.cell c.before.before.before.loop.rest c.before.before.before.loop.p c.before.before.before.loop.invariant c.before.before.loop-test.true, c.before.before.before.before.before.requires.1) }
 
 cast-cell-2 : tie.Need-overflow-cast-cell-2 invariant-loop decreases-loop
 cast-cell-2 c = search rules
 
 add-cell-2 : tie.Need-overflow-add-cell-2 invariant-loop decreases-loop
-add-cell-2 c = record { fits = omega (arith, look-few c.before.before.before.before.before.args.t.now c.before.before.before.before.before.args.n c.before.before.before.before.before.args.v c.before.before.before.before.before.requires.0 c.before.before.before.loop.cell c.before.before.before.loop.rest c.before.before.before.loop.p c.before.before.before.loop.invariant c.before.before.loop-test.true, c.before.before.before.before.before.requires.1) }
+add-cell-2 c = record { fits = omega (arith, look_few c.before.before.before.before.before.args.t.now c.before.before.before.before.before.args.n c.before.before.before.before.before.args.v c.before.before.before.before.before.requires.0 c.before.before.before.loop.cell c.before.before.before.loop.rest c.before.before.before.loop.p c.before.before.before.loop.invariant c.before.before.loop-test.true, c.before.before.before.before.before.requires.1) }
 
 mul-p-2 : tie.Need-overflow-mul-p-2 invariant-loop decreases-loop
-mul-p-2 c = record { fits = omega (arith, look-few c.before.before.before.before.before.args.t.now c.before.before.before.before.before.args.n c.before.before.before.before.before.args.v c.before.before.before.before.before.requires.0 c.before.before.before.loop.cell c.before.before.before.loop.rest c.before.before.before.loop.p c.before.before.before.loop.invariant c.before.before.loop-test.true, c.before.before.before.before.before.requires.1) }
+mul-p-2 c = record { fits = omega (arith, look_few c.before.before.before.before.before.args.t.now c.before.before.before.before.before.args.n c.before.before.before.before.before.args.v c.before.before.before.before.before.requires.0 c.before.before.before.loop.cell c.before.before.before.loop.rest c.before.before.before.loop.p c.before.before.before.loop.invariant c.before.before.loop-test.true, c.before.before.before.before.before.requires.1) }
 
 element-copy-out-p-2 : tie.Need-element-copy-out-p-2 invariant-loop decreases-loop
-element-copy-out-p-2 c = omega (arith, look-few c.before.before.before.before.before.args.t.now c.before.before.before.before.before.args.n c.before.before.before.before.before.args.v c.before.before.before.before.before.requires.0 c.before.before.before.loop.cell c.before.before.before.loop.rest c.before.before.before.loop.p c.before.before.before.loop.invariant c.before.before.loop-test.true, c.before.before.before.before.before.requires.1)
+element-copy-out-p-2 c = omega (arith, look_few c.before.before.before.before.before.args.t.now c.before.before.before.before.before.args.n c.before.before.before.before.before.args.v c.before.before.before.before.before.requires.0 c.before.before.before.loop.cell c.before.before.before.loop.rest c.before.before.before.loop.p c.before.before.before.loop.invariant c.before.before.loop-test.true, c.before.before.before.before.before.requires.1)
 
 loop-less : tie.Need-loop-smaller invariant-loop decreases-loop
 loop-less c =
     let at-loop = c.before.before.before.before in
     let start = at-loop.before.before in
-    omega (arith, look-falls start.args.t.now start.args.n start.args.v start.requires.0 at-loop.loop.cell at-loop.loop.rest at-loop.loop.p at-loop.loop.invariant c.before.before.before.loop-test.true, at-loop.loop.invariant.low, start.requires.1)
+    omega (arith, look_falls start.args.t.now start.args.n start.args.v start.requires.0 at-loop.loop.cell at-loop.loop.rest at-loop.loop.p at-loop.loop.invariant c.before.before.before.loop-test.true, at-loop.loop.invariant.low, start.requires.1)
 
 loop-again : tie.Need-loop-preserved invariant-loop decreases-loop
 loop-again c =
     let at-loop = c.before.before.before.before in
     let start = at-loop.before.before in
-    look-on start.args.t.now start.args.n start.args.v start.requires.0 at-loop.loop.cell at-loop.loop.rest at-loop.loop.p at-loop.loop.invariant c.before.before.before.loop-test.true c.before.if1.false
+    look_on start.args.t.now start.args.n start.args.v start.requires.0 at-loop.loop.cell at-loop.loop.rest at-loop.loop.p at-loop.loop.invariant c.before.before.before.loop-test.true c.before.if1.false
 
 add-t : tie.Need-overflow-add-t invariant-loop decreases-loop
 add-t c = search rules
@@ -110,9 +110,9 @@ returns-2 c =
     let l = c.before.loop in
     let z : l.p ≡ 0 = omega (arith, c.loop-test.false) in
     record {
-      answer = look-ends s.args.t.now s.args.n s.args.v s.requires.0 l.cell l.rest l.p l.invariant z;
-      kept = λ e. kept-now s.args.t.now s.args.n s.args.v l.cell l.rest l.p s.requires.0 s.requires.1 l.invariant z;
-      noted = λ e. noted-is s.args.t.now s.args.n s.args.v l.cell l.rest l.p s.requires.0 s.requires.1 l.invariant z;
+      answer = look_ends s.args.t.now s.args.n s.args.v s.requires.0 l.cell l.rest l.p l.invariant z;
+      kept = λ e. kept_now s.args.t.now s.args.n s.args.v l.cell l.rest l.p s.requires.0 s.requires.1 l.invariant z;
+      noted = λ e. noted_is s.args.t.now s.args.n s.args.v l.cell l.rest l.p s.requires.0 s.requires.1 l.invariant z;
     }
 
 pub meet-spec : {M : Type 1} → statement M

@@ -4,7 +4,7 @@ use Prim.Native.Nat.{ℕ, ◌+◌, ◌-◌}
 use native.Mathlib.Omega.{arith}
 use borrow.Author.Rules.{rules}
 use Rattle.check_totals.specs.Total.{Added}
-use Rattle.check_totals.proofs.Adding.{added_none, bias-room, value-near, added-value}
+use Rattle.check_totals.proofs.Adding.{added_none, bias_room, value_near, added_value}
 use Rattle.check_totals.proofs.add.Statement.{statement}
 use Rattle.check_totals.proofs.add.Tie as tie
 
@@ -24,13 +24,13 @@ valued-requires : tie.Need-valued-requires
 valued-requires c κs =
     let s = c.before.before.before in
     let n = c.before.before.load-node in
-    bias-room s.args.b.now s.requires.0 s.args.k s.requires.1.0 s.requires.1.1.0 n.result n.ensures c.before.is-absent.ensures c.if1.false s.args.t s.requires.1.1.1.0
+    bias_room s.args.b.now s.requires.0 s.args.k s.requires.1.0 s.requires.1.1.0 n.result n.ensures c.before.is-absent.ensures c.if1.false s.args.t s.requires.1.1.1.0
 
 add-result : tie.Need-overflow-add-result
 add-result c =
     let s = c.before.before.before.before in
     let n = c.before.before.before.load-node in
-    let v = value-near s.args.b.now s.requires.0 s.args.k s.requires.1.0 s.requires.1.1.0 n.result n.ensures c.before.before.is-absent.ensures c.before.if1.false s.args.t s.requires.1.1.1.0 in
+    let v = value_near s.args.b.now s.requires.0 s.args.k s.requires.1.0 s.requires.1.1.0 n.result n.ensures c.before.before.is-absent.ensures c.before.if1.false s.args.t s.requires.1.1.1.0 in
     omega (arith, v.1, c.valued.ensures, s.requires.1.1.1.1.1)
 
 sub-result : tie.Need-overflow-sub-result
@@ -41,7 +41,7 @@ returns-2 c =
     let s = c.before.before.before.before in
     let n = c.before.before.before.load-node in
     subst (λ (x : ℕ). Added s.args.b.now s.args.k s.args.sum (s.args.sum + x - 1152921504606846976)) (sym c.valued.ensures)
-    (added-value s.args.b.now s.requires.0 s.args.k s.requires.1.0 s.requires.1.1.0 n.result n.ensures c.before.before.is-absent.ensures c.before.if1.false s.args.t s.requires.1.1.1.0 s.args.sum s.requires.1.1.1.1.0)
+    (added_value s.args.b.now s.requires.0 s.args.k s.requires.1.0 s.requires.1.1.0 n.result n.ensures c.before.before.is-absent.ensures c.before.if1.false s.args.t s.requires.1.1.1.0 s.args.sum s.requires.1.1.1.1.0)
 
 pub add_spec : {M : Type 1} → statement M
 add_spec =

@@ -2,7 +2,7 @@
 use Prim.Native.Nat.{◌-◌, ◌≤◌}
 use native.Mathlib.Omega.{arith}
 use borrow.Author.Rules.{rules}
-use Rattle.check_totals.proofs.Adding.{Adding, adding-starts, adding-ends, place_at, adding-on}
+use Rattle.check_totals.proofs.Adding.{Adding, adding_starts, adding_ends, place_at, adding_on}
 use Rattle.check_totals.proofs.total.Statement.{statement}
 use Rattle.check_totals.proofs.total.Tie as tie
 
@@ -16,7 +16,7 @@ climb-requires : tie.Need-climb-requires invariant-loop decreases-loop
 climb-requires c κs = (c.requires.1.0, c.requires.0.canon.steady)
 
 loop-holds : tie.Need-loop-init invariant-loop decreases-loop
-loop-holds c = (omega arith, adding-starts c.before.args.b.now c.before.args.unit c.before.args.unit c.climb.result.total c.climb.ensures.total)
+loop-holds c = (omega arith, adding_starts c.before.args.b.now c.before.args.unit c.before.args.unit c.climb.result.total c.climb.ensures.total)
 
 mul-k : tie.Need-overflow-mul-k invariant-loop decreases-loop
 mul-k c = search rules
@@ -54,7 +54,7 @@ loop-again c =
     let s = c.before.before.before.before.before.before in
     let l = c.before.before.before.before.loop in (
       omega (arith, c.before.before.before.loop-test.true),
-      adding-on s.args.b.now s.args.unit s.args.places.now s.args.count s.requires.1.1 l.i l.last l.t l.sum l.invariant.1 c.before.before.before.loop-test.true
+      adding_on s.args.b.now s.args.unit s.args.places.now s.args.count s.requires.1.1 l.i l.last l.t l.sum l.invariant.1 c.before.before.before.loop-test.true
           c.before.progress.result c.add.result c.before.progress.ensures c.add.ensures,
     )
 
@@ -62,7 +62,7 @@ returns : tie.Need-returns invariant-loop decreases-loop
 returns c =
     let s = c.before.before.before in
     let l = c.before.loop in
-    adding-ends s.args.b.now s.args.unit s.args.places.now s.args.count s.requires.1.1 l.i l.last l.t l.sum l.invariant.1 (omega (arith, l.invariant.0, c.loop-test.false))
+    adding_ends s.args.b.now s.args.unit s.args.places.now s.args.count s.requires.1.1 l.i l.last l.t l.sum l.invariant.1 (omega (arith, l.invariant.0, c.loop-test.false))
 
 pub total-spec : {M : Type 1} → statement M
 total-spec =

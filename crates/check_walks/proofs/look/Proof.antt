@@ -2,7 +2,7 @@
 use mathlib.Core.Path.{◌≡◌}
 use borrow.Author.Rules.{rules}
 use Rattle.kinds.specs.declared.Class.TheVariants.{Absent, Blossom, Defect}
-use Rattle.check_walks.proofs.Looking.{look-absent, look-strict, look-again, look-new, ring-placed, ring-is, look-ring}
+use Rattle.check_walks.proofs.Looking.{look_absent, look_strict, look_again, look_new, ring_placed, ring_is, look_ring}
 use Rattle.check_walks.proofs.look.Statement.{statement}
 use Rattle.check_walks.proofs.look.Tie as tie
 use Rattle.check_walks.proofs.look.Reads as reads
@@ -37,7 +37,7 @@ returns c =
     let x = c.before.before.before.before.before.load-node in
     let v = c.before.before.before.class.given.0.0 in
     let q : x.result.class ≡ Defect v = cc in
-    (rw c.told2.ensures (look-strict s.args.b.now s.args.unit s.args.k s.args.p s.requires.1.1.1.0 x.result x.ensures s.args.strict s.args.met.now s.args.n s.requires.1.1.1.1.1.0 v q c.before.if1.true), s.requires.1.1.1.1.1.1)
+    (rw c.told2.ensures (look_strict s.args.b.now s.args.unit s.args.k s.args.p s.requires.1.1.1.0 x.result x.ensures s.args.strict s.args.met.now s.args.n s.requires.1.1.1.1.1.0 v q c.before.if1.true), s.requires.1.1.1.1.1.1)
 
 meet-requires : tie.Need-meet-requires
 meet-requires c κs = search rules
@@ -57,7 +57,7 @@ returns-2 c =
     let v = at-class.class.given.0.0 in
     let q : at-load-node.load-node.result.class ≡ Defect v = vertex-there c.before.before.before.before.before.before in
     let m = c.before.before.meet in
-    (rw c.told3.ensures (look-again s.args.b.now s.args.unit s.args.k s.args.p s.requires.1.1.1.0 at-load-node.load-node.result at-load-node.load-node.ensures s.args.strict s.args.met.now s.args.n s.requires.1.1.1.1.1.0 v q at-if1.if1.false m.new.0 m.result m.ensures c.before.if2.true), s.requires.1.1.1.1.1.1)
+    (rw c.told3.ensures (look_again s.args.b.now s.args.unit s.args.k s.args.p s.requires.1.1.1.0 at-load-node.load-node.result at-load-node.load-node.ensures s.args.strict s.args.met.now s.args.n s.requires.1.1.1.1.1.0 v q at-if1.if1.false m.new.0 m.result m.ensures c.before.if2.true), s.requires.1.1.1.1.1.1)
 
 add-told : tie.Need-overflow-add-told
 add-told c = search rules
@@ -73,7 +73,7 @@ look-circle-requires c κs =
     let s = c.before.before.before.before in
     let x = c.before.before.before.load-node in
     let q : x.result.class ≡ Blossom = cc in
-    (s.requires.0, (s.requires.1.0, (s.requires.1.1.0, (ring-placed s.args.b.now s.args.unit s.args.k s.args.p s.requires.1.1.1.0 x.result x.ensures s.args.strict s.args.met.now s.args.n s.requires.1.1.1.1.1.0 q, (ring-is s.args.b.now s.args.unit s.args.k s.args.p s.requires.1.1.1.0 x.result x.ensures s.args.strict s.args.met.now s.args.n s.requires.1.1.1.1.1.0 q, s.requires.1.1.1.1.1.1)))))
+    (s.requires.0, (s.requires.1.0, (s.requires.1.1.0, (ring_placed s.args.b.now s.args.unit s.args.k s.args.p s.requires.1.1.1.0 x.result x.ensures s.args.strict s.args.met.now s.args.n s.requires.1.1.1.1.1.0 q, (ring_is s.args.b.now s.args.unit s.args.k s.args.p s.requires.1.1.1.0 x.result x.ensures s.args.strict s.args.met.now s.args.n s.requires.1.1.1.1.1.0 q, s.requires.1.1.1.1.1.1)))))
 
 told-requires-5 : tie.Need-told-requires-5
 told-requires-5 c κs = search rules
@@ -83,7 +83,7 @@ returns-3 c =
     let s = c.before.before.before.before in
     let x = c.before.before.before.load-node in
     let q : x.result.class ≡ Absent = cc in
-    (rw c.told.ensures (look-absent s.args.b.now s.args.unit s.args.k s.args.p s.requires.1.1.1.0 x.result x.ensures s.args.strict s.args.met.now s.args.n s.requires.1.1.1.1.1.0 q), s.requires.1.1.1.1.1.1)
+    (rw c.told.ensures (look_absent s.args.b.now s.args.unit s.args.k s.args.p s.requires.1.1.1.0 x.result x.ensures s.args.strict s.args.met.now s.args.n s.requires.1.1.1.1.1.0 q), s.requires.1.1.1.1.1.1)
 
 returns-4 : tie.Need-returns-4
 returns-4 c =
@@ -94,7 +94,7 @@ returns-4 c =
     let v = at-class.class.given.0.0 in
     let q : at-load-node.load-node.result.class ≡ Defect v = vertex-there c.before.before.before.before.before.before in
     let m = c.before.before.meet in
-    (rw c.told4.ensures (look-new s.args.b.now s.args.unit s.args.k s.args.p s.requires.1.1.1.0 at-load-node.load-node.result at-load-node.load-node.ensures s.args.strict s.args.met.now s.args.n s.requires.1.1.1.1.1.0 v q at-if1.if1.false m.new.0 m.result m.ensures c.before.if2.false), s.requires.1.1.1.1.1.1)
+    (rw c.told4.ensures (look_new s.args.b.now s.args.unit s.args.k s.args.p s.requires.1.1.1.0 at-load-node.load-node.result at-load-node.load-node.ensures s.args.strict s.args.met.now s.args.n s.requires.1.1.1.1.1.0 v q at-if1.if1.false m.new.0 m.result m.ensures c.before.if2.false), s.requires.1.1.1.1.1.1)
 
 returns-5 : tie.Need-returns-5
 returns-5 c =
@@ -102,7 +102,7 @@ returns-5 c =
     let x = c.before.before.before.before.before.before.load-node in
     let q : x.result.class ≡ Blossom = cc in
     let j = c.before.before.look-circle in
-    (rw c.told5.ensures (look-ring s.args.b.now s.args.unit s.args.k s.args.p s.requires.1.1.1.0 x.result x.ensures s.args.strict s.args.met.now s.args.n s.requires.1.1.1.1.1.0 q j.result j.ensures.0), j.ensures.1)
+    (rw c.told5.ensures (look_ring s.args.b.now s.args.unit s.args.k s.args.p s.requires.1.1.1.0 x.result x.ensures s.args.strict s.args.met.now s.args.n s.requires.1.1.1.1.1.0 q j.result j.ensures.0), j.ensures.1)
 
 pub look_spec : {M : Type 1} → statement M
 look_spec =

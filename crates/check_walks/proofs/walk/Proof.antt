@@ -3,7 +3,7 @@ use Prim.Native.Nat.{◌-◌, ◌≤◌}
 use native.Mathlib.Omega.{arith}
 use borrow.Author.Rules.{rules}
 use Rattle.check_nests.specs.Nest.{Nests}
-use Rattle.check_walks.proofs.Walking.{Walking, walking-starts, walking-ends, walking-found, walking_on}
+use Rattle.check_walks.proofs.Walking.{Walking, walking_starts, walking_ends, walking_found, walking_on}
 use Rattle.check_walks.proofs.walk.Statement.{statement}
 use Rattle.check_walks.proofs.walk.Tie as tie
 
@@ -14,7 +14,7 @@ abbrev decreases-loop : tie.decreases-loop
 decreases-loop b unit places count t₀ strict met₀ n₀ k₀ t met n k = count - k
 
 loop-holds : tie.Need-loop-init invariant-loop decreases-loop
-loop-holds c = (omega arith, (walking-starts c.args.b.now c.args.unit c.args.strict, c.requires.1.1.1.1))
+loop-holds c = (omega arith, (walking_starts c.args.b.now c.args.unit c.args.strict, c.requires.1.1.1.1))
 
 mul-p : tie.Need-overflow-mul-p invariant-loop decreases-loop
 mul-p c = search rules
@@ -36,7 +36,7 @@ returns c =
     let at-loop = at-loop-test.before in
     let s = c.before.before.before.before.before.before.before.before.before in
     let r = c.before.before.before.look in
-    (walking-found s.args.b.now s.args.unit s.args.strict s.args.places.now s.args.count s.requires.1.1.1.0 at-loop.loop.k at-loop.loop.n at-loop.loop.met at-loop.loop.invariant.1.0 at-loop-test.loop-test.true r.new.1.1.1.1.0 r.result r.ensures.0 c.before.if1.true, r.ensures.1)
+    (walking_found s.args.b.now s.args.unit s.args.strict s.args.places.now s.args.count s.requires.1.1.1.0 at-loop.loop.k at-loop.loop.n at-loop.loop.met at-loop.loop.invariant.1.0 at-loop-test.loop-test.true r.new.1.1.1.1.0 r.result r.ensures.0 c.before.if1.true, r.ensures.1)
 
 add-k : tie.Need-overflow-add-k invariant-loop decreases-loop
 add-k c =
@@ -62,7 +62,7 @@ returns-2 : tie.Need-returns-2 invariant-loop decreases-loop
 returns-2 c =
     let s = c.before.before in
     let l = c.before.loop in
-    (walking-ends s.args.b.now s.args.unit s.args.strict s.args.places.now s.args.count s.requires.1.1.1.0 l.k l.n l.met l.invariant.1.0 c.loop-test.false, l.invariant.1.1)
+    (walking_ends s.args.b.now s.args.unit s.args.strict s.args.places.now s.args.count s.requires.1.1.1.0 l.k l.n l.met l.invariant.1.0 c.loop-test.false, l.invariant.1.1)
 
 pub walk-spec : {M : Type 1} → statement M
 walk-spec =

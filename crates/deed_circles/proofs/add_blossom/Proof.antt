@@ -5,9 +5,9 @@ use native.Mathlib.Omega.{arith}
 use borrow.Author.Rules.{rules}
 use lib.ListN.{length}
 use Rattle.bench_words.specs.declared.Interface.{Interface}
-use Rattle.bench_views.proofs.Sums.{lag-le}
+use Rattle.bench_views.proofs.Sums.{lag_le}
 use Rattle.deed_circles.proofs.Givens.{ringable}
-use Rattle.deed_circles.proofs.Bodies.{Looping, loop-begins, loop-range, loop-steady, loop-total, loop-ranged, loop-size, loop-turns, loop-ready, loop-ends}
+use Rattle.deed_circles.proofs.Bodies.{Looping, loop_begins, loop_range, loop_steady, loop_total, loop_ranged, loop_size, loop_turns, loop_ready, loop_ends}
 use Rattle.deed_circles.proofs.add_blossom.Statement.{statement}
 use Rattle.deed_circles.proofs.add_blossom.Tie as tie
 
@@ -47,7 +47,7 @@ loop-holds : tie.Need-loop-init invariant-loop decreases-loop
 loop-holds c =
     let s = c.before.before.before.before.before.before.before.before.before in
     let a = s.args in
-    loop-begins a.b.now a.unit a.members.now a.touching.now c.before.before.before.before.before.load-interface.result s.requires.0 s.requires.1 c.before.before.before.before.before.load-interface.ensures c.before.before.free-slot.ensures c.load-next.ensures
+    loop_begins a.b.now a.unit a.members.now a.touching.now c.before.before.before.before.before.load-interface.result s.requires.0 s.requires.1 c.before.before.before.before.before.load-interface.ensures c.before.before.free_slot_lem.ensures c.load-next.ensures
 
 mul-take-in : tie.Need-overflow-mul-take-in invariant-loop decreases-loop
 mul-take-in c = search rules
@@ -64,22 +64,22 @@ take-in-requires c κs =
     let at-lag = at-loop.before.before.before.before.before in
     let at-load-interface = at-lag.before in
     let l = at-loop.loop.invariant in
-    (loop-steady l, loop-ranged l c.before.before.before.loop-test.true, loop-total l at-load-interface.load-interface.result at-load-interface.load-interface.ensures at-lag.lag.ensures)
+    (loop_steady l, loop_ranged l c.before.before.before.loop-test.true, loop_total l at-load-interface.load-interface.result at-load-interface.load-interface.ensures at-lag.lag.ensures)
 
 add-size : tie.Need-overflow-add-size invariant-loop decreases-loop
 add-size c =
     let at-loop = c.before.before.before.before.before.before in
-    let l = at-loop.loop.invariant in omega (arith, (loop-range l).2, loop-size l c.before.take_in.result.size c.before.before.before.before.before.loop-test.true c.before.take_in.ensures.1)
+    let l = at-loop.loop.invariant in omega (arith, (loop_range l).2, loop_size l c.before.take_in.result.size c.before.before.before.before.before.loop-test.true c.before.take_in.ensures.1)
 
 add-speed : tie.Need-overflow-add-speed invariant-loop decreases-loop
 add-speed c =
     let l = c.before.before.before.before.before.before in
-    omega (arith, (loop-range l.loop.invariant).1)
+    omega (arith, (loop_range l.loop.invariant).1)
 
 sub-speed : tie.Need-overflow-sub-speed invariant-loop decreases-loop
 sub-speed c =
     let l = c.before.before.before.before.before.before.before in
-    omega (arith, (loop-range l.loop.invariant).0, c.before.before.take_in.ensures.3)
+    omega (arith, (loop_range l.loop.invariant).0, c.before.before.take_in.ensures.3)
 
 add-i : tie.Need-overflow-add-i invariant-loop decreases-loop
 add-i c = search rules
@@ -91,7 +91,7 @@ loop-again : tie.Need-loop-preserved invariant-loop decreases-loop
 loop-again c =
     let l = c.before.before.before.before.before.before.before in
     let t = c.before.before.before.before.before.before in
-    loop-turns l.loop.invariant c.before.before.take_in.new.0 c.before.before.take_in.result.size c.before.before.take_in.result.rate t.loop-test.true c.before.before.before.seat.ensures c.before.before.take_in.ensures.0 c.before.before.take_in.ensures.1 c.before.before.take_in.ensures.2
+    loop_turns l.loop.invariant c.before.before.take_in.new.0 c.before.before.take_in.result.size c.before.before.take_in.result.rate t.loop-test.true c.before.before.before.seat.ensures c.before.before.take_in.ensures.0 c.before.before.take_in.ensures.1 c.before.before.take_in.ensures.2
 
 shared-slice-read-spot : tie.Need-shared-slice-read-spot invariant-loop decreases-loop
 shared-slice-read-spot c = omega (arith, c.before.before.loop.invariant.ring.some)
@@ -105,17 +105,17 @@ new-node-requires c κs =
     let at-lag = c.before.before.before.before.before.before.before.before in
     let l = c.before.before.before.loop.invariant in
     let f = at-load-interface.load-interface in
-    omega (arith, at-lag.lag.ensures, lag-le f.result, l.fit.canon.steady.progress _ l.ring.root.low, ap (λ (x : Interface). x.progress) f.ensures)
+    omega (arith, at-lag.lag.ensures, lag_le f.result, l.fit.canon.steady.progress _ l.ring.root.low, ap (λ (x : Interface). x.progress) f.ensures)
 
 add_push : tie.Need-overflow-add-push invariant-loop decreases-loop
-add_push c = omega (arith, (loop-range c.before.before.before.before.before.loop.invariant).1)
+add_push c = omega (arith, (loop_range c.before.before.before.before.before.loop.invariant).1)
 
 push-requires : tie.Need-push-requires invariant-loop decreases-loop
 push-requires c κs =
     let at-loop = c.before.before.before.before.before in
     let at-free-slot = at-loop.before.before.before in
     let l = at-loop.loop.invariant in
-    let y = loop-ready l _ at-free-slot.free-slot.ensures in
+    let y = loop_ready l _ at-free-slot.free_slot_lem.ensures in
     (l.ring.root.low, y.0, y.1)
 
 returns : tie.Need-returns invariant-loop decreases-loop
@@ -126,7 +126,7 @@ returns c =
     let at-load-next = c.before.before.before.before.before.before.before in
     let at-loop = c.before.before.before.before.before.before in
     let f = at-load-interface.load-interface in
-    loop-ends at-loop.loop.invariant f.result (omega (arith, c.before.before.before.before.before.loop-test.false)) f.ensures at-free-slot.free-slot.ensures at-load-next.load-next.ensures c.before.before.before.spot.ensures.0 l.lag.ensures c.before.before.new-node.ensures c.push.ensures
+    loop_ends at-loop.loop.invariant f.result (omega (arith, c.before.before.before.before.before.loop-test.false)) f.ensures at-free-slot.free_slot_lem.ensures at-load-next.load-next.ensures c.before.before.before.spot.ensures.0 l.lag.ensures c.before.before.new-node.ensures c.push.ensures
 
 pub add-blossom-spec : {M : Type 1} → statement M
 add-blossom-spec =

@@ -1,7 +1,7 @@
 -- The two cases of the test are those of the definition. Assumes nothing.
 use native.Mathlib.Omega.{arith}
 use borrow.Author.Rules.{rules}
-use Rattle.deed_circles.proofs.Bodies.{next-some, next-none}
+use Rattle.deed_circles.proofs.Bodies.{next_some, next_none}
 use Rattle.deed_circles.proofs.following.Statement.{statement}
 use Rattle.deed_circles.proofs.following.Tie as tie
 
@@ -21,10 +21,10 @@ spot-requires : tie.Need-spot-requires
 spot-requires c κs = search rules
 
 returns : tie.Need-returns
-returns c = next-some c.before.before.before.before.args.members.now c.before.before.before.before.args.i c.spot.result (omega arith) c.spot.ensures.0
+returns c = next_some c.before.before.before.before.args.members.now c.before.before.before.before.args.i c.spot.result (omega arith) c.spot.ensures.0
 
 returns-2 : tie.Need-returns-2
-returns-2 c = next-none c.before.before.args.members.now c.before.before.args.i (omega arith)
+returns-2 c = next_none c.before.before.args.members.now c.before.before.args.i (omega arith)
 
 pub following-spec : {M : Type 1} → statement M
 following-spec = tie.close (tie.spec add-if1 add-spot mul-spot shared-slice-read-spot spot-requires returns returns-2)

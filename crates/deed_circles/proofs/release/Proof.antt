@@ -2,7 +2,7 @@
 use mathlib.Core.Path.{refl}
 use native.Mathlib.Omega.{arith}
 use borrow.Author.Rules.{rules}
-use Rattle.deed_circles.proofs.Bodies.{ranged-at, release-by}
+use Rattle.deed_circles.proofs.Bodies.{ranged_at, release_by}
 use Rattle.deed_circles.proofs.release.Statement.{statement}
 use Rattle.deed_circles.proofs.release.Tie as tie
 
@@ -16,7 +16,7 @@ no-seat-requires : tie.Need-no-seat-requires
 no-seat-requires c κs = search rules
 
 remark-requires : tie.Need-remark-requires
-remark-requires c κs = (ranged-at c.before.before.before.before.before.args.b.now c.before.load-node.result c.before.load-node.ensures refl c.before.before.before.before.before.requires.2, c.before.before.before.total_of.ensures.1)
+remark-requires c κs = (ranged_at c.before.before.before.before.before.args.b.now c.before.load-node.result c.before.load-node.ensures refl c.before.before.before.before.before.requires.2, c.before.before.before.total_of.ensures.1)
 
 store-node-requires : tie.Need-store-node-requires
 store-node-requires c κs = search rules
@@ -26,7 +26,7 @@ returns c =
     let at-load-node = c.before.before.before.before in
     let at-total-of = at-load-node.before.before in
     let start = at-total-of.before.before in
-    release-by start.args.b.now start.args.at at-load-node.load-node.result c.before.before.remark.result at-total-of.total_of.ensures.0 at-load-node.load-node.ensures c.before.before.before.no-seat.ensures c.before.before.remark.ensures c.store-node.ensures
+    release_by start.args.b.now start.args.at at-load-node.load-node.result c.before.before.remark.result at-total-of.total_of.ensures.0 at-load-node.load-node.ensures c.before.before.before.no-seat.ensures c.before.before.remark.ensures c.store-node.ensures
 
 pub release_spec : {M : Type 1} → statement M
 release_spec =

@@ -1,7 +1,7 @@
 -- The two cases of the test are those of the definition. Assumes nothing.
 use native.Mathlib.Omega.{arith}
 use borrow.Author.Rules.{rules}
-use Rattle.deed_circles.proofs.Bodies.{touch-none, touch-some}
+use Rattle.deed_circles.proofs.Bodies.{touch_none, touch_some}
 use Rattle.deed_circles.proofs.touch.Statement.{statement}
 use Rattle.deed_circles.proofs.touch.Tie as tie
 
@@ -15,7 +15,7 @@ handle-of-requires : tie.Need-handle-of-requires
 handle-of-requires c κs = search rules
 
 returns : tie.Need-returns
-returns c = let a = c.before.before.before.before.before.args in touch-none a.members.now a.touching.now a.i a.d c.handle-of.result (omega arith) c.handle-of.ensures
+returns c = let a = c.before.before.before.before.before.args in touch_none a.members.now a.touching.now a.i a.d c.handle-of.result (omega arith) c.handle-of.ensures
 
 mul-handle-of-2 : tie.Need-overflow-mul-handle-of-2
 mul-handle-of-2 c = search rules
@@ -33,7 +33,7 @@ handle-of-requires-2 : tie.Need-handle-of-requires-2
 handle-of-requires-2 c κs = search rules
 
 returns-2 : tie.Need-returns-2
-returns-2 c = let a = c.before.before.before.before.before.args in touch-some a.members.now a.touching.now a.i a.d c.handle-of2.result c.before.before.if1.false c.handle-of2.ensures
+returns-2 c = let a = c.before.before.before.before.before.args in touch_some a.members.now a.touching.now a.i a.d c.handle-of2.result c.before.before.if1.false c.handle-of2.ensures
 
 pub touch-spec : {M : Type 1} → statement M
 touch-spec =

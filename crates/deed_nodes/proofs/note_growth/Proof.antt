@@ -2,9 +2,9 @@
 use Prim.Native.Nat.{ℕ, ◌+◌, ◌-◌, ◌*◌}
 use mathlib.Core.Path.{◌≡◌, ap, ◌∙◌}
 use native.Mathlib.Omega.{arith}
-use Rattle.bench_words.specs.Store.{storeInterface}
+use Rattle.bench_words.specs.Store.{store_interface}
 use Rattle.bench_words.specs.declared.Interface.{Interface}
-use Rattle.bench_views.specs.Records.{withGrowth}
+use Rattle.bench_views.specs.Records.{with_growth}
 use Rattle.deed_nodes.specs.Steps.{noted, Room}
 use Rattle.deed_nodes.proofs.note_growth.Statement.{statement}
 use Rattle.deed_nodes.proofs.note_growth.Tie as tie
@@ -39,7 +39,7 @@ unfolding noted
 returns c =
     let loaded = c.before.before.before.before.before in
     let a = loaded.before.before.args in
-    c.store-interface.ensures ∙ ap (λ (f : Interface). storeInterface a.b.now a.unit (withGrowth f (f.progress + a.length) (f.sum + a.length * f.speed - a.length * 1024))) loaded.load-interface.ensures
+    c.store-interface.ensures ∙ ap (λ (f : Interface). store_interface a.b.now a.unit (with_growth f (f.progress + a.length) (f.sum + a.length * f.speed - a.length * 1024))) loaded.load-interface.ensures
 
 pub note-growth-spec : {M : Type 1} → statement M
 note-growth-spec =

@@ -1,5 +1,5 @@
 -- The slot's bit is put, and the interface's words are those loaded, with the slot among the used ones. Assumes nothing.
-use Rattle.deed_nodes.proofs.Bodies.{push-by}
+use Rattle.deed_nodes.proofs.Bodies.{push_by}
 use borrow.Author.Rules.{rules}
 use Rattle.deed_nodes.proofs.push.Statement.{statement}
 use Rattle.deed_nodes.proofs.push.Tie as tie
@@ -47,7 +47,7 @@ returns c =
     let loads = stored.before.before in
     let first = loads.before.before.before.before.before in
     let a = first.before.before.args in
-    push-by a.b.now a.unit a.slot a.n a.speed first.load-interface.result first.load-interface.ensures loads.before.before.load-next.ensures loads.load-map.ensures loads.before.before.before.before.used-with.ensures
+    push_by a.b.now a.unit a.slot a.n a.speed first.load-interface.result first.load-interface.ensures loads.before.before.load-next.ensures loads.load-map.ensures loads.before.before.before.before.used-with.ensures
     stored.store-node.ensures mapped.before.before.before.store-interface.ensures mapped.before.with.ensures mapped.store-map.ensures c.store-next.ensures
 
 pub push_spec : {M : Type 1} → statement M

@@ -3,8 +3,8 @@ use Prim.Native.Nat.{ℕ}
 use mathlib.Core.Path.{◌≡◌, ap, ap₂, ◌∙◌}
 use borrow.Author.Rules.{rules}
 use Rattle.kinds.specs.declared.GrowState.{GrowState}
-use Rattle.bench_words.specs.Store.{storeBias}
-use Rattle.bench_views.specs.View.{valueBy}
+use Rattle.bench_words.specs.Store.{store_bias}
+use Rattle.bench_views.specs.View.{value_by}
 use Rattle.deed_raises.specs.Raises.{Movable}
 use Rattle.deed_raises.proofs.raise_slot.Statement.{statement}
 use Rattle.deed_raises.proofs.raise_slot.Tie as tie
@@ -27,7 +27,7 @@ store-bias-requires c κs = search rules
 returns : tie.Need-returns
 returns c =
     let a = c.before.before.before.before.before.before.before.args in
-    c.store-bias.ensures ∙ ap (storeBias a.b.now a.k) (c.before.moved.ensures ∙ ap₂ (λ (g : GrowState) (v : ℕ). valueBy g v a.length) c.before.before.before.before.before.load-state.ensures c.before.before.before.load-bias.ensures)
+    c.store-bias.ensures ∙ ap (store_bias a.b.now a.k) (c.before.moved.ensures ∙ ap₂ (λ (g : GrowState) (v : ℕ). value_by g v a.length) c.before.before.before.before.before.load-state.ensures c.before.before.before.load-bias.ensures)
 
 pub raise-slot-spec : {M : Type 1} → statement M
 raise-slot-spec = tie.close (tie.spec load-state-requires load-bias-requires moved-requires store-bias-requires returns)

@@ -3,7 +3,7 @@ use Prim.Native.Nat.{◌-◌, ◌*◌, ◌≤◌}
 use native.Mathlib.Omega.{arith}
 use borrow.Author.Rules.{rules}
 use Rattle.deed_raises.specs.Raises.{Raised}
-use Rattle.deed_raises.proofs.Raising.{begun, still-movable, one_more, tree-done}
+use Rattle.deed_raises.proofs.Raising.{begun, still_movable, one_more, tree_done}
 use Rattle.deed_raises.proofs.raise_tree.Statement.{statement}
 use Rattle.deed_raises.proofs.raise_tree.Tie as tie
 
@@ -22,7 +22,7 @@ raise-under-requires c κs =
     let a = s.args in
     let l = c.before.before.loop in
     let lv = c.before.loop-test.true in
-    (lv, (l.invariant.0.steady, (l.invariant.0.coded, still-movable a.b.now a.top a.length s.requires.1.1.0 l.b l.v l.invariant.0 lv (s.requires.1.1.1 l.v lv))))
+    (lv, (l.invariant.0.steady, (l.invariant.0.coded, still_movable a.b.now a.top a.length s.requires.1.1.0 l.b l.v l.invariant.0 lv (s.requires.1.1.1 l.v lv))))
 
 add-v : tie.Need-overflow-add-v invariant-loop decreases-loop
 add-v c = search rules
@@ -38,7 +38,7 @@ loop-again c =
     (one_more a.b.now a.top a.length s.requires.1.1.0 l.b l.v l.invariant.0 c.before.before.loop-test.true c.raise-under.ensures, omega arith)
 
 returns : tie.Need-returns invariant-loop decreases-loop
-returns c = let l = c.before.loop in tree-done l.invariant.0 (omega (arith, l.invariant.1, c.loop-test.false))
+returns c = let l = c.before.loop in tree_done l.invariant.0 (omega (arith, l.invariant.1, c.loop-test.false))
 
 pub raise-tree-spec : {M : Type 1} → statement M
 raise-tree-spec =

@@ -3,7 +3,7 @@ use Prim.Native.Nat.{◌-◌}
 use mathlib.Core.Path.{refl}
 use native.Mathlib.Omega.{arith}
 use borrow.Author.Rules.{rules}
-use Rattle.deed_trees.proofs.Beginning.{Erasing, erasing-more, erased}
+use Rattle.deed_trees.proofs.Beginning.{Erasing, erasing_more, erased}
 use Rattle.deed_trees.proofs.erase.Statement.{statement}
 use Rattle.deed_trees.proofs.erase.Tie as tie
 
@@ -29,7 +29,7 @@ loop-less : tie.Need-loop-smaller invariant-loop decreases-loop
 loop-less c = search rules
 
 loop-again : tie.Need-loop-preserved invariant-loop decreases-loop
-loop-again c = let l = c.before.loop in erasing-more l.b _ l.i l.invariant (omega arith) refl
+loop-again c = let l = c.before.loop in erasing_more l.b _ l.i l.invariant (omega arith) refl
 
 returns : tie.Need-returns invariant-loop decreases-loop
 returns c = let l = c.before.loop in erased l.b l.i l.invariant (omega arith)

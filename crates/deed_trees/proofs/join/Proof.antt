@@ -1,6 +1,6 @@
 -- The sums and speeds of two tops add up below 2^64; the words stored are those of the law of fuse. Assumes nothing.
 use native.Mathlib.Omega.{arith}
-use Rattle.deed_trees.proofs.Fusing.{p<8, l<8, r<8, join-room, join_by}
+use Rattle.deed_trees.proofs.Fusing.{p<8, l<8, r<8, join_room, join_by}
 use Rattle.deed_trees.proofs.join.Statement.{statement}
 use Rattle.deed_trees.proofs.join.Tie as tie
 
@@ -28,15 +28,15 @@ add-t17 c =
     let at-load-interface2 = c.before.before.before.before.before.before.before.before.before.before.before in
     let at-load-interface = at-load-interface2.before.before in
     let start = at-load-interface.before.before in
-    let r = join-room start.args.b.now start.args.parent start.args.left start.args.right start.requires.0 start.requires.1 at-load-interface.load-interface.result at-load-interface2.load-interface2.result at-load-interface.load-interface.ensures at-load-interface2.load-interface2.ensures in
-    omega (arith, r.sum-high)
+    let r = join_room start.args.b.now start.args.parent start.args.left start.args.right start.requires.0 start.requires.1 at-load-interface.load-interface.result at-load-interface2.load-interface2.result at-load-interface.load-interface.ensures at-load-interface2.load-interface2.ensures in
+    omega (arith, r.sum_high)
 
 sub-t18 : tie.Need-overflow-sub-t18
 sub-t18 c =
     let at-load-interface2 = c.before.before.before.before.before.before.before.before.before.before.before in
     let at-load-interface = at-load-interface2.before.before in
     let start = at-load-interface.before.before in
-    let r = join-room start.args.b.now start.args.parent start.args.left start.args.right start.requires.0 start.requires.1 at-load-interface.load-interface.result at-load-interface2.load-interface2.result at-load-interface.load-interface.ensures at-load-interface2.load-interface2.ensures in
+    let r = join_room start.args.b.now start.args.parent start.args.left start.args.right start.requires.0 start.requires.1 at-load-interface.load-interface.result at-load-interface2.load-interface2.result at-load-interface.load-interface.ensures at-load-interface2.load-interface2.ensures in
     omega (arith, r.sum_low)
 
 add-t19 : tie.Need-overflow-add-t19
@@ -44,16 +44,16 @@ add-t19 c =
     let at-load-interface2 = c.before.before.before.before.before.before.before.before.before.before.before.before.before in
     let at-load-interface = at-load-interface2.before.before in
     let start = at-load-interface.before.before in
-    let r = join-room start.args.b.now start.args.parent start.args.left start.args.right start.requires.0 start.requires.1 at-load-interface.load-interface.result at-load-interface2.load-interface2.result at-load-interface.load-interface.ensures at-load-interface2.load-interface2.ensures in
-    omega (arith, r.speed-high)
+    let r = join_room start.args.b.now start.args.parent start.args.left start.args.right start.requires.0 start.requires.1 at-load-interface.load-interface.result at-load-interface2.load-interface2.result at-load-interface.load-interface.ensures at-load-interface2.load-interface2.ensures in
+    omega (arith, r.speed_high)
 
 sub-t20 : tie.Need-overflow-sub-t20
 sub-t20 c =
     let at-load-interface2 = c.before.before.before.before.before.before.before.before.before.before.before.before.before in
     let at-load-interface = at-load-interface2.before.before in
     let start = at-load-interface.before.before in
-    let r = join-room start.args.b.now start.args.parent start.args.left start.args.right start.requires.0 start.requires.1 at-load-interface.load-interface.result at-load-interface2.load-interface2.result at-load-interface.load-interface.ensures at-load-interface2.load-interface2.ensures in
-    omega (arith, r.speed-low)
+    let r = join_room start.args.b.now start.args.parent start.args.left start.args.right start.requires.0 start.requires.1 at-load-interface.load-interface.result at-load-interface2.load-interface2.result at-load-interface.load-interface.ensures at-load-interface2.load-interface2.ensures in
+    omega (arith, r.speed_low)
 
 add-t23 : tie.Need-overflow-add-t23
 add-t23 c =

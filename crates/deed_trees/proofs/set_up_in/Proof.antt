@@ -2,7 +2,7 @@
 use Prim.Native.Nat.{◌-◌}
 use native.Mathlib.Omega.{arith}
 use borrow.Author.Rules.{rules}
-use Rattle.deed_trees.proofs.Beginning.{Filling, filling-begins, filling-more, filled}
+use Rattle.deed_trees.proofs.Beginning.{Filling, filling_begins, filling_more, filled}
 use Rattle.deed_trees.proofs.set_up_in.Statement.{statement}
 use Rattle.deed_trees.proofs.set_up_in.Tie as tie
 
@@ -19,7 +19,7 @@ erase-requires : tie.Need-erase-requires invariant-loop decreases-loop
 erase-requires c κs = search rules
 
 loop-holds : tie.Need-loop-init invariant-loop decreases-loop
-loop-holds c = filling-begins _ c.erase.new.0 c.erase.ensures
+loop-holds c = filling_begins _ c.erase.new.0 c.erase.ensures
 
 no-interface-requires : tie.Need-no-interface-requires invariant-loop decreases-loop
 no-interface-requires c κs = search rules
@@ -34,7 +34,7 @@ loop-less : tie.Need-loop-smaller invariant-loop decreases-loop
 loop-less c = search rules
 
 loop-again : tie.Need-loop-preserved invariant-loop decreases-loop
-loop-again c = let l = c.before.before.before.before.loop in filling-more _ l.b c.store-interface.new.0 l.u l.invariant c.before.before.before.loop-test.true c.before.no-interface.ensures c.store-interface.ensures
+loop-again c = let l = c.before.before.before.before.loop in filling_more _ l.b c.store-interface.new.0 l.u l.invariant c.before.before.before.loop-test.true c.before.no-interface.ensures c.store-interface.ensures
 
 store-next-requires : tie.Need-store-next-requires invariant-loop decreases-loop
 store-next-requires c κs = search rules

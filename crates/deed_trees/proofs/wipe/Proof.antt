@@ -4,7 +4,7 @@ use mathlib.Core.Path.{◌≡◌, subst}
 use mathlib.Core.Logic.{⊎_elim}
 use native.Mathlib.Omega.{arith}
 use borrow.Author.Rules.{rules}
-use Rattle.deed_trees.proofs.Wiping.{Wiping, wipe-low, top-own, wiping-begins, wiping-past, of_tree, wiping-reset}
+use Rattle.deed_trees.proofs.Wiping.{Wiping, wipe_low, top_own, wiping_begins, wiping_past, of_tree, wiping_reset}
 use Rattle.deed_trees.proofs.Cleared.{wiped}
 use Rattle.deed_trees.proofs.wipe.Statement.{statement}
 use Rattle.deed_trees.proofs.wipe.Tie as tie
@@ -16,25 +16,25 @@ abbrev decreases-loop : tie.decreases-loop
 decreases-loop b₀ unit w₀ b w = unit - w
 
 loop-holds : tie.Need-loop-init invariant-loop decreases-loop
-loop-holds c = (wiping-begins c.args.b.now c.args.unit c.requires.0 c.requires.1, omega arith)
+loop-holds c = (wiping_begins c.args.b.now c.args.unit c.requires.0 c.requires.1, omega arith)
 
 climb-requires : tie.Need-climb-requires invariant-loop decreases-loop
 climb-requires c κs =
     let s = c.before.before.before in
-    let low = wipe-low s.args.b.now s.args.unit s.requires.0 s.requires.1 in
+    let low = wipe_low s.args.b.now s.args.unit s.requires.0 s.requires.1 in
     (omega (arith, low, c.before.loop-test.true), c.before.before.loop.invariant.0.steady)
 
 reset-requires : tie.Need-reset-requires invariant-loop decreases-loop
 reset-requires c κs =
     let l = c.before.before.before.before.before.before in
     let s = l.before in
-    let low = wipe-low s.args.b.now s.args.unit s.requires.0 s.requires.1 in
+    let low = wipe_low s.args.b.now s.args.unit s.requires.0 s.requires.1 in
     (omega (arith, low, c.before.before.before.before.before.loop-test.true), l.loop.invariant.0.steady, l.loop.invariant.0.coded)
 
 add-w : tie.Need-overflow-add-w invariant-loop decreases-loop
 add-w c =
     let s = c.before.before.before.before.before.before in
-    let low = wipe-low s.args.b.now s.args.unit s.requires.0 s.requires.1 in
+    let low = wipe_low s.args.b.now s.args.unit s.requires.0 s.requires.1 in
     omega (arith, low, c.before.before.before.before.loop-test.true)
 
 loop-less : tie.Need-loop-smaller invariant-loop decreases-loop
@@ -49,8 +49,8 @@ loop-again c =
     let b₀ = s.args.b.now in
     let u = s.args.unit in (
       ⊎_elim
-          (λ x. rw x.3 (wiping-reset b₀ u s.requires.0 s.requires.1 l.b l.w l.invariant.0 (omega (arith, t)) x.2.last.0 (of_tree b₀ u s.requires.0 s.requires.1 l.b l.w l.invariant.0 (omega (arith, t)) up x.0.taken) x.2.ensures))
-          (λ x. rw x.1 (wiping-past b₀ u s.requires.0 s.requires.1 l.b l.w l.invariant.0 (omega (arith, t)) up x.0.left))
+          (λ x. rw x.3 (wiping_reset b₀ u s.requires.0 s.requires.1 l.b l.w l.invariant.0 (omega (arith, t)) x.2.last.0 (of_tree b₀ u s.requires.0 s.requires.1 l.b l.w l.invariant.0 (omega (arith, t)) up x.0.taken) x.2.ensures))
+          (λ x. rw x.1 (wiping_past b₀ u s.requires.0 s.requires.1 l.b l.w l.invariant.0 (omega (arith, t)) up x.0.left))
           c.if1.branch,
       omega (arith, t),
     )
@@ -59,7 +59,7 @@ reset-requires-2 : tie.Need-reset-requires-2 invariant-loop decreases-loop
 reset-requires-2 c κs =
     let l = c.before.before.loop in
     let s = c.before.before.before in
-    (wipe-low s.args.b.now s.args.unit s.requires.0 s.requires.1, l.invariant.0.steady, l.invariant.0.coded)
+    (wipe_low s.args.b.now s.args.unit s.requires.0 s.requires.1, l.invariant.0.steady, l.invariant.0.coded)
 
 -- the loop ends at the top itself
 returns : tie.Need-returns invariant-loop decreases-loop
@@ -71,7 +71,7 @@ returns c =
     let at : l.w ≡ u = omega (arith, l.invariant.1, c.before.before.loop-test.false) in
     let G : Wiping b₀ u l.b u = subst (Wiping b₀ u l.b) at l.invariant.0 in
     let b₂ = c.reset2.new.0 in
-    wiped b₀ u s.requires.0 b₂ (u + 1) (wiping-reset b₀ u s.requires.0 s.requires.1 l.b u G (omega arith) b₂ (top-own b₀ u s.requires.0 s.requires.1) c.reset2.ensures) (omega arith)
+    wiped b₀ u s.requires.0 b₂ (u + 1) (wiping_reset b₀ u s.requires.0 s.requires.1 l.b u G (omega arith) b₂ (top_own b₀ u s.requires.0 s.requires.1) c.reset2.ensures) (omega arith)
 
 pub wipe-spec : {M : Type 1} → statement M
 wipe-spec =

@@ -5,12 +5,12 @@ use native.Mathlib.Omega.{arith}
 use borrow.Author.Rules.{rules}
 use lib.ListN.{length, length-map}
 use Rattle.ledger_spec.specs.Groups.{Lists, grouped}
-use Rattle.groups.specs.View.{list_of, stopsOf}
-use Rattle.groups.proofs.View.{stopped-is}
+use Rattle.groups.specs.View.{list_of, stops_of}
+use Rattle.groups.proofs.View.{stopped_is}
 use Rattle.group_adds.specs.Adds.{changed}
-use Rattle.group_adds.proofs.Places.{free-adds, held-adds}
+use Rattle.group_adds.proofs.Places.{free_adds, held_adds}
 use Rattle.group_adds.proofs.Bytes.{Fits, at_stops}
-use Rattle.group_adds.proofs.Adding.{free-full, free-done}
+use Rattle.group_adds.proofs.Adding.{free_full, free_done}
 use Rattle.group_adds.proofs.add_stop.Statement.{statement}
 use Rattle.group_adds.proofs.add_stop.Tie as tie
 
@@ -34,8 +34,8 @@ met-requires c κs =
     let p = c.before in
     let f = p.before.before in
     let s = f.before.before.before in
-    let h = held-adds s.args.x (list_of s.args.g) (stopsOf s.args.g) p.spot.given.0.0 p.spot.given.0.1.0 (at_stops s.args.g (fits s) s.args.x.vertex.0 _ (sym p.spot.given.1 ∙ f.spot_of_lem.ensures)) in
-    (s.requires, (omega (arith, h.0, stopped-is s.args.g), h.1))
+    let h = held_adds s.args.x (list_of s.args.g) (stops_of s.args.g) p.spot.given.0.0 p.spot.given.0.1.0 (at_stops s.args.g (fits s) s.args.x.vertex.0 _ (sym p.spot.given.1 ∙ f.spot_of_lem.ensures)) in
+    (s.requires, (omega (arith, h.0, stopped_is s.args.g), h.1))
 
 enum-known-spot-2 : tie.Need-enum-known-spot-2
 enum-known-spot-2 c = search rules
@@ -45,9 +45,9 @@ returns c =
     let p = c.before.before in
     let f = p.before.before in
     let s = f.before.before.before in
-    let h = free-adds s.args.x (list_of s.args.g) (stopsOf s.args.g) p.spot2.given.0.0 (at_stops s.args.g (fits s) s.args.x.vertex.0 _ (sym p.spot2.given.1 ∙ f.spot_of_lem.ensures)) in
-    let z = stopped-is s.args.g in
-    free-full s.args.g (fits s) p.spot2.given.0.0 s.args.x (omega (arith, h.0, z)) h.1 c.if1.true
+    let h = free_adds s.args.x (list_of s.args.g) (stops_of s.args.g) p.spot2.given.0.0 (at_stops s.args.g (fits s) s.args.x.vertex.0 _ (sym p.spot2.given.1 ∙ f.spot_of_lem.ensures)) in
+    let z = stopped_is s.args.g in
+    free_full s.args.g (fits s) p.spot2.given.0.0 s.args.x (omega (arith, h.0, z)) h.1 c.if1.true
 
 put-in-requires : tie.Need-put-in-requires
 put-in-requires c κs =
@@ -55,8 +55,8 @@ put-in-requires c κs =
     let p = q.before.before in
     let f = p.before.before in
     let s = f.before.before.before in
-    let h = free-adds s.args.x (list_of s.args.g) (stopsOf s.args.g) p.spot2.given.0.0 (at_stops s.args.g (fits s) s.args.x.vertex.0 _ (sym p.spot2.given.1 ∙ f.spot_of_lem.ensures)) in
-    let z = stopped-is s.args.g in
+    let h = free_adds s.args.x (list_of s.args.g) (stops_of s.args.g) p.spot2.given.0.0 (at_stops s.args.g (fits s) s.args.x.vertex.0 _ (sym p.spot2.given.1 ∙ f.spot_of_lem.ensures)) in
+    let z = stopped_is s.args.g in
     (omega (arith, h.0, z), q.if1.false)
 
 add-t16 : tie.Need-overflow-add-t16
@@ -67,7 +67,7 @@ returns-2 c =
     let p = c.before.before in
     let f = p.before.before in
     let s = f.before.before.before in
-    let h = held-adds s.args.x (list_of s.args.g) (stopsOf s.args.g) p.spot.given.0.0 p.spot.given.0.1.0 (at_stops s.args.g (fits s) s.args.x.vertex.0 _ (sym p.spot.given.1 ∙ f.spot_of_lem.ensures)) in
+    let h = held_adds s.args.x (list_of s.args.g) (stops_of s.args.g) p.spot.given.0.0 p.spot.given.0.1.0 (at_stops s.args.g (fits s) s.args.x.vertex.0 _ (sym p.spot.given.1 ∙ f.spot_of_lem.ensures)) in
     c.met.ensures ∙ ap (λ (o : Option Lists). changed (grouped o) s.args.g) (sym h.2)
 
 returns-3 : tie.Need-returns-3
@@ -76,9 +76,9 @@ returns-3 c =
     let p = q.before.before in
     let f = p.before.before in
     let s = f.before.before.before in
-    let h = free-adds s.args.x (list_of s.args.g) (stopsOf s.args.g) p.spot2.given.0.0 (at_stops s.args.g (fits s) s.args.x.vertex.0 _ (sym p.spot2.given.1 ∙ f.spot_of_lem.ensures)) in
-    let z = stopped-is s.args.g in
-    free-done s.args.g (fits s) p.spot2.given.0.0 s.args.x (omega (arith, h.0, z)) h.1 c.put_in.result q.if1.false c.put_in.ensures
+    let h = free_adds s.args.x (list_of s.args.g) (stops_of s.args.g) p.spot2.given.0.0 (at_stops s.args.g (fits s) s.args.x.vertex.0 _ (sym p.spot2.given.1 ∙ f.spot_of_lem.ensures)) in
+    let z = stopped_is s.args.g in
+    free_done s.args.g (fits s) p.spot2.given.0.0 s.args.x (omega (arith, h.0, z)) h.1 c.put_in.result q.if1.false c.put_in.ensures
 
 pub add-stop-spec : {M : Type 1} → statement M
 add-stop-spec =

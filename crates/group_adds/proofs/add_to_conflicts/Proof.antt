@@ -4,12 +4,12 @@ use mathlib.Core.Option.{Option}
 use native.Mathlib.Omega.{arith}
 use borrow.Author.Rules.{rules}
 use lib.ListN.{length, length-map}
-use Rattle.kinds.specs.Obstacles.{listable, isStop}
+use Rattle.kinds.specs.Obstacles.{listable, is_stop}
 use Rattle.ledger_spec.specs.Groups.{Group}
-use Rattle.groups.specs.View.{list_of, stopsOf}
+use Rattle.groups.specs.View.{list_of, stops_of}
 use Rattle.group_adds.specs.Adds.{changed}
 use Rattle.group_adds.proofs.Bytes.{Fits}
-use Rattle.group_adds.proofs.Adding.{conflicts-grow, conflicts-list, conflicts-stop}
+use Rattle.group_adds.proofs.Adding.{conflicts_grow, conflicts_list, conflicts_stop}
 use Rattle.group_adds.proofs.add_to_conflicts.Statement.{statement}
 use Rattle.group_adds.proofs.add_to_conflicts.Tie as tie
 
@@ -52,27 +52,27 @@ add-listed-requires-3 c κs = c.before.before.requires
 returns : tie.Need-returns
 returns c =
     let s = c.before.before in
-    conflicts-grow s.args.o s.args.first.0 s.args.g _ _ (fits s) c.enum_told.given.1
+    conflicts_grow s.args.o s.args.first.0 s.args.g _ _ (fits s) c.enum_told.given.1
 
 returns-2 : tie.Need-returns-2
 returns-2 c =
     let s = c.before.before.before in
-    c.add-stop.ensures ∙ ap (λ (q : Option Group). changed q s.args.g) (conflicts-stop s.args.o s.args.first.0 (list_of s.args.g) (stopsOf s.args.g) (ap isStop c.before.enum-told2.given.1))
+    c.add_stop_lem.ensures ∙ ap (λ (q : Option Group). changed q s.args.g) (conflicts_stop s.args.o s.args.first.0 (list_of s.args.g) (stops_of s.args.g) (ap is_stop c.before.enum-told2.given.1))
 
 returns-3 : tie.Need-returns-3
 returns-3 c =
     let s = c.before.before.before in
-    c.add-listed.ensures ∙ ap (λ (q : Option Group). changed q s.args.g) (conflicts-list s.args.o s.args.first.0 (list_of s.args.g) (stopsOf s.args.g) (ap listable c.before.enum-told3.given.1))
+    c.add_listed.ensures ∙ ap (λ (q : Option Group). changed q s.args.g) (conflicts_list s.args.o s.args.first.0 (list_of s.args.g) (stops_of s.args.g) (ap listable c.before.enum-told3.given.1))
 
 returns-4 : tie.Need-returns-4
 returns-4 c =
     let s = c.before.before.before in
-    c.add-listed2.ensures ∙ ap (λ (q : Option Group). changed q s.args.g) (conflicts-list s.args.o s.args.first.0 (list_of s.args.g) (stopsOf s.args.g) (ap listable c.before.enum-told4.given.1))
+    c.add-listed2.ensures ∙ ap (λ (q : Option Group). changed q s.args.g) (conflicts_list s.args.o s.args.first.0 (list_of s.args.g) (stops_of s.args.g) (ap listable c.before.enum-told4.given.1))
 
 returns-5 : tie.Need-returns-5
 returns-5 c =
     let s = c.before.before.before in
-    c.add-listed3.ensures ∙ ap (λ (q : Option Group). changed q s.args.g) (conflicts-list s.args.o s.args.first.0 (list_of s.args.g) (stopsOf s.args.g) (ap listable c.before.enum-told5.given.1))
+    c.add-listed3.ensures ∙ ap (λ (q : Option Group). changed q s.args.g) (conflicts_list s.args.o s.args.first.0 (list_of s.args.g) (stops_of s.args.g) (ap listable c.before.enum-told5.given.1))
 
 pub add-to-conflicts-spec : {M : Type 1} → statement M
 add-to-conflicts-spec =

@@ -4,9 +4,9 @@ use borrow.Author.Rules.{rules}
 use mir.Syntax.{w64}
 use mir.Val.{SFits}
 use mir.Facts.{to_z-of_z}
-use Rattle.kinds.specs.Obstacles.{listable, isStop}
+use Rattle.kinds.specs.Obstacles.{listable, is_stop}
 use Rattle.ledger_spec.specs.Groups.{smaller}
-use Rattle.group_adds.proofs.Adding.{growth-grow, growth-list, growth-stop}
+use Rattle.group_adds.proofs.Adding.{growth_grow, growth_list, growth_stop}
 use Rattle.group_adds.proofs.add_to_growth.Statement.{statement}
 use Rattle.group_adds.proofs.add_to_growth.Tie as tie
 
@@ -53,31 +53,31 @@ returns c =
     let fa : SFits w64 start.args.length = search rules in
     let fb : SFits w64 o.o.given.0.0 = search rules in
     let fr : SFits w64 c.before.before.smaller-of.result = search rules in
-    growth-grow start.args.length start.args.flag start.args.o start.args.first.0 start.args.g c.grown.result o.o.given.0.0 o.o.given.0.1.0 _ _ o.o.given.1 (to_z-of_z fr ∙ c.before.before.smaller-of.ensures ∙ ap₂ smaller (to_z-of_z fa) (to_z-of_z fb)) c.before.either.ensures c.grown.ensures
+    growth_grow start.args.length start.args.flag start.args.o start.args.first.0 start.args.g c.grown.result o.o.given.0.0 o.o.given.0.1.0 _ _ o.o.given.1 (to_z-of_z fr ∙ c.before.before.smaller-of.ensures ∙ ap₂ smaller (to_z-of_z fa) (to_z-of_z fb)) c.before.either.ensures c.grown.ensures
 
 returns-2 : tie.Need-returns-2
 returns-2 c =
     let told = c.before in
     let start = told.before.before in
-    growth-stop start.args.length start.args.flag start.args.o start.args.first.0 start.args.g c.one-stop.result (ap isStop told.enum_told.given.1) c.one-stop.ensures
+    growth_stop start.args.length start.args.flag start.args.o start.args.first.0 start.args.g c.one-stop.result (ap is_stop told.enum_told.given.1) c.one-stop.ensures
 
 returns-3 : tie.Need-returns-3
 returns-3 c =
     let told = c.before in
     let start = told.before.before in
-    growth-list start.args.length start.args.flag start.args.o start.args.first.0 start.args.g c.one-listed.result (ap listable told.enum-told2.given.1) c.one-listed.ensures
+    growth_list start.args.length start.args.flag start.args.o start.args.first.0 start.args.g c.one-listed.result (ap listable told.enum-told2.given.1) c.one-listed.ensures
 
 returns-4 : tie.Need-returns-4
 returns-4 c =
     let told = c.before in
     let start = told.before.before in
-    growth-list start.args.length start.args.flag start.args.o start.args.first.0 start.args.g c.one-listed2.result (ap listable told.enum-told3.given.1) c.one-listed2.ensures
+    growth_list start.args.length start.args.flag start.args.o start.args.first.0 start.args.g c.one-listed2.result (ap listable told.enum-told3.given.1) c.one-listed2.ensures
 
 returns-5 : tie.Need-returns-5
 returns-5 c =
     let told = c.before in
     let start = told.before.before in
-    growth-list start.args.length start.args.flag start.args.o start.args.first.0 start.args.g c.one-listed3.result (ap listable told.enum-told4.given.1) c.one-listed3.ensures
+    growth_list start.args.length start.args.flag start.args.o start.args.first.0 start.args.g c.one-listed3.result (ap listable told.enum-told4.given.1) c.one-listed3.ensures
 
 pub add-to-growth-spec : {M : Type 1} → statement M
 add-to-growth-spec =

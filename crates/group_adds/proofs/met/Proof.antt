@@ -5,7 +5,7 @@ use borrow.Author.Rules.{rules}
 use lib.ListN.{length, length-map}
 use Rattle.kinds.specs.Obstacles.{pair_of}
 use Rattle.group_adds.proofs.Bytes.{Fits}
-use Rattle.group_adds.proofs.Adding.{met-keep, met-replace, met-join}
+use Rattle.group_adds.proofs.Adding.{met_keep, met_replace, met_join}
 use Rattle.group_adds.proofs.met.Statement.{statement}
 use Rattle.group_adds.proofs.met.Tie as tie
 
@@ -46,19 +46,19 @@ moved-requires c κs = search rules
 returns : tie.Need-returns
 returns c =
     let s = c.before.before.before in
-    met-keep s.args.g (fits s) s.args.p s.args.x s.args.y s.requires.1.0 s.requires.1.1 (pair_of s.args.x.obstacle) (pair_of s.args.y.obstacle) (sym c.before.before.meeting-of.ensures ∙ c.enum_told.given.1)
+    met_keep s.args.g (fits s) s.args.p s.args.x s.args.y s.requires.1.0 s.requires.1.1 (pair_of s.args.x.obstacle) (pair_of s.args.y.obstacle) (sym c.before.before.meeting-of.ensures ∙ c.enum_told.given.1)
 
 returns-2 : tie.Need-returns-2
 returns-2 c =
     let s = c.before.before.before in
-    met-replace s.args.g (fits s) s.args.p s.args.x s.args.y s.requires.1.0 s.requires.1.1 (pair_of s.args.x.obstacle) (pair_of s.args.y.obstacle) (sym c.before.before.meeting-of.ensures ∙ c.enum-told2.given.1)
+    met_replace s.args.g (fits s) s.args.p s.args.x s.args.y s.requires.1.0 s.requires.1.1 (pair_of s.args.x.obstacle) (pair_of s.args.y.obstacle) (sym c.before.before.meeting-of.ensures ∙ c.enum-told2.given.1)
 
 returns-3 : tie.Need-returns-3
 returns-3 c =
     let m = c.before.before in
     let t = m.before.before in
     let s = t.before in
-    met-join s.args.g (fits s) s.args.p s.args.x s.args.y s.requires.1.0 s.requires.1.1 (pair_of s.args.x.obstacle) (pair_of s.args.y.obstacle) _ _ _ (sym t.meeting-of.ensures ∙ m.m.given.1) c.moved.ensures
+    met_join s.args.g (fits s) s.args.p s.args.x s.args.y s.requires.1.0 s.requires.1.1 (pair_of s.args.x.obstacle) (pair_of s.args.y.obstacle) _ _ _ (sym t.meeting-of.ensures ∙ m.m.given.1) c.moved.ensures
 
 pub met-spec : {M : Type 1} → statement M
 met-spec =

@@ -4,7 +4,7 @@ use native.Mathlib.Omega.{arith}
 use borrow.Author.Rules.{rules}
 use lib.ListN.{length, length-map}
 use Rattle.group_adds.proofs.Bytes.{Fits}
-use Rattle.group_adds.proofs.Adding.{moved-full, moved-done}
+use Rattle.group_adds.proofs.Adding.{moved_full, moved_done}
 use Rattle.group_adds.proofs.moved.Statement.{statement}
 use Rattle.group_adds.proofs.moved.Tie as tie
 
@@ -18,7 +18,7 @@ fits : (c : tie.Start) → Fits c.args.g
 fits c = let l = long c in let w = wide c in record { kind = c.requires.0.0; few = c.requires.0.1.0; short = c.requires.0.1.1; list = omega (arith, l); stops = omega (arith, w) }
 
 returns : tie.Need-returns
-returns c = moved-full c.before.args.g (fits c.before) c.before.args.p c.before.args.e c.if1.true
+returns c = moved_full c.before.args.g (fits c.before) c.before.args.p c.before.args.e c.if1.true
 
 mul-list : tie.Need-overflow-mul-list
 mul-list c = search rules
@@ -40,7 +40,7 @@ returns-2 c =
     let t = c.before in
     let q = t.before.before.before in
     let s = q.before in
-    moved-done s.args.g (fits s) s.args.p s.args.e t.taken_out.result q.if1.false s.requires.1 t.taken_out.ensures
+    moved_done s.args.g (fits s) s.args.p s.args.e t.taken_out.result q.if1.false s.requires.1 t.taken_out.ensures
 
 pub moved-spec : {M : Type 1} → statement M
 moved-spec =

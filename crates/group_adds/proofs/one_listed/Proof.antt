@@ -3,7 +3,7 @@ use mathlib.Core.Path.{◌≡◌}
 use native.Mathlib.Omega.{arith}
 use borrow.Author.Rules.{rules}
 use lib.ListN.{length, length-map}
-use Rattle.group_adds.proofs.Bytes.{lone-entry}
+use Rattle.group_adds.proofs.Bytes.{lone_entry}
 use Rattle.group_adds.proofs.one_listed.Statement.{statement}
 use Rattle.group_adds.proofs.one_listed.Tie as tie
 
@@ -16,7 +16,7 @@ array-set-from-list c = search rules
 returns : tie.Need-returns
 returns c =
     let l = long c.before.before in
-    lone-entry c.before.before.args.e c.before.before.args.g (omega (arith, l))
+    lone_entry c.before.before.args.e c.before.before.args.g (omega (arith, l))
 
 pub one-listed-spec : {M : Type 1} → statement M
 one-listed-spec =

@@ -3,7 +3,7 @@ use mathlib.Core.Path.{◌≡◌}
 use native.Mathlib.Omega.{arith}
 use borrow.Author.Rules.{rules}
 use lib.ListN.{length, length-map}
-use Rattle.group_adds.proofs.Bytes.{lone-stop}
+use Rattle.group_adds.proofs.Bytes.{lone_stop}
 use Rattle.group_adds.proofs.one_stop.Statement.{statement}
 use Rattle.group_adds.proofs.one_stop.Tie as tie
 
@@ -16,7 +16,7 @@ array-set-from-stops c = search rules
 returns : tie.Need-returns
 returns c =
     let w = wide c.before.before in
-    lone-stop c.before.before.args.s c.before.before.args.g (omega (arith, w))
+    lone_stop c.before.before.args.s c.before.before.args.g (omega (arith, w))
 
 pub one-stop-spec : {M : Type 1} → statement M
 one-stop-spec =

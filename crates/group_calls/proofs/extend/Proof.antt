@@ -2,8 +2,8 @@
 -- by a sound one answers. Assumes nothing.
 use mathlib.Core.Path.{sym, ◌∙◌}
 use borrow.Author.Rules.{rules}
-use borrow.Author.Tests.{not-true, not-false}
-use Rattle.group_calls.proofs.Answering.{fit, extend-unready, on-bench, own-sound, other-broken, extend-stale, extend-goes}
+use borrow.Author.Tests.{not_true, not_false}
+use Rattle.group_calls.proofs.Answering.{fit, extend_unready, on_bench, own_sound, other_broken, extend_stale, extend_goes}
 use Rattle.group_calls.proofs.extend.Statement.{statement}
 use Rattle.group_calls.proofs.extend.Tie as tie
 
@@ -17,7 +17,7 @@ returns : tie.Need-returns
 returns c =
     let one = c.before in
     let s = one.before.before in
-    c.refused.ensures ∙ extend-unready _ s.args.g one.before.is-ready.ensures one.if1.true s.args.other
+    c.refused.ensures ∙ extend_unready _ s.args.g one.before.is-ready.ensures one.if1.true s.args.other
 
 group-is-sound-requires : tie.Need-group-is-sound-requires
 group-is-sound-requires c κs = search rules
@@ -33,13 +33,13 @@ returns-2 c =
     let r = one.before.is-ready.ensures in
     let g = s.args.g in
     c.refused2.ensures
-    ∙ other-broken _ r.verdict (on-bench _ g r one.if1.false) g s.args.other (own-sound _ g r one.if1.false) (sym two.before.group-is-sound.ensures ∙ not-true _ two.if2.true)
+    ∙ other_broken _ r.verdict (on_bench _ g r one.if1.false) g s.args.other (own_sound _ g r one.if1.false) (sym two.before.group-is-sound.ensures ∙ not_true _ two.if2.true)
 
 group-gone-requires : tie.Need-group-gone-requires
 group-gone-requires c κs =
     let one = c.before.before in
     let r = one.before.is-ready.ensures in
-    ((fit _ r.verdict (on-bench _ one.before.before.args.g r one.if1.false)).canon, sym c.before.group-is-sound.ensures ∙ not-false _ c.if2.false)
+    ((fit _ r.verdict (on_bench _ one.before.before.args.g r one.if1.false)).canon, sym c.before.group-is-sound.ensures ∙ not_false _ c.if2.false)
 
 refused-requires-3 : tie.Need-refused-requires-3
 refused-requires-3 c κs = search rules
@@ -53,14 +53,14 @@ returns-3 c =
     let r = one.before.is-ready.ensures in
     let g = s.args.g in
     c.refused3.ensures
-    ∙ extend-stale _ r.verdict (on-bench _ g r one.if1.false) g s.args.other (own-sound _ g r one.if1.false) (sym two.before.group-is-sound.ensures ∙ not-false _ two.if2.false)
+    ∙ extend_stale _ r.verdict (on_bench _ g r one.if1.false) g s.args.other (own_sound _ g r one.if1.false) (sym two.before.group-is-sound.ensures ∙ not_false _ two.if2.false)
     (sym three.before.group-gone.ensures ∙ three.if3.true)
 
 extend-requires : tie.Need-extend-requires
 extend-requires c κs =
     let two = c.before.before in
     let one = two.before.before in
-    (own-sound _ one.before.before.args.g one.before.is-ready.ensures one.if1.false, sym two.before.group-is-sound.ensures ∙ not-false _ two.if2.false)
+    (own_sound _ one.before.before.args.g one.before.is-ready.ensures one.if1.false, sym two.before.group-is-sound.ensures ∙ not_false _ two.if2.false)
 
 returns-4 : tie.Need-returns-4
 returns-4 c =
@@ -70,7 +70,7 @@ returns-4 c =
     let s = one.before.before in
     let r = one.before.is-ready.ensures in
     let g = s.args.g in
-    extend-goes _ r.verdict (on-bench _ g r one.if1.false) g s.args.other (own-sound _ g r one.if1.false) (sym two.before.group-is-sound.ensures ∙ not-false _ two.if2.false)
+    extend_goes _ r.verdict (on_bench _ g r one.if1.false) g s.args.other (own_sound _ g r one.if1.false) (sym two.before.group-is-sound.ensures ∙ not_false _ two.if2.false)
     (sym three.before.group-gone.ensures ∙ three.if3.false) c.extend.result c.extend.ensures
 
 pub extend-spec : {M : Type 1} → statement M

@@ -8,9 +8,9 @@ use mir.Syntax.{w64}
 use mir.Val.{SFits}
 use mir.Facts.{to_z-of_z}
 use Rattle.ledger_spec.specs.Groups.{growth}
-use Rattle.groups.proofs.View.{sound-counts}
-use Rattle.group_extends.specs.Extends.{leastOf}
-use Rattle.group_extends.proofs.Extending.{sound-rising, two-growths, takes_whole, unmoved, two-conflicts}
+use Rattle.groups.proofs.View.{sound_counts}
+use Rattle.group_extends.specs.Extends.{least_of}
+use Rattle.group_extends.proofs.Extending.{sound_rising, two_growths, takes_whole, unmoved, two_conflicts}
 use Rattle.group_extends.proofs.extend.Statement.{statement}
 use Rattle.group_extends.proofs.extend.Tie as tie
 
@@ -53,9 +53,9 @@ enum-told-4 c = search rules
 extend-conflicts-requires : tie.Need-extend-conflicts-requires
 extend-conflicts-requires c κs =
     let s = c.before.before.before.before in
-    let p = sound-counts s.args.g c.before.before.enum-told2.given.1 s.requires.0 in
-    let q = sound-counts s.args.h c.enum-told4.given.1 s.requires.1 in
-    (p, (q.0, (q.1, sound-rising s.args.h c.enum-told4.given.1 s.requires.1)))
+    let p = sound_counts s.args.g c.before.before.enum-told2.given.1 s.requires.0 in
+    let q = sound_counts s.args.h c.enum-told4.given.1 s.requires.1 in
+    (p, (q.0, (q.1, sound_rising s.args.h c.enum-told4.given.1 s.requires.1)))
 
 returns : tie.Need-returns
 returns c =
@@ -71,15 +71,15 @@ returns c =
     let fa : SFits w64 at-kind.kind.given.0.0 = search (rules, at-known-told.known-told.given) in
     let fb : SFits w64 at_other.other.given.0.0 = search (rules, c.before.before.before.known-told2.given) in
     let fr : SFits w64 c.before.before.smaller-pair.result.length = search (rules, c.before.struct_told.given) in
-    two-growths s.args.g s.args.h a f b i at-kind.kind.given.1 at_other.other.given.1 _ p.result.flag c.grown.result
-    (ap (λ (z : ℤ). growth z p.result.flag) (to_z-of_z fr) ∙ p.ensures ∙ ap₂ (λ (x y : ℤ). leastOf x f y i) (to_z-of_z fa) (to_z-of_z fb)) c.grown.ensures
+    two_growths s.args.g s.args.h a f b i at-kind.kind.given.1 at_other.other.given.1 _ p.result.flag c.grown.result
+    (ap (λ (z : ℤ). growth z p.result.flag) (to_z-of_z fr) ∙ p.ensures ∙ ap₂ (λ (x y : ℤ). least_of x f y i) (to_z-of_z fa) (to_z-of_z fb)) c.grown.ensures
 
 returns-2 : tie.Need-returns-2
 returns-2 c =
     let s = c.before.before.before.before.before in
     let l = long' s in
     let w = wide' s in
-    let q = sound-counts s.args.h c.enum_told.given.1 s.requires.1 in
+    let q = sound_counts s.args.h c.enum_told.given.1 s.requires.1 in
     takes_whole s.args.g s.args.h c.before.before.before.kind.given.0.0 c.before.before.before.kind.given.0.1.0 c.before.before.before.kind.given.1 c.enum_told.given.1 (omega (arith, l, q.0)) (omega (arith, w, q.1))
 
 returns-3 : tie.Need-returns-3
@@ -87,13 +87,13 @@ returns-3 c =
     let s = c.before.before.before.before in
     let l = long s in
     let w = wide s in
-    let q = sound-counts s.args.g c.before.before.enum-told2.given.1 s.requires.0 in
+    let q = sound_counts s.args.g c.before.before.enum-told2.given.1 s.requires.0 in
     unmoved s.args.g s.args.h _ _ c.before.before.enum-told2.given.1 c.enum-told3.given.1 (omega (arith, l, q.0)) (omega (arith, w, q.1))
 
 returns-4 : tie.Need-returns-4
 returns-4 c =
     let s = c.before.before.before.before.before in
-    two-conflicts s.args.g s.args.h c.before.before.before.enum-told2.given.1 c.before.enum-told4.given.1 c.extend-conflicts.result c.extend-conflicts.ensures
+    two_conflicts s.args.g s.args.h c.before.before.before.enum-told2.given.1 c.before.enum-told4.given.1 c.extend-conflicts.result c.extend-conflicts.ensures
 
 pub extend-spec : {M : Type 1} → statement M
 extend-spec =

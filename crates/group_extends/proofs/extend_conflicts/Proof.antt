@@ -2,9 +2,9 @@
 use mathlib.Core.Path.{◌≡◌, sym, ap, ◌∙◌}
 use native.Mathlib.Omega.{arith}
 use lib.ListN.{length, length-map}
-use Rattle.ledger_spec.specs.Groups.{risingFrom}
-use Rattle.groups.proofs.View.{stops-is}
-use Rattle.group_extends.proofs.Appends.{past-both, too_long, goes_on}
+use Rattle.ledger_spec.specs.Groups.{rising_from}
+use Rattle.groups.proofs.View.{stops_is}
+use Rattle.group_extends.proofs.Appends.{past_both, too_long, goes_on}
 use Rattle.group_extends.proofs.extend_conflicts.Statement.{statement}
 use Rattle.group_extends.proofs.extend_conflicts.Tie as tie
 
@@ -46,7 +46,7 @@ merged-requires c κs =
     let l = long s in
     let l' = long' s in
     let w' = wide' s in
-    (s.requires.0.1, ((omega (arith, s.requires.0.0, at-if1.if1.false), past-both s.args.g s.args.h (omega (arith, l, s.requires.0.0)) (omega (arith, l', s.requires.1.0)) c.before.before.before.entries-laid.result c.before.before.before.entries-laid.ensures), (s.requires.1.1.0, sym (ap (risingFrom 0) (stops-is s.args.h (omega (arith, w', s.requires.1.1.0)))) ∙ s.requires.1.1.1)))
+    (s.requires.0.1, ((omega (arith, s.requires.0.0, at-if1.if1.false), past_both s.args.g s.args.h (omega (arith, l, s.requires.0.0)) (omega (arith, l', s.requires.1.0)) c.before.before.before.entries-laid.result c.before.before.before.entries-laid.ensures), (s.requires.1.1.0, sym (ap (rising_from 0) (stops_is s.args.h (omega (arith, w', s.requires.1.1.0)))) ∙ s.requires.1.1.1)))
 
 returns-2 : tie.Need-returns-2
 returns-2 c =

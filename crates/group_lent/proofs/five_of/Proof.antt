@@ -1,5 +1,5 @@
 -- Each field is its word. Assumes nothing.
-use Rattle.group_lent.specs.Forms.{fiveAt}
+use Rattle.group_lent.specs.Forms.{five_at}
 use borrow.Author.Rules.{rules}
 use Rattle.group_lent.proofs.five_of.Statement.{statement}
 use Rattle.group_lent.proofs.five_of.Tie as tie
@@ -47,7 +47,7 @@ shared-slice-read-t21 : tie.Need-shared-slice-read-t21
 shared-slice-read-t21 c = search rules
 
 returns : tie.Need-returns
-unfolding fiveAt
+unfolding five_at
 returns c = search rules
 
 pub five-of-spec : {M : Type 1} → statement M

@@ -1,7 +1,7 @@
 -- All five words are written. Assumes nothing.
-use Rattle.group_lent.proofs.Stores.{sets-all}
+use Rattle.group_lent.proofs.Stores.{sets_all}
 use mathlib.Core.Path.{sym}
-use Rattle.group_lent.specs.Forms.{fiveWords}
+use Rattle.group_lent.specs.Forms.{five_words}
 use borrow.Author.Rules.{rules}
 use Rattle.group_lent.proofs.put_in.Statement.{statement}
 use Rattle.group_lent.proofs.put_in.Tie as tie
@@ -25,7 +25,7 @@ element-write-w-5 : tie.Need-element-write-w-5
 element-write-w-5 c = search rules
 
 returns : tie.Need-returns
-returns c = sets-all c.before.before.args.w.now (fiveWords c.before.before.args.f) (sym c.all-five.ensures)
+returns c = sets_all c.before.before.args.w.now (five_words c.before.before.args.f) (sym c.all-five.ensures)
 
 pub put-in-spec : {M : Type 1} → statement M
 put-in-spec =

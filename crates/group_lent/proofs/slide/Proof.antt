@@ -3,7 +3,7 @@ use Prim.Native.Nat.{◌≤◌, ◌-◌}
 use mathlib.Core.Path.{◌≡◌}
 use native.Mathlib.Omega.{arith}
 use Rattle.group_lent.specs.Moves.{slid}
-use Rattle.group_lent.proofs.Slides.{slide-begin, slide-turn}
+use Rattle.group_lent.proofs.Slides.{slide_begin, slide_turn}
 use Rattle.group_lent.proofs.slide.Statement.{statement}
 use Rattle.group_lent.proofs.slide.Tie as tie
 
@@ -14,7 +14,7 @@ abbrev decreases-loop : tie.decreases-loop
 decreases-loop w₀ at k j₀ w j = k - j
 
 loop-holds : tie.Need-loop-init invariant-loop decreases-loop
-loop-holds c = (omega arith, slide-begin c.args.w.now c.args.at)
+loop-holds c = (omega arith, slide_begin c.args.w.now c.args.at)
 
 add-w : tie.Need-overflow-add-w invariant-loop decreases-loop
 add-w c = omega arith
@@ -47,7 +47,7 @@ loop-again : tie.Need-loop-preserved invariant-loop decreases-loop
 loop-again c =
     let at = c.before.before in
     let s = at.before in
-    (omega arith, slide-turn s.args.w.now at.loop.w s.args.at s.args.k at.loop.j (omega arith) c.before.loop-test.true at.loop.invariant.1)
+    (omega arith, slide_turn s.args.w.now at.loop.w s.args.at s.args.k at.loop.j (omega arith) c.before.loop-test.true at.loop.invariant.1)
 
 returns : tie.Need-returns invariant-loop decreases-loop
 returns c =

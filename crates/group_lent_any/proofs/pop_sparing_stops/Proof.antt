@@ -1,7 +1,7 @@
 -- BROKEN, or the call on a sound group. Assumes nothing.
 use mathlib.Core.Path.{refl}
 use borrow.Author.Rules.{rules}
-use Rattle.group_lent_any.proofs.Judging.{picks, skips, is-not, is-yes, says-sound}
+use Rattle.group_lent_any.proofs.Judging.{picks, skips, is_not, is_yes, says_sound}
 use Rattle.group_lent_any.proofs.pop_sparing_stops.Statement.{statement}
 use Rattle.group_lent_any.proofs.pop_sparing_stops.Tie as tie
 
@@ -12,13 +12,13 @@ broken-requires : tie.Need-broken-requires
 broken-requires c κs = search rules
 
 returns : tie.Need-returns
-returns c = let s = c.before.before.before.before.before in skips _ _ _ (is-not s.args.w.now _ c.before.before.before.is-group.ensures c.before.before.if1.true) (c.broken.ensures.0, (c.broken.ensures.1, refl))
+returns c = let s = c.before.before.before.before.before in skips _ _ _ (is_not s.args.w.now _ c.before.before.before.is-group.ensures c.before.before.if1.true) (c.broken.ensures.0, (c.broken.ensures.1, refl))
 
 pop-sparing-stops-requires : tie.Need-pop-sparing-stops-requires
-pop-sparing-stops-requires c κs = let s = c.before.before.before.before.before in says-sound s.args.w.now _ c.before.before.before.is-group.ensures c.before.before.if1.false
+pop-sparing-stops-requires c κs = let s = c.before.before.before.before.before in says_sound s.args.w.now _ c.before.before.before.is-group.ensures c.before.before.if1.false
 
 returns-2 : tie.Need-returns-2
-returns-2 c = let s = c.before.before.before.before.before.before in picks _ _ _ (is-yes s.args.w.now _ c.before.before.before.before.is-group.ensures c.before.before.before.if1.false) c.pop-sparing-stops.ensures
+returns-2 c = let s = c.before.before.before.before.before.before in picks _ _ _ (is_yes s.args.w.now _ c.before.before.before.before.is-group.ensures c.before.before.before.if1.false) c.pop-sparing-stops.ensures
 
 pub pop-sparing-stops-spec : {M : Type 1} → statement M
 pop-sparing-stops-spec = tie.close (tie.spec is-group-requires broken-requires returns pop-sparing-stops-requires returns-2)

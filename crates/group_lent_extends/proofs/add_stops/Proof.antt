@@ -2,8 +2,8 @@
 use Prim.Native.Nat.{◌≤◌, ◌-◌}
 use native.Mathlib.Omega.{arith}
 use borrow.Author.Rules.{rules}
-use Rattle.group_lent_room.proofs.Words.{other-stop}
-use Rattle.group_lent_extends.proofs.Rounds.{Coming, come-begin, other-form, other-low, come-turn, come-end}
+use Rattle.group_lent_room.proofs.Words.{other_stop}
+use Rattle.group_lent_extends.proofs.Rounds.{Coming, come_begin, other_form, other_low, come_turn, come_end}
 use Rattle.group_lent_extends.proofs.add_stops.Statement.{statement}
 use Rattle.group_lent_extends.proofs.add_stops.Tie as tie
 
@@ -17,7 +17,7 @@ element-copy-out-m : tie.Need-element-copy-out-m invariant-loop decreases-loop
 element-copy-out-m c = search rules
 
 loop-holds : tie.Need-loop-init invariant-loop decreases-loop
-loop-holds c = let s = c.before in (omega arith, come-begin s.args.w.now s.args.other.now s.requires.1 s.requires.0.sound s.requires.0.kind)
+loop-holds c = let s = c.before in (omega arith, come_begin s.args.w.now s.args.other.now s.requires.1 s.requires.0.sound s.requires.0.kind)
 
 mul-v : tie.Need-overflow-mul-v invariant-loop decreases-loop
 mul-v c = let s = c.before.before.before in omega (arith, s.requires.1.fewer)
@@ -49,7 +49,7 @@ add-stop-requires c κs =
     let at = c.before.before.before.before in
     let e = c.before.five-at.ensures in
     let h = c.before.before.before.loop-test.true in
-    (at.loop.invariant.1.sound, (rw e (other-form s.args.w.now s.args.other.now s.requires.1 at.loop.j h), (rw e (other-stop s.args.other.now s.requires.1 at.loop.j h), other-low s.args.w.now s.args.other.now s.requires.1 at.loop.j h)))
+    (at.loop.invariant.1.sound, (rw e (other_form s.args.w.now s.args.other.now s.requires.1 at.loop.j h), (rw e (other_stop s.args.other.now s.requires.1 at.loop.j h), other_low s.args.w.now s.args.other.now s.requires.1 at.loop.j h)))
 
 add-j : tie.Need-overflow-add-j invariant-loop decreases-loop
 add-j c = omega arith
@@ -61,10 +61,10 @@ loop-again : tie.Need-loop-preserved invariant-loop decreases-loop
 loop-again c =
     let s = c.before.before.before.before.before.before.before in
     let at = c.before.before.before.before.before in
-    (omega arith, come-turn s.args.w.now s.args.other.now s.requires.1 at.loop.w at.loop.j at.loop.invariant.1 s.requires.0.room c.before.before.before.before.loop-test.true _ _ (rw c.before.before.five-at.ensures at c.add-stop.ensures))
+    (omega arith, come_turn s.args.w.now s.args.other.now s.requires.1 at.loop.w at.loop.j at.loop.invariant.1 s.requires.0.room c.before.before.before.before.loop-test.true _ _ (rw c.before.before.five-at.ensures at c.add_stop_lem.ensures))
 
 returns : tie.Need-returns invariant-loop decreases-loop
-returns c = let s = c.before.before.before in let at = c.before in come-end s.args.w.now s.args.other.now s.requires.1 at.loop.w at.loop.j at.loop.invariant.1 c.loop-test.false
+returns c = let s = c.before.before.before in let at = c.before in come_end s.args.w.now s.args.other.now s.requires.1 at.loop.w at.loop.j at.loop.invariant.1 c.loop-test.false
 
 pub add-stops-spec : {M : Type 1} → statement M
 add-stops-spec =

@@ -3,7 +3,7 @@ use Prim.Native.Nat.{◌≤◌, ◌-◌}
 use mathlib.Core.Path.{◌≡◌}
 use native.Mathlib.Omega.{arith}
 use Rattle.group_lent_extends.specs.Extends.{copied}
-use Rattle.group_lent_extends.proofs.Copies.{copy_begin, copy-turn}
+use Rattle.group_lent_extends.proofs.Copies.{copy_begin, copy_turn}
 use Rattle.group_lent_extends.proofs.copy.Statement.{statement}
 use Rattle.group_lent_extends.proofs.copy.Tie as tie
 
@@ -44,7 +44,7 @@ loop-again : tie.Need-loop-preserved invariant-loop decreases-loop
 loop-again c =
     let at = c.before.before in
     let s = at.before in
-    (omega arith, copy-turn s.args.w.now at.loop.w s.args.at s.args.other.now s.args.from s.args.k at.loop.j (omega arith) (omega arith) c.before.loop-test.true at.loop.invariant.1)
+    (omega arith, copy_turn s.args.w.now at.loop.w s.args.at s.args.other.now s.args.from s.args.k at.loop.j (omega arith) (omega arith) c.before.loop-test.true at.loop.invariant.1)
 
 returns : tie.Need-returns invariant-loop decreases-loop
 returns c =

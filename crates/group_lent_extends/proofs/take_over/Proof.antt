@@ -5,7 +5,7 @@ use native.Mathlib.Omega.{arith}
 use borrow.Author.Rules.{rules}
 use lib.ListN.{length}
 use Rattle.group_lent.specs.Place.{listed}
-use Rattle.group_lent_extends.proofs.Copies.{copied-long}
+use Rattle.group_lent_extends.proofs.Copies.{copied_long}
 use Rattle.group_lent_extends.proofs.take_over.Statement.{statement}
 use Rattle.group_lent_extends.proofs.take_over.Tie as tie
 
@@ -29,7 +29,7 @@ copy-requires-2 c κs =
     let s = c.before.before.before.before.before in
     let l = s.requires.1 in
     let d = s.requires.0 in
-    ((ap length c.before.copy.ensures ∙ copied-long s.args.w.now 5 s.args.other.now 5 (listed s.args.other.now * 5) (omega (arith, l.few)) (omega (arith, l.few)) ∙ d.0, d.1), (omega (arith, l.fewer), omega (arith, l.fewer)))
+    ((ap length c.before.copy.ensures ∙ copied_long s.args.w.now 5 s.args.other.now 5 (listed s.args.other.now * 5) (omega (arith, l.few)) (omega (arith, l.few)) ∙ d.0, d.1), (omega (arith, l.fewer), omega (arith, l.fewer)))
 
 put-five-requires : tie.Need-put-five-requires
 put-five-requires c κs = search rules

@@ -3,18 +3,18 @@ use Prim.Native.Nat.{ℕ, ◌≤◌, ◌-◌}
 use mathlib.Core.Path.{◌≡◌, ap}
 use native.Mathlib.Omega.{arith}
 use Rattle.ledger_spec.specs.Tests.{any}
-use Rattle.ledger_spec.specs.GroupCalls.{listHandles}
+use Rattle.ledger_spec.specs.GroupCalls.{list_handles}
 use Rattle.group_lent.specs.Groups.{entry_at}
-use Rattle.group_lent.specs.Place.{run, listed, listIn}
+use Rattle.group_lent.specs.Place.{run, listed, list_in}
 use borrow.Author.Rules.{rules}
-use Rattle.ledger_spec.specs.GroupCalls.{staleCode}
+use Rattle.ledger_spec.specs.GroupCalls.{stale_code}
 use Rattle.bench_views.specs.View.{view}
-use Rattle.group_lent_nodes.proofs.Turns.{entry_has, entry-not, entry-end, entry-is}
+use Rattle.group_lent_nodes.proofs.Turns.{entry_has, entry_not, entry_end, entry_is}
 use Rattle.group_lent_nodes.proofs.list_gone.Statement.{statement}
 use Rattle.group_lent_nodes.proofs.list_gone.Tie as tie
 
 abbrev invariant-loop : tie.invariant-loop
-invariant-loop b w n i₀ i = (i ≤ n) × (any (staleCode (view b)) (listHandles (listIn w)) ≡ any (staleCode (view b)) (listHandles (run (entry_at w) i (n - i))))
+invariant-loop b w n i₀ i = (i ≤ n) × (any (stale_code (view b)) (list_handles (list_in w)) ≡ any (stale_code (view b)) (list_handles (run (entry_at w) i (n - i))))
 
 abbrev decreases-loop : tie.decreases-loop
 decreases-loop b w n i₀ i = n - i
@@ -23,7 +23,7 @@ element-copy-out-n : tie.Need-element-copy-out-n invariant-loop decreases-loop
 element-copy-out-n c = search rules
 
 loop-holds : tie.Need-loop-init invariant-loop decreases-loop
-loop-holds c = let s = c.before in let z : listed s.args.w.now ≡ listed s.args.w.now - 0 = omega arith in (omega arith, ap (λ (k : ℕ). any (staleCode (view s.args.b.now)) (listHandles (run (entry_at s.args.w.now) 0 k))) z)
+loop-holds c = let s = c.before in let z : listed s.args.w.now ≡ listed s.args.w.now - 0 = omega arith in (omega arith, ap (λ (k : ℕ). any (stale_code (view s.args.b.now)) (list_handles (run (entry_at s.args.w.now) 0 k))) z)
 
 mul-five-at : tie.Need-overflow-mul-five-at invariant-loop decreases-loop
 mul-five-at c = let s = c.before.before.before in omega (arith, s.requires.1.few)
@@ -35,10 +35,10 @@ five-at-requires : tie.Need-five-at-requires invariant-loop decreases-loop
 five-at-requires c κs = let s = c.before.before.before in omega (arith, s.requires.1.few)
 
 names-gone-requires : tie.Need-names-gone-requires invariant-loop decreases-loop
-names-gone-requires c κs = let s = c.before.before.before.before in (s.requires.0, rw c.five-at.ensures (entry-is s.args.w.now s.requires.1 c.before.before.loop.i c.before.loop-test.true))
+names-gone-requires c κs = let s = c.before.before.before.before in (s.requires.0, rw c.five-at.ensures (entry_is s.args.w.now s.requires.1 c.before.before.loop.i c.before.loop-test.true))
 
 returns : tie.Need-returns invariant-loop decreases-loop
-returns c = let at = c.before.before.before.before in let s = c.before.before.before.before.before.before in entry_has (staleCode (view s.args.b.now)) s.args.w.now (listed s.args.w.now) at.loop.i c.before.before.before.loop-test.true _ _ _ c.before.names-gone.ensures c.before.before.five-at.ensures at.loop.invariant.1 c.if1.true
+returns c = let at = c.before.before.before.before in let s = c.before.before.before.before.before.before in entry_has (stale_code (view s.args.b.now)) s.args.w.now (listed s.args.w.now) at.loop.i c.before.before.before.loop-test.true _ _ _ c.before.names-gone.ensures c.before.before.five-at.ensures at.loop.invariant.1 c.if1.true
 
 add-i : tie.Need-overflow-add-i invariant-loop decreases-loop
 add-i c = omega arith
@@ -47,10 +47,10 @@ loop-less : tie.Need-loop-smaller invariant-loop decreases-loop
 loop-less c = omega arith
 
 loop-again : tie.Need-loop-preserved invariant-loop decreases-loop
-loop-again c = let at = c.before.before.before.before in let s = c.before.before.before.before.before.before in (omega arith, entry-not (staleCode (view s.args.b.now)) s.args.w.now (listed s.args.w.now) at.loop.i c.before.before.before.loop-test.true _ _ _ c.before.names-gone.ensures c.before.before.five-at.ensures at.loop.invariant.1 c.if1.false)
+loop-again c = let at = c.before.before.before.before in let s = c.before.before.before.before.before.before in (omega arith, entry_not (stale_code (view s.args.b.now)) s.args.w.now (listed s.args.w.now) at.loop.i c.before.before.before.loop-test.true _ _ _ c.before.names-gone.ensures c.before.before.five-at.ensures at.loop.invariant.1 c.if1.false)
 
 returns-2 : tie.Need-returns-2 invariant-loop decreases-loop
-returns-2 c = let at = c.before in let s = c.before.before.before in entry-end (staleCode (view s.args.b.now)) s.args.w.now (listed s.args.w.now) at.loop.i c.loop-test.false _ at.loop.invariant.1
+returns-2 c = let at = c.before in let s = c.before.before.before in entry_end (stale_code (view s.args.b.now)) s.args.w.now (listed s.args.w.now) at.loop.i c.loop-test.false _ at.loop.invariant.1
 
 pub list-gone-spec : {M : Type 1} → statement M
 list-gone-spec =

@@ -4,13 +4,13 @@ use native.Mathlib.Omega.{arith}
 use borrow.Author.Rules.{rules}
 use Rattle.ledger_spec.specs.Tests.{is_some}
 use Rattle.ledger_spec.specs.Groups.{extended}
-use Rattle.group_lent.specs.Place.{groupIn}
-use Rattle.group_lent_room.proofs.Counting.{Counting, count-full, count-begin, count-end, list_full, stops-full, count_turn}
+use Rattle.group_lent.specs.Place.{group_in}
+use Rattle.group_lent_room.proofs.Counting.{Counting, count_full, count_begin, count_end, list_full, stops_full, count_turn}
 use Rattle.group_lent_room.proofs.has_room.Statement.{statement}
 use Rattle.group_lent_room.proofs.has_room.Tie as tie
 
 abbrev invariant-loop : tie.invariant-loop
-invariant-loop w other m l₀ s₀ j₀ l s j = (j ≤ m) × ((l ≤ 128) × ((s ≤ 128) × Counting w other (is_some (extended (groupIn w) (groupIn other))) l s j))
+invariant-loop w other m l₀ s₀ j₀ l s j = (j ≤ m) × ((l ≤ 128) × ((s ≤ 128) × Counting w other (is_some (extended (group_in w) (group_in other))) l s j))
 
 abbrev decreases-loop : tie.decreases-loop
 decreases-loop w other m l₀ s₀ j₀ l s j = m - j
@@ -31,12 +31,12 @@ element-copy-out-s : tie.Need-element-copy-out-s invariant-loop decreases-loop
 element-copy-out-s c = search rules
 
 returns : tie.Need-returns invariant-loop decreases-loop
-returns c = let s = c.before.before.before.before.before in count-full s.args.w.now s.args.other.now s.requires.0 s.requires.1 c.if1.true
+returns c = let s = c.before.before.before.before.before in count_full s.args.w.now s.args.other.now s.requires.0 s.requires.1 c.if1.true
 
 loop-holds : tie.Need-loop-init invariant-loop decreases-loop
 loop-holds c =
     let s = c.before.before.before.before.before in
-    (omega arith, (c.if1.false, (s.requires.0.fewer, count-begin s.args.w.now s.args.other.now s.requires.0 s.requires.1 c.if1.false)))
+    (omega arith, (c.if1.false, (s.requires.0.fewer, count_begin s.args.w.now s.args.other.now s.requires.0 s.requires.1 c.if1.false)))
 
 mul-v : tie.Need-overflow-mul-v invariant-loop decreases-loop
 mul-v c = let s = c.before.before.before.before.before.before.before in omega (arith, s.requires.1.fewer)
@@ -88,7 +88,7 @@ returns-3 c =
     let at-loop-test = at-five-at.before.before in
     let s = c.before.before.before.before.before.before.before.before.before.before.before.before.before.before in
     let at = c.before.before.before.before.before.before.before.before in
-    stops-full s.args.w.now s.args.other.now s.requires.0 s.requires.1 _ at.loop.l at.loop.s at.loop.j at.loop.invariant.1.1.1 at-loop-test.loop-test.true _ (rw at-five-at.five-at.ensures at at-coming.coming.ensures) _ _ c.before.before.before.listed_by.ensures c.before.before.Stopped-by.ensures c.if3.true
+    stops_full s.args.w.now s.args.other.now s.requires.0 s.requires.1 _ at.loop.l at.loop.s at.loop.j at.loop.invariant.1.1.1 at-loop-test.loop-test.true _ (rw at-five-at.five-at.ensures at at-coming.coming.ensures) _ _ c.before.before.before.listed_by.ensures c.before.before.Stopped-by.ensures c.if3.true
 
 add-j : tie.Need-overflow-add-j invariant-loop decreases-loop
 add-j c = omega arith
@@ -114,7 +114,7 @@ loop-again c =
     )
 
 returns-4 : tie.Need-returns-4 invariant-loop decreases-loop
-returns-4 c = let s = c.before.before.before.before.before.before.before in let at = c.before in count-end s.args.w.now s.args.other.now s.requires.0 s.requires.1 _ at.loop.l at.loop.s at.loop.j at.loop.invariant.1.1.1 c.loop-test.false
+returns-4 c = let s = c.before.before.before.before.before.before.before in let at = c.before in count_end s.args.w.now s.args.other.now s.requires.0 s.requires.1 _ at.loop.l at.loop.s at.loop.j at.loop.invariant.1.1.1 c.loop-test.false
 
 pub has-room-spec : {M : Type 1} → statement M
 has-room-spec =

@@ -1,5 +1,5 @@
 -- An entry by its five words. Assumes nothing.
-use Rattle.group_lent_sound.proofs.Fits.{entry-fits}
+use Rattle.group_lent_sound.proofs.Fits.{entry_fits_lem}
 use borrow.Author.Rules.{rules}
 use Rattle.group_lent_sound.proofs.entry_fits.Statement.{statement}
 use Rattle.group_lent_sound.proofs.entry_fits.Tie as tie
@@ -17,7 +17,7 @@ is-form-requires : tie.Need-is-form-requires
 is-form-requires c κs = search rules
 
 returns : tie.Need-returns
-returns c = let s = c.before.before.before.before in entry-fits s.before.args.w.now s.before.args.i _ _ c.before.before.before.five-of.ensures c.before.before.is-form.ensures
+returns c = let s = c.before.before.before.before in entry_fits_lem s.before.args.w.now s.before.args.i _ _ c.before.before.before.five-of.ensures c.before.before.is-form.ensures
 
 pub entry-fits-spec : {M : Type 1} → statement M
 entry-fits-spec =

@@ -1,5 +1,5 @@
 -- A stop by its six words. Assumes nothing.
-use Rattle.group_lent_sound.proofs.Fits.{stop-fits}
+use Rattle.group_lent_sound.proofs.Fits.{stop_fits_lem}
 use borrow.Author.Rules.{rules}
 use Rattle.group_lent_sound.proofs.stop_fits.Statement.{statement}
 use Rattle.group_lent_sound.proofs.stop_fits.Tie as tie
@@ -32,7 +32,7 @@ is-form-requires : tie.Need-is-form-requires
 is-form-requires c κs = search rules
 
 returns : tie.Need-returns
-returns c = let s = c.before.before.before.before in stop-fits s.before.args.w.now s.before.args.least s.before.args.i _ _ c.before.before.five-of.ensures c.before.is-form.ensures
+returns c = let s = c.before.before.before.before in stop_fits_lem s.before.args.w.now s.before.args.least s.before.args.i _ _ c.before.before.five-of.ensures c.before.is-form.ensures
 
 pub stop-fits-spec : {M : Type 1} → statement M
 stop-fits-spec =

@@ -2,26 +2,26 @@
 use Prim.Native.Nat.{◌-◌, ◌≤◌}
 use mathlib.Core.Path.{◌≡◌, ap}
 use native.Mathlib.Omega.{arith}
-use borrow.Author.Tests.{not-true, not-false}
-use Rattle.group_lent_sound.specs.Test.{stopsFit}
-use Rattle.group_lent_sound.proofs.Fits.{stops-no, stops-on, stops_end}
+use borrow.Author.Tests.{not_true, not_false}
+use Rattle.group_lent_sound.specs.Test.{stops_fit}
+use Rattle.group_lent_sound.proofs.Fits.{stops_no, stops_on, stops_end}
 use Rattle.group_lent_sound.proofs.stops_fit.Statement.{statement}
 use Rattle.group_lent_sound.proofs.stops_fit.Tie as tie
 
 abbrev invariant-loop : tie.invariant-loop
-invariant-loop w m least₀ i₀ least i = (i ≤ m) × (stopsFit w 0 0 m ≡ stopsFit w least i (m - i))
+invariant-loop w m least₀ i₀ least i = (i ≤ m) × (stops_fit w 0 0 m ≡ stops_fit w least i (m - i))
 
 abbrev decreases-loop : tie.decreases-loop
 decreases-loop w m least₀ i₀ least i = m - i
 
 loop-holds : tie.Need-loop-init invariant-loop decreases-loop
-loop-holds c = let z : c.before.args.m ≡ c.before.args.m - 0 = omega arith in (omega arith, ap (stopsFit c.before.args.w.now 0 0) z)
+loop-holds c = let z : c.before.args.m ≡ c.before.args.m - 0 = omega arith in (omega arith, ap (stops_fit c.before.args.w.now 0 0) z)
 
 stop-fits-requires : tie.Need-stop-fits-requires invariant-loop decreases-loop
 stop-fits-requires c κs = omega arith
 
 returns : tie.Need-returns invariant-loop decreases-loop
-returns c = let l = c.before.before.before in let s = l.before in stops-no s.before.args.w.now s.before.args.m l.loop.i _ _ c.before.before.loop-test.true l.loop.least l.loop.invariant.1 c.before.stop-fits.ensures (not-true _ c.if1.true)
+returns c = let l = c.before.before.before in let s = l.before in stops_no s.before.args.w.now s.before.args.m l.loop.i _ _ c.before.before.loop-test.true l.loop.least l.loop.invariant.1 c.before.stop_fits_lem.ensures (not_true _ c.if1.true)
 
 mul-least : tie.Need-overflow-mul-least invariant-loop decreases-loop
 mul-least c = omega arith
@@ -45,7 +45,7 @@ loop-less : tie.Need-loop-smaller invariant-loop decreases-loop
 loop-less c = omega arith
 
 loop-again : tie.Need-loop-preserved invariant-loop decreases-loop
-loop-again c = let l = c.before.before.before.before in let s = l.before in (omega arith, stops-on s.before.args.w.now s.before.args.m l.loop.i _ _ c.before.before.before.loop-test.true l.loop.least l.loop.invariant.1 c.before.before.stop-fits.ensures (not-false _ c.before.if1.false))
+loop-again c = let l = c.before.before.before.before in let s = l.before in (omega arith, stops_on s.before.args.w.now s.before.args.m l.loop.i _ _ c.before.before.before.loop-test.true l.loop.least l.loop.invariant.1 c.before.before.stop_fits_lem.ensures (not_false _ c.before.if1.false))
 
 returns-2 : tie.Need-returns-2 invariant-loop decreases-loop
 returns-2 c = let l = c.before in let s = l.before in stops_end s.before.args.w.now s.before.args.m l.loop.i _ c.loop-test.false l.loop.least l.loop.invariant.1

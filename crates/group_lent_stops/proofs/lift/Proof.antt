@@ -4,7 +4,7 @@ use mathlib.Core.Path.{◌≡◌, ap, ◌∙◌}
 use native.Mathlib.Omega.{arith}
 use lib.ListN.{length, take, drop}
 use lib.Seq.{sets}
-use Rattle.group_lent_stops.proofs.Lifts.{liftedFrom, lift-begin, lift-turn, lift-end}
+use Rattle.group_lent_stops.proofs.Lifts.{lifted_from, lift_begin, lift_turn, lift_end}
 use Rattle.group_lent_stops.proofs.lift.Statement.{statement}
 use Rattle.group_lent_stops.proofs.lift.Tie as tie
 
@@ -15,7 +15,7 @@ abbrev decreases-loop : tie.decreases-loop
 decreases-loop w₀ at k j₀ w j = j
 
 loop-holds : tie.Need-loop-init invariant-loop decreases-loop
-loop-holds c = (omega arith, lift-begin c.args.w.now c.args.at c.args.k (omega arith))
+loop-holds c = (omega arith, lift_begin c.args.w.now c.args.at c.args.k (omega arith))
 
 sub-i : tie.Need-overflow-sub-i invariant-loop decreases-loop
 sub-i c = omega arith
@@ -51,14 +51,14 @@ loop-again c =
     let i = l.loop.j - 1 in
     let h : s.args.at + 6 + s.args.k ≤ length s.args.w.now = omega arith in
     let z : l.loop.j ≡ suc i = omega arith in
-    (omega arith, lift-turn s.args.w.now s.args.at s.args.k h l.loop.w i (omega arith) (l.loop.invariant.1 ∙ ap (liftedFrom s.args.w.now s.args.at s.args.k h) z))
+    (omega arith, lift_turn s.args.w.now s.args.at s.args.k h l.loop.w i (omega arith) (l.loop.invariant.1 ∙ ap (lifted_from s.args.w.now s.args.at s.args.k h) z))
 
 returns : tie.Need-returns invariant-loop decreases-loop
 returns c =
     let l = c.before in
     let s = l.before in
     let h : s.args.at + 6 + s.args.k ≤ length s.args.w.now = omega arith in
-    l.loop.invariant.1 ∙ lift-end s.args.w.now s.args.at s.args.k h l.loop.j (omega arith)
+    l.loop.invariant.1 ∙ lift_end s.args.w.now s.args.at s.args.k h l.loop.j (omega arith)
 
 pub lift-spec : {M : Type 1} → statement M
 lift-spec =

@@ -1,11 +1,11 @@
 -- `meet` goes by the tests of the definition. Assumes nothing.
-use Rattle.group_lent_stops.proofs.Branches.{met-keep, met-replace, met-drop, met-full, met-join}
+use Rattle.group_lent_stops.proofs.Branches.{met_keep, met_replace, met_drop, met_full, met_join}
 use borrow.Author.Rules.{rules}
 use Rattle.group_lent_stops.proofs.meet.Statement.{statement}
 use Rattle.group_lent_stops.proofs.meet.Tie as tie
 
 returns : tie.Need-returns
-returns c = let s = c.before.before in met-keep s.args.w.now s.args.f s.args.v s.args.p c.if1.true
+returns c = let s = c.before.before in met_keep s.args.w.now s.args.f s.args.v s.args.p c.if1.true
 
 mul_at : tie.Need-overflow-mul-at
 mul_at c = search rules
@@ -26,7 +26,7 @@ put-stop-requires : tie.Need-put-stop-requires
 put-stop-requires c κs = search rules
 
 returns-2 : tie.Need-returns-2
-returns-2 c = let s = c.before.before.before.before.before.before in met-replace s.args.w.now s.args.f s.args.v s.args.p c.before.before.before.before.if1.false c.before.before.if2.true _ c.put-stop.ensures
+returns-2 c = let s = c.before.before.before.before.before.before in met_replace s.args.w.now s.args.f s.args.v s.args.p c.before.before.before.before.if1.false c.before.before.if2.true _ c.put-stop.ensures
 
 add-same-node : tie.Need-overflow-add-same-node
 add-same-node c = search rules
@@ -41,7 +41,7 @@ same-node-requires : tie.Need-same-node-requires
 same-node-requires c κs = search rules
 
 returns-3 : tie.Need-returns-3
-returns-3 c = let s = c.before.before.before.before.before.before.before in met-drop s.args.w.now s.args.f s.args.v s.args.p c.before.before.before.before.before.if1.false c.before.before.before.if2.false _ c.before.same-node.ensures c.if3.true
+returns-3 c = let s = c.before.before.before.before.before.before.before in met_drop s.args.w.now s.args.f s.args.v s.args.p c.before.before.before.before.before.if1.false c.before.before.before.if2.false _ c.before.same_node.ensures c.if3.true
 
 element-copy-out-if4 : tie.Need-element-copy-out-if4
 element-copy-out-if4 c = search rules
@@ -50,7 +50,7 @@ returns-4 : tie.Need-returns-4
 returns-4 c =
     let at-if2 = c.before.before.before.before.before in
     let at-if1 = at-if2.before.before in
-    let s = c.before.before.before.before.before.before.before.before.before in met-full s.args.w.now s.args.f s.args.v s.args.p at-if1.if1.false at-if2.if2.false _ c.before.before.before.same-node.ensures c.before.before.if3.false c.if4.true
+    let s = c.before.before.before.before.before.before.before.before.before in met_full s.args.w.now s.args.f s.args.v s.args.p at-if1.if1.false at-if2.if2.false _ c.before.before.before.same_node.ensures c.before.before.if3.false c.if4.true
 
 join-requires : tie.Need-join-requires
 join-requires c κs = search rules
@@ -61,7 +61,7 @@ returns-5 c =
     let at-same-node = at-if3.before in
     let at-if2 = at-same-node.before.before in
     let at-if1 = at-if2.before.before in
-    let s = c.before.before.before.before.before.before.before.before.before.before.before in met-join s.args.w.now s.args.f s.args.v s.args.p at-if1.if1.false at-if2.if2.false _ at-same-node.same-node.ensures at-if3.if3.false c.before.before.if4.false _ c.join.ensures
+    let s = c.before.before.before.before.before.before.before.before.before.before.before in met_join s.args.w.now s.args.f s.args.v s.args.p at-if1.if1.false at-if2.if2.false _ at-same-node.same_node.ensures at-if3.if3.false c.before.before.if4.false _ c.join.ensures
 
 pub meet-spec : {M : Type 1} → statement M
 meet-spec =

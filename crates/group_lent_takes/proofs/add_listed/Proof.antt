@@ -1,5 +1,5 @@
 -- `add_listed` writes the entry and the count, or the head. Assumes nothing.
-use Rattle.group_lent_takes.proofs.Adding.{listed-one, listed-full, listed_more}
+use Rattle.group_lent_takes.proofs.Adding.{listed_one, listed_full, listed_more}
 use borrow.Author.Rules.{rules}
 use Rattle.group_lent_takes.proofs.add_listed.Statement.{statement}
 use Rattle.group_lent_takes.proofs.add_listed.Tie as tie
@@ -16,7 +16,7 @@ put-five-requires-2 c κs = search rules
 returns : tie.Need-returns
 returns c v =
     let s = c.before.before.before.before.before.before in
-    let one = listed-one s.args.w.now s.args.f s.requires.0 s.requires.1.0 s.requires.1.1 v c.before.before.before.before.if1.true in
+    let one = listed_one s.args.w.now s.args.f s.requires.0 s.requires.1.0 s.requires.1.1 v c.before.before.before.before.if1.true in
     let e = c.put-five2.ensures in
     let d = c.before.before.put_five.ensures in
     rw (e, d) one
@@ -25,7 +25,7 @@ element-copy-out-n : tie.Need-element-copy-out-n
 element-copy-out-n c = search rules
 
 returns-2 : tie.Need-returns-2
-returns-2 c v = let s = c.before.before.before.before in listed-full s.args.w.now s.args.f s.requires.0 s.requires.1.0 s.requires.1.1 v c.before.before.if1.false c.if2.true
+returns-2 c v = let s = c.before.before.before.before in listed_full s.args.w.now s.args.f s.requires.0 s.requires.1.0 s.requires.1.1 v c.before.before.if1.false c.if2.true
 
 mul-put-five : tie.Need-overflow-mul-put-five
 mul-put-five c = search rules

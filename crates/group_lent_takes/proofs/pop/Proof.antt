@@ -1,7 +1,7 @@
 -- `pop` moves the stops down and lowers both counts. Assumes nothing.
 use native.Mathlib.Omega.{arith}
-use Rattle.group_lent.proofs.Seen.{is-listing}
-use Rattle.group_lent_takes.proofs.Taking.{pop-refused, pop-left}
+use Rattle.group_lent.proofs.Seen.{is_listing}
+use Rattle.group_lent_takes.proofs.Taking.{pop_refused, pop_left}
 use borrow.Author.Rules.{rules}
 use Rattle.group_lent_takes.proofs.pop.Statement.{statement}
 use Rattle.group_lent_takes.proofs.pop.Tie as tie
@@ -13,7 +13,7 @@ element-copy-out-if1 : tie.Need-element-copy-out-if1
 element-copy-out-if1 c = search rules
 
 returns : tie.Need-returns
-returns c = let t = c.before.before in let s = t.before.before in pop-refused s.args.w.now s.requires t.peek.result t.peek.ensures.0 t.peek.ensures.1 c.if1.true
+returns c = let t = c.before.before in let s = t.before.before in pop_refused s.args.w.now s.requires t.peek.result t.peek.ensures.0 t.peek.ensures.1 c.if1.true
 
 element-copy-out-less : tie.Need-element-copy-out-smaller
 element-copy-out-less c = search rules
@@ -31,13 +31,13 @@ mul-slide : tie.Need-overflow-mul-slide
 mul-slide c =
     let i = c.before.before.before.before.before in
     let s = i.before.before.before.before in
-    omega (arith, (is-listing s.args.w.now s.requires i.if1.false).fewer, c.before.less2.ensures)
+    omega (arith, (is_listing s.args.w.now s.requires i.if1.false).fewer, c.before.less2.ensures)
 
 slide-requires : tie.Need-slide-requires
 slide-requires c κs =
     let i = c.before.before.before.before.before in
     let s = i.before.before.before.before in
-    (s.requires.long, omega (arith, (is-listing s.args.w.now s.requires i.if1.false).fewer, c.before.less2.ensures))
+    (s.requires.long, omega (arith, (is_listing s.args.w.now s.requires i.if1.false).fewer, c.before.less2.ensures))
 
 element-write-w : tie.Need-element-write-w
 element-write-w c = search rules
@@ -52,7 +52,7 @@ returns-2 c =
     let i = n.before.before in
     let t = i.before.before in
     let s = t.before.before in
-    pop-left s.args.w.now s.requires t.peek.result t.peek.ensures.0 t.peek.ensures.1 i.if1.false _ _ _ n.less.ensures m.less2.ensures c.slide.ensures
+    pop_left s.args.w.now s.requires t.peek.result t.peek.ensures.0 t.peek.ensures.1 i.if1.false _ _ _ n.less.ensures m.less2.ensures c.slide.ensures
 
 pub pop_spec : {M : Type 1} → statement M
 pop_spec =

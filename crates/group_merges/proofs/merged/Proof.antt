@@ -7,8 +7,8 @@ use mathlib.Core.List.{◌++◌}
 use native.Mathlib.Omega.{arith}
 use borrow.Author.Rules.{rules}
 use lib.ListN.{length, take, drop, length-map}
-use Rattle.ledger_spec.specs.Groups.{Lists, addStops}
-use Rattle.groups.specs.View.{noStop}
+use Rattle.ledger_spec.specs.Groups.{Lists, add_stops}
+use Rattle.groups.specs.View.{no_stop}
 use Rattle.group_merges.specs.declared.Turn.{Turn}
 use Rattle.group_merges.specs.declared.Turn.TheVariants.{Put, Enter}
 use Rattle.group_merges.proofs.Passes.{Merging, After, starts, last_turn, turn, ended, closes}
@@ -17,7 +17,7 @@ use Rattle.group_merges.proofs.merged.Statement.{statement}
 use Rattle.group_merges.proofs.merged.Tie as tie
 
 abbrev invariant-loop : tie.invariant-loop
-invariant-loop g listed m other n own entries₀ at₀ out₀ i₀ j₀ k₀ entries at out i j k = Merging own other g.list n m (addStops (take m other) (take at₀ entries₀) (take n own)) entries out at i j k
+invariant-loop g listed m other n own entries₀ at₀ out₀ i₀ j₀ k₀ entries at out i j k = Merging own other g.list n m (add_stops (take m other) (take at₀ entries₀) (take n own)) entries out at i j k
 
 abbrev decreases-loop : tie.decreases-loop
 decreases-loop g listed m other n own entries₀ at₀ out₀ i₀ j₀ k₀ entries at out i j k = (n - i) + (m - j)
@@ -40,7 +40,7 @@ module _ (s : tie.Start invariant-loop decreases-loop) where
   other-long = omega (arith, far, s.pre.1.1.0)
 
   abbrev whole : Option Lists
-  whole = addStops (take s.args.m s.args.t4) (take s.args.listed s.args.list) (take s.args.g.stopped s.args.g.stops)
+  whole = add_stops (take s.args.m s.args.t4) (take s.args.listed s.args.list) (take s.args.g.stopped s.args.g.stops)
 
 -- ---- a turn
 module _ (q : tie.At-loop invariant-loop decreases-loop) where
@@ -60,8 +60,8 @@ turned c =
     let q = l.before in
     let s = start q in
     ⊎_elim
-    (λ w. subst (Next q) (sym (w.3 ∙ w.2.ensures)) (turn s.args.g.stops s.args.t4 s.args.g.list s.args.g.stopped s.args.m (own-long s) (other-long s) (whole s) q.loop.entries q.loop.out q.loop.at q.loop.i q.loop.j q.loop.k noStop q.loop.invariant l.loop-test.true w.0.taken))
-    (λ w. subst (Next q) (sym (w.1 ∙ c.before.comes-in.ensures)) (last_turn s.args.g.stops s.args.t4 s.args.g.list s.args.g.stopped s.args.m (own-long s) (other-long s) (whole s) q.loop.entries q.loop.out q.loop.at q.loop.i q.loop.j q.loop.k noStop q.loop.invariant l.loop-test.true w.0.left))
+    (λ w. subst (Next q) (sym (w.3 ∙ w.2.ensures)) (turn s.args.g.stops s.args.t4 s.args.g.list s.args.g.stopped s.args.m (own-long s) (other-long s) (whole s) q.loop.entries q.loop.out q.loop.at q.loop.i q.loop.j q.loop.k no_stop q.loop.invariant l.loop-test.true w.0.taken))
+    (λ w. subst (Next q) (sym (w.1 ∙ c.before.comes_in_lem.ensures)) (last_turn s.args.g.stops s.args.t4 s.args.g.list s.args.g.stopped s.args.m (own-long s) (other-long s) (whole s) q.loop.entries q.loop.out q.loop.at q.loop.i q.loop.j q.loop.k no_stop q.loop.invariant l.loop-test.true w.0.left))
     c.if1.branch
 
 put : (c : tie.After-known-told invariant-loop decreases-loop) → Next (from c.before.before.before) (Put c.before.turn.given.0.0 c.before.turn.given.0.1.0 c.before.turn.given.0.1.1.0)
@@ -71,7 +71,7 @@ put-fits : (c : tie.After-known-told invariant-loop decreases-loop) → ((from c
 put-fits c =
     let M = (put c).1 in
     let s = start (from c.before.before.before) in
-    (omega (arith, M.room), (omega (arith, M.own_in, s.pre.0), omega (arith, M.other-in, s.pre.1.1.0)))
+    (omega (arith, M.room), (omega (arith, M.own_in, s.pre.0), omega (arith, M.other_in, s.pre.1.1.0)))
 
 entered : (c : tie.After-known-told2 invariant-loop decreases-loop) → Next (from c.before.before.before) (Enter c.before.turn2.given.0.0)
 entered c = subst (Next (from c.before.before.before)) c.before.turn2.given.1 (turned c.before.before.before)
@@ -80,7 +80,7 @@ entered-fits : (c : tie.After-known-told2 invariant-loop decreases-loop) → ((f
 entered-fits c =
     let M = entered c in
     let s = start (from c.before.before.before) in
-    (omega (arith, M.few), (omega (arith, M.own_in, s.pre.0), omega (arith, M.other-in, s.pre.1.1.0)))
+    (omega (arith, M.few), (omega (arith, M.own_in, s.pre.0), omega (arith, M.other_in, s.pre.1.1.0)))
 
 loop-holds : tie.Need-loop-init invariant-loop decreases-loop
 loop-holds c =
@@ -91,13 +91,13 @@ mul-x : tie.Need-overflow-mul-x invariant-loop decreases-loop
 mul-x c =
     let q = c.before in
     let s = start q in
-    omega (arith, q.loop.invariant.other-in, s.pre.1.1.0, c.loop-test.true)
+    omega (arith, q.loop.invariant.other_in, s.pre.1.1.0, c.loop-test.true)
 
 array-copy-out-x : tie.Need-array-copy-out-x invariant-loop decreases-loop
 array-copy-out-x c =
     let q = c.before in
     let s = start q in
-    omega (arith, q.loop.invariant.other-in, s.pre.1.1.0, c.loop-test.true)
+    omega (arith, q.loop.invariant.other_in, s.pre.1.1.0, c.loop-test.true)
 
 comes-in-requires : tie.Need-comes-in-requires invariant-loop decreases-loop
 comes-in-requires c κs = tt
@@ -146,7 +146,7 @@ add-j c = omega (arith, put-fits c)
 loop-less : tie.Need-loop-smaller invariant-loop decreases-loop
 loop-less c =
     let M = (put c).1 in
-    omega (arith, (put c).0, M.own_in, M.other-in)
+    omega (arith, (put c).0, M.own_in, M.other_in)
 
 loop-again : tie.Need-loop-preserved invariant-loop decreases-loop
 loop-again c = (put c).1
@@ -172,7 +172,7 @@ add-j-2 c = omega (arith, entered-fits c)
 loop-less-2 : tie.Need-loop-smaller-2 invariant-loop decreases-loop
 loop-less-2 c =
     let M = entered c in
-    omega (arith, M.own_in, M.other-in)
+    omega (arith, M.own_in, M.other_in)
 
 loop-again-2 : tie.Need-loop-preserved-2 invariant-loop decreases-loop
 loop-again-2 c = entered c

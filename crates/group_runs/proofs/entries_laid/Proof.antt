@@ -5,9 +5,9 @@ use mathlib.Core.List.{◌++◌}
 use native.Mathlib.Omega.{arith}
 use borrow.Author.Rules.{rules}
 use lib.ListN.{length, take, drop}
-use Rattle.groups.specs.View.{noEntry}
+use Rattle.groups.specs.View.{no_entry}
 use Rattle.groups.proofs.Lay.{upto}
-use Rattle.group_runs.proofs.Turns.{run-start, run_step, run_end}
+use Rattle.group_runs.proofs.Turns.{run_start, run_step, run_end}
 use Rattle.group_runs.proofs.entries_laid.Statement.{statement}
 use Rattle.group_runs.proofs.entries_laid.Tie as tie
 
@@ -27,7 +27,7 @@ loop-holds : tie.Need-loop-init invariant-loop decreases-loop
 loop-holds start =
     let l = long start in
     let w = wide start in
-    (search rules, start.requires.0, omega arith, run-start start.args.list start.args.t3 start.args.at start.args.from start.args.n start.requires.0 (omega (arith, w, start.requires.1.0)) (omega (arith, l, start.requires.1.1)) noEntry)
+    (search rules, start.requires.0, omega arith, run_start start.args.list start.args.t3 start.args.at start.args.from start.args.n start.requires.0 (omega (arith, w, start.requires.1.0)) (omega (arith, l, start.requires.1.1)) no_entry)
 
 mul-e : tie.Need-overflow-mul-e invariant-loop decreases-loop
 mul-e c = omega (arith, c.before.loop.invariant.0, c.before.loop.invariant.1, c.before.loop.invariant.2, c.before.before.requires.0, c.before.before.requires.1.0, c.before.before.requires.1.1)
@@ -57,7 +57,7 @@ loop-again c =
     let l = long start in
     let w = wide start in
     let i = at.loop.invariant in
-    (omega (arith, i.0), omega arith, omega (arith, i.0, i.2), run_step start.args.list start.args.t3 start.args.at start.args.from start.args.n start.requires.0 (omega (arith, w, start.requires.1.0)) (omega (arith, l, start.requires.1.1)) noEntry at.loop.r at.loop.a at.loop.q i.3 i.0 c.before.loop-test.true i.2)
+    (omega (arith, i.0), omega arith, omega (arith, i.0, i.2), run_step start.args.list start.args.t3 start.args.at start.args.from start.args.n start.requires.0 (omega (arith, w, start.requires.1.0)) (omega (arith, l, start.requires.1.1)) no_entry at.loop.r at.loop.a at.loop.q i.3 i.0 c.before.loop-test.true i.2)
 
 returns : tie.Need-returns invariant-loop decreases-loop
 returns c =
@@ -66,7 +66,7 @@ returns c =
     let l = long start in
     let w = wide start in
     let i = at.loop.invariant in
-    run_end start.args.list start.args.t3 start.args.at start.args.from start.args.n start.requires.0 (omega (arith, w, start.requires.1.0)) (omega (arith, l, start.requires.1.1)) noEntry at.loop.r at.loop.q i.3 (omega (arith, i.1, i.2, c.loop-test.false))
+    run_end start.args.list start.args.t3 start.args.at start.args.from start.args.n start.requires.0 (omega (arith, w, start.requires.1.0)) (omega (arith, l, start.requires.1.1)) no_entry at.loop.r at.loop.q i.3 (omega (arith, i.1, i.2, c.loop-test.false))
 
 pub entries-laid-spec : {M : Type 1} → statement M
 entries-laid-spec =

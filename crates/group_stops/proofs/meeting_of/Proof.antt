@@ -1,7 +1,7 @@
 -- `meeting_of` asks the two pairs, and where there are two whether their first nodes are one. Assumes nothing.
 use mathlib.Core.Path.{sym, ◌∙◌}
 use borrow.Author.Rules.{rules}
-use Rattle.group_stops.proofs.Spots.{meets-keep, meets-replace, meets-same, meets-join}
+use Rattle.group_stops.proofs.Spots.{meets_keep, meets_replace, meets_same, meets_join}
 use Rattle.group_stops.proofs.meeting_of.Statement.{statement}
 use Rattle.group_stops.proofs.meeting_of.Tie as tie
 
@@ -32,16 +32,16 @@ returns c =
     let mine = c.before.before.before.before.before.before.before.before in
     let two = c.before.before.before.before.before.before.before.before.before.before in
     let one = two.before in
-    meets-same _ _ _ (sym one.pair.ensures ∙ mine.mine.given.1) _ (sym two.pair2.ensures ∙ old.old.given.1) (sym c.before.same.ensures ∙ c.if1.true)
+    meets_same _ _ _ (sym one.pair.ensures ∙ mine.mine.given.1) _ (sym two.pair2.ensures ∙ old.old.given.1) (sym c.before.same.ensures ∙ c.if1.true)
 
 returns-2 : tie.Need-returns-2
-returns-2 c = meets-keep _ _ (sym c.before.before.before.pair.ensures ∙ c.enum_told.given.1)
+returns-2 c = meets_keep _ _ (sym c.before.before.before.pair.ensures ∙ c.enum_told.given.1)
 
 returns-3 : tie.Need-returns-3
 returns-3 c =
     let at-pair2 = c.before.before.before.before.before in
     let at_pair = at-pair2.before in
-    meets-replace _ _ _ (sym at_pair.pair.ensures ∙ c.before.before.before.mine.given.1) (sym at-pair2.pair2.ensures ∙ c.enum-told2.given.1)
+    meets_replace _ _ _ (sym at_pair.pair.ensures ∙ c.before.before.before.mine.given.1) (sym at-pair2.pair2.ensures ∙ c.enum-told2.given.1)
 
 returns-4 : tie.Need-returns-4
 returns-4 c =
@@ -49,7 +49,7 @@ returns-4 c =
     let mine = c.before.before.before.before.before.before.before.before in
     let two = c.before.before.before.before.before.before.before.before.before.before in
     let one = two.before in
-    meets-join _ _ _ (sym one.pair.ensures ∙ mine.mine.given.1) _ (sym two.pair2.ensures ∙ old.old.given.1) (sym c.before.same.ensures ∙ c.if1.false)
+    meets_join _ _ _ (sym one.pair.ensures ∙ mine.mine.given.1) _ (sym two.pair2.ensures ∙ old.old.given.1) (sym c.before.same.ensures ∙ c.if1.false)
 
 pub meeting-of-spec : {M : Type 1} → statement M
 meeting-of-spec =

@@ -4,14 +4,14 @@ use mathlib.Core.Path.{◌≡◌, sym, ap, ◌∙◌}
 use native.Mathlib.Omega.{arith}
 use borrow.Author.Rules.{rules}
 use lib.ListN.{length, get_or, set}
-use Rattle.groups.specs.View.{noStop}
+use Rattle.groups.specs.View.{no_stop}
 use Rattle.groups.proofs.Lay.{upto, put}
-use Rattle.group_stops.proofs.Turns.{in_start, in-first, in_step, in-next, in_end}
+use Rattle.group_stops.proofs.Turns.{in_start, in_first, in_step, in_next, in_end}
 use Rattle.group_stops.proofs.put_in.Statement.{statement}
 use Rattle.group_stops.proofs.put_in.Tie as tie
 
 abbrev invariant-loop : tie.invariant-loop
-invariant-loop n p r₀ carried₀ j₀ r carried j = (p ≤ j) × (j ≤ n) × (r ≡ upto (put r₀ p carried₀) j r₀) × (carried ≡ get_or (put r₀ p carried₀) j noStop)
+invariant-loop n p r₀ carried₀ j₀ r carried j = (p ≤ j) × (j ≤ n) × (r ≡ upto (put r₀ p carried₀) j r₀) × (carried ≡ get_or (put r₀ p carried₀) j no_stop)
 
 abbrev decreases-loop : tie.decreases-loop
 decreases-loop n p r₀ carried₀ j₀ r carried j = n - j
@@ -22,7 +22,7 @@ long c = c.well-formed.0.1.0.1
 loop-holds : tie.Need-loop-init invariant-loop decreases-loop
 loop-holds c =
     let l = long c in
-    (search rules, omega arith, in_start c.args.stops c.args.p noStop c.args.x (omega arith), in-first c.args.stops c.args.p noStop c.args.x (omega arith))
+    (search rules, omega arith, in_start c.args.stops c.args.p no_stop c.args.x (omega arith), in_first c.args.stops c.args.p no_stop c.args.x (omega arith))
 
 mul-s : tie.Need-overflow-mul-s invariant-loop decreases-loop
 mul-s c = omega arith
@@ -52,8 +52,8 @@ loop-again c =
     let x = start.args.x in (
       omega arith,
       omega arith,
-      in_step s p noStop x at.loop.r at.loop.j at.loop.invariant.2 at.loop.invariant.0 (omega arith) at.loop.carried at.loop.invariant.3,
-      in-next s p noStop x at.loop.r at.loop.j at.loop.invariant.2 at.loop.invariant.0 (omega arith),
+      in_step s p no_stop x at.loop.r at.loop.j at.loop.invariant.2 at.loop.invariant.0 (omega arith) at.loop.carried at.loop.invariant.3,
+      in_next s p no_stop x at.loop.r at.loop.j at.loop.invariant.2 at.loop.invariant.0 (omega arith),
     )
 
 mul-r-2 : tie.Need-overflow-mul-r-2 invariant-loop decreases-loop
@@ -73,9 +73,9 @@ returns c =
     let n = start.args.n in
     let z : at.loop.j ≡ n = omega arith in
     sym (ap (λ (k : ℕ). set at.loop.r k at.loop.carried) z)
-    ∙ in_step s p noStop x at.loop.r at.loop.j at.loop.invariant.2 at.loop.invariant.0 (omega arith) at.loop.carried at.loop.invariant.3
+    ∙ in_step s p no_stop x at.loop.r at.loop.j at.loop.invariant.2 at.loop.invariant.0 (omega arith) at.loop.carried at.loop.invariant.3
     ∙ ap (λ (k : ℕ). upto (put s p x) (k + 1) s) z
-    ∙ in_end s p noStop x n (omega arith) (omega arith)
+    ∙ in_end s p no_stop x n (omega arith) (omega arith)
 
 pub put-in-spec : {M : Type 1} → statement M
 put-in-spec =

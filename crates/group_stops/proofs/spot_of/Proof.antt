@@ -4,9 +4,9 @@ use mathlib.Core.Path.{◌≡◌, refl, sym, ◌∙◌}
 use native.Mathlib.Omega.{arith}
 use borrow.Author.Rules.{rules}
 use lib.ListN.{length, take, drop}
-use Rattle.groups.specs.View.{noStop}
+use Rattle.groups.specs.View.{no_stop}
 use Rattle.group_stops.specs.Places.{spot_of}
-use Rattle.group_stops.proofs.Spots.{spot-end, spot-free, spot-held, spot-goes}
+use Rattle.group_stops.proofs.Spots.{spot_end, spot_free, spot_held, spot_goes}
 use Rattle.group_stops.proofs.spot_of.Statement.{statement}
 use Rattle.group_stops.proofs.spot_of.Tie as tie
 
@@ -33,14 +33,14 @@ returns c =
     let at = c.before.before.before.before.before in
     let start = at.before in
     let l = long start in
-    sym (at.loop.invariant.1 ∙ spot-free start.args.t1 start.args.n at.loop.i start.args.v.0 noStop (omega arith) (omega arith) c.if1.true)
+    sym (at.loop.invariant.1 ∙ spot_free start.args.t1 start.args.n at.loop.i start.args.v.0 no_stop (omega arith) (omega arith) c.if1.true)
 
 returns-2 : tie.Need-returns-2 invariant-loop decreases-loop
 returns-2 c =
     let at = c.before.before.before.before.before.before.before.before in
     let start = at.before in
     let l = long start in
-    sym (at.loop.invariant.1 ∙ spot-held start.args.t1 start.args.n at.loop.i start.args.v.0 noStop (omega arith) (omega arith) c.before.before.before.if1.false c.if2.true)
+    sym (at.loop.invariant.1 ∙ spot_held start.args.t1 start.args.n at.loop.i start.args.v.0 no_stop (omega arith) (omega arith) c.before.before.before.if1.false c.if2.true)
 
 add-i : tie.Need-overflow-add-i invariant-loop decreases-loop
 add-i c = omega arith
@@ -53,14 +53,14 @@ loop-again c =
     let at = c.before.before.before.before.before.before.before.before in
     let start = at.before in
     let l = long start in
-    (omega arith, at.loop.invariant.1 ∙ spot-goes start.args.t1 start.args.n at.loop.i start.args.v.0 noStop (omega arith) (omega arith) c.before.before.before.if1.false c.if2.false)
+    (omega arith, at.loop.invariant.1 ∙ spot_goes start.args.t1 start.args.n at.loop.i start.args.v.0 no_stop (omega arith) (omega arith) c.before.before.before.if1.false c.if2.false)
 
 returns-3 : tie.Need-returns-3 invariant-loop decreases-loop
 returns-3 c =
     let at = c.before in
     let start = at.before in
     let l = long start in
-    sym (at.loop.invariant.1 ∙ spot-end start.args.t1 start.args.n at.loop.i start.args.v.0 noStop (omega arith) (omega arith))
+    sym (at.loop.invariant.1 ∙ spot_end start.args.t1 start.args.n at.loop.i start.args.v.0 no_stop (omega arith) (omega arith))
 
 pub spot-of-spec : {M : Type 1} → statement M
 spot-of-spec =

@@ -4,9 +4,9 @@ use mathlib.Core.Path.{◌≡◌, ap, ◌∙◌}
 use native.Mathlib.Omega.{arith}
 use borrow.Author.Rules.{rules}
 use lib.ListN.{length}
-use Rattle.groups.specs.View.{noStop}
+use Rattle.groups.specs.View.{no_stop}
 use Rattle.groups.proofs.Lay.{upto, cut}
-use Rattle.group_stops.proofs.Turns.{out-start, out_step, out-end}
+use Rattle.group_stops.proofs.Turns.{out_start, out_step, out_end}
 use Rattle.group_stops.proofs.taken_out.Statement.{statement}
 use Rattle.group_stops.proofs.taken_out.Tie as tie
 
@@ -25,7 +25,7 @@ sub-last c = omega arith
 loop-holds : tie.Need-loop-init invariant-loop decreases-loop
 loop-holds c =
     let l = long c in
-    (search rules, omega arith, out-start c.args.stops c.args.p noStop (omega arith))
+    (search rules, omega arith, out_start c.args.stops c.args.p no_stop (omega arith))
 
 add-up : tie.Need-overflow-add-up invariant-loop decreases-loop
 add-up c = omega arith
@@ -50,7 +50,7 @@ loop-again c =
     let at = c.before.before in
     let start = at.before in
     let l = long start in
-    (omega arith, omega arith, out_step start.args.stops start.args.p noStop at.loop.r at.loop.j at.loop.invariant.2 at.loop.invariant.0 (omega arith))
+    (omega arith, omega arith, out_step start.args.stops start.args.p no_stop at.loop.r at.loop.j at.loop.invariant.2 at.loop.invariant.0 (omega arith))
 
 returns : tie.Need-returns invariant-loop decreases-loop
 returns c =
@@ -60,7 +60,7 @@ returns c =
     let s = start.args.stops in
     let p = start.args.p in
     let z : at.loop.j ≡ start.args.n - 1 = omega arith in
-    at.loop.invariant.2 ∙ ap (λ (k : ℕ). upto (cut s p) k s) z ∙ out-end s p noStop start.args.n (omega arith) (omega arith)
+    at.loop.invariant.2 ∙ ap (λ (k : ℕ). upto (cut s p) k s) z ∙ out_end s p no_stop start.args.n (omega arith) (omega arith)
 
 pub taken-out-spec : {M : Type 1} → statement M
 taken-out-spec =

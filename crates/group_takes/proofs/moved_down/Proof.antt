@@ -6,7 +6,7 @@ use borrow.Author.Rules.{rules}
 use mathlib.Core.List.{List}
 use lib.ListN.{length, drop, get_or, set}
 use Rattle.kinds.specs.declared.Stop.{Stop}
-use Rattle.groups.specs.View.{noStop}
+use Rattle.groups.specs.View.{no_stop}
 use Rattle.groups.proofs.Lay.{upto}
 use Rattle.group_takes.proofs.Down.{down_step}
 use Rattle.group_takes.proofs.moved_down.Statement.{statement}
@@ -47,7 +47,7 @@ loop-again c =
     let at = c.before.before in
     let start = at.before in
     let l = long start in
-    (omega arith, ap (λ (t : List Stop). set t at.loop.j (get_or t (at.loop.j + 1) noStop)) at.loop.invariant.1 ∙ down_step start.args.stops at.loop.j noStop (omega arith))
+    (omega arith, ap (λ (t : List Stop). set t at.loop.j (get_or t (at.loop.j + 1) no_stop)) at.loop.invariant.1 ∙ down_step start.args.stops at.loop.j no_stop (omega arith))
 
 returns : tie.Need-returns invariant-loop decreases-loop
 returns c =

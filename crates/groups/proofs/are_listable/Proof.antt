@@ -3,15 +3,15 @@ use Prim.Native.Nat.{◌≤◌, ◌-◌}
 use mathlib.Core.Path.{◌≡◌, refl, sym, ◌∙◌}
 use native.Mathlib.Omega.{arith}
 use borrow.Author.Rules.{rules}
-use borrow.Author.Tests.{not-true, not-false}
+use borrow.Author.Tests.{not_true, not_false}
 use lib.ListN.{length, take, drop}
-use Rattle.ledger_spec.specs.Groups.{allListable}
-use Rattle.groups.proofs.Loops.{list-ends, list-goes, list_done}
+use Rattle.ledger_spec.specs.Groups.{all_listable}
+use Rattle.groups.proofs.Loops.{list_ends, list_goes, list_done}
 use Rattle.groups.proofs.are_listable.Statement.{statement}
 use Rattle.groups.proofs.are_listable.Tie as tie
 
 abbrev invariant-loop : tie.invariant-loop
-invariant-loop n list i₀ i = (i ≤ n) × (allListable (take n list) ≡ allListable (drop i (take n list)))
+invariant-loop n list i₀ i = (i ≤ n) × (all_listable (take n list) ≡ all_listable (drop i (take n list)))
 
 abbrev decreases-loop : tie.decreases-loop
 decreases-loop n list i₀ i = n - i
@@ -35,7 +35,7 @@ returns : tie.Need-returns invariant-loop decreases-loop
 returns c =
     let at = c.before.before.before.before in
     let l = long at.before in
-    sym (at.loop.invariant.1 ∙ list-ends _ _ at.loop.i _ c.before.before.before.loop-test.true (omega arith) (sym c.before.is-listable.ensures ∙ not-true _ c.if1.true))
+    sym (at.loop.invariant.1 ∙ list_ends _ _ at.loop.i _ c.before.before.before.loop-test.true (omega arith) (sym c.before.is-listable.ensures ∙ not_true _ c.if1.true))
 
 add-i : tie.Need-overflow-add-i invariant-loop decreases-loop
 add-i c = omega (arith, c.before.before.before.before.before.requires)
@@ -47,7 +47,7 @@ loop-again : tie.Need-loop-preserved invariant-loop decreases-loop
 loop-again c =
     let at = c.before.before.before.before in
     let l = long at.before in
-    (omega arith, at.loop.invariant.1 ∙ list-goes _ _ at.loop.i _ c.before.before.before.loop-test.true (omega arith) (sym c.before.is-listable.ensures ∙ not-false _ c.if1.false))
+    (omega arith, at.loop.invariant.1 ∙ list_goes _ _ at.loop.i _ c.before.before.before.loop-test.true (omega arith) (sym c.before.is-listable.ensures ∙ not_false _ c.if1.false))
 
 returns-2 : tie.Need-returns-2 invariant-loop decreases-loop
 returns-2 c =

@@ -3,15 +3,15 @@ use Prim.Native.Nat.{◌≤◌, ◌-◌}
 use mathlib.Core.Path.{◌≡◌, refl, sym, ◌∙◌}
 use native.Mathlib.Omega.{arith}
 use borrow.Author.Rules.{rules}
-use borrow.Author.Tests.{not-true, not-false}
+use borrow.Author.Tests.{not_true, not_false}
 use lib.ListN.{length, take, drop}
-use Rattle.ledger_spec.specs.Groups.{risingFrom}
-use Rattle.groups.proofs.Loops.{rise-ends, rise-low, rise-goes, rise-done}
+use Rattle.ledger_spec.specs.Groups.{rising_from}
+use Rattle.groups.proofs.Loops.{rise_ends, rise_low, rise_goes, rise_done}
 use Rattle.groups.proofs.are_rising.Statement.{statement}
 use Rattle.groups.proofs.are_rising.Tie as tie
 
 abbrev invariant-loop : tie.invariant-loop
-invariant-loop n stops least₀ i₀ least i = (i ≤ n) × (risingFrom 0 (take n stops) ≡ risingFrom least (drop i (take n stops)))
+invariant-loop n stops least₀ i₀ least i = (i ≤ n) × (rising_from 0 (take n stops) ≡ rising_from least (drop i (take n stops)))
 
 abbrev decreases-loop : tie.decreases-loop
 decreases-loop n stops least₀ i₀ least i = n - i
@@ -35,7 +35,7 @@ returns : tie.Need-returns invariant-loop decreases-loop
 returns c =
     let at = c.before.before.before.before in
     let l = long at.before in
-    sym (at.loop.invariant.1 ∙ rise-ends _ _ at.loop.i _ _ c.before.before.before.loop-test.true (omega arith) (sym c.before.is_stop.ensures ∙ not-true _ c.if1.true))
+    sym (at.loop.invariant.1 ∙ rise_ends _ _ at.loop.i _ _ c.before.before.before.loop-test.true (omega arith) (sym c.before.is_stop.ensures ∙ not_true _ c.if1.true))
 
 cast-v : tie.Need-overflow-cast-v invariant-loop decreases-loop
 cast-v c = search rules
@@ -45,7 +45,7 @@ returns-2 c =
     let in1 = c.before.before.before in
     let at = c.before.before.before.before.before.before in
     let l = long at.before in
-    sym (at.loop.invariant.1 ∙ rise-low _ _ at.loop.i _ _ c.before.before.before.before.before.loop-test.true (omega arith) (sym in1.is_stop.ensures ∙ not-false _ c.before.before.if1.false) c.if2.true)
+    sym (at.loop.invariant.1 ∙ rise_low _ _ at.loop.i _ _ c.before.before.before.before.before.loop-test.true (omega arith) (sym in1.is_stop.ensures ∙ not_false _ c.before.before.if1.false) c.if2.true)
 
 add-least : tie.Need-overflow-add-least invariant-loop decreases-loop
 add-least c = search rules
@@ -63,12 +63,12 @@ loop-again c =
     let in1 = c.before.before.before in
     let at = c.before.before.before.before.before.before in
     let l = long at.before in
-    (omega arith, at.loop.invariant.1 ∙ rise-goes _ _ at.loop.i _ _ c.before.before.before.before.before.loop-test.true (omega arith) (sym in1.is_stop.ensures ∙ not-false _ c.before.before.if1.false) c.if2.false)
+    (omega arith, at.loop.invariant.1 ∙ rise_goes _ _ at.loop.i _ _ c.before.before.before.before.before.loop-test.true (omega arith) (sym in1.is_stop.ensures ∙ not_false _ c.before.before.if1.false) c.if2.false)
 
 returns-3 : tie.Need-returns-3 invariant-loop decreases-loop
 returns-3 c =
     let l = long c.before.before in
-    sym (c.before.loop.invariant.1 ∙ rise-done _ _ c.before.loop.i _ c.loop-test.false (omega arith))
+    sym (c.before.loop.invariant.1 ∙ rise_done _ _ c.before.loop.i _ c.loop-test.false (omega arith))
 
 pub are-rising-spec : {M : Type 1} → statement M
 are-rising-spec =

@@ -2,14 +2,14 @@
 use mathlib.Core.Path.{refl, sym, ap, ◌∙◌}
 use mathlib.Core.Option.{some}
 use borrow.Author.Rules.{rules}
-use borrow.Author.Tests.{not-true, not-false, eq-eqb, ne_eqb}
+use borrow.Author.Tests.{not_true, not_false, eq-eqb, ne_eqb}
 use mir.Syntax.{w64}
 use mir.Facts.{to_z-of_z}
 use mir.Val.{SFits}
 use Rattle.ledger_spec.specs.Groups.{growth, conflicts}
-use Rattle.groups.specs.View.{group_of, list_of, stopsOf}
-use Rattle.groups.proofs.View.{view-growth, view-conflicts}
-use Rattle.groups.proofs.Asking.{same_bits, growth-broken, growth-largest, growth-is}
+use Rattle.groups.specs.View.{group_of, list_of, stops_of}
+use Rattle.groups.proofs.View.{view_growth, view_conflicts}
+use Rattle.groups.proofs.Asking.{same_bits, growth_broken, growth_largest, growth_is}
 use Rattle.groups.proofs.get_none_zero_growth.Statement.{statement}
 use Rattle.groups.proofs.get_none_zero_growth.Tie as tie
 
@@ -17,7 +17,7 @@ group-is-sound-requires : tie.Need-group-is-sound-requires
 group-is-sound-requires c κs = search rules
 
 returns : tie.Need-returns
-returns c = growth-broken (group_of c.before.before.args.g) (sym c.before.group-is-sound.ensures ∙ not-true _ c.if1.true)
+returns c = growth_broken (group_of c.before.before.args.g) (sym c.before.group-is-sound.ensures ∙ not_true _ c.if1.true)
 
 enum-known-kind : tie.Need-enum-known-kind
 enum-known-kind c = search rules
@@ -30,7 +30,7 @@ returns-2 c =
     let l = kind.kind.given.0.0 in
     let f = kind.kind.given.0.1.0 in
     let fits : SFits w64 l = search rules in
-    growth-largest (group_of g) (growth l f) (sym one.before.group-is-sound.ensures ∙ not-false _ one.if1.false) (view-growth g l f kind.kind.given.1) (same_bits l fits ∙ eq-eqb _ _ c.if2.true)
+    growth_largest (group_of g) (growth l f) (sym one.before.group-is-sound.ensures ∙ not_false _ one.if1.false) (view_growth g l f kind.kind.given.1) (same_bits l fits ∙ eq-eqb _ _ c.if2.true)
 
 enum_told : tie.Need-enum-told
 enum_told c = search rules
@@ -43,13 +43,13 @@ returns-3 c =
     let l = kind.kind.given.0.0 in
     let f = kind.kind.given.0.1.0 in
     let fits : SFits w64 l = search rules in
-    growth-is (group_of g) (growth l f) (sym one.before.group-is-sound.ensures ∙ not-false _ one.if1.false) (view-growth g l f kind.kind.given.1) (same_bits l fits ∙ ne_eqb _ _ c.if2.false) _ (ap some (to_z-of_z fits))
+    growth_is (group_of g) (growth l f) (sym one.before.group-is-sound.ensures ∙ not_false _ one.if1.false) (view_growth g l f kind.kind.given.1) (same_bits l fits ∙ ne_eqb _ _ c.if2.false) _ (ap some (to_z-of_z fits))
 
 returns-4 : tie.Need-returns-4
 returns-4 c =
     let one = c.before.before in
     let g = one.before.before.args.g in
-    growth-is (group_of g) (conflicts (list_of g) (stopsOf g)) (sym one.before.group-is-sound.ensures ∙ not-false _ one.if1.false) (view-conflicts g c.enum_told.given.1) refl _ refl
+    growth_is (group_of g) (conflicts (list_of g) (stops_of g)) (sym one.before.group-is-sound.ensures ∙ not_false _ one.if1.false) (view_conflicts g c.enum_told.given.1) refl _ refl
 
 pub get-none-zero-growth-spec : {M : Type 1} → statement M
 get-none-zero-growth-spec =

@@ -2,9 +2,9 @@
 use mathlib.Core.Path.{◌≡◌, sym, ◌∙◌}
 use native.Mathlib.Omega.{arith}
 use borrow.Author.Rules.{rules}
-use borrow.Author.Tests.{not-true, not-false}
+use borrow.Author.Tests.{not_true, not_false}
 use lib.ListN.{length, length-map}
-use Rattle.groups.proofs.View.{sound-growth, long-list, long-stops, bad-list, good-list}
+use Rattle.groups.proofs.View.{sound_growth, long_list, long_stops, bad_list, good_list}
 use Rattle.groups.proofs.group_is_sound.Statement.{statement}
 use Rattle.groups.proofs.group_is_sound.Tie as tie
 
@@ -21,13 +21,13 @@ enum-told-2 : tie.Need-enum-told-2
 enum-told-2 c = search rules
 
 returns : tie.Need-returns
-returns c = long-list c.before.before.before.before.args.g c.before.before.enum-told2.given.1 c.if1.true
+returns c = long_list c.before.before.before.before.args.g c.before.before.enum-told2.given.1 c.if1.true
 
 returns-2 : tie.Need-returns-2
 returns-2 c =
     let one = c.before.before in
     let told = one.before.before in
-    long-stops told.before.before.args.g told.enum-told2.given.1 one.if1.false c.if2.true
+    long_stops told.before.before.args.g told.enum-told2.given.1 one.if1.false c.if2.true
 
 are-listable-requires : tie.Need-are-listable-requires
 are-listable-requires c κs = search rules
@@ -40,13 +40,13 @@ returns-3 c =
     let start = told.before.before in
     let l = long start in
     let w = wide start in
-    bad-list start.args.g told.enum-told2.given.1 one.if1.false two.if2.false (omega arith) (omega arith) (sym c.before.are-listable.ensures ∙ not-true _ c.if3.true)
+    bad_list start.args.g told.enum-told2.given.1 one.if1.false two.if2.false (omega arith) (omega arith) (sym c.before.are-listable.ensures ∙ not_true _ c.if3.true)
 
 are-rising-requires : tie.Need-are-rising-requires
 are-rising-requires c κs = search rules
 
 returns-4 : tie.Need-returns-4
-returns-4 c = sound-growth c.before.before.args.g _ _ c.enum_told.given.1
+returns-4 c = sound_growth c.before.before.args.g _ _ c.enum_told.given.1
 
 returns-5 : tie.Need-returns-5
 returns-5 c =
@@ -57,7 +57,7 @@ returns-5 c =
     let start = told.before.before in
     let l = long start in
     let w = wide start in
-    c.are-rising.ensures ∙ good-list start.args.g told.enum-told2.given.1 one.if1.false two.if2.false (omega arith) (omega arith) (sym three.before.are-listable.ensures ∙ not-false _ three.if3.false)
+    c.are-rising.ensures ∙ good_list start.args.g told.enum-told2.given.1 one.if1.false two.if2.false (omega arith) (omega arith) (sym three.before.are-listable.ensures ∙ not_false _ three.if3.false)
 
 pub group-is-sound-spec : {M : Type 1} → statement M
 group-is-sound-spec =

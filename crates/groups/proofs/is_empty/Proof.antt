@@ -1,14 +1,14 @@
 -- `is_empty` tests the group, then asks its kind. Assumes nothing.
 use mathlib.Core.Path.{refl, sym, ap, ◌∙◌}
 use borrow.Author.Rules.{rules}
-use borrow.Author.Tests.{not-true, not-false}
+use borrow.Author.Tests.{not_true, not_false}
 use mir.Syntax.{w64}
 use mir.Val.{SFits}
 use Rattle.ledger_spec.specs.Groups.{growth, conflicts}
-use Rattle.groups.specs.View.{group_of, list_of, stopsOf}
-use Rattle.groups.specs.Shown.{shownTold}
-use Rattle.groups.proofs.View.{view-growth, view-conflicts}
-use Rattle.groups.proofs.Asking.{same_bits, empty-broken, empty-is}
+use Rattle.groups.specs.View.{group_of, list_of, stops_of}
+use Rattle.groups.specs.Shown.{shown_told}
+use Rattle.groups.proofs.View.{view_growth, view_conflicts}
+use Rattle.groups.proofs.Asking.{same_bits, empty_broken, empty_is}
 use Rattle.groups.proofs.is_empty.Statement.{statement}
 use Rattle.groups.proofs.is_empty.Tie as tie
 
@@ -22,7 +22,7 @@ returns : tie.Need-returns
 returns c =
     let t = c.before in
     let s = t.before in
-    ap shownTold c.no.ensures ∙ empty-broken (group_of s.before.args.g) (sym s.group-is-sound.ensures ∙ not-true _ t.if1.true)
+    ap shown_told c.no.ensures ∙ empty_broken (group_of s.before.args.g) (sym s.group-is-sound.ensures ∙ not_true _ t.if1.true)
 
 enum-known-kind : tie.Need-enum-known-kind
 enum-known-kind c = search rules
@@ -41,14 +41,14 @@ returns-2 c =
     let l = kind.kind.given.0.0 in
     let f = kind.kind.given.0.1.0 in
     let fits : SFits w64 l = search rules in
-    empty-is (group_of g) (growth l f) (sym one.before.group-is-sound.ensures ∙ not-false _ one.if1.false) (view-growth g l f kind.kind.given.1) _ (sym (same_bits l fits))
+    empty_is (group_of g) (growth l f) (sym one.before.group-is-sound.ensures ∙ not_false _ one.if1.false) (view_growth g l f kind.kind.given.1) _ (sym (same_bits l fits))
 
 returns-3 : tie.Need-returns-3
 returns-3 c =
     let k = c.before in
     let one = k.before.before in
     let g = one.before.before.args.g in
-    ap shownTold c.no2.ensures ∙ empty-is (group_of g) (conflicts (list_of g) (stopsOf g)) (sym one.before.group-is-sound.ensures ∙ not-false _ one.if1.false) (view-conflicts g k.enum_told.given.1) _ refl
+    ap shown_told c.no2.ensures ∙ empty_is (group_of g) (conflicts (list_of g) (stops_of g)) (sym one.before.group-is-sound.ensures ∙ not_false _ one.if1.false) (view_conflicts g k.enum_told.given.1) _ refl
 
 pub is_empty_spec : {M : Type 1} → statement M
 is_empty_spec =

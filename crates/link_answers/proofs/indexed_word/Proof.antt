@@ -4,16 +4,16 @@ use mathlib.Core.Path.{◌≡◌, refl, sym, ap, ◌∙◌}
 use mathlib.Core.Option.{Option}
 use borrow.Author.Rules.{rules}
 use Rattle.ledger_spec.specs.Bench.{Handle}
-use Rattle.link_answers.specs.Forms.{maybeWord, indexedWord}
+use Rattle.link_answers.specs.Forms.{maybe_word, indexed_word}
 use Rattle.link_answers.proofs.indexed_word.Statement.{statement}
 use Rattle.link_answers.proofs.indexed_word.Tie as tie
 
-zero-else : (n : ℕ) (m : Option Handle) → (n ≡ 0 → ⊥) → 0 ≡ indexedWord n m
+zero-else : (n : ℕ) (m : Option Handle) → (n ≡ 0 → ⊥) → 0 ≡ indexed_word n m
 zero-else zero m k = absurd (k refl)
 zero-else (suc n) m k = refl
 
-plain-else : (n : ℕ) (m : Option Handle) (r : ℕ) → n ≡ 0 → r ≡ maybeWord m → r ≡ indexedWord n m
-plain-else n m r k e = e ∙ sym (ap (λ (i : ℕ). indexedWord i m) k)
+plain-else : (n : ℕ) (m : Option Handle) (r : ℕ) → n ≡ 0 → r ≡ maybe_word m → r ≡ indexed_word n m
+plain-else n m r k e = e ∙ sym (ap (λ (i : ℕ). indexed_word i m) k)
 
 maybe-word-requires : tie.Need-maybe-word-requires
 maybe-word-requires c κs = search rules

@@ -1,6 +1,6 @@
 -- The verdict on the words decides: BROKEN, or the chunk on sound words. Assumes nothing.
 use borrow.Author.Rules.{rules}
-use Rattle.link_text.proofs.Lending.{sound-bench, chunk-broken, chunk-sound}
+use Rattle.link_text.proofs.Lending.{sound_bench, chunk_broken, chunk_sound}
 use Rattle.link_text.proofs.chunk_on_any.Statement.{statement}
 use Rattle.link_text.proofs.chunk_on_any.Tie as tie
 
@@ -14,13 +14,13 @@ returns : tie.Need-returns
 returns c =
     let s = c.before.before in
     let a = s.before.before.before.before.args in
-    chunk-broken a.b.now s.is-bench.result s.is-bench.ensures a.chunk.now a.buf.now a.held a.out.now c.before.if1.true c.refused.result c.refused.ensures
+    chunk_broken a.b.now s.is-bench.result s.is-bench.ensures a.chunk.now a.buf.now a.held a.out.now c.before.if1.true c.refused.result c.refused.ensures
 
 chunk-on-sound-requires : tie.Need-chunk-on-sound-requires
 chunk-on-sound-requires c κs =
     let t = c.before.before.before.before.before in
     let s = t.before.before.before.before in
-    sound-bench s.args.b.now t.is-bench.result t.is-bench.ensures c.before.before.before.before.if1.false
+    sound_bench s.args.b.now t.is-bench.result t.is-bench.ensures c.before.before.before.before.if1.false
 
 same_length : tie.Need-same-length
 same_length c = search rules
@@ -30,7 +30,7 @@ returns-2 c =
     let t = c.before.before.before.before in
     let s = t.before.before.before.before in
     let a = s.before.before.before.before.args in
-    chunk-sound a.b.now s.is-bench.result s.is-bench.ensures a.chunk.now a.buf.now a.held a.out.now t.before.before.before.if1.false c.before.before.chunk-on-sound.ensures
+    chunk_sound a.b.now s.is-bench.result s.is-bench.ensures a.chunk.now a.buf.now a.held a.out.now t.before.before.before.if1.false c.before.before.chunk-on-sound.ensures
 
 pub chunk-on-any-spec : {M : Type 1} → statement M
 chunk-on-any-spec =

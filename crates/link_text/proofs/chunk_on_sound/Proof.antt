@@ -3,7 +3,7 @@ use native.Mathlib.Omega.{arith}
 use mathlib.Core.Path.{sym, ◌∙◌}
 use lib.ListN.{length}
 use borrow.Author.Rules.{rules}
-use Rattle.link_text.proofs.Lending.{fits, chunk-refused, chunk-done}
+use Rattle.link_text.proofs.Lending.{fits, chunk_refused, chunk_done}
 use Rattle.link_text.proofs.chunk_on_sound.Statement.{statement}
 use Rattle.link_text.proofs.chunk_on_sound.Tie as tie
 
@@ -17,7 +17,7 @@ returns : tie.Need-returns
 returns c =
     let n = c.before.before.chunk-no in
     let a = c.before.before.before.before.before.args in
-    chunk-refused a.b.now a.chunk.now a.buf.now a.held a.out.now n.result n.ensures c.before.if1.true c.refused.result c.refused.ensures
+    chunk_refused a.b.now a.chunk.now a.buf.now a.held a.out.now n.result n.ensures c.before.if1.true c.refused.result c.refused.ensures
 
 slice-aggregate-answer-chunk : tie.Need-slice-aggregate-answer-chunk
 slice-aggregate-answer-chunk c = search rules
@@ -41,7 +41,7 @@ returns-2 c =
     let t = e.before.before.before in
     let n = t.before.chunk-no in
     let a = t.before.before.before.before.args in
-    chunk-done a.b.now a.chunk.now a.buf.now a.held a.out.now n.result n.ensures t.if1.false d.answer-chunk.ensures
+    chunk_done a.b.now a.chunk.now a.buf.now a.held a.out.now n.result n.ensures t.if1.false d.answer-chunk.ensures
 
 pub chunk-on-sound-spec : {M : Type 1} → statement M
 chunk-on-sound-spec =

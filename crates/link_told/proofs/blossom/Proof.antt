@@ -1,6 +1,6 @@
 -- Heads, members, ends and circle, one after the other. Assumes nothing.
-use Rattle.ledger_spec.specs.Named.{handleNamed}
-use Rattle.link_told.proofs.Writing.{made-steps}
+use Rattle.ledger_spec.specs.Named.{handle_named}
+use Rattle.link_told.proofs.Writing.{made_steps}
 use borrow.Author.Rules.{rules}
 use Rattle.link_told.proofs.blossom.Statement.{statement}
 use Rattle.link_told.proofs.blossom.Tie as tie
@@ -35,7 +35,7 @@ returns c =
     let at-put-heads = at-put-stays.before.before in
     let at-node-word = at-put-heads.before.before in
     let s = c.before.before.before.before.before.before.before.before.before.before in
-    made-steps s.args.members.now s.args.out.now (handleNamed s.args.q) at-node-word.node-word.ensures at-put-heads.put-heads.ensures at-put-stays.put-stays.ensures c.before.before.put-added.ensures c.put-circle.ensures
+    made_steps s.args.members.now s.args.out.now (handle_named s.args.q) at-node-word.node_word_lem.ensures at-put-heads.put-heads.ensures at-put-stays.put-stays.ensures c.before.before.put-added.ensures c.put-circle.ensures
 
 pub blossom-spec : {M : Type 1} → statement M
 blossom-spec =

@@ -4,8 +4,8 @@ use mathlib.Core.Path.{ap, ◌∙◌}
 use mathlib.Core.List.{[], ◌∷◌}
 use lib.Seq.{sets}
 use mir.Facts.{to_z-of_z}
-use Rattle.outcome_notices.specs.Laid.{circleIn}
-use Rattle.link_answers.specs.Forms.{signedWord}
+use Rattle.outcome_notices.specs.Laid.{circle_in}
+use Rattle.link_answers.specs.Forms.{signed_word}
 use Rattle.link_told.specs.Answers.{saidOver}
 use borrow.Author.Rules.{rules}
 use Rattle.link_told.proofs.grown.Statement.{statement}
@@ -18,8 +18,8 @@ put-one-requires : tie.Need-put-one-requires
 put-one-requires c κs = search rules
 
 returns : tie.Need-returns
-unfolding saidOver circleIn
-returns c = c.put_one.ensures ∙ ap (λ (w : ℕ). sets c.before.before.before.args.out.now 0 (0 ∷ 1 ∷ 0 ∷ 8 ∷ w ∷ [])) (c.before.before.signed_word.ensures ∙ ap signedWord (to_z-of_z c.before.before.before.ranges.length))
+unfolding saidOver circle_in
+returns c = c.put_one.ensures ∙ ap (λ (w : ℕ). sets c.before.before.before.args.out.now 0 (0 ∷ 1 ∷ 0 ∷ 8 ∷ w ∷ [])) (c.before.before.signed_word.ensures ∙ ap signed_word (to_z-of_z c.before.before.before.ranges.length))
 
 pub grown-spec : {M : Type 1} → statement M
 grown-spec = tie.close (tie.spec signed-word-requires put-one-requires returns)

@@ -1,5 +1,5 @@
 -- Four stores one after the other. Assumes nothing.
-use Rattle.link_told.proofs.Writing.{four-set}
+use Rattle.link_told.proofs.Writing.{four_set}
 use borrow.Author.Rules.{rules}
 use Rattle.link_told.proofs.put_added.Statement.{statement}
 use Rattle.link_told.proofs.put_added.Tie as tie
@@ -38,7 +38,7 @@ element-write-out-4 : tie.Need-element-write-out-4
 element-write-out-4 c = search rules
 
 returns : tie.Need-returns
-returns c = four-set c.args.out.now c.args.at 5 0 6 c.args.node
+returns c = four_set c.args.out.now c.args.at 5 0 6 c.args.node
 
 pub put-added-spec : {M : Type 1} → statement M
 put-added-spec =

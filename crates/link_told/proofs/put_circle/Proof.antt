@@ -6,14 +6,14 @@ use native.Mathlib.Omega.{arith}
 use borrow.Author.Rules.{rules}
 use lib.ListN.{take}
 use lib.Seq.{sets}
-use Rattle.bench_views.specs.Given.{handGiven}
-use Rattle.link_answers.specs.Forms.{nodeWord}
-use Rattle.link_told.proofs.Writing.{circle-more, circle-all}
+use Rattle.bench_views.specs.Given.{hand_given}
+use Rattle.link_answers.specs.Forms.{node_word}
+use Rattle.link_told.proofs.Writing.{circle_more, circle_all}
 use Rattle.link_told.proofs.put_circle.Statement.{statement}
 use Rattle.link_told.proofs.put_circle.Tie as tie
 
 abbrev invariant-loop : tie.invariant-loop
-invariant-loop out₀ members n i₀ out i = (i ≤ n) × (out ≡ sets out₀ 135 (map nodeWord (map handGiven (take i members))))
+invariant-loop out₀ members n i₀ out i = (i ≤ n) × (out ≡ sets out₀ 135 (map node_word (map hand_given (take i members))))
 
 abbrev decreases-loop : tie.decreases-loop
 decreases-loop out₀ members n i₀ out i = n - i
@@ -49,13 +49,13 @@ loop-again : tie.Need-loop-preserved invariant-loop decreases-loop
 loop-again c =
     let at = c.before.before.before in
     let s = at.before.before in
-    (omega arith, circle-more s.args.members.now at.loop.i s.args.out.now at.loop.out c.member-word.result (omega arith) c.member-word.ensures at.loop.invariant.1)
+    (omega arith, circle_more s.args.members.now at.loop.i s.args.out.now at.loop.out c.member-word.result (omega arith) c.member-word.ensures at.loop.invariant.1)
 
 returns : tie.Need-returns invariant-loop decreases-loop
 returns c =
     let at = c.before in
     let s = at.before.before in
-    circle-all s.args.members.now at.loop.i s.args.out.now at.loop.out (omega arith) at.loop.invariant.1
+    circle_all s.args.members.now at.loop.i s.args.out.now at.loop.out (omega arith) at.loop.invariant.1
 
 pub put-circle-spec : {M : Type 1} → statement M
 put-circle-spec =

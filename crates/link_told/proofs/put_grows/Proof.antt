@@ -4,17 +4,17 @@ use mathlib.Core.Path.{◌≡◌, ap, ◌∙◌}
 use native.Mathlib.Omega.{arith}
 use borrow.Author.Rules.{rules}
 use lib.Seq.{sets}
-use Rattle.bench_words.specs.Store.{nodeAt}
+use Rattle.bench_words.specs.Store.{node_at}
 use Rattle.bench_views.specs.Canon.{walk}
 use Rattle.outcome_notices.proofs.Telling.{walk_none, walk_more}
 use Rattle.link_told.specs.Answers.{toldWords}
 use Rattle.link_told.specs.Circles.{growing}
-use Rattle.link_told.proofs.Writing.{grow-none, grow-more}
+use Rattle.link_told.proofs.Writing.{grow_none, grow_more}
 use Rattle.link_told.proofs.put_grows.Statement.{statement}
 use Rattle.link_told.proofs.put_grows.Tie as tie
 
 abbrev invariant-loop : tie.invariant-loop
-invariant-loop out₀ b first count at₀ i₀ out at i = (i ≤ count) × (at ≡ walk i (nodeAt b) first) × (out ≡ sets out₀ 5 (toldWords (growing b first i)))
+invariant-loop out₀ b first count at₀ i₀ out at i = (i ≤ count) × (at ≡ walk i (node_at b) first) × (out ≡ sets out₀ 5 (toldWords (growing b first i)))
 
 abbrev decreases-loop : tie.decreases-loop
 decreases-loop out₀ b first count at₀ i₀ out at i = count - i
@@ -24,7 +24,7 @@ reached : (a : tie.At-loop invariant-loop decreases-loop) → a.loop.i < a.befor
 reached a l = (omega (arith, a.before.requires.low a.loop.i l, a.loop.invariant.1), omega (arith, a.before.requires.few))
 
 loop-holds : tie.Need-loop-init invariant-loop decreases-loop
-loop-holds c = (search rules, walk_none (nodeAt c.args.b.now) c.args.first, grow-none c.args.b.now c.args.first c.args.out.now)
+loop-holds c = (search rules, walk_none (node_at c.args.b.now) c.args.first, grow_none c.args.b.now c.args.first c.args.out.now)
 
 load-node-requires : tie.Need-load-node-requires invariant-loop decreases-loop
 load-node-requires c κs = (reached c.before c.loop-test.true).0
@@ -71,8 +71,8 @@ loop-again c =
     let s = at.before in
     let m = c.before.before.load-node in (
       omega arith,
-      walk_more (nodeAt s.args.b.now) s.args.first at.loop.i at.loop.at m.result at.loop.invariant.1 m.ensures,
-      grow-more s.args.b.now s.args.first at.loop.i at.loop.at m.result s.args.out.now at.loop.out c.node-word.result at.loop.invariant.1 m.ensures c.node-word.ensures at.loop.invariant.2,
+      walk_more (node_at s.args.b.now) s.args.first at.loop.i at.loop.at m.result at.loop.invariant.1 m.ensures,
+      grow_more s.args.b.now s.args.first at.loop.i at.loop.at m.result s.args.out.now at.loop.out c.node_word_lem.result at.loop.invariant.1 m.ensures c.node_word_lem.ensures at.loop.invariant.2,
     )
 
 returns : tie.Need-returns invariant-loop decreases-loop

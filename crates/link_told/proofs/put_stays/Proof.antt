@@ -7,7 +7,7 @@ use lib.ListN.{take}
 use lib.Seq.{sets}
 use Rattle.link_told.specs.Answers.{toldWords}
 use Rattle.link_told.specs.Circles.{staying}
-use Rattle.link_told.proofs.Writing.{stay-more, stay_all}
+use Rattle.link_told.proofs.Writing.{stay_more, stay_all}
 use Rattle.link_told.proofs.put_stays.Statement.{statement}
 use Rattle.link_told.proofs.put_stays.Tie as tie
 
@@ -60,7 +60,7 @@ loop-again : tie.Need-loop-preserved invariant-loop decreases-loop
 loop-again c =
     let at = c.before.before.before in
     let s = at.before.before in
-    (omega arith, stay-more s.args.members.now at.loop.i s.args.out.now at.loop.out c.member-word.result (omega arith) c.member-word.ensures at.loop.invariant.1)
+    (omega arith, stay_more s.args.members.now at.loop.i s.args.out.now at.loop.out c.member-word.result (omega arith) c.member-word.ensures at.loop.invariant.1)
 
 returns : tie.Need-returns invariant-loop decreases-loop
 returns c =

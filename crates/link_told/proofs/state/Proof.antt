@@ -3,7 +3,7 @@ use Prim.Native.Nat.{ℕ}
 use mathlib.Core.Path.{ap₂, ◌∙◌}
 use mathlib.Core.List.{[], ◌∷◌}
 use lib.Seq.{sets}
-use Rattle.outcome_notices.specs.Laid.{circleIn}
+use Rattle.outcome_notices.specs.Laid.{circle_in}
 use Rattle.link_told.specs.Answers.{saidOver}
 use borrow.Author.Rules.{rules}
 use Rattle.link_told.proofs.state.Statement.{statement}
@@ -19,8 +19,8 @@ put-one-requires : tie.Need-put-one-requires
 put-one-requires c κs = search rules
 
 returns : tie.Need-returns
-unfolding saidOver circleIn
-returns c = c.put_one.ensures ∙ ap₂ (λ (w k : ℕ). sets c.before.before.before.before.args.out.now 0 (w ∷ 1 ∷ 0 ∷ k ∷ w ∷ [])) c.before.before.before.node-word.ensures c.before.before.state-kind.ensures
+unfolding saidOver circle_in
+returns c = c.put_one.ensures ∙ ap₂ (λ (w k : ℕ). sets c.before.before.before.before.args.out.now 0 (w ∷ 1 ∷ 0 ∷ k ∷ w ∷ [])) c.before.before.before.node_word_lem.ensures c.before.before.state-kind.ensures
 
 pub state-spec : {M : Type 1} → statement M
 state-spec = tie.close (tie.spec node-word-requires state-kind-requires put-one-requires returns)

@@ -5,12 +5,12 @@ use mathlib.Core.List.{map}
 use native.Mathlib.Omega.{arith}
 use borrow.Author.Rules.{rules}
 use lib.ListN.{take}
-use Rattle.outcome_notices.proofs.Telling.{halfway, stay, handOf, begun, stay-more, stay-ends}
+use Rattle.outcome_notices.proofs.Telling.{halfway, stay, hand_of, begun, stay_more, stay_ends}
 use Rattle.outcome_notices.proofs.blossom.Statement.{statement}
 use Rattle.outcome_notices.proofs.blossom.Tie as tie
 
 abbrev invariant-loop : tie.invariant-loop
-invariant-loop members q r₀ n i₀ r i = (i ≤ n) × (r ≡ halfway (map stay (take i members)) (map handOf (take i members)))
+invariant-loop members q r₀ n i₀ r i = (i ≤ n) × (r ≡ halfway (map stay (take i members)) (map hand_of (take i members)))
 
 abbrev decreases-loop : tie.decreases-loop
 decreases-loop members q r₀ n i₀ r i = n - i
@@ -52,7 +52,7 @@ loop-again : tie.Need-loop-preserved invariant-loop decreases-loop
 loop-again c =
     let at = c.before.before.before in
     let ms = at.before.before.before.args.members.now in
-    (omega arith, stay-more ms at.loop.i at.loop.r c.hand.result (omega arith) (omega arith) at.loop.invariant.1 c.hand.ensures)
+    (omega arith, stay_more ms at.loop.i at.loop.r c.hand.result (omega arith) (omega arith) at.loop.invariant.1 c.hand.ensures)
 
 mul-r : tie.Need-overflow-mul-r invariant-loop decreases-loop
 mul-r c = omega arith
@@ -76,7 +76,7 @@ returns : tie.Need-returns invariant-loop decreases-loop
 returns c =
     let at = c.before in
     let s = at.before.before.before in
-    stay-ends s.args.members.now s.args.q at.loop.i at.loop.r s.requires (omega arith) at.loop.invariant.1
+    stay_ends s.args.members.now s.args.q at.loop.i at.loop.r s.requires (omega arith) at.loop.invariant.1
 
 pub blossom-spec : {M : Type 1} → statement M
 blossom-spec =

@@ -6,7 +6,7 @@ use mir.Syntax.{w64}
 use mir.Facts.{to_z-of_z}
 use mir.Val.{SFits}
 use Rattle.kinds.specs.declared.Notice.TheVariants.{Grown}
-use Rattle.outcome_notices.specs.Laid.{circleIn, only, laid}
+use Rattle.outcome_notices.specs.Laid.{circle_in, only, laid}
 use Rattle.outcome_notices.proofs.grown.Statement.{statement}
 use Rattle.outcome_notices.proofs.grown.Tie as tie
 
@@ -14,7 +14,7 @@ one-requires : tie.Need-one-requires
 one-requires c κs = search rules
 
 returns : tie.Need-returns
-unfolding laid circleIn
+unfolding laid circle_in
 returns c =
     let l = c.before.args.l in
     let fits : SFits w64 l = search rules in

@@ -3,7 +3,7 @@ use mathlib.Core.Path.{ap}
 use borrow.Author.Rules.{rules}
 use lib.ListN.{replicate}
 use Rattle.kinds.specs.declared.Handle.{Handle as Packed}
-use Rattle.outcome_notices.specs.Laid.{blank, circleIn, laid}
+use Rattle.outcome_notices.specs.Laid.{blank, circle_in, laid}
 use Rattle.outcome_notices.specs.declared.Notices.{Notices}
 use Rattle.outcome_notices.proofs.none.Statement.{statement}
 use Rattle.outcome_notices.proofs.none.Tie as tie
@@ -15,7 +15,7 @@ nobody-requires : tie.Need-nobody-requires
 nobody-requires c κs = search rules
 
 returns : tie.Need-returns
-unfolding laid circleIn
+unfolding laid circle_in
 returns c = ap noneBy c.nobody.ensures
 
 pub none_spec : {M : Type 1} → statement M

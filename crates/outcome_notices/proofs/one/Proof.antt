@@ -2,7 +2,7 @@
 use mathlib.Core.Path.{ap}
 use borrow.Author.Rules.{rules}
 use lib.ListN.{set}
-use Rattle.outcome_notices.specs.Laid.{circleIn, laid}
+use Rattle.outcome_notices.specs.Laid.{circle_in, laid}
 use Rattle.outcome_notices.specs.declared.Notices.{Notices}
 use Rattle.outcome_notices.proofs.Telling.{told}
 use Rattle.outcome_notices.proofs.one.Statement.{statement}
@@ -15,7 +15,7 @@ element-set-from-e : tie.Need-element-set-from-e
 element-set-from-e c = search rules
 
 returns : tie.Need-returns
-unfolding laid circleIn
+unfolding laid circle_in
 returns c = ap (λ (r : Notices). told (set r.told 0 c.before.args.e) r.circle 1 r.members) c.none.ensures
 
 pub one_spec : {M : Type 1} → statement M

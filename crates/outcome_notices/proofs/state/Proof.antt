@@ -3,8 +3,8 @@ use mathlib.Core.Path.{sym, ap, ◌∙◌}
 use borrow.Author.Rules.{rules}
 use Rattle.kinds.specs.declared.GrowState.{GrowState}
 use Rattle.kinds.specs.declared.Notice.TheVariants.{StateSet}
-use Rattle.outcome_notices.specs.Laid.{circleIn, only, laid}
-use Rattle.outcome_notices.proofs.Back.{state-back}
+use Rattle.outcome_notices.specs.Laid.{circle_in, only, laid}
+use Rattle.outcome_notices.proofs.Back.{state_back}
 use Rattle.outcome_notices.proofs.state.Statement.{statement}
 use Rattle.outcome_notices.proofs.state.Tie as tie
 
@@ -12,8 +12,8 @@ one-requires : tie.Need-one-requires
 one-requires c κs = search rules
 
 returns : tie.Need-returns
-unfolding laid circleIn
-returns c = c.one.ensures ∙ ap (λ (s : GrowState). only (record { notice = StateSet c.before.args.h s })) (sym (state-back c.before.args.s))
+unfolding laid circle_in
+returns c = c.one.ensures ∙ ap (λ (s : GrowState). only (record { notice = StateSet c.before.args.h s })) (sym (state_back c.before.args.s))
 
 pub state-spec : {M : Type 1} → statement M
 state-spec = tie.close (tie.spec one-requires returns)

@@ -1,5 +1,5 @@
 -- It stands at the handle's position. Assumes nothing.
-use Rattle.ledger_spec.specs.Named.{handleNamed}
+use Rattle.ledger_spec.specs.Named.{handle_named}
 use borrow.Author.Rules.{rules}
 use Rattle.picture_circles.proofs.index_of.Statement.{statement}
 use Rattle.picture_circles.proofs.index_of.Tie as tie
@@ -23,7 +23,7 @@ element-copy-out-result : tie.Need-element-copy-out-result
 element-copy-out-result c = search rules
 
 returns : tie.Need-returns
-returns c = let s = c.before.before.before in s.requires.0.at (handleNamed s.args.h) s.requires.1.0 s.requires.1.1
+returns c = let s = c.before.before.before in s.requires.0.at (handle_named s.args.h) s.requires.1.0 s.requires.1.1
 
 pub index-of-spec : {M : Type 1} → statement M
 index-of-spec =

@@ -2,7 +2,7 @@
 use native.Mathlib.Omega.{arith}
 use mathlib.Core.Path.{ap, ◌∙◌}
 use Rattle.bench_words.specs.declared.Node.{Node}
-use Rattle.picture_circles.proofs.Going.{Going, going-starts, next-placed, going_on, going-ends}
+use Rattle.picture_circles.proofs.Going.{Going, going_starts, next_placed, going_on, going_ends}
 use borrow.Author.Rules.{rules}
 use Rattle.picture_circles.proofs.put_circle.Statement.{statement}
 use Rattle.picture_circles.proofs.put_circle.Tie as tie
@@ -23,7 +23,7 @@ put-requires : tie.Need-put-requires invariant-loop decreases-loop
 put-requires c κs = search rules
 
 loop-holds : tie.Need-loop-init invariant-loop decreases-loop
-loop-holds c = let s = c.before.before.before.before.before.before.before in going-starts s.args.b.now s.args.unit s.args.k s.args.touching c.before.before.put.new.0 c.before.before.put.result c.before.before.before.before.before.load-node.result c.before.before.before.before.before.load-node.ensures
+loop-holds c = let s = c.before.before.before.before.before.before.before in going_starts s.args.b.now s.args.unit s.args.k s.args.touching c.before.before.put.new.0 c.before.before.put.result c.before.before.before.before.before.load-node.result c.before.before.before.before.before.load-node.ensures
 
 put-comma-requires : tie.Need-put-comma-requires invariant-loop decreases-loop
 put-comma-requires c κs = search rules
@@ -34,7 +34,7 @@ put-member-requires c κs =
     let at-loop = at-loop-test.before in
     let at-put = at-loop.before.before.before in
     let s = c.before.before.before.before.before.before.before.before.before.before.before.before.before.before in
-    (s.requires.1.0, (next-placed s.args.b.now s.args.unit s.args.k s.args.touching at-put.put.new.0 at-put.put.result at-loop.loop.out at-loop.loop.r at-loop.loop.p at-loop.loop.m at-loop.loop.i at-loop.loop.invariant s.requires.0 s.requires.1.1.0 s.requires.1.1.1 at-loop-test.loop-test.true).low)
+    (s.requires.1.0, (next_placed s.args.b.now s.args.unit s.args.k s.args.touching at-put.put.new.0 at-put.put.result at-loop.loop.out at-loop.loop.r at-loop.loop.p at-loop.loop.m at-loop.loop.i at-loop.loop.invariant s.requires.0 s.requires.1.1.0 s.requires.1.1.1 at-loop-test.loop-test.true).low)
 
 load-node-requires-2 : tie.Need-load-node-requires-2 invariant-loop decreases-loop
 load-node-requires-2 c κs =
@@ -42,7 +42,7 @@ load-node-requires-2 c κs =
     let at-loop = at-loop-test.before in
     let at-put = at-loop.before.before.before in
     let s = c.before.before.before.before.before.before.before.before.before.before.before.before.before.before.before.before.before in
-    (next-placed s.args.b.now s.args.unit s.args.k s.args.touching at-put.put.new.0 at-put.put.result at-loop.loop.out at-loop.loop.r at-loop.loop.p at-loop.loop.m at-loop.loop.i at-loop.loop.invariant s.requires.0 s.requires.1.1.0 s.requires.1.1.1 at-loop-test.loop-test.true).low
+    (next_placed s.args.b.now s.args.unit s.args.k s.args.touching at-put.put.new.0 at-put.put.result at-loop.loop.out at-loop.loop.r at-loop.loop.p at-loop.loop.m at-loop.loop.i at-loop.loop.invariant s.requires.0 s.requires.1.1.0 s.requires.1.1.1 at-loop-test.loop-test.true).low
 
 sub-m : tie.Need-overflow-sub-m invariant-loop decreases-loop
 sub-m c =
@@ -82,7 +82,7 @@ returns c =
     let at-loop = at-loop-test.before in
     let at-put = at-loop.before.before.before in
     let s = c.before.before.before.before.before.before.before.before.before.before.before.before.before.before in
-    going-ends s.args.b.now s.args.unit s.args.k s.args.touching at-put.put.new.0 at-put.put.result at-loop.loop.out at-loop.loop.r at-loop.loop.p at-loop.loop.m at-loop.loop.i at-loop.loop.invariant (omega (arith, at-loop-test.loop-test.false)) s.args.out.now s.args.at at-put.put.ensures c.before.before.put2.new.0 c.before.before.put2.result c.before.before.put2.ensures
+    going_ends s.args.b.now s.args.unit s.args.k s.args.touching at-put.put.new.0 at-put.put.result at-loop.loop.out at-loop.loop.r at-loop.loop.p at-loop.loop.m at-loop.loop.i at-loop.loop.invariant (omega (arith, at-loop-test.loop-test.false)) s.args.out.now s.args.at at-put.put.ensures c.before.before.put2.new.0 c.before.before.put2.result c.before.before.put2.ensures
 
 pub put-circle-spec : {M : Type 1} → statement M
 put-circle-spec =

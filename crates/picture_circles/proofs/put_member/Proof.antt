@@ -1,7 +1,7 @@
 -- Its own index, or a bracket, two indices with a comma between, and a bracket. Assumes nothing.
-use borrow.Author.Tests.{not-true, not-false}
+use borrow.Author.Tests.{not_true, not_false}
 use Rattle.picture_pieces.proofs.Drawing.{chain, same_text}
-use Rattle.picture_circles.proofs.Members.{left-low, right-low, own-item, touch-item}
+use Rattle.picture_circles.proofs.Members.{left_low, right_low, own_item, touch_item}
 use borrow.Author.Rules.{rules}
 use Rattle.picture_circles.proofs.put_member.Statement.{statement}
 use Rattle.picture_circles.proofs.put_member.Tie as tie
@@ -21,16 +21,16 @@ same_length c = search rules
 returns : tie.Need-returns
 returns c =
     let s = c.before.before.before.before.before.before.before in
-    same_text (own-item s.args.b.now s.args.unit s.args.index.now s.requires.0 s.args.q s.requires.1 s.args.touching (not-true s.args.touching c.before.before.before.before.before.if1.true)) c.before.before.put-number.ensures
+    same_text (own_item s.args.b.now s.args.unit s.args.index.now s.requires.0 s.args.q s.requires.1 s.args.touching (not_true s.args.touching c.before.before.before.before.before.if1.true)) c.before.before.put-number.ensures
 
 load-node-requires : tie.Need-load-node-requires
 load-node-requires c κs = search rules
 
 index-of-requires : tie.Need-index-of-requires
-index-of-requires c κs = let s = c.before.before.before.before.before in (s.requires.0, left-low s.args.b.now s.args.q c.before.before.load-node.result c.before.before.load-node.ensures)
+index-of-requires c κs = let s = c.before.before.before.before.before in (s.requires.0, left_low s.args.b.now s.args.q c.before.before.load-node.result c.before.before.load-node.ensures)
 
 index-of-requires-2 : tie.Need-index-of-requires-2
-index-of-requires-2 c κs = let s = c.before.before.before.before.before.before in (s.requires.0, right-low s.args.b.now s.args.q c.before.before.before.load-node.result c.before.before.before.load-node.ensures)
+index-of-requires-2 c κs = let s = c.before.before.before.before.before.before in (s.requires.0, right_low s.args.b.now s.args.q c.before.before.before.load-node.result c.before.before.before.load-node.ensures)
 
 slice-aggregate-put : tie.Need-slice-aggregate-put
 slice-aggregate-put c = search rules
@@ -70,7 +70,7 @@ returns-2 c =
     let at-load-node = at-index-of.before.before.before in
     let at-if1 = at-load-node.before in
     let s = c.before.before.before.before.before.before.before.before.before.before.before.before.before.before.before.before.before.before.before.before.before.before.before.before.before.before.before.before.before.before in
-    same_text (touch-item s.args.b.now s.args.unit s.args.index.now s.requires.0 s.args.q s.requires.1 s.args.touching (not-false s.args.touching at-if1.if1.false) at-load-node.load-node.result at-load-node.load-node.ensures at-index-of.index_of.result at-index-of2.index-of2.result at-index-of.index_of.ensures at-index-of2.index-of2.ensures)
+    same_text (touch_item s.args.b.now s.args.unit s.args.index.now s.requires.0 s.args.q s.requires.1 s.args.touching (not_false s.args.touching at-if1.if1.false) at-load-node.load-node.result at-load-node.load-node.ensures at-index-of.index_of.result at-index-of2.index-of2.result at-index-of.index_of.ensures at-index-of2.index-of2.ensures)
     (chain at-put.put.ensures (chain at-put-number2.put-number2.ensures (chain at-put2.put2.ensures (chain at-put-number3.put-number3.ensures c.before.before.put3.ensures))))
 
 pub put-member-spec : {M : Type 1} → statement M

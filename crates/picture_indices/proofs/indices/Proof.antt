@@ -2,7 +2,7 @@
 use Prim.Native.Nat.{ℕ, ◌-◌, ◌≤◌}
 use mathlib.Core.Path.{◌≡◌, subst}
 use native.Mathlib.Omega.{arith}
-use Rattle.picture_indices.proofs.Listing.{Listing, listing-starts, back_low, listing-back, listing-ends}
+use Rattle.picture_indices.proofs.Listing.{Listing, listing_starts, back_low, listing_back, listing_ends}
 use borrow.Author.Rules.{rules}
 use Rattle.picture_indices.proofs.indices.Statement.{statement}
 use Rattle.picture_indices.proofs.indices.Tie as tie
@@ -14,7 +14,7 @@ abbrev decreases-loop : tie.decreases-loop
 decreases-loop b unit places count index₀ k₀ index k = k
 
 loop-holds : tie.Need-loop-init invariant-loop decreases-loop
-loop-holds c = (omega arith, listing-starts c.args.b.now c.args.unit c.args.places.now c.args.count c.requires)
+loop-holds c = (omega arith, listing_starts c.args.b.now c.args.unit c.args.places.now c.args.count c.requires)
 
 sub-k : tie.Need-overflow-sub-k invariant-loop decreases-loop
 sub-k c = omega (arith, c.loop-test.true)
@@ -41,14 +41,14 @@ loop-again : tie.Need-loop-preserved invariant-loop decreases-loop
 loop-again c =
     let s = c.before.before.before in
     let l = c.before.before.loop in
-    (omega (arith, c.before.loop-test.true, l.invariant.0), listing-back s.args.b.now s.args.unit s.args.places.now s.args.count s.requires l.k l.index c.before.loop-test.true l.invariant.0 l.invariant.1)
+    (omega (arith, c.before.loop-test.true, l.invariant.0), listing_back s.args.b.now s.args.unit s.args.places.now s.args.count s.requires l.k l.index c.before.loop-test.true l.invariant.0 l.invariant.1)
 
 returns : tie.Need-returns invariant-loop decreases-loop
 returns c =
     let s = c.before.before in
     let l = c.before.loop in
     let e : l.k ≡ 0 = omega (arith, c.loop-test.false) in
-    listing-ends s.args.b.now s.args.unit s.args.places.now s.args.count s.requires l.index (subst (λ (x : ℕ). Listing s.args.b.now s.args.unit x l.index) e l.invariant.1)
+    listing_ends s.args.b.now s.args.unit s.args.places.now s.args.count s.requires l.index (subst (λ (x : ℕ). Listing s.args.b.now s.args.unit x l.index) e l.invariant.1)
 
 pub indices-spec : {M : Type 1} → statement M
 indices-spec =

@@ -2,7 +2,7 @@
 use mathlib.Core.Path.{◌≡◌}
 use Rattle.kinds.specs.declared.GrowState.TheVariants.{Grow, Stay, Shrink}
 use Rattle.picture_pieces.proofs.Drawing.{same_text}
-use Rattle.picture_names.proofs.Words.{growth-grows, growth-stays, growth-shrinks}
+use Rattle.picture_names.proofs.Words.{growth_grows, growth_stays, growth_shrinks}
 use borrow.Author.Rules.{rules}
 use Rattle.picture_names.proofs.put_growth.Statement.{statement}
 use Rattle.picture_names.proofs.put_growth.Tie as tie
@@ -38,19 +38,19 @@ same_length : tie.Need-same-length
 same_length c = search rules
 
 returns : tie.Need-returns
-returns c = let e : c.before.before.before.before.before.before.before.before.args.state ≡ Grow = cc in same_text (growth-grows c.before.before.before.before.before.before.before.before.args.state e) c.before.before.put.ensures
+returns c = let e : c.before.before.before.before.before.before.before.before.args.state ≡ Grow = cc in same_text (growth_grows c.before.before.before.before.before.before.before.before.args.state e) c.before.before.put.ensures
 
 same-length-2 : tie.Need-same-length-2
 same-length-2 c = search rules
 
 returns-2 : tie.Need-returns-2
-returns-2 c = let e : c.before.before.before.before.before.before.before.before.args.state ≡ Stay = cc in same_text (growth-stays c.before.before.before.before.before.before.before.before.args.state e) c.before.before.put2.ensures
+returns-2 c = let e : c.before.before.before.before.before.before.before.before.args.state ≡ Stay = cc in same_text (growth_stays c.before.before.before.before.before.before.before.before.args.state e) c.before.before.put2.ensures
 
 same-length-3 : tie.Need-same-length-3
 same-length-3 c = search rules
 
 returns-3 : tie.Need-returns-3
-returns-3 c = let e : c.before.before.before.before.before.before.before.before.args.state ≡ Shrink = cc in same_text (growth-shrinks c.before.before.before.before.before.before.before.before.args.state e) c.before.before.put3.ensures
+returns-3 c = let e : c.before.before.before.before.before.before.before.before.args.state ≡ Shrink = cc in same_text (growth_shrinks c.before.before.before.before.before.before.before.before.args.state e) c.before.before.put3.ensures
 
 pub put-growth-spec : {M : Type 1} → statement M
 put-growth-spec =

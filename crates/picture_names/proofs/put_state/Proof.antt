@@ -2,7 +2,7 @@
 use mathlib.Core.Path.{◌≡◌}
 use Rattle.kinds.specs.declared.GrowState.TheVariants.{Grow, Stay, Shrink}
 use Rattle.picture_pieces.proofs.Drawing.{same_text}
-use Rattle.picture_names.proofs.Words.{state-grows, state-stays, state-shrinks}
+use Rattle.picture_names.proofs.Words.{state_grows, state_stays, state_shrinks}
 use borrow.Author.Rules.{rules}
 use Rattle.picture_names.proofs.put_state.Statement.{statement}
 use Rattle.picture_names.proofs.put_state.Tie as tie
@@ -38,19 +38,19 @@ same_length : tie.Need-same-length
 same_length c = search rules
 
 returns : tie.Need-returns
-returns c = let e : c.before.before.before.before.before.before.before.before.args.state ≡ Grow = cc in same_text (state-grows c.before.before.before.before.before.before.before.before.args.state e) c.before.before.put.ensures
+returns c = let e : c.before.before.before.before.before.before.before.before.args.state ≡ Grow = cc in same_text (state_grows c.before.before.before.before.before.before.before.before.args.state e) c.before.before.put.ensures
 
 same-length-2 : tie.Need-same-length-2
 same-length-2 c = search rules
 
 returns-2 : tie.Need-returns-2
-returns-2 c = let e : c.before.before.before.before.before.before.before.before.args.state ≡ Stay = cc in same_text (state-stays c.before.before.before.before.before.before.before.before.args.state e) c.before.before.put2.ensures
+returns-2 c = let e : c.before.before.before.before.before.before.before.before.args.state ≡ Stay = cc in same_text (state_stays c.before.before.before.before.before.before.before.before.args.state e) c.before.before.put2.ensures
 
 same-length-3 : tie.Need-same-length-3
 same-length-3 c = search rules
 
 returns-3 : tie.Need-returns-3
-returns-3 c = let e : c.before.before.before.before.before.before.before.before.args.state ≡ Shrink = cc in same_text (state-shrinks c.before.before.before.before.before.before.before.before.args.state e) c.before.before.put3.ensures
+returns-3 c = let e : c.before.before.before.before.before.before.before.before.args.state ≡ Shrink = cc in same_text (state_shrinks c.before.before.before.before.before.before.before.before.args.state e) c.before.before.put3.ensures
 
 pub put-state-spec : {M : Type 1} → statement M
 put-state-spec =

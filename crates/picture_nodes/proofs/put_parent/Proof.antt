@@ -2,9 +2,9 @@
 use mathlib.Core.Path.{◌≡◌}
 use Rattle.kinds.specs.declared.Parent.TheVariants.{Outermost, Inside}
 use Rattle.bench_views.specs.View.{view}
-use Rattle.picture_spec.specs.Sketch.{indexOf}
+use Rattle.picture_spec.specs.Sketch.{index_of}
 use Rattle.picture_pieces.proofs.Drawing.{same_text}
-use Rattle.picture_nodes.proofs.Seeing.{parent-none, parent-some, inside-low}
+use Rattle.picture_nodes.proofs.Seeing.{parent_none, parent_some, inside_low}
 use borrow.Author.Rules.{rules}
 use Rattle.picture_nodes.proofs.put_parent.Statement.{statement}
 use Rattle.picture_nodes.proofs.put_parent.Tie as tie
@@ -26,7 +26,7 @@ index-of-requires c κs =
     let s = c.before.before.before.before.before in
     let h = c.before.before.parent.given.0.0 in
     let e : s.args.parent ≡ Inside h = cc in
-    (s.requires.0, inside-low s.args.parent h e s.requires.1)
+    (s.requires.0, inside_low s.args.parent h e s.requires.1)
 
 put-number-requires : tie.Need-put-number-requires
 put-number-requires c κs = search rules
@@ -38,7 +38,7 @@ returns : tie.Need-returns
 returns c =
     let s = c.before.before.before.before.before.before.before.before in
     let e : s.args.parent ≡ Outermost = cc in
-    same_text (parent-none (indexOf (view s.args.b.now) s.args.unit) s.args.parent e) c.before.before.put.ensures
+    same_text (parent_none (index_of (view s.args.b.now) s.args.unit) s.args.parent e) c.before.before.put.ensures
 
 same-length-2 : tie.Need-same-length-2
 same-length-2 c = search rules
@@ -48,7 +48,7 @@ returns-2 c =
     let s = c.before.before.before.before.before.before.before.before.before in
     let h = c.before.before.before.before.before.before.parent.given.0.0 in
     let e : s.args.parent ≡ Inside h = cc in
-    same_text (parent-some (indexOf (view s.args.b.now) s.args.unit) s.args.parent h e c.before.before.before.index_of.result c.before.before.before.index_of.ensures) c.before.before.put-number.ensures
+    same_text (parent_some (index_of (view s.args.b.now) s.args.unit) s.args.parent h e c.before.before.before.index_of.result c.before.before.before.index_of.ensures) c.before.before.put-number.ensures
 
 pub put-parent-spec : {M : Type 1} → statement M
 put-parent-spec =

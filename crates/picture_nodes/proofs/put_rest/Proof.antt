@@ -1,9 +1,9 @@
 -- Seven pieces in turn. Assumes nothing.
-use Rattle.ledger_spec.specs.Named.{stateNamed, parentNamed}
+use Rattle.ledger_spec.specs.Named.{state_named, parent_named}
 use Rattle.bench_views.specs.View.{view}
-use Rattle.picture_spec.specs.Sketch.{indexed, indexOf}
+use Rattle.picture_spec.specs.Sketch.{indexed, index_of}
 use Rattle.picture_pieces.proofs.Drawing.{chain, same_text}
-use Rattle.picture_nodes.proofs.Texts.{rest-text}
+use Rattle.picture_nodes.proofs.Texts.{rest_text_lem}
 use borrow.Author.Rules.{rules}
 use Rattle.picture_nodes.proofs.put_rest.Statement.{statement}
 use Rattle.picture_nodes.proofs.put_rest.Tie as tie
@@ -72,7 +72,7 @@ returns c =
     let q = r.before.before.before.before.before.before in
     let p = q.before.before.before.before in
     let s = p.before.before.before.before.before in
-    same_text (rest-text (stateNamed s.args.state) (indexed (indexOf (view s.args.b.now) s.args.unit) (parentNamed s.args.parent)) s.args.short)
+    same_text (rest_text_lem (state_named s.args.state) (indexed (index_of (view s.args.b.now) s.args.unit) (parent_named s.args.parent)) s.args.short)
     (chain p.put-either.ensures (chain q.put-state.ensures (chain r.put-either2.ensures (chain h.put-growth.ensures (chain t.put-either3.ensures (chain u.put-parent.ensures v.put.ensures))))))
 
 pub put-rest-spec : {M : Type 1} → statement M

@@ -1,10 +1,10 @@
 -- The members, what they touch by, and no vertex, with their keys, in turn. Assumes nothing.
 use mathlib.Core.List.{map}
-use Rattle.bench_words.specs.Store.{nodeAt}
-use Rattle.bench_views.specs.View.{view, circleOf}
-use Rattle.picture_spec.specs.Sketch.{linked, indexOf}
+use Rattle.bench_words.specs.Store.{node_at}
+use Rattle.bench_views.specs.View.{view, circle_of}
+use Rattle.picture_spec.specs.Sketch.{linked, index_of}
 use Rattle.picture_pieces.proofs.Drawing.{chain, same_text}
-use Rattle.picture_nodes.proofs.Texts.{ring-text}
+use Rattle.picture_nodes.proofs.Texts.{ring_text}
 use borrow.Author.Rules.{rules}
 use Rattle.picture_nodes.proofs.put_ring.Statement.{statement}
 use Rattle.picture_nodes.proofs.put_ring.Tie as tie
@@ -53,7 +53,7 @@ returns c =
     let r = k.before.before.before.before.before.before in
     let q = r.before.before.before.before in
     let s = q.before.before.before.before.before in
-    same_text (ring-text (map (linked (indexOf (view s.args.b.now) s.args.unit)) (circleOf (nodeAt s.args.b.now) s.args.p)) s.args.short)
+    same_text (ring_text (map (linked (index_of (view s.args.b.now) s.args.unit)) (circle_of (node_at s.args.b.now) s.args.p)) s.args.short)
     (chain q.put-either.ensures (chain r.put-circle.ensures (chain k.put-either2.ensures (chain t.put-circle2.ensures u.put-either3.ensures))))
 
 pub put-ring-spec : {M : Type 1} → statement M

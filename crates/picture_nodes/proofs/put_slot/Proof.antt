@@ -2,20 +2,20 @@
 use mathlib.Core.Path.{◌≡◌, refl, ap, ◌∙◌}
 use mathlib.Core.List.{map}
 use Rattle.kinds.specs.declared.Class.TheVariants.{Absent, Blossom, Defect}
-use Rattle.bench_words.specs.Store.{nodeAt}
-use Rattle.ledger_spec.specs.Named.{stateNamed, parentNamed}
-use Rattle.bench_views.specs.View.{view, circleOf}
-use Rattle.picture_spec.specs.Sketch.{linked, indexed, indexOf}
-use Rattle.picture_spec.specs.Text.{namesBy, slotText}
+use Rattle.bench_words.specs.Store.{node_at}
+use Rattle.ledger_spec.specs.Named.{state_named, parent_named}
+use Rattle.bench_views.specs.View.{view, circle_of}
+use Rattle.picture_spec.specs.Sketch.{linked, indexed, index_of}
+use Rattle.picture_spec.specs.Text.{names_by, slot_text}
 use Rattle.picture_pieces.proofs.Drawing.{chain, same_text}
-use Rattle.picture_nodes.proofs.Texts.{null-text, defect-text, blossom-text}
-use Rattle.picture_nodes.proofs.Seeing.{parent-low, low-place, seen-absent, seen-defect, seen-ring, ring-is, ring-placed}
+use Rattle.picture_nodes.proofs.Texts.{null_text, defect_text, blossom_text}
+use Rattle.picture_nodes.proofs.Seeing.{parent_low, low_place, seen_absent, seen_defect, seen_ring, ring_is, ring_placed}
 use borrow.Author.Rules.{rules}
 use Rattle.picture_nodes.proofs.put_slot.Statement.{statement}
 use Rattle.picture_nodes.proofs.put_slot.Tie as tie
 
 load-node-requires : tie.Need-load-node-requires
-load-node-requires c κs = let s = c.before in low-place s.args.b.now s.args.unit s.args.k s.args.p s.requires.1.1 (nodeAt s.args.b.now s.args.p) refl
+load-node-requires c κs = let s = c.before in low_place s.args.b.now s.args.unit s.args.k s.args.p s.requires.1.1 (node_at s.args.b.now s.args.p) refl
 
 enum_told : tie.Need-enum-told
 enum_told c = search rules
@@ -49,7 +49,7 @@ put-rest-requires c κs =
     let e = c.before.before.before.before.before.before.before.before in
     let n = e.before.before.before.before.before.before.before in
     let s = n.before.before in
-    (s.requires.1.0, parent-low s.args.b.now s.args.p n.load-node.result n.load-node.ensures)
+    (s.requires.1.0, parent_low s.args.b.now s.args.p n.load-node.result n.load-node.ensures)
 
 enum-told-2 : tie.Need-enum-told-2
 enum-told-2 c = search rules
@@ -59,14 +59,14 @@ put-ring-requires c κs =
     let n = c.before.before.before in
     let s = n.before.before in
     let e : n.load-node.result.class ≡ Blossom = cc in
-    (s.requires.0, (s.requires.1.0, (ring-placed s.args.b.now s.args.unit s.args.k s.args.p s.requires.1.1 n.load-node.result n.load-node.ensures e, ring-is s.args.b.now s.args.unit s.args.k s.args.p s.requires.1.1 n.load-node.result n.load-node.ensures e)))
+    (s.requires.0, (s.requires.1.0, (ring_placed s.args.b.now s.args.unit s.args.k s.args.p s.requires.1.1 n.load-node.result n.load-node.ensures e, ring_is s.args.b.now s.args.unit s.args.k s.args.p s.requires.1.1 n.load-node.result n.load-node.ensures e)))
 
 put-rest-requires-2 : tie.Need-put-rest-requires-2
 put-rest-requires-2 c κs =
     let r = c.before.before.before in
     let n = r.before.before.before.before in
     let s = n.before.before in
-    (s.requires.1.0, parent-low s.args.b.now s.args.p n.load-node.result n.load-node.ensures)
+    (s.requires.1.0, parent_low s.args.b.now s.args.p n.load-node.result n.load-node.ensures)
 
 same_length : tie.Need-same-length
 same_length c = search rules
@@ -77,7 +77,7 @@ returns c =
     let n = z.before.before.before.before.before in
     let s = n.before.before in
     let e : n.load-node.result.class ≡ Absent = cc in
-    same_text (null-text s.args.short ∙ ap (slotText (namesBy s.args.short)) (seen-absent s.args.b.now s.args.unit s.args.k s.args.p s.requires.1.1 n.load-node.result n.load-node.ensures e)) z.put.ensures
+    same_text (null_text s.args.short ∙ ap (slot_text (names_by s.args.short)) (seen_absent s.args.b.now s.args.unit s.args.k s.args.p s.requires.1.1 n.load-node.result n.load-node.ensures e)) z.put.ensures
 
 same-length-2 : tie.Need-same-length-2
 same-length-2 c = search rules
@@ -92,8 +92,8 @@ returns-2 c =
     let s = n.before.before in
     let w = v.class.given.0.0 in
     let e : n.load-node.result.class ≡ Defect w = cc in
-    same_text (defect-text (stateNamed n.load-node.result.state) (indexed (indexOf (view s.args.b.now) s.args.unit) (parentNamed n.load-node.result.parent)) w.0 s.args.short
-    ∙ ap (slotText (namesBy s.args.short)) (seen-defect s.args.b.now s.args.unit s.args.k s.args.p s.requires.1.1 n.load-node.result n.load-node.ensures w e))
+    same_text (defect_text (state_named n.load-node.result.state) (indexed (index_of (view s.args.b.now) s.args.unit) (parent_named n.load-node.result.parent)) w.0 s.args.short
+    ∙ ap (slot_text (names_by s.args.short)) (seen_defect s.args.b.now s.args.unit s.args.k s.args.p s.requires.1.1 n.load-node.result n.load-node.ensures w e))
     (chain f.put-either.ensures (chain d.put-number.ensures z.put_rest.ensures))
 
 same-length-3 : tie.Need-same-length-3
@@ -106,8 +106,8 @@ returns-3 c =
     let n = r.before.before.before.before in
     let s = n.before.before in
     let e : n.load-node.result.class ≡ Blossom = cc in
-    same_text (blossom-text (stateNamed n.load-node.result.state) (indexed (indexOf (view s.args.b.now) s.args.unit) (parentNamed n.load-node.result.parent)) (map (linked (indexOf (view s.args.b.now) s.args.unit)) (circleOf (nodeAt s.args.b.now) s.args.p)) s.args.short
-    ∙ ap (slotText (namesBy s.args.short)) (seen-ring s.args.b.now s.args.unit s.args.k s.args.p s.requires.1.1 n.load-node.result n.load-node.ensures e))
+    same_text (blossom_text (state_named n.load-node.result.state) (indexed (index_of (view s.args.b.now) s.args.unit) (parent_named n.load-node.result.parent)) (map (linked (index_of (view s.args.b.now) s.args.unit)) (circle_of (node_at s.args.b.now) s.args.p)) s.args.short
+    ∙ ap (slot_text (names_by s.args.short)) (seen_ring s.args.b.now s.args.unit s.args.k s.args.p s.requires.1.1 n.load-node.result n.load-node.ensures e))
     (chain r.put-ring.ensures z.put-rest2.ensures)
 
 pub put-slot-spec : {M : Type 1} → statement M

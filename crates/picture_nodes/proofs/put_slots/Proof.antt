@@ -2,7 +2,7 @@
 use Prim.Native.Nat.{◌-◌, ◌≤◌}
 use mathlib.Core.Path.{◌∙◌}
 use native.Mathlib.Omega.{arith}
-use Rattle.picture_nodes.proofs.Along.{Along, along-starts, along-on, along-ends}
+use Rattle.picture_nodes.proofs.Along.{Along, along_starts, along_on, along_ends}
 use borrow.Author.Rules.{rules}
 use Rattle.picture_nodes.proofs.put_slots.Statement.{statement}
 use Rattle.picture_nodes.proofs.put_slots.Tie as tie
@@ -20,7 +20,7 @@ put-requires : tie.Need-put-requires invariant-loop decreases-loop
 put-requires c κs = search rules
 
 loop-holds : tie.Need-loop-init invariant-loop decreases-loop
-loop-holds c = let s = c.before.before.before.before.before.before in (omega arith, along-starts s.args.b.now s.args.unit s.args.short c.before.before.put.new.0 c.before.before.put.result)
+loop-holds c = let s = c.before.before.before.before.before.before in (omega arith, along_starts s.args.b.now s.args.unit s.args.short c.before.before.put.new.0 c.before.before.put.result)
 
 mul-p : tie.Need-overflow-mul-p invariant-loop decreases-loop
 mul-p c = search rules
@@ -57,7 +57,7 @@ loop-again c =
     let at-loop = at-loop-test.before in
     let at-put = at-loop.before.before.before in
     let s = c.before.before.before.before.before.before.before.before.before.before.before.before.before.before.before.before.before in
-    (omega (arith, at-loop-test.loop-test.true), along-on s.args.b.now s.args.unit s.args.places.now s.args.count s.requires.1.0 s.args.short at-put.put.new.0 at-put.put.result at-loop.loop.out at-loop.loop.r at-loop.loop.k at-loop.loop.i at-loop.loop.invariant.1 at-loop-test.loop-test.true at-put-comma.put-comma.new.0 at-put-comma.put-comma.result c.before.before.put-slot.new.1.1.1.0 c.before.before.put-slot.result at-put-comma.put-comma.ensures c.before.before.put-slot.ensures)
+    (omega (arith, at-loop-test.loop-test.true), along_on s.args.b.now s.args.unit s.args.places.now s.args.count s.requires.1.0 s.args.short at-put.put.new.0 at-put.put.result at-loop.loop.out at-loop.loop.r at-loop.loop.k at-loop.loop.i at-loop.loop.invariant.1 at-loop-test.loop-test.true at-put-comma.put-comma.new.0 at-put-comma.put-comma.result c.before.before.put-slot.new.1.1.1.0 c.before.before.put-slot.result at-put-comma.put-comma.ensures c.before.before.put-slot.ensures)
 
 slice-aggregate-put-2 : tie.Need-slice-aggregate-put-2 invariant-loop decreases-loop
 slice-aggregate-put-2 c = search rules
@@ -77,7 +77,7 @@ returns c =
     let at-loop = at-loop-test.before in
     let at-put = at-loop.before.before.before in
     let s = c.before.before.before.before.before.before.before.before.before.before.before.before.before in
-    along-ends s.args.b.now s.args.unit s.args.places.now s.args.count s.requires.1.0 s.args.short at-put.put.new.0 at-put.put.result at-loop.loop.out at-loop.loop.r at-loop.loop.k at-loop.loop.i at-loop.loop.invariant.1 at-loop-test.loop-test.false s.args.out.now s.args.at at-put.put.ensures c.before.before.put2.new.0 c.before.before.put2.result c.before.before.put2.ensures
+    along_ends s.args.b.now s.args.unit s.args.places.now s.args.count s.requires.1.0 s.args.short at-put.put.new.0 at-put.put.result at-loop.loop.out at-loop.loop.r at-loop.loop.k at-loop.loop.i at-loop.loop.invariant.1 at-loop-test.loop-test.false s.args.out.now s.args.at at-put.put.ensures c.before.before.put2.new.0 c.before.before.put2.result c.before.before.put2.ensures
 
 pub put-slots-spec : {M : Type 1} → statement M
 put-slots-spec =

@@ -1,7 +1,7 @@
 -- A number's digits are one more than those of its tenth, and at most 20. Assumes nothing.
 use native.Mathlib.Omega.{arith}
 use mathlib.Core.Path.{sym}
-use Rattle.text_decimals.proofs.Writes.{one-digit, room}
+use Rattle.text_decimals.proofs.Writes.{one_digit, room}
 use Rattle.text_decimals.proofs.Widths.{width}
 use Prim.Native.Nat.{ℕ, ◌/◌, ◌<◌}
 use borrow.Fn.Kinds.{In}
@@ -23,7 +23,7 @@ digits-below t = and 0 digits-kinds.ps (falls 0 digits-kinds.ps ◌<◌ μ-digit
 
 digits-returns :
     (t : ℕ) → digits-lts.Need-returns (digits-below t, digits.Post) (digits-at t) digits.Post
-digits-returns t c = sym (one-digit c.before.args.n c.if1.true)
+digits-returns t c = sym (one_digit c.before.args.n c.if1.true)
 
 digits-digits-requires :
     (t : ℕ) →

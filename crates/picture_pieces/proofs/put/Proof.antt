@@ -3,7 +3,7 @@ use Prim.Native.Nat.{◌-◌, ◌+◌, ◌≤◌}
 use mathlib.Core.Path.{refl}
 use native.Mathlib.Omega.{arith}
 use lib.ListN.{length}
-use Rattle.picture_pieces.proofs.Drawing.{drawn-past, drawn-counted, Copied, copied_none, copied-long, copied_more, copied_all}
+use Rattle.picture_pieces.proofs.Drawing.{drawn_past, drawn_counted, Copied, copied_none, copied_long, copied_more, copied_all}
 use borrow.Author.Rules.{rules}
 use Rattle.picture_pieces.proofs.put.Statement.{statement}
 use Rattle.picture_pieces.proofs.put.Tie as tie
@@ -18,7 +18,7 @@ sub-if1 : tie.Need-overflow-sub-if1 invariant-loop decreases-loop
 sub-if1 c = omega (arith, c.ranges.at.fits)
 
 returns : tie.Need-returns invariant-loop decreases-loop
-returns c = drawn-past (omega (arith, c.if1.true)) refl
+returns c = drawn_past (omega (arith, c.if1.true)) refl
 
 add-if2 : tie.Need-overflow-add-if2 invariant-loop decreases-loop
 add-if2 c = record { fits = omega (arith, c.if1.false) }
@@ -27,7 +27,7 @@ add-result : tie.Need-overflow-add-result invariant-loop decreases-loop
 add-result c = record { fits = omega (arith, c.before.if1.false) }
 
 returns-2 : tie.Need-returns-2 invariant-loop decreases-loop
-returns-2 c = drawn-counted (omega (arith, c.before.if1.false)) refl c.if2.true
+returns-2 c = drawn_counted (omega (arith, c.before.if1.false)) refl c.if2.true
 
 loop-holds : tie.Need-loop-init invariant-loop decreases-loop
 loop-holds c = (copied_none c.before.before.args.out.now c.before.before.args.at c.before.before.args.piece.now, omega (arith, c.if2.false))
@@ -42,7 +42,7 @@ slice-write-out : tie.Need-slice-write-out invariant-loop decreases-loop
 slice-write-out c =
     let l = c.before.before.loop in
     let s = c.before.before.before.before.before.args in
-    omega (arith, c.before.loop-test.true, l.invariant.1, copied-long s.out.now s.at s.piece.now l.j l.out l.invariant.0)
+    omega (arith, c.before.loop-test.true, l.invariant.1, copied_long s.out.now s.at s.piece.now l.j l.out l.invariant.0)
 
 add-j : tie.Need-overflow-add-j invariant-loop decreases-loop
 add-j c = search rules
@@ -63,7 +63,7 @@ same_length : tie.Need-same-length invariant-loop decreases-loop
 same_length c =
     let l = c.before.loop in
     let s = c.before.before.before.before.args in
-    copied-long s.out.now s.at s.piece.now l.j l.out l.invariant.0
+    copied_long s.out.now s.at s.piece.now l.j l.out l.invariant.0
 
 returns-3 : tie.Need-returns-3 invariant-loop decreases-loop
 returns-3 c =

@@ -1,11 +1,11 @@
 -- Nothing before the first item, a comma before any other. Assumes nothing.
-use Rattle.picture_pieces.proofs.Drawing.{drawn-none, same_text, comma-first, comma-other}
+use Rattle.picture_pieces.proofs.Drawing.{drawn_none, same_text, comma_first, comma_other}
 use borrow.Author.Rules.{rules}
 use Rattle.picture_pieces.proofs.put_comma.Statement.{statement}
 use Rattle.picture_pieces.proofs.put_comma.Tie as tie
 
 returns : tie.Need-returns
-returns c = same_text (comma-first c.before.before.args.i c.if1.true) drawn-none
+returns c = same_text (comma_first c.before.before.args.i c.if1.true) drawn_none
 
 slice-aggregate-put : tie.Need-slice-aggregate-put
 slice-aggregate-put c = search rules
@@ -20,7 +20,7 @@ returns-2 : tie.Need-returns-2
 returns-2 c =
     let at-if1 = c.before.before.before.before.before in
     let start = at-if1.before.before in
-    same_text (comma-other start.args.i at-if1.if1.false) c.before.before.put.ensures
+    same_text (comma_other start.args.i at-if1.if1.false) c.before.before.put.ensures
 
 pub put-comma-spec : {M : Type 1} → statement M
 put-comma-spec =

@@ -1,5 +1,5 @@
 -- By the flag. Assumes nothing.
-use Rattle.picture_pieces.proofs.Drawing.{same_text, either-one, either-other}
+use Rattle.picture_pieces.proofs.Drawing.{same_text, either_one, either_other}
 use borrow.Author.Rules.{rules}
 use Rattle.picture_pieces.proofs.put_either.Statement.{statement}
 use Rattle.picture_pieces.proofs.put_either.Tie as tie
@@ -11,7 +11,7 @@ same_length : tie.Need-same-length
 same_length c = search rules
 
 returns : tie.Need-returns
-returns c = let s = c.before.before.before.before.before.before.before.before.args in same_text (either-one s.which s.one.now s.other.now c.before.before.before.before.if1.true) c.before.before.put.ensures
+returns c = let s = c.before.before.before.before.before.before.before.before.args in same_text (either_one s.which s.one.now s.other.now c.before.before.before.before.if1.true) c.before.before.put.ensures
 
 put-requires-2 : tie.Need-put-requires-2
 put-requires-2 c κs = search rules
@@ -20,7 +20,7 @@ same-length-2 : tie.Need-same-length-2
 same-length-2 c = search rules
 
 returns-2 : tie.Need-returns-2
-returns-2 c = let s = c.before.before.before.before.before.before.before.before.args in same_text (either-other s.which s.one.now s.other.now c.before.before.before.before.if1.false) c.before.before.put2.ensures
+returns-2 c = let s = c.before.before.before.before.before.before.before.before.args in same_text (either_other s.which s.one.now s.other.now c.before.before.before.before.if1.false) c.before.before.put2.ensures
 
 pub put_either_spec : {M : Type 1} → statement M
 put_either_spec =

@@ -4,7 +4,7 @@ use mir.Facts.{to_z-of_z}
 use Rattle.text_decimals.proofs.Signs.{again}
 use Rattle.bench_views.specs.View.{view}
 use Rattle.picture_pieces.proofs.Drawing.{chain, same_text}
-use Rattle.picture_sound.proofs.Texts.{picture-text}
+use Rattle.picture_sound.proofs.Texts.{picture_text}
 use borrow.Author.Rules.{rules}
 use Rattle.picture_sound.proofs.draw.Statement.{statement}
 use Rattle.picture_sound.proofs.draw.Tie as tie
@@ -75,7 +75,7 @@ returns c =
     let at_sum = at-put-either.before.before.before.before in
     let at-speed = at_sum.before in
     let s = c.before.before.before.before.before.before.before.before.before.before.before.before.before.before.before.before.before.before.before.before.before.before.before.before.before.before.before.before.before.before.before.before.before.before.before.before.before in
-    same_text (picture-text (view s.args.b.now) s.args.unit s.args.short (again at-speed.speed.result) (again at_sum.sum.result) (to_z-of_z (record { sfits = at-speed.speed.type-inv }) ∙ at-speed.speed.ensures) (to_z-of_z (record { sfits = at_sum.sum.type-inv }) ∙ at_sum.sum.ensures))
+    same_text (picture_text (view s.args.b.now) s.args.unit s.args.short (again at-speed.speed.result) (again at_sum.sum.result) (to_z-of_z (record { sfits = at-speed.speed.type-inv }) ∙ at-speed.speed.ensures) (to_z-of_z (record { sfits = at_sum.sum.type-inv }) ∙ at_sum.sum.ensures))
     (chain at-put-either.put-either.ensures (chain at-put-signed.put-signed.ensures (chain at-put-either2.put-either2.ensures (chain at-put-signed2.put-signed2.ensures (chain at-put.put.ensures (chain at-put-slots.put-slots.ensures c.before.before.put2.ensures))))))
 
 pub draw-spec : {M : Type 1} → statement M

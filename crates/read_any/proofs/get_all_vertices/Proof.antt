@@ -2,7 +2,7 @@
 use Prim.Native.Nat.{ℕ}
 use mathlib.Core.Path.{ap, ◌∙◌}
 use borrow.Author.Rules.{rules}
-use Rattle.sound_lent.proofs.Asking.{no-bench, a-bench, fits}
+use Rattle.sound_lent.proofs.Asking.{no_bench, a_bench, fits}
 use Rattle.read_any.proofs.get_all_vertices.Statement.{statement}
 use Rattle.read_any.proofs.get_all_vertices.Tie as tie
 
@@ -13,7 +13,7 @@ no-count-requires : tie.Need-no-count-requires
 no-count-requires c κs = search rules
 
 returns : tie.Need-returns
-returns c = ap (λ (x : ℕ × ℕ). (x.0, (x.1, c.before.before.before.before.args.out.now))) c.no-count.ensures ∙ no-bench _ _ _ c.before.before.is-bench.ensures c.before.if1.true
+returns c = ap (λ (x : ℕ × ℕ). (x.0, (x.1, c.before.before.before.before.args.out.now))) c.no-count.ensures ∙ no_bench _ _ _ c.before.before.is-bench.ensures c.before.if1.true
 
 get-all-vertices-requires : tie.Need-get-all-vertices-requires
 get-all-vertices-requires c κs = fits c.before.before.is-bench.ensures c.before.if1.false
@@ -24,7 +24,7 @@ same_length c = search rules
 returns-2 : tie.Need-returns-2
 returns-2 c =
     let one = c.before.before.before.before in
-    a-bench _ _ _ one.before.is-bench.ensures one.if1.false c.before.before.get-all-vertices.ensures
+    a_bench _ _ _ one.before.is-bench.ensures one.if1.false c.before.before.get-all-vertices.ensures
 
 pub get-all-vertices-spec : {M : Type 1} → statement M
 get-all-vertices-spec =

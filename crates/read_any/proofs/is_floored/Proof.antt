@@ -1,7 +1,7 @@
 -- The verdict on the words decides: BROKEN, or the read on sound words. Assumes nothing.
 use mathlib.Core.Path.{◌∙◌}
 use borrow.Author.Rules.{rules}
-use Rattle.sound_lent.proofs.Asking.{no-bench, a-bench}
+use Rattle.sound_lent.proofs.Asking.{no_bench, a_bench}
 use Rattle.read_any.proofs.is_floored.Statement.{statement}
 use Rattle.read_any.proofs.is_floored.Tie as tie
 
@@ -12,13 +12,13 @@ no-mark-requires : tie.Need-no-mark-requires
 no-mark-requires c κs = search rules
 
 returns : tie.Need-returns
-returns c = c.no-mark.ensures ∙ no-bench _ _ _ c.before.before.is-bench.ensures c.before.if1.true
+returns c = c.no-mark.ensures ∙ no_bench _ _ _ c.before.before.is-bench.ensures c.before.if1.true
 
 is-floored-requires : tie.Need-is-floored-requires
 is-floored-requires c κs = search rules
 
 returns-2 : tie.Need-returns-2
-returns-2 c = a-bench _ _ _ c.before.before.is-bench.ensures c.before.if1.false c.is-floored.ensures
+returns-2 c = a_bench _ _ _ c.before.before.is-bench.ensures c.before.if1.false c.is-floored.ensures
 
 pub is-floored-spec : {M : Type 1} → statement M
 is-floored-spec = tie.close (tie.spec is-bench-requires no-mark-requires returns is-floored-requires returns-2)

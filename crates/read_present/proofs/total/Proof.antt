@@ -4,8 +4,8 @@ use mathlib.Core.Path.{refl}
 use native.Mathlib.Omega.{arith}
 use lib.ListN.{get_or}
 use borrow.Author.Rules.{rules}
-use Rattle.bench_orders.proofs.Counting.{unit-low}
-use Rattle.read_present.proofs.Walking.{Summing, sum-on, sum-ends}
+use Rattle.bench_orders.proofs.Counting.{unit_low}
+use Rattle.read_present.proofs.Walking.{Summing, sum_on, sum_ends}
 use Rattle.read_present.proofs.total.Statement.{statement}
 use Rattle.read_present.proofs.total.Tie as tie
 
@@ -32,7 +32,7 @@ marked-requires c κs =
     let s = c.before.before.before.before in
     let o = c.before.before.before.order-of in
     let i = c.before.before.loop.i in
-    (s.requires.0, unit-low s.args.b.now s.requires.0 s.args.unit s.requires.1.0 o.result o.ensures i (get_or o.result.units i 0) c.before.loop-test.true refl)
+    (s.requires.0, unit_low s.args.b.now s.requires.0 s.args.unit s.requires.1.0 o.result o.ensures i (get_or o.result.units i 0) c.before.loop-test.true refl)
 
 add-sum : tie.Need-overflow-add-sum invariant-loop decreases-loop
 add-sum c = omega (arith, c.marked.ensures.1, c.before.before.before.loop.invariant.small, c.before.before.loop-test.true, c.before.before.before.before.order-of.ensures.few)
@@ -48,13 +48,13 @@ loop-again c =
     let s = c.before.before.before.before.before in
     let o = c.before.before.before.before.order-of in
     let l = c.before.before.before.loop in
-    sum-on s.args.b.now s.requires.0 s.args.unit s.requires.1.0 o.result o.ensures l.i (get_or o.result.units l.i 0) c.before.before.loop-test.true refl l.sum c.marked.result c.marked.ensures l.invariant
+    sum_on s.args.b.now s.requires.0 s.args.unit s.requires.1.0 o.result o.ensures l.i (get_or o.result.units l.i 0) c.before.before.loop-test.true refl l.sum c.marked.result c.marked.ensures l.invariant
 
 returns : tie.Need-returns invariant-loop decreases-loop
 returns c =
     let s = c.before.before.before in
     let o = c.before.before.order-of in
-    sum-ends s.args.b.now s.requires.0 s.args.unit s.requires.1.0 o.result o.ensures c.before.loop.i c.before.loop.sum c.loop-test.false c.before.loop.invariant
+    sum_ends s.args.b.now s.requires.0 s.args.unit s.requires.1.0 o.result o.ensures c.before.loop.i c.before.loop.sum c.loop-test.false c.before.loop.invariant
 
 pub total-spec : {M : Type 1} → statement M
 total-spec =

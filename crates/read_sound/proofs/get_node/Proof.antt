@@ -1,13 +1,13 @@
 -- The order of the index leads to a slot or past the count; the slot holds a node or nothing. Assumes nothing.
 use mathlib.Core.Path.{◌≡◌, ap, sym, ◌∙◌}
 use borrow.Author.Rules.{rules}
-use Rattle.ledger_spec.specs.Reads.{asHandle}
+use Rattle.ledger_spec.specs.Reads.{as_handle}
 use Rattle.bench_orders.specs.declared.Spot.TheVariants.{Slot, Past}
-use Rattle.bench_orders.proofs.Counting.{located, located-past}
+use Rattle.bench_orders.proofs.Counting.{located, located_past}
 use Rattle.bench_views.specs.View.{view}
 use Rattle.read_sound.specs.Shown.{maybe}
-use Rattle.ledger_spec.proofs.Accepted.{clear-passed}
-use Rattle.read_sound.proofs.Saying.{index-no, index-past, index-there}
+use Rattle.ledger_spec.proofs.Accepted.{clear_passed}
+use Rattle.read_sound.proofs.Saying.{index_no, index_past, index_there}
 use Rattle.read_sound.proofs.get_node.Statement.{statement}
 use Rattle.read_sound.proofs.get_node.Tie as tie
 
@@ -15,14 +15,14 @@ unit-number-requires : tie.Need-unit-number-requires
 unit-number-requires c κs = search rules
 
 returns : tie.Need-returns
-returns c = index-no (view c.before.before.args.b.now) c.before.before.args.unit c.before.before.args.index.0 c.before.unit-number.result c.before.unit-number.ensures c.if1.true
+returns c = index_no (view c.before.before.args.b.now) c.before.before.args.unit c.before.before.args.index.0 c.before.unit-number.result c.before.unit-number.ensures c.if1.true
 
 cast-locate : tie.Need-overflow-cast-locate
 cast-locate c = search rules
 
 locate-requires : tie.Need-locate-requires
 locate-requires c κs =
-    let o = clear-passed (view c.before.before.before.args.b.now) c.before.before.before.args.unit (sym c.before.before.unit-number.ensures ∙ c.before.if1.false) in
+    let o = clear_passed (view c.before.before.before.args.b.now) c.before.before.before.args.unit (sym c.before.before.unit-number.ensures ∙ c.before.if1.false) in
     (c.before.before.before.requires, (o.low, o.free))
 
 enum_told : tie.Need-enum-told
@@ -43,7 +43,7 @@ returns-2 : tie.Need-returns-2
 returns-2 c =
     let s = c.before.before.before.before.before.before in
     let q : c.before.before.locate.result ≡ Past = cc in
-    index-past (view s.args.b.now) s.args.unit s.args.index.0 c.before.before.before.before.before.unit-number.result c.before.before.before.before.before.unit-number.ensures c.before.before.before.before.if1.false (located-past s.args.b.now s.args.unit s.args.index.0 c.before.before.locate.ensures q)
+    index_past (view s.args.b.now) s.args.unit s.args.index.0 c.before.before.before.before.before.unit-number.result c.before.before.before.before.before.unit-number.ensures c.before.before.before.before.if1.false (located_past s.args.b.now s.args.unit s.args.index.0 c.before.before.locate.ensures q)
 
 returns-3 : tie.Need-returns-3
 returns-3 c =
@@ -51,7 +51,7 @@ returns-3 c =
     let k = c.before.before.spot.given.0.0 in
     let q : c.before.before.before.before.locate.result ≡ Slot k = cc in
     let a = located s.args.b.now s.args.unit s.args.index.0 c.before.before.before.before.locate.ensures k q in
-    index-there (view s.args.b.now) s.args.unit s.args.index.0 c.before.before.before.before.before.before.before.unit-number.result c.before.before.before.before.before.before.before.unit-number.ensures c.before.before.before.before.before.before.if1.false a.inside (maybe c.node_at.result) (c.node_at.ensures ∙ ap asHandle (sym a.at))
+    index_there (view s.args.b.now) s.args.unit s.args.index.0 c.before.before.before.before.before.before.before.unit-number.result c.before.before.before.before.before.before.before.unit-number.ensures c.before.before.before.before.before.before.if1.false a.inside (maybe c.node_at.result) (c.node_at.ensures ∙ ap as_handle (sym a.at))
 
 pub get-node-spec : {M : Type 1} → statement M
 get-node-spec =

@@ -4,13 +4,13 @@ use mathlib.Core.Path.{◌≡◌, ap, ◌∙◌}
 use mathlib.Core.List.{List}
 use borrow.Author.Rules.{rules}
 use lib.ListN.{get_or}
-use Rattle.ledger_spec.specs.Named.{handleNamed}
+use Rattle.ledger_spec.specs.Named.{handle_named}
 use Rattle.bench_links.specs.declared.Found.TheVariants.{At, Stale}
 use Rattle.bench_links.proofs.Finding.{found_at, found_none}
-use Rattle.bench_links.proofs.Rising.{seen-some}
-use Rattle.bench_vertices.proofs.Named.{held-placed, held-under}
+use Rattle.bench_links.proofs.Rising.{seen_some}
+use Rattle.bench_vertices.proofs.Named.{held_placed, held_under}
 use Rattle.bench_views.specs.View.{view}
-use Rattle.read_sound.proofs.Saying.{vertex-no, vertex-yes}
+use Rattle.read_sound.proofs.Saying.{vertex_no, vertex_yes}
 use Rattle.read_sound.proofs.get_representative_vertex.Statement.{statement}
 use Rattle.read_sound.proofs.get_representative_vertex.Tie as tie
 
@@ -28,24 +28,24 @@ first-vertex-requires c κs =
     let s = c.before.before.before.before in
     let k = c.before.found.given.0.0 in
     let q : c.before.before.before.find.result ≡ At k = cc in
-    (s.requires, held-placed s.args.b.now (handleNamed s.args.h) k (found_at s.args.b.now (handleNamed s.args.h) c.before.before.before.find.ensures k q))
+    (s.requires, held_placed s.args.b.now (handle_named s.args.h) k (found_at s.args.b.now (handle_named s.args.h) c.before.before.before.find.ensures k q))
 
 returns : tie.Need-returns
 returns c =
     let s = c.before.before.before in
     let q : c.before.before.find.result ≡ Stale = cc in
-    vertex-no (view s.args.b.now) (handleNamed s.args.h) (found_none s.args.b.now (handleNamed s.args.h) c.before.before.find.ensures q)
+    vertex_no (view s.args.b.now) (handle_named s.args.h) (found_none s.args.b.now (handle_named s.args.h) c.before.before.find.ensures q)
 
 returns-2 : tie.Need-returns-2
 returns-2 c =
     let s = c.before.before.before.before.before in
     let b = s.args.b.now in
-    let h = handleNamed s.args.h in
+    let h = handle_named s.args.h in
     let k = c.before.before.found.given.0.0 in
     let q : c.before.before.before.before.find.result ≡ At k = cc in
     let f = found_at b h c.before.before.before.before.find.ensures k q in
-    let n = seen-some b h f.stands in
-    vertex-yes (view b) h n.0 n.1 c.first-vertex.result.0 (c.first-vertex.ensures ∙ ap (λ (vs : List ℕ). get_or vs 0 0) (held-under b h k f))
+    let n = seen_some b h f.stands in
+    vertex_yes (view b) h n.0 n.1 c.first-vertex.result.0 (c.first-vertex.ensures ∙ ap (λ (vs : List ℕ). get_or vs 0 0) (held_under b h k f))
 
 pub get-representative-vertex-spec : {M : Type 1} → statement M
 get-representative-vertex-spec =

@@ -2,12 +2,12 @@
 use mathlib.Core.Path.{◌≡◌, ap, sym, ◌∙◌}
 use borrow.Author.Rules.{rules}
 use Rattle.kinds.specs.declared.Handle.{Handle}
-use Rattle.ledger_spec.specs.Named.{handleNamed}
+use Rattle.ledger_spec.specs.Named.{handle_named}
 use Rattle.bench_links.specs.declared.Found.TheVariants.{At, Stale}
 use Rattle.bench_links.proofs.Finding.{found_at, found_none}
-use Rattle.bench_links.proofs.Rising.{seen-some, no-link, some-link}
+use Rattle.bench_links.proofs.Rising.{seen_some, no_link, some_link}
 use Rattle.bench_views.specs.View.{view}
-use Rattle.read_sound.proofs.Saying.{under-no, under_top, under-yes}
+use Rattle.read_sound.proofs.Saying.{under_no, under_top, under_yes}
 use Rattle.read_sound.proofs.get_secondary_ancestor_blossom.Statement.{statement}
 use Rattle.read_sound.proofs.get_secondary_ancestor_blossom.Tie as tie
 
@@ -28,7 +28,7 @@ outermost-requires c κs =
     let s = c.before.before.before in
     let k = c.enum-told2.given.0.0 in
     let q : c.before.before.find.result ≡ At k = cc in
-    (s.requires, (found_at s.args.b.now (handleNamed s.args.h) c.before.before.find.ensures k q).stands)
+    (s.requires, (found_at s.args.b.now (handle_named s.args.h) c.before.before.find.ensures k q).stands)
 
 nobody-requires-2 : tie.Need-nobody-requires-2
 nobody-requires-2 c κs = search rules
@@ -37,30 +37,30 @@ returns : tie.Need-returns
 returns c =
     let s = c.before.before.before.before.before.before.before in
     let b = s.args.b.now in
-    let h = handleNamed s.args.h in
+    let h = handle_named s.args.h in
     let k = c.before.before.before.before.enum-told2.given.0.0 in
     let q : c.before.before.before.before.before.before.find.result ≡ At k = cc in
-    let n = seen-some b h (found_at b h c.before.before.before.before.before.before.find.ensures k q).stands in
-    ap (λ (g : Handle). (12, handleNamed g)) c.nobody2.ensures
-    ∙ under_top (view b) h n.0 n.1 (no-link (view b) h (sym c.before.before.before.outermost.ensures.links ∙ c.before.if1.true))
+    let n = seen_some b h (found_at b h c.before.before.before.before.before.before.find.ensures k q).stands in
+    ap (λ (g : Handle). (12, handle_named g)) c.nobody2.ensures
+    ∙ under_top (view b) h n.0 n.1 (no_link (view b) h (sym c.before.before.before.outermost.ensures.links ∙ c.before.if1.true))
 
 returns-2 : tie.Need-returns-2
 returns-2 c =
     let s = c.before.before.before.before in
     let q : c.before.before.before.find.result ≡ Stale = cc in
-    ap (λ (g : Handle). (8, handleNamed g)) c.nobody.ensures
-    ∙ under-no (view s.args.b.now) (handleNamed s.args.h) (found_none s.args.b.now (handleNamed s.args.h) c.before.before.before.find.ensures q)
+    ap (λ (g : Handle). (8, handle_named g)) c.nobody.ensures
+    ∙ under_no (view s.args.b.now) (handle_named s.args.h) (found_none s.args.b.now (handle_named s.args.h) c.before.before.before.find.ensures q)
 
 returns-3 : tie.Need-returns-3
 returns-3 c =
     let s = c.before.before.before.before.before.before.before in
     let b = s.args.b.now in
-    let h = handleNamed s.args.h in
+    let h = handle_named s.args.h in
     let k = c.before.before.before.before.enum-told2.given.0.0 in
     let q : c.before.before.before.before.before.before.find.result ≡ At k = cc in
-    let n = seen-some b h (found_at b h c.before.before.before.before.before.before.find.ensures k q).stands in
-    let p = some-link (view b) h (λ z. c.before.if1.false (c.before.before.before.outermost.ensures.links ∙ z)) in
-    under-yes (view b) h n.0 n.1 p.0 p.1 (handleNamed c.before.before.before.outermost.result.under) c.before.before.before.outermost.ensures.under
+    let n = seen_some b h (found_at b h c.before.before.before.before.before.before.find.ensures k q).stands in
+    let p = some_link (view b) h (λ z. c.before.if1.false (c.before.before.before.outermost.ensures.links ∙ z)) in
+    under_yes (view b) h n.0 n.1 p.0 p.1 (handle_named c.before.before.before.outermost.result.under) c.before.before.before.outermost.ensures.under
 
 pub get-secondary-ancestor-blossom-spec : {M : Type 1} → statement M
 get-secondary-ancestor-blossom-spec =

@@ -2,7 +2,7 @@
 use mathlib.Core.Path.{sym, ◌∙◌}
 use borrow.Author.Rules.{rules}
 use Rattle.bench_views.specs.View.{view}
-use Rattle.ledger_spec.proofs.Accepted.{clear-passed}
+use Rattle.ledger_spec.proofs.Accepted.{clear_passed}
 use Rattle.read_sound.proofs.Saying.{count_no, count_yes}
 use Rattle.read_sound.proofs.nodes_count.Statement.{statement}
 use Rattle.read_sound.proofs.nodes_count.Tie as tie
@@ -15,7 +15,7 @@ returns c = count_no (view c.before.before.args.b.now) c.before.before.args.unit
 
 count-requires : tie.Need-count-requires
 count-requires c κs =
-    let o = clear-passed (view c.before.before.args.b.now) c.before.before.args.unit (sym c.before.unit-number.ensures ∙ c.if1.false) in
+    let o = clear_passed (view c.before.before.args.b.now) c.before.before.args.unit (sym c.before.unit-number.ensures ∙ c.if1.false) in
     (c.before.before.requires, (o.low, o.free))
 
 returns-2 : tie.Need-returns-2

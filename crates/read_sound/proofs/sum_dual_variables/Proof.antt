@@ -5,8 +5,8 @@ use mir.Syntax.{w64}
 use mir.Val.{to_z, of_z}
 use mir.Facts.{to_z-of_z}
 use Rattle.bench_views.specs.View.{view}
-use Rattle.ledger_spec.proofs.Accepted.{clear-passed}
-use Rattle.read_sound.proofs.Saying.{sum-no, sum-yes}
+use Rattle.ledger_spec.proofs.Accepted.{clear_passed}
+use Rattle.read_sound.proofs.Saying.{sum_no, sum_yes}
 use Rattle.read_sound.proofs.sum_dual_variables.Statement.{statement}
 use Rattle.read_sound.proofs.sum_dual_variables.Tie as tie
 
@@ -14,15 +14,15 @@ unit-number-requires : tie.Need-unit-number-requires
 unit-number-requires c κs = search rules
 
 returns : tie.Need-returns
-returns c = sum-no (view c.before.before.args.b.now) c.before.before.args.unit c.before.unit-number.result c.before.unit-number.ensures c.if1.true
+returns c = sum_no (view c.before.before.args.b.now) c.before.before.args.unit c.before.unit-number.result c.before.unit-number.ensures c.if1.true
 
 sum-requires : tie.Need-sum-requires
 sum-requires c κs =
-    let o = clear-passed (view c.before.before.args.b.now) c.before.before.args.unit (sym c.before.unit-number.ensures ∙ c.if1.false) in
+    let o = clear_passed (view c.before.before.args.b.now) c.before.before.args.unit (sym c.before.unit-number.ensures ∙ c.if1.false) in
     (c.before.before.requires, (o.low, o.free))
 
 returns-2 : tie.Need-returns-2
-returns-2 c = sum-yes (view c.before.before.before.args.b.now) c.before.before.before.args.unit c.before.before.unit-number.result c.before.before.unit-number.ensures c.before.if1.false (to_z w64 (of_z w64 c.sum.result)) (to_z-of_z (record { sfits = c.sum.type-inv }) ∙ c.sum.ensures)
+returns-2 c = sum_yes (view c.before.before.before.args.b.now) c.before.before.before.args.unit c.before.before.unit-number.result c.before.before.unit-number.ensures c.before.if1.false (to_z w64 (of_z w64 c.sum.result)) (to_z-of_z (record { sfits = c.sum.type-inv }) ∙ c.sum.ensures)
 
 pub sum-dual-variables-spec : {M : Type 1} → statement M
 sum-dual-variables-spec = tie.close (tie.spec unit-number-requires returns sum-requires returns-2)

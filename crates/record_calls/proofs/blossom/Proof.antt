@@ -2,10 +2,10 @@
 use native.Mathlib.Omega.{arith}
 use mathlib.Core.Path.{sym, ◌∙◌}
 use lib.Seq.{length-take-le}
-use Rattle.outcomes.proofs.Outcomes.{sound-after}
-use Rattle.text_calls.proofs.Members.{few-low}
+use Rattle.outcomes.proofs.Outcomes.{sound_after}
+use Rattle.text_calls.proofs.Members.{few_low}
 use Rattle.record_reads.proofs.Reading.{count-B, room-B}
-use Rattle.record_calls.proofs.Doing.{done-blossom}
+use Rattle.record_calls.proofs.Doing.{done_blossom}
 use borrow.Author.Rules.{rules}
 use Rattle.record_calls.proofs.blossom.Statement.{statement}
 use Rattle.record_calls.proofs.blossom.Tie as tie
@@ -38,7 +38,7 @@ lay-requires c κs =
     let R = z.requires.1.0 in
     let l = z.requires.1.1.0 in
     let f = c.before.before.few in
-    (omega (arith, room-B a.s.now a.p R l, c.before.before.before.two_at.ensures.0, few-low _ _ f.ensures), (omega (arith, f.ensures.most, z.requires.1.1.1.0), omega (arith, f.ensures.most, z.requires.1.1.1.1)))
+    (omega (arith, room-B a.s.now a.p R l, c.before.before.before.two_at.ensures.0, few_low _ _ f.ensures), (omega (arith, f.ensures.most, z.requires.1.1.1.0), omega (arith, f.ensures.most, z.requires.1.1.1.1)))
 
 name-requires : tie.Need-name-requires
 name-requires c κs = search rules
@@ -85,7 +85,7 @@ keep-requires c κs = search rules
 tell-requires : tie.Need-tell-requires
 tell-requires c κs =
     let z = c.before.before.before.before.before.before.before.before.before.before.before.before.before.before.before.before.before.before.before.before.before.before.before.before.before.before.before.before.before.before.before.before in
-    sound-after z.requires.0 c.before.before.before.create-blossom.ensures.0
+    sound_after z.requires.0 c.before.before.before.create_blossom.ensures.0
 
 same_length : tie.Need-same-length
 same_length c =
@@ -108,9 +108,9 @@ returns c =
     let n = c.before.before.before.before.before.before.before.before.before.before.before.before.before.before.before.before.name in
     let m = c.before.before.before.before.before.before.before.before.before.before.name2 in
     let a = z.args in
-    done-blossom a.b.now z.requires.0 a.s.now a.p z.requires.1.0 z.requires.1.1.0 t.result f.result t.ensures.0 f.ensures
+    done_blossom a.b.now z.requires.0 a.s.now a.p z.requires.1.0 z.requires.1.1.0 t.result f.result t.ensures.0 f.ensures
     a.members.now a.touching.now _ _ _ _ z.requires.1.1.1.0 z.requires.1.1.1.1 l.ensures n.ensures m.ensures
-    _ _ _ c.before.before.before.before.create-blossom.ensures c.tell.result c.tell.ensures
+    _ _ _ c.before.before.before.before.create_blossom.ensures c.tell.result c.tell.ensures
 
 pub blossom-spec : {M : Type 1} → statement M
 blossom-spec =

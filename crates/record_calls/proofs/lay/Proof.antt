@@ -2,7 +2,7 @@
 use native.Mathlib.Omega.{arith}
 use Prim.Native.Nat.{◌-◌}
 use lib.ListN.{length-set}
-use Rattle.record_calls.proofs.Laying.{Laying, laying, laid_one, laid-all}
+use Rattle.record_calls.proofs.Laying.{Laying, laying, laid_one, laid_all}
 use Rattle.record_calls.proofs.lay.Statement.{statement}
 use Rattle.record_calls.proofs.lay.Tie as tie
 
@@ -81,7 +81,7 @@ same-length-2 : tie.Need-same-length-2 invariant-loop decreases-loop
 same-length-2 c = c.before.loop.invariant.wide
 
 returns : tie.Need-returns invariant-loop decreases-loop
-returns c = let a = c.before.before.before.before.before.args in let v = c.before.loop in laid-all a.s.now a.q a.n a.members.now a.touching.now v.members v.touching v.i v.at v.invariant c.loop-test.false
+returns c = let a = c.before.before.before.before.before.args in let v = c.before.loop in laid_all a.s.now a.q a.n a.members.now a.touching.now v.members v.touching v.i v.at v.invariant c.loop-test.false
 
 pub lay-spec : {M : Type 1} → statement M
 lay-spec =

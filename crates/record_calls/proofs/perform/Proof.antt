@@ -1,8 +1,8 @@
 -- A blossom by its members, any other record as its line. Assumes nothing.
 use native.Mathlib.Omega.{arith}
-use Rattle.record_files.proofs.Slices.{bytes-from}
+use Rattle.record_files.proofs.Slices.{bytes_from}
 use Rattle.record_reads.proofs.Reading.{two}
-use Rattle.record_calls.proofs.Doing.{done-line}
+use Rattle.record_calls.proofs.Doing.{done_line}
 use borrow.Author.Rules.{rules}
 use Rattle.record_calls.proofs.perform.Statement.{statement}
 use Rattle.record_calls.proofs.perform.Tie as tie
@@ -38,7 +38,7 @@ returns-2 c =
     let at-shared-slice-known = at-if1.before.before.before.before in
     let z = c.before.before.before.before.before.before.before.before.before.before.before.before in
     let a = z.args in
-    done-line a.b.now a.s.now a.p z.requires.1.0 (bytes-from a.s.now a.p at-shared-slice-known.shared-slice-known.given) at-if1.if1.false at-line-at.line_at_lem.result at-line-at.line_at_lem.ensures a.members.now
+    done_line a.b.now a.s.now a.p z.requires.1.0 (bytes_from a.s.now a.p at-shared-slice-known.shared-slice-known.given) at-if1.if1.false at-line-at.line_at_lem.result at-line-at.line_at_lem.ensures a.members.now
     c.before.before.turn.result _ c.before.before.turn.ensures
 
 pub perform-spec : {M : Type 1} → statement M

@@ -12,7 +12,7 @@ no-trailer-requires : tie.Need-no-trailer-requires
 no-trailer-requires c κs = search rules
 
 returns : tie.Need-returns
-returns c = c.no-trailer.ensures ∙ too_short c.before.before.before.args.s.now c.before.if1.true
+returns c = c.no_trailer.ensures ∙ too_short c.before.before.before.args.s.now c.before.if1.true
 
 four-at-requires : tie.Need-four-at-requires
 four-at-requires c κs = search rules

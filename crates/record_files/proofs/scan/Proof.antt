@@ -4,7 +4,7 @@ use Prim.Native.Nat.{◌≤◌}
 use mathlib.Core.Path.{◌∙◌, sym}
 use lib.ListN.{length}
 use lib.Seq.{length-take-le}
-use Rattle.record_files.proofs.Trailers.{trailed, no-file, file-there}
+use Rattle.record_files.proofs.Trailers.{trailed, no_file, file_there}
 use borrow.Author.Rules.{rules}
 use Rattle.record_files.proofs.scan.Statement.{statement}
 use Rattle.record_files.proofs.scan.Tie as tie
@@ -31,7 +31,7 @@ returns : tie.Need-returns
 returns c =
     let s = c.before.before.before.before.before.args.s.now in
     let t = c.before.before.before.read-trailer in
-    c.walk.ensures ∙ file-there s t.result t.ensures c.before.before.if1.true
+    c.walk.ensures ∙ file_there s t.result t.ensures c.before.before.if1.true
 
 not-file-requires : tie.Need-not-file-requires
 not-file-requires c κs = search rules
@@ -40,7 +40,7 @@ returns-2 : tie.Need-returns-2
 returns-2 c =
     let s = c.before.before.before.before.args.s.now in
     let t = c.before.before.read-trailer in
-    c.not-file.ensures ∙ no-file s t.result t.ensures c.before.if1.false
+    c.not-file.ensures ∙ no_file s t.result t.ensures c.before.if1.false
 
 pub scan-spec : {M : Type 1} → statement M
 scan-spec =

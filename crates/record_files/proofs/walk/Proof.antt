@@ -3,8 +3,8 @@ use native.Mathlib.Omega.{arith}
 use mathlib.Core.Path.{◌∙◌, ap}
 use borrow.Author.Rules.{rules}
 use Rattle.record_measures.specs.declared.Measured.{Measured}
-use Rattle.record_files.proofs.Slices.{bytes-from}
-use Rattle.record_files.proofs.Walking.{Walking, walking, stands, stands-not, astray, broken, walk-on, bytes_left, walked}
+use Rattle.record_files.proofs.Slices.{bytes_from}
+use Rattle.record_files.proofs.Walking.{Walking, walking, stands, stands_not, astray, broken, walk_on, bytes_left, walked}
 use Rattle.record_files.proofs.walk.Statement.{statement}
 use Rattle.record_files.proofs.walk.Tie as tie
 
@@ -40,7 +40,7 @@ returns-2 c =
     let a = c.before.before.before.before.before.before.before.before.before.args in
     let l = c.before.before.before.before.before.before.loop in
     let m = c.before.before.measure in
-    c.not-file2.ensures ∙ broken a.s.now a.t.now a.list a.count l.p l.entry l.left l.text l.own l.invariant c.before.before.before.before.before.loop-test.true c.before.before.before.before.four-at.result c.before.before.before.before.four-at.ensures.0 c.before.before.before.if1.false (stands-not a.t.now l.p m.result m.ensures c.before.if2.true)
+    c.not-file2.ensures ∙ broken a.s.now a.t.now a.list a.count l.p l.entry l.left l.text l.own l.invariant c.before.before.before.before.before.loop-test.true c.before.before.before.before.four-at.result c.before.before.before.before.four-at.ensures.0 c.before.before.before.if1.false (stands_not a.t.now l.p m.result m.ensures c.before.if2.true)
 
 add-p : tie.Need-overflow-add-p invariant-loop decreases-loop
 add-p c =
@@ -48,7 +48,7 @@ add-p c =
     let at-shared-slice-known2 = at-loop.before in
     let start = at-shared-slice-known2.before.before in
     let m = c.before.measure in
-    let g = stands start.args.t.now at-loop.loop.p m.result m.ensures at-loop.loop.invariant.low (bytes-from start.args.t.now at-loop.loop.p at-shared-slice-known2.shared-slice-known2.given) c.if2.false in
+    let g = stands start.args.t.now at-loop.loop.p m.result m.ensures at-loop.loop.invariant.low (bytes_from start.args.t.now at-loop.loop.p at-shared-slice-known2.shared-slice-known2.given) c.if2.false in
     omega (arith, g.fits, ap (λ (x : Measured). x.size) g.is)
 
 add-entry : tie.Need-overflow-add-entry invariant-loop decreases-loop
@@ -68,7 +68,7 @@ add-text c =
     let at-shared-slice-known2 = at-loop.before in
     let start = at-shared-slice-known2.before.before in
     let m = c.before.before.measure in
-    let g = stands start.args.t.now at-loop.loop.p m.result m.ensures at-loop.loop.invariant.low (bytes-from start.args.t.now at-loop.loop.p at-shared-slice-known2.shared-slice-known2.given) c.before.if2.false in
+    let g = stands start.args.t.now at-loop.loop.p m.result m.ensures at-loop.loop.invariant.low (bytes_from start.args.t.now at-loop.loop.p at-shared-slice-known2.shared-slice-known2.given) c.before.if2.false in
     omega (arith, at-loop.loop.invariant.short, at-loop-test.loop-test.true, start.requires.1, g.short, ap (λ (x : Measured). x.line) g.is)
 
 both-requires : tie.Need-both-requires invariant-loop decreases-loop
@@ -88,8 +88,8 @@ loop-again c =
     let at-shared-slice-known2 = at-loop.before in
     let start = at-shared-slice-known2.before.before in
     let m = c.before.before.before.measure in
-    let g = stands start.args.t.now at-loop.loop.p m.result m.ensures at-loop.loop.invariant.low (bytes-from start.args.t.now at-loop.loop.p at-shared-slice-known2.shared-slice-known2.given) c.before.before.if2.false in
-    walk-on start.args.s.now start.args.t.now start.args.list start.args.count at-loop.loop.p at-loop.loop.entry at-loop.loop.left at-loop.loop.text at-loop.loop.own at-loop.loop.invariant at-loop-test.loop-test.true at-four-at.four-at.result at-four-at.four-at.ensures.0 at-if1.if1.false m.result c.both.result g c.both.ensures
+    let g = stands start.args.t.now at-loop.loop.p m.result m.ensures at-loop.loop.invariant.low (bytes_from start.args.t.now at-loop.loop.p at-shared-slice-known2.shared-slice-known2.given) c.before.before.if2.false in
+    walk_on start.args.s.now start.args.t.now start.args.list start.args.count at-loop.loop.p at-loop.loop.entry at-loop.loop.left at-loop.loop.text at-loop.loop.own at-loop.loop.invariant at-loop-test.loop-test.true at-four-at.four-at.result at-four-at.four-at.ensures.0 at-if1.if1.false m.result c.both.result g c.both.ensures
 
 not-file-requires-3 : tie.Need-not-file-requires-3 invariant-loop decreases-loop
 not-file-requires-3 c κs = search rules

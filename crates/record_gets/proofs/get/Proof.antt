@@ -1,7 +1,7 @@
 -- Found, read, and then written. Assumes nothing.
 use native.Mathlib.Omega.{arith}
-use Rattle.record_files.proofs.Slices.{bytes-from}
-use Rattle.record_gets.proofs.Getting.{not_found, recorded, members-room, fronted, no-space, got}
+use Rattle.record_files.proofs.Slices.{bytes_from}
+use Rattle.record_gets.proofs.Getting.{not_found, recorded, members_room, fronted, no_space, got}
 use borrow.Author.Rules.{rules}
 use Rattle.record_gets.proofs.get.Statement.{statement}
 use Rattle.record_gets.proofs.get.Tie as tie
@@ -32,10 +32,10 @@ mul-size c =
     let s = start.args.file.now in
     let p = at-find.find.result.place in
     let h = at-find.find.ensures.found c.before.before.before.if1.false in
-    let b = bytes-from s p at-shared-slice-known.shared-slice-known.given in
+    let b = bytes_from s p at-shared-slice-known.shared-slice-known.given in
     let l = c.before.before.line_at_lem in
     let w = c.before.front_of in
-    omega (arith, members-room s start.args.k p b h l.result l.ensures w.result w.ensures, start.well-formed)
+    omega (arith, members_room s start.args.k p b h l.result l.ensures w.result w.ensures, start.well-formed)
 
 add-size : tie.Need-overflow-add-size
 add-size c =
@@ -46,10 +46,10 @@ add-size c =
     let s = start.args.file.now in
     let p = at-find.find.result.place in
     let h = at-find.find.ensures.found at-if1.if1.false in
-    let b = bytes-from s p at-shared-slice-known.shared-slice-known.given in
+    let b = bytes_from s p at-shared-slice-known.shared-slice-known.given in
     let l = c.before.before.before.line_at_lem in
     let w = c.before.before.front_of in
-    omega (arith, members-room s start.args.k p b h l.result l.ensures w.result w.ensures, (fronted s start.args.k p b h l.result l.ensures w.result w.ensures).1, start.well-formed)
+    omega (arith, members_room s start.args.k p b h l.result l.ensures w.result w.ensures, (fronted s start.args.k p b h l.result l.ensures w.result w.ensures).1, start.well-formed)
 
 returns-2 : tie.Need-returns-2
 returns-2 c =
@@ -61,9 +61,9 @@ returns-2 c =
     let s = start.args.file.now in
     let p = at-find.find.result.place in
     let h = at-find.find.ensures.found at-if1.if1.false in
-    let b = bytes-from s p at-shared-slice-known.shared-slice-known.given in
+    let b = bytes_from s p at-shared-slice-known.shared-slice-known.given in
     let w = c.before.before.before.front_of in
-    no-space s start.args.k p b h at-line-at.line_at_lem.result at-line-at.line_at_lem.ensures w.result w.ensures start.args.out.now c.if2.true
+    no_space s start.args.k p b h at-line-at.line_at_lem.result at-line-at.line_at_lem.ensures w.result w.ensures start.args.out.now c.if2.true
 
 put-front-requires : tie.Need-put-front-requires
 put-front-requires c κs =
@@ -76,7 +76,7 @@ put-front-requires c κs =
     let s = start.args.file.now in
     let p = at-find.find.result.place in
     let h = at-find.find.ensures.found at-if1.if1.false in
-    let b = bytes-from s p at-shared-slice-known.shared-slice-known.given in
+    let b = bytes_from s p at-shared-slice-known.shared-slice-known.given in
     let r = fronted s start.args.k p b h at-line-at.line_at_lem.result at-line-at.line_at_lem.ensures at-front-of.front_of.result at-front-of.front_of.ensures in
     (r.0, (r.1, omega (arith, c.before.if2.false)))
 
@@ -91,8 +91,8 @@ add-put-members c =
     let s = start.args.file.now in
     let p = at-find.find.result.place in
     let h = at-find.find.ensures.found at-if1.if1.false in
-    let b = bytes-from s p at-shared-slice-known.shared-slice-known.given in
-    omega (arith, members-room s start.args.k p b h at-line-at.line_at_lem.result at-line-at.line_at_lem.ensures at-front-of.front_of.result at-front-of.front_of.ensures, start.well-formed)
+    let b = bytes_from s p at-shared-slice-known.shared-slice-known.given in
+    omega (arith, members_room s start.args.k p b h at-line-at.line_at_lem.result at-line-at.line_at_lem.ensures at-front-of.front_of.result at-front-of.front_of.ensures, start.well-formed)
 
 put-members-requires : tie.Need-put-members-requires
 put-members-requires c κs =
@@ -106,8 +106,8 @@ put-members-requires c κs =
     let s = start.args.file.now in
     let p = at-find.find.result.place in
     let h = at-find.find.ensures.found at-if1.if1.false in
-    let b = bytes-from s p at-shared-slice-known.shared-slice-known.given in
-    (members-room s start.args.k p b h at-line-at.line_at_lem.result at-line-at.line_at_lem.ensures at-front-of.front_of.result at-front-of.front_of.ensures, omega (arith, at-if2.if2.false, c.before.before.before.put_front.auto.0))
+    let b = bytes_from s p at-shared-slice-known.shared-slice-known.given in
+    (members_room s start.args.k p b h at-line-at.line_at_lem.result at-line-at.line_at_lem.ensures at-front-of.front_of.result at-front-of.front_of.ensures, omega (arith, at-if2.if2.false, c.before.before.before.put_front.auto.0))
 
 same_length : tie.Need-same-length
 same_length c = search rules
@@ -125,7 +125,7 @@ returns-3 c =
     let s = start.args.file.now in
     let p = at-find.find.result.place in
     let h = at-find.find.ensures.found at-if1.if1.false in
-    let b = bytes-from s p at-shared-slice-known.shared-slice-known.given in
+    let b = bytes_from s p at-shared-slice-known.shared-slice-known.given in
     got s start.args.k p b h at-line-at.line_at_lem.result at-line-at.line_at_lem.ensures at-front-of.front_of.result at-front-of.front_of.ensures start.args.out.now at-if2.if2.false _ _ at-put-front.put_front.ensures c.before.before.put-members.ensures
 
 pub get_spec : {M : Type 1} → statement M

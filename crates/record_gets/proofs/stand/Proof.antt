@@ -2,9 +2,9 @@
 use native.Mathlib.Omega.{arith}
 use mathlib.Core.Path.{sym, ◌∙◌}
 use lib.Seq.{length-take-le}
-use borrow.Author.Tests.{not-true, not-false}
-use Rattle.record_files.proofs.Slices.{bytes-all}
-use Rattle.record_gets.proofs.Finding.{astray, nothing-there, inside-list, ends-elsewhere, stands-there}
+use borrow.Author.Tests.{not_true, not_false}
+use Rattle.record_files.proofs.Slices.{bytes_all}
+use Rattle.record_gets.proofs.Finding.{astray, nothing_there, inside_list, ends_elsewhere, stands_there}
 use borrow.Author.Rules.{rules}
 use Rattle.record_gets.proofs.stand.Statement.{statement}
 use Rattle.record_gets.proofs.stand.Tie as tie
@@ -39,8 +39,8 @@ returns c =
     let a = z.args in
     let s = a.s.now in
     let m = c.before.before.measure in
-    let h = bytes-all s at-shared-slice-known.shared-slice-known.given in
-    astray s a.list a.count a.k h z.requires.0 z.requires.1 at-four-at.four-at.result at_end_of.end_of_lem.result at-four-at.four-at.ensures.0 at_end_of.end_of_lem.ensures m.result m.ensures (sym c.before.begins.ensures ∙ not-true _ c.if1.true)
+    let h = bytes_all s at-shared-slice-known.shared-slice-known.given in
+    astray s a.list a.count a.k h z.requires.0 z.requires.1 at-four-at.four-at.result at_end_of.end_of_lem.result at-four-at.four-at.ensures.0 at_end_of.end_of_lem.ensures m.result m.ensures (sym c.before.begins.ensures ∙ not_true _ c.if1.true)
 
 returns-2 : tie.Need-returns-2
 returns-2 c =
@@ -51,8 +51,8 @@ returns-2 c =
     let a = z.args in
     let s = a.s.now in
     let m = c.before.before.before.measure in
-    let h = bytes-all s at-shared-slice-known.shared-slice-known.given in
-    nothing-there s a.list a.count a.k h z.requires.0 z.requires.1 at-four-at.four-at.result at_end_of.end_of_lem.result at-four-at.four-at.ensures.0 at_end_of.end_of_lem.ensures m.result m.ensures (sym c.before.before.begins.ensures ∙ not-false _ c.before.if1.false) c.if2.true
+    let h = bytes_all s at-shared-slice-known.shared-slice-known.given in
+    nothing_there s a.list a.count a.k h z.requires.0 z.requires.1 at-four-at.four-at.result at_end_of.end_of_lem.result at-four-at.four-at.ensures.0 at_end_of.end_of_lem.ensures m.result m.ensures (sym c.before.before.begins.ensures ∙ not_false _ c.before.if1.false) c.if2.true
 
 add-if3 : tie.Need-overflow-add-if3
 add-if3 c =
@@ -63,8 +63,8 @@ add-if3 c =
     let a = z.args in
     let s = a.s.now in
     let m = c.before.before.before.measure in
-    let h = bytes-all s at-shared-slice-known.shared-slice-known.given in
-    omega (arith, z.requires.0, z.well-formed, inside-list s a.list a.count a.k h z.requires.0 z.requires.1 at-four-at.four-at.result at_end_of.end_of_lem.result at-four-at.four-at.ensures.0 at_end_of.end_of_lem.ensures m.result m.ensures (sym c.before.before.begins.ensures ∙ not-false _ c.before.if1.false) c.if2.false)
+    let h = bytes_all s at-shared-slice-known.shared-slice-known.given in
+    omega (arith, z.requires.0, z.well-formed, inside_list s a.list a.count a.k h z.requires.0 z.requires.1 at-four-at.four-at.result at_end_of.end_of_lem.result at-four-at.four-at.ensures.0 at_end_of.end_of_lem.ensures m.result m.ensures (sym c.before.before.begins.ensures ∙ not_false _ c.before.if1.false) c.if2.false)
 
 returns-3 : tie.Need-returns-3
 returns-3 c =
@@ -75,8 +75,8 @@ returns-3 c =
     let z = c.before.before.before.before.before.before.before.before.before in
     let a = z.args in
     let s = a.s.now in
-    let h = bytes-all s at-shared-slice-known.shared-slice-known.given in
-    ends-elsewhere s a.list a.count a.k h z.requires.0 z.requires.1 at-four-at.four-at.result at_end_of.end_of_lem.result at-four-at.four-at.ensures.0 at_end_of.end_of_lem.ensures at-measure.measure.result at-measure.measure.ensures (sym c.before.before.before.begins.ensures ∙ not-false _ c.before.before.if1.false) c.before.if2.false c.if3.true
+    let h = bytes_all s at-shared-slice-known.shared-slice-known.given in
+    ends_elsewhere s a.list a.count a.k h z.requires.0 z.requires.1 at-four-at.four-at.result at_end_of.end_of_lem.result at-four-at.four-at.ensures.0 at_end_of.end_of_lem.ensures at-measure.measure.result at-measure.measure.ensures (sym c.before.before.before.begins.ensures ∙ not_false _ c.before.before.if1.false) c.before.if2.false c.if3.true
 
 returns-4 : tie.Need-returns-4
 returns-4 c =
@@ -87,8 +87,8 @@ returns-4 c =
     let z = c.before.before.before.before.before.before.before.before.before in
     let a = z.args in
     let s = a.s.now in
-    let h = bytes-all s at-shared-slice-known.shared-slice-known.given in
-    stands-there s a.list a.count a.k h z.requires.0 z.requires.1 at-four-at.four-at.result at_end_of.end_of_lem.result at-four-at.four-at.ensures.0 at_end_of.end_of_lem.ensures at-measure.measure.result at-measure.measure.ensures (sym c.before.before.before.begins.ensures ∙ not-false _ c.before.before.if1.false) c.before.if2.false c.if3.false
+    let h = bytes_all s at-shared-slice-known.shared-slice-known.given in
+    stands_there s a.list a.count a.k h z.requires.0 z.requires.1 at-four-at.four-at.result at_end_of.end_of_lem.result at-four-at.four-at.ensures.0 at_end_of.end_of_lem.ensures at-measure.measure.result at-measure.measure.ensures (sym c.before.before.before.begins.ensures ∙ not_false _ c.before.before.if1.false) c.before.if2.false c.if3.false
 
 pub stand-spec : {M : Type 1} → statement M
 stand-spec =

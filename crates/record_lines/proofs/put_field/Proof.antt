@@ -2,7 +2,7 @@
 use native.Mathlib.Omega.{arith}
 use mathlib.Core.Path.{◌∙◌}
 use lib.ListN.{length-set}
-use Rattle.text_decimals.proofs.Writes.{after-byte}
+use Rattle.text_decimals.proofs.Writes.{after_byte}
 use borrow.Author.Rules.{rules}
 use Rattle.record_lines.proofs.put_field.Statement.{statement}
 use Rattle.record_lines.proofs.put_field.Tie as tie
@@ -20,7 +20,7 @@ same_length : tie.Need-same-length
 same_length c = c.before.before.put-number.auto.0 ∙ simp length-set
 
 returns : tie.Need-returns
-returns c = after-byte c.before.before.before.before.before.args.out.now c.before.before.before.before.before.args.at 32 _ _ _ c.before.before.put-number.ensures
+returns c = after_byte c.before.before.before.before.before.args.out.now c.before.before.before.before.before.args.at 32 _ _ _ c.before.before.put-number.ensures
 
 pub put-field-spec : {M : Type 1} → statement M
 put-field-spec =

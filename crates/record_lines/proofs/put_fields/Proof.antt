@@ -8,7 +8,7 @@ use lib.Seq.{sets}
 use Rattle.text_decimals.proofs.Writes.{same_text}
 use Rattle.record_lines.specs.Lines.{tail}
 use borrow.Author.Rules.{rules}
-use Rattle.record_lines.proofs.Pieces.{fields-D, fields-B, fields-E, fields-S, fields-G, fields-F, fields-none, text-D, text-E, text-B, text-S, text-G, text-F}
+use Rattle.record_lines.proofs.Pieces.{fields-D, fields-B, fields-E, fields-S, fields-G, fields-F, fields_none, text-D, text-E, text-B, text-S, text-G, text-F}
 use Rattle.record_lines.proofs.put_fields.Statement.{statement}
 use Rattle.record_lines.proofs.put_fields.Tie as tie
 
@@ -132,7 +132,7 @@ unfolding tail
 returns-7 c =
     let a = c.before.before.before.args in
     let m = c.match.rest in
-    let e = ap tail (fields-none a.letter a.t.now a.q m.0.0.0.0.0.1 m.0.0.0.1 m.0.0.0.0.1 m.0.0.1 m.0.1 m.1).0 in
+    let e = ap tail (fields_none a.letter a.t.now a.q m.0.0.0.0.0.1 m.0.0.0.1 m.0.0.0.0.1 m.0.0.1 m.0.1 m.1).0 in
     record { next = omega (arith, ap length e); stands = ap (λ (l : List ℕ). sets a.out.now a.at l) (sym e) }
 
 pub put-fields-spec : {M : Type 1} → statement M

@@ -2,7 +2,7 @@
 use native.Mathlib.Omega.{arith}
 use mathlib.Core.Path.{refl}
 use lib.ListN.{length, get_or, length-set}
-use Rattle.record_lines.proofs.Lines.{here, numbers-there, unit-room, fields-room, end-room, end_fits, whole_long, whole-line}
+use Rattle.record_lines.proofs.Lines.{here, numbers_there, unit_room, fields_room, end_room, end_fits, whole_long, whole_line}
 use Rattle.record_lines.proofs.put_line.Statement.{statement}
 use Rattle.record_lines.proofs.put_line.Tie as tie
 
@@ -40,7 +40,7 @@ put-field-requires : tie.Need-put-field-requires
 put-field-requires c κs =
     let a = c.before.before.before.before.before.args in
     let h = here a.t.now a.p a.at (length a.out.now) c.before.before.before.before.before.requires in
-    simp length-set (omega (arith, unit-room a.t.now a.p a.at a.out.now h (get_or a.t.now a.p 0) c.before.byte_at.result refl c.before.byte_at.ensures.0))
+    simp length-set (omega (arith, unit_room a.t.now a.p a.at a.out.now h (get_or a.t.now a.p 0) c.before.byte_at.result refl c.before.byte_at.ensures.0))
 
 add-put-fields : tie.Need-overflow-add-put-fields
 add-put-fields c =
@@ -54,7 +54,7 @@ put-fields-requires c κs =
     let start = at-byte-at.before.before.before.before in
     let h = here start.args.t.now start.args.p start.args.at (length start.args.out.now) start.requires in
     let l = get_or start.args.t.now start.args.p 0 in
-    (fields-room start.args.t.now start.args.p start.args.at start.args.out.now h l at-byte-at.byte_at.result refl at-byte-at.byte_at.ensures.0 _ _ c.before.before.before.put-field.ensures, numbers-there start.args.t.now start.args.p start.args.at start.args.out.now h l at-byte-at.byte_at.result refl at-byte-at.byte_at.ensures.0)
+    (fields_room start.args.t.now start.args.p start.args.at start.args.out.now h l at-byte-at.byte_at.result refl at-byte-at.byte_at.ensures.0 _ _ c.before.before.before.put-field.ensures, numbers_there start.args.t.now start.args.p start.args.at start.args.out.now h l at-byte-at.byte_at.result refl at-byte-at.byte_at.ensures.0)
 
 slice-write-out-2 : tie.Need-slice-write-out-2
 slice-write-out-2 c =
@@ -62,7 +62,7 @@ slice-write-out-2 c =
     let at-byte-at = at-put-field.before.before in
     let start = at-byte-at.before.before.before.before in
     let h = here start.args.t.now start.args.p start.args.at (length start.args.out.now) start.requires in
-    omega (arith, end-room start.args.t.now start.args.p start.args.at start.args.out.now h (get_or start.args.t.now start.args.p 0) at-byte-at.byte_at.result refl at-byte-at.byte_at.ensures.0 _ _ at-put-field.put-field.ensures _ _ c.before.before.put-fields.ensures)
+    omega (arith, end_room start.args.t.now start.args.p start.args.at start.args.out.now h (get_or start.args.t.now start.args.p 0) at-byte-at.byte_at.result refl at-byte-at.byte_at.ensures.0 _ _ at-put-field.put-field.ensures _ _ c.before.before.put-fields.ensures)
 
 add-result : tie.Need-overflow-add-result
 add-result c =
@@ -86,7 +86,7 @@ returns c =
     let at-byte-at = at-put-field.before.before in
     let start = at-byte-at.before.before.before.before in
     let h = here start.args.t.now start.args.p start.args.at (length start.args.out.now) start.requires in
-    whole-line start.args.t.now start.args.p start.args.at start.args.out.now h (get_or start.args.t.now start.args.p 0) at-byte-at.byte_at.result refl at-byte-at.byte_at.ensures.0 _ _ at-put-field.put-field.ensures _ _ c.before.before.put-fields.ensures
+    whole_line start.args.t.now start.args.p start.args.at start.args.out.now h (get_or start.args.t.now start.args.p 0) at-byte-at.byte_at.result refl at-byte-at.byte_at.ensures.0 _ _ at-put-field.put-field.ensures _ _ c.before.before.put-fields.ensures
 
 pub put-line-spec : {M : Type 1} → statement M
 put-line-spec =

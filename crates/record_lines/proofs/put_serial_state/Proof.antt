@@ -5,9 +5,9 @@ use mathlib.Core.List.{◌∷◌}
 use lib.ListN.{length, length-append}
 use Rattle.ledger_spec.specs.Decimals.{decimal}
 use Rattle.text_decimals.proofs.Writes.{chain, same_text}
-use Rattle.record_lines.specs.Lines.{stateText}
+use Rattle.record_lines.specs.Lines.{state_text}
 use borrow.Author.Rules.{rules}
-use Rattle.record_lines.proofs.Pieces.{tail-two}
+use Rattle.record_lines.proofs.Pieces.{tail_two}
 use Rattle.record_lines.proofs.put_serial_state.Statement.{statement}
 use Rattle.record_lines.proofs.put_serial_state.Tie as tie
 
@@ -15,15 +15,15 @@ put-field-requires : tie.Need-put-field-requires
 put-field-requires c κs =
     let a = c.before.before.args in
     let f = decimal a.serial in
-    let g = stateText a.state in
-    omega (arith, c.before.before.requires, ap length (tail-two f g), length-append (32 ∷ f) (32 ∷ g))
+    let g = state_text a.state in
+    omega (arith, c.before.before.requires, ap length (tail_two f g), length-append (32 ∷ f) (32 ∷ g))
 
 put-state-requires : tie.Need-put-state-requires
 put-state-requires c κs =
     let start = c.before.before.before.before.before.before in
     let f = decimal start.args.serial in
-    let g = stateText start.args.state in
-    omega (arith, start.requires, ap length (tail-two f g), length-append (32 ∷ f) (32 ∷ g), c.before.before.before.put-field.ensures.next, c.before.before.before.put-field.auto.0)
+    let g = state_text start.args.state in
+    omega (arith, start.requires, ap length (tail_two f g), length-append (32 ∷ f) (32 ∷ g), c.before.before.before.put-field.ensures.next, c.before.before.before.put-field.auto.0)
 
 same_length : tie.Need-same-length
 same_length c = search rules
@@ -33,8 +33,8 @@ returns c =
     let at-put-field = c.before.before.before.before.before.before in
     let start = at-put-field.before.before.before in
     let f = decimal start.args.serial in
-    let g = stateText start.args.state in
-    same_text start.args.out.now start.args.at _ _ _ _ (sym (tail-two f g)) (chain start.args.out.now start.args.at (32 ∷ f) _ _ (32 ∷ g) _ _ at-put-field.put-field.ensures c.before.before.put-state.ensures)
+    let g = state_text start.args.state in
+    same_text start.args.out.now start.args.at _ _ _ _ (sym (tail_two f g)) (chain start.args.out.now start.args.at (32 ∷ f) _ _ (32 ∷ g) _ _ at-put-field.put-field.ensures c.before.before.put-state.ensures)
 
 pub put-serial-state-spec : {M : Type 1} → statement M
 put-serial-state-spec =

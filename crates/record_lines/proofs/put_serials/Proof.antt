@@ -1,6 +1,6 @@
 -- What is written and what is left make the whole (`Writing`). Assumes nothing.
 use native.Mathlib.Omega.{arith}
-use Rattle.record_lines.proofs.Serials.{Writing, writing, room, write-on, written}
+use Rattle.record_lines.proofs.Serials.{Writing, writing, room, write_on, written}
 use Rattle.record_lines.proofs.put_serials.Statement.{statement}
 use Rattle.record_lines.proofs.put_serials.Tie as tie
 
@@ -39,7 +39,7 @@ loop-again : tie.Need-loop-preserved invariant-loop decreases-loop
 loop-again c =
     let a = c.before.before.before.before.before.before.before.before.before.args in
     let l = c.before.before.before.before.before.before.loop in
-    write-on a.t.now a.count a.q a.out.now a.at l.out l.place l.from l.left l.invariant c.before.before.before.before.before.loop-test.true c.before.before.before.before.four-at.result c.before.before.before.before.four-at.ensures.0 _ c.before.before.put-field.result c.before.before.put-field.auto.0 c.before.before.put-field.ensures
+    write_on a.t.now a.count a.q a.out.now a.at l.out l.place l.from l.left l.invariant c.before.before.before.before.before.loop-test.true c.before.before.before.before.four-at.result c.before.before.before.before.four-at.ensures.0 _ c.before.before.put-field.result c.before.before.put-field.auto.0 c.before.before.put-field.ensures
 
 same_length : tie.Need-same-length invariant-loop decreases-loop
 same_length c = c.before.loop.invariant.long

@@ -1,5 +1,5 @@
 -- The low half, and the high half after it. Assumes nothing.
-use Rattle.record_numbers.proofs.Halves.{eight-of}
+use Rattle.record_numbers.proofs.Halves.{eight_of}
 use native.Mathlib.Omega.{arith}
 use borrow.Author.Rules.{rules}
 use Rattle.record_numbers.proofs.eight_at.Statement.{statement}
@@ -21,7 +21,7 @@ add-result : tie.Need-overflow-add-result
 add-result c = search rules
 
 returns : tie.Need-returns
-returns c = (eight-of c.before.before.before.args.s.now c.before.before.before.args.p c.before.four-at.result c.four-at2.result c.before.four-at.ensures.0 c.four-at2.ensures.0, omega arith)
+returns c = (eight_of c.before.before.before.args.s.now c.before.before.before.args.p c.before.four-at.result c.four-at2.result c.before.four-at.ensures.0 c.four-at2.ensures.0, omega arith)
 
 pub eight-at-spec : {M : Type 1} → statement M
 eight-at-spec =

@@ -1,5 +1,5 @@
 -- The low half, and the high half after it. Assumes nothing.
-use Rattle.record_numbers.proofs.Halves.{four-of}
+use Rattle.record_numbers.proofs.Halves.{four_of}
 use native.Mathlib.Omega.{arith}
 use borrow.Author.Rules.{rules}
 use Rattle.record_numbers.proofs.four_at.Statement.{statement}
@@ -21,7 +21,7 @@ add-result : tie.Need-overflow-add-result
 add-result c = search rules
 
 returns : tie.Need-returns
-returns c = (four-of c.before.before.before.args.s.now c.before.before.before.args.p c.before.two_at.result c.two-at2.result c.before.two_at.ensures.0 c.two-at2.ensures.0, omega arith)
+returns c = (four_of c.before.before.before.args.s.now c.before.before.before.args.p c.before.two_at.result c.two-at2.result c.before.two_at.ensures.0 c.two-at2.ensures.0, omega arith)
 
 pub four-at-spec : {M : Type 1} → statement M
 four-at-spec =

@@ -1,6 +1,6 @@
 -- The low byte is the number's remainder. Assumes nothing.
 use Prim.Native.Nat.{◌%◌}
-use Rattle.text_decimals.proofs.Writes.{byte-wrote}
+use Rattle.text_decimals.proofs.Writes.{byte_wrote}
 use Rattle.record_spec.specs.Numbers.{bytes}
 use borrow.Author.Rules.{rules}
 use Rattle.record_numbers.proofs.put_byte.Statement.{statement}
@@ -20,7 +20,7 @@ same_length c = search rules
 
 returns : tie.Need-returns
 unfolding bytes
-returns c = byte-wrote c.args.out.now c.args.at (c.args.n % 256)
+returns c = byte_wrote c.args.out.now c.args.at (c.args.n % 256)
 
 pub put-byte-spec : {M : Type 1} → statement M
 put-byte-spec = tie.close (tie.spec cast-out slice-write-out add-result same_length returns)

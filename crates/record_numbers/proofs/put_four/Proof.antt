@@ -2,7 +2,7 @@
 use native.Mathlib.Omega.{arith}
 use Rattle.text_decimals.proofs.Writes.{chain}
 use Rattle.record_spec.specs.Numbers.{bytes}
-use Rattle.record_spec.proofs.Numbers.{length-bytes}
+use Rattle.record_spec.proofs.Numbers.{length_bytes}
 use borrow.Author.Rules.{rules}
 use Rattle.record_numbers.proofs.put_four.Statement.{statement}
 use Rattle.record_numbers.proofs.put_four.Tie as tie
@@ -13,7 +13,7 @@ put-two-requires c κs = search rules
 put-two-requires-2 : tie.Need-put-two-requires-2
 put-two-requires-2 c κs =
     let start = c.before.before.before.before.before.before in
-    omega (arith, c.before.before.before.put_two.ensures.next, c.before.before.before.put_two.auto.0, length-bytes 2 start.args.n, start.requires)
+    omega (arith, c.before.before.before.put_two.ensures.next, c.before.before.before.put_two.auto.0, length_bytes 2 start.args.n, start.requires)
 
 same_length : tie.Need-same-length
 same_length c = search rules

@@ -2,7 +2,7 @@
 use native.Mathlib.Omega.{arith}
 use Rattle.text_decimals.proofs.Writes.{chain}
 use Rattle.record_spec.specs.Numbers.{bytes}
-use Rattle.record_spec.proofs.Numbers.{length-bytes}
+use Rattle.record_spec.proofs.Numbers.{length_bytes}
 use borrow.Author.Rules.{rules}
 use Rattle.record_numbers.proofs.put_two.Statement.{statement}
 use Rattle.record_numbers.proofs.put_two.Tie as tie
@@ -13,7 +13,7 @@ put-byte-requires c κs = search rules
 put-byte-requires-2 : tie.Need-put-byte-requires-2
 put-byte-requires-2 c κs =
     let start = c.before.before.before.before.before.before in
-    omega (arith, c.before.before.before.put_byte.ensures.next, c.before.before.before.put_byte.auto.0, length-bytes 1 start.args.n, start.requires)
+    omega (arith, c.before.before.before.put_byte.ensures.next, c.before.before.before.put_byte.auto.0, length_bytes 1 start.args.n, start.requires)
 
 same_length : tie.Need-same-length
 same_length c = search rules

@@ -1,5 +1,5 @@
 -- The low half, and the high half after it. Assumes nothing.
-use Rattle.record_numbers.proofs.Halves.{two-of}
+use Rattle.record_numbers.proofs.Halves.{two_of}
 use native.Mathlib.Omega.{arith}
 use borrow.Author.Rules.{rules}
 use Rattle.record_numbers.proofs.two_at.Statement.{statement}
@@ -21,7 +21,7 @@ add-result : tie.Need-overflow-add-result
 add-result c = search rules
 
 returns : tie.Need-returns
-returns c = (two-of c.before.before.before.args.s.now c.before.before.before.args.p c.before.byte_at.result c.byte-at2.result c.before.byte_at.ensures.0 c.byte-at2.ensures.0, omega arith)
+returns c = (two_of c.before.before.before.args.s.now c.before.before.before.args.p c.before.byte_at.result c.byte-at2.result c.before.byte_at.ensures.0 c.byte-at2.ensures.0, omega arith)
 
 pub two-at-spec : {M : Type 1} → statement M
 two-at-spec =

@@ -1,6 +1,6 @@
 -- Weighed, filled, closed with the trailer. Assumes nothing.
 use native.Mathlib.Omega.{arith}
-use borrow.Author.Tests.{not-true, not-false}
+use borrow.Author.Tests.{not_true, not_false}
 use Rattle.record_packs.proofs.Moving.{moves, moves_not, sizes, ready, too_small, moved}
 use borrow.Author.Rules.{rules}
 use Rattle.record_packs.proofs.to_records.Statement.{statement}
@@ -12,14 +12,14 @@ weigh-requires c κs = search rules
 returns : tie.Need-returns
 returns c =
     let w = c.before.before.weigh in
-    moves_not c.before.before.before.before.before.args.text.now w.result w.ensures c.before.before.before.before.before.args.out.now (not-true _ c.if1.true)
+    moves_not c.before.before.before.before.before.args.text.now w.result w.ensures c.before.before.before.before.before.args.out.now (not_true _ c.if1.true)
 
 mul-end : tie.Need-overflow-mul-end
 mul-end c =
     let t = c.before.before.before.before.before.args.text.now in
     let out = c.before.before.before.before.before.args.out.now in
     let w = c.before.before.weigh in
-    let m = moves t w.result w.ensures (not-false _ c.if1.false) in
+    let m = moves t w.result w.ensures (not_false _ c.if1.false) in
     omega (arith, sizes t w.result m)
 
 add-end : tie.Need-overflow-add-end
@@ -27,7 +27,7 @@ add-end c =
     let t = c.before.before.before.before.before.args.text.now in
     let out = c.before.before.before.before.before.args.out.now in
     let w = c.before.before.weigh in
-    let m = moves t w.result w.ensures (not-false _ c.if1.false) in
+    let m = moves t w.result w.ensures (not_false _ c.if1.false) in
     omega (arith, sizes t w.result m)
 
 add-size : tie.Need-overflow-add-size
@@ -35,7 +35,7 @@ add-size c =
     let t = c.before.before.before.before.before.args.text.now in
     let out = c.before.before.before.before.before.args.out.now in
     let w = c.before.before.weigh in
-    let m = moves t w.result w.ensures (not-false _ c.if1.false) in
+    let m = moves t w.result w.ensures (not_false _ c.if1.false) in
     omega (arith, sizes t w.result m)
 
 returns-2 : tie.Need-returns-2
@@ -44,7 +44,7 @@ returns-2 c =
     let t = start.args.text.now in
     let out = start.args.out.now in
     let w = c.before.before.before.weigh in
-    let m = moves t w.result w.ensures (not-false _ c.before.if1.false) in
+    let m = moves t w.result w.ensures (not_false _ c.before.if1.false) in
     too_small t w.result m out c.if2.true
 
 fill-requires : tie.Need-fill-requires
@@ -53,7 +53,7 @@ fill-requires c κs =
     let start = at-weigh.before.before.before in
     let t = start.args.text.now in
     let out = start.args.out.now in
-    let m = moves t at-weigh.weigh.result at-weigh.weigh.ensures (not-false _ c.before.before.if1.false) in
+    let m = moves t at-weigh.weigh.result at-weigh.weigh.ensures (not_false _ c.before.before.if1.false) in
     ready t at-weigh.weigh.result m out (omega (arith, c.before.if2.false))
 
 put-trailer-requires : tie.Need-put-trailer-requires
@@ -64,7 +64,7 @@ put-trailer-requires c κs =
     let start = at-weigh.before.before.before in
     let t = start.args.text.now in
     let out = start.args.out.now in
-    let m = moves t at-weigh.weigh.result at-weigh.weigh.ensures (not-false _ at-if1.if1.false) in
+    let m = moves t at-weigh.weigh.result at-weigh.weigh.ensures (not_false _ at-if1.if1.false) in
     (omega (arith, at-if2.if2.false, c.before.before.before.fill.auto.1.0), (omega (arith, sizes t at-weigh.weigh.result m), omega (arith, sizes t at-weigh.weigh.result m)))
 
 same_length : tie.Need-same-length
@@ -79,7 +79,7 @@ returns-3 c =
     let start = at-weigh.before.before.before in
     let t = start.args.text.now in
     let out = start.args.out.now in
-    let m = moves t at-weigh.weigh.result at-weigh.weigh.ensures (not-false _ at-if1.if1.false) in
+    let m = moves t at-weigh.weigh.result at-weigh.weigh.ensures (not_false _ at-if1.if1.false) in
     moved t at-weigh.weigh.result m out _ _ c.before.before.put-trailer.result (omega (arith, at-if2.if2.false)) at_fill_lem.fill.ensures c.before.before.put-trailer.ensures
 
 pub to-records-spec : {M : Type 1} → statement M

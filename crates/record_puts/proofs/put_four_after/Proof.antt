@@ -3,7 +3,7 @@ use native.Mathlib.Omega.{arith}
 use Rattle.text_decimals.proofs.Writes.{chain}
 use Rattle.record_spec.specs.Numbers.{bytes}
 use Rattle.record_puts.specs.Puts.{head_of}
-use Rattle.record_puts.proofs.Putting.{head-long}
+use Rattle.record_puts.proofs.Putting.{head_long}
 use borrow.Author.Rules.{rules}
 use Rattle.record_puts.proofs.put_four_after.Statement.{statement}
 use Rattle.record_puts.proofs.put_four_after.Tie as tie
@@ -14,7 +14,7 @@ put-head-requires c κs = search rules
 put-four-requires : tie.Need-put-four-requires
 put-four-requires c κs =
     let start = c.before.before.before.before.before.before in
-    omega (arith, c.before.before.before.put-head.ensures.next, c.before.before.before.put-head.auto.0, head-long start.args.letter start.args.unit, start.requires)
+    omega (arith, c.before.before.before.put-head.ensures.next, c.before.before.before.put-head.auto.0, head_long start.args.letter start.args.unit, start.requires)
 
 same_length : tie.Need-same-length
 same_length c = search rules

@@ -5,7 +5,7 @@ use lib.ListN.{length}
 use Rattle.text_decimals.proofs.Writes.{chain}
 use Rattle.record_spec.specs.Numbers.{bytes, complement}
 use Rattle.record_puts.specs.Puts.{head_of}
-use Rattle.record_puts.proofs.Putting.{head-long}
+use Rattle.record_puts.proofs.Putting.{head_long}
 use mir.Facts.{to_z-of_z}
 use borrow.Author.Rules.{rules}
 use Rattle.record_puts.proofs.put_length.Statement.{statement}
@@ -21,7 +21,7 @@ put-eight-requires : tie.Need-put-eight-requires
 put-eight-requires c κs =
     let at-put-head = c.before.before.before.before in
     let start = at-put-head.before.before.before in
-    omega (arith, at-put-head.put-head.ensures.next, at-put-head.put-head.auto.0, head-long 71 start.args.unit, start.requires)
+    omega (arith, at-put-head.put-head.ensures.next, at-put-head.put-head.auto.0, head_long 71 start.args.unit, start.requires)
 
 same_length : tie.Need-same-length
 same_length c = search rules

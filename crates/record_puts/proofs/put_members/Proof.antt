@@ -4,7 +4,7 @@ use Prim.Native.Nat.{◌-◌}
 use mathlib.Core.Path.{sym}
 use lib.ListN.{take}
 use lib.Seq.{length-take-le, get_or-take}
-use Rattle.record_puts.proofs.Putting.{Putting, putting, put_on, put-done}
+use Rattle.record_puts.proofs.Putting.{Putting, putting, put_on, put_done}
 use Rattle.record_puts.proofs.put_members.Statement.{statement}
 use Rattle.record_puts.proofs.put_members.Tie as tie
 
@@ -52,7 +52,7 @@ returns : tie.Need-returns invariant-loop decreases-loop
 returns c =
     let a = c.before.before.before.before.args in
     let l = c.before.loop in
-    put-done (take a.count a.serials.now) a.out.now a.at l.i l.p l.out l.invariant (omega (arith, length-take-le a.count a.serials.now c.before.before.before.before.requires.1, c.loop-test.false))
+    put_done (take a.count a.serials.now) a.out.now a.at l.i l.p l.out l.invariant (omega (arith, length-take-le a.count a.serials.now c.before.before.before.before.requires.1, c.loop-test.false))
 
 pub put-members-spec : {M : Type 1} → statement M
 put-members-spec =

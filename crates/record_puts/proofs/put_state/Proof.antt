@@ -5,11 +5,11 @@ use mathlib.Core.List.{◌++◌}
 use lib.ListN.{length-append}
 use Rattle.text_decimals.proofs.Writes.{chain}
 use Rattle.record_spec.specs.Numbers.{bytes}
-use Rattle.record_spec.specs.Records.{stateByte}
-use Rattle.record_spec.proofs.Numbers.{length-bytes}
-use Rattle.ledger_spec.specs.Named.{stateNamed}
+use Rattle.record_spec.specs.Records.{state_byte}
+use Rattle.record_spec.proofs.Numbers.{length_bytes}
+use Rattle.ledger_spec.specs.Named.{state_named}
 use Rattle.record_puts.specs.Puts.{head_of}
-use Rattle.record_puts.proofs.Putting.{head-long}
+use Rattle.record_puts.proofs.Putting.{head_long}
 use borrow.Author.Rules.{rules}
 use Rattle.record_puts.proofs.put_state.Statement.{statement}
 use Rattle.record_puts.proofs.put_state.Tie as tie
@@ -24,7 +24,7 @@ put-byte-requires : tie.Need-put-byte-requires
 put-byte-requires c κs =
     let at-put-four-after = c.before.before.before.before in
     let start = at-put-four-after.before.before.before in
-    omega (arith, at-put-four-after.put-four-after.ensures.next, at-put-four-after.put-four-after.auto.0, head-long 83 start.args.unit, length-append (head_of 83 start.args.unit) (bytes 4 start.args.serial), length-bytes 4 start.args.serial, start.requires)
+    omega (arith, at-put-four-after.put-four-after.ensures.next, at-put-four-after.put-four-after.auto.0, head_long 83 start.args.unit, length-append (head_of 83 start.args.unit) (bytes 4 start.args.serial), length_bytes 4 start.args.serial, start.requires)
 
 same_length : tie.Need-same-length
 same_length c = search rules
@@ -34,7 +34,7 @@ returns c =
     let at-state-byte = c.before.before.before.before in
     let at-put-four-after = at-state-byte.before.before.before in
     let start = at-put-four-after.before.before.before in
-    chain start.args.out.now start.args.at (head_of 83 start.args.unit ++ bytes 4 start.args.serial) _ _ (bytes 1 (stateByte (stateNamed start.args.state))) _ _ at-put-four-after.put-four-after.ensures (rw (sym at-state-byte.state-byte.ensures) c.before.before.put_byte.ensures)
+    chain start.args.out.now start.args.at (head_of 83 start.args.unit ++ bytes 4 start.args.serial) _ _ (bytes 1 (state_byte (state_named start.args.state))) _ _ at-put-four-after.put-four-after.ensures (rw (sym at-state-byte.state-byte.ensures) c.before.before.put_byte.ensures)
 
 pub put-state-spec : {M : Type 1} → statement M
 put-state-spec =

@@ -6,7 +6,7 @@ use mathlib.Core.List.{List}
 use lib.IntN.{ℤ}
 use lib.ListN.{length}
 use borrow.Author.Rules.{rules}
-use Rattle.record_runs.proofs.Running.{AllRunning, running, listed_at, recorded-at, sound-now, still-long, turn, finish}
+use Rattle.record_runs.proofs.Running.{AllRunning, running, listed_at, recorded_at, sound_now, still_long, turn, finish}
 use borrow.Author.Rules.{rules}
 use Rattle.record_runs.proofs.go.Statement.{statement}
 use Rattle.record_runs.proofs.go.Tie as tie
@@ -40,7 +40,7 @@ perform-requires c κs =
     let a = z.args in
     let v = c.before.before.before.before.before.before.loop in
     let y = z.requires.1 in
-    (sound-now a.file.now a.list a.count (length a.answers.now) y a.b.now a.answers.now refl v.b v.answers v.i v.invariant.0, (recorded-at a.file.now a.list a.count (length a.answers.now) y v.i c.before.before.before.before.place_in.result c.before.before.before.before.place_in.ensures, (omega (arith, v.invariant.1.0), omega (arith, v.invariant.1.1))))
+    (sound_now a.file.now a.list a.count (length a.answers.now) y a.b.now a.answers.now refl v.b v.answers v.i v.invariant.0, (recorded_at a.file.now a.list a.count (length a.answers.now) y v.i c.before.before.before.before.place_in.result c.before.before.before.before.place_in.ensures, (omega (arith, v.invariant.1.0), omega (arith, v.invariant.1.1))))
 
 mul-put : tie.Need-overflow-mul-put invariant-loop decreases-loop
 mul-put c =
@@ -49,7 +49,7 @@ mul-put c =
     let z = c.before.before.before.before.before.before.before.before.before.before.before.before in
     let a = z.args in
     let y = z.requires.1 in
-    omega (arith, y.fits, at-loop-test.loop-test.true, still-long a.file.now a.list a.count (length a.answers.now) y a.b.now a.answers.now refl at-loop.loop.b at-loop.loop.answers at-loop.loop.i at-loop.loop.invariant.0)
+    omega (arith, y.fits, at-loop-test.loop-test.true, still_long a.file.now a.list a.count (length a.answers.now) y a.b.now a.answers.now refl at-loop.loop.b at-loop.loop.answers at-loop.loop.i at-loop.loop.invariant.0)
 
 put-requires : tie.Need-put-requires invariant-loop decreases-loop
 put-requires c κs =
@@ -58,7 +58,7 @@ put-requires c κs =
     let z = c.before.before.before.before.before.before.before.before.before.before.before.before in
     let a = z.args in
     let y = z.requires.1 in
-    omega (arith, y.fits, at-loop-test.loop-test.true, still-long a.file.now a.list a.count (length a.answers.now) y a.b.now a.answers.now refl at-loop.loop.b at-loop.loop.answers at-loop.loop.i at-loop.loop.invariant.0)
+    omega (arith, y.fits, at-loop-test.loop-test.true, still_long a.file.now a.list a.count (length a.answers.now) y a.b.now a.answers.now refl at-loop.loop.b at-loop.loop.answers at-loop.loop.i at-loop.loop.invariant.0)
 
 add-i : tie.Need-overflow-add-i invariant-loop decreases-loop
 add-i c =
@@ -94,7 +94,7 @@ same_length c =
     let a = z.args in
     let v = c.before.loop in
     let y = z.requires.1 in
-    still-long a.file.now a.list a.count (length a.answers.now) y a.b.now a.answers.now refl v.b v.answers v.i v.invariant.0
+    still_long a.file.now a.list a.count (length a.answers.now) y a.b.now a.answers.now refl v.b v.answers v.i v.invariant.0
 
 returns : tie.Need-returns invariant-loop decreases-loop
 returns c =

@@ -1,7 +1,7 @@
 -- FILE, BROKEN, or the run on sound words. Assumes nothing.
 use mathlib.Core.Path.{sym, ◌∙◌}
-use borrow.Author.Tests.{not-true, not-false}
-use Rattle.record_runs.proofs.Ending.{listing, no-file, any-no-file, any-sound, any-broken}
+use borrow.Author.Tests.{not_true, not_false}
+use Rattle.record_runs.proofs.Ending.{listing, no_file, any_no_file, any_sound, any_broken}
 use borrow.Author.Rules.{rules}
 use Rattle.record_runs.proofs.run.Statement.{statement}
 use Rattle.record_runs.proofs.run.Tie as tie
@@ -17,7 +17,7 @@ returns c =
     let z = c.before.before.before.before.before in
     let a = z.args in
     let x = c.before.before.before.scan in
-    any-no-file a.b.now a.file.now a.answers.now (no-file a.file.now x.result x.ensures (not-true _ c.before.if1.true)) c.refused.result c.refused.ensures
+    any_no_file a.b.now a.file.now a.answers.now (no_file a.file.now x.result x.ensures (not_true _ c.before.if1.true)) c.refused.result c.refused.ensures
 
 is-bench-requires : tie.Need-is-bench-requires
 is-bench-requires c κs = search rules
@@ -30,16 +30,16 @@ returns-2 c =
     let s = c.before.before in
     let x = s.before.before.before.before in
     let a = x.before.before.args in
-    let h = listing a.file.now x.scan.result x.scan.ensures (not-false _ s.before.before.if1.false) in
-    any-broken a.b.now a.file.now a.answers.now x.scan.result.start x.scan.result.count h
-    (sym s.is-bench.ensures.is ∙ not-true _ c.before.if2.true) c.refused2.result c.refused2.ensures
+    let h = listing a.file.now x.scan.result x.scan.ensures (not_false _ s.before.before.if1.false) in
+    any_broken a.b.now a.file.now a.answers.now x.scan.result.start x.scan.result.count h
+    (sym s.is-bench.ensures.is ∙ not_true _ c.before.if2.true) c.refused2.result c.refused2.ensures
 
 run-whole-requires : tie.Need-run-whole-requires
 run-whole-requires c κs =
     let s = c.before.before.before in
     let x = s.before.before.before.before in
     let f = x.before.before.args.file.now in
-    (s.is-bench.ensures.says (not-false _ c.before.before.if2.false), listing f x.scan.result x.scan.ensures (not-false _ s.before.before.if1.false))
+    (s.is-bench.ensures.says (not_false _ c.before.before.if2.false), listing f x.scan.result x.scan.ensures (not_false _ s.before.before.if1.false))
 
 same_length : tie.Need-same-length
 same_length c = search rules
@@ -50,9 +50,9 @@ returns-3 c =
     let s = t.before in
     let x = s.before.before.before.before in
     let a = x.before.before.args in
-    let h = listing a.file.now x.scan.result x.scan.ensures (not-false _ s.before.before.if1.false) in
-    any-sound a.b.now a.file.now a.answers.now x.scan.result.start x.scan.result.count h _ _ _
-    (sym s.is-bench.ensures.is ∙ not-false _ t.if2.false) c.before.run-whole.ensures
+    let h = listing a.file.now x.scan.result x.scan.ensures (not_false _ s.before.before.if1.false) in
+    any_sound a.b.now a.file.now a.answers.now x.scan.result.start x.scan.result.count h _ _ _
+    (sym s.is-bench.ensures.is ∙ not_false _ t.if2.false) c.before.run-whole.ensures
 
 pub run_spec : {M : Type 1} → statement M
 run_spec =

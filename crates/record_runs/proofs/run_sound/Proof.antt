@@ -1,6 +1,6 @@
 -- FILE, or the run of a whole file. Assumes nothing.
-use borrow.Author.Tests.{not-true, not-false}
-use Rattle.record_runs.proofs.Ending.{listing, no-file, ran-no-file}
+use borrow.Author.Tests.{not_true, not_false}
+use Rattle.record_runs.proofs.Ending.{listing, no_file, ran_no_file}
 use borrow.Author.Rules.{rules}
 use Rattle.record_runs.proofs.run_sound.Statement.{statement}
 use Rattle.record_runs.proofs.run_sound.Tie as tie
@@ -16,13 +16,13 @@ returns c =
     let z = c.before.before.before.before.before in
     let a = z.args in
     let x = c.before.before.before.scan in
-    ran-no-file a.b.now a.file.now a.answers.now z.requires (no-file a.file.now x.result x.ensures (not-true _ c.before.if1.true)) c.refused.result c.refused.ensures
+    ran_no_file a.b.now a.file.now a.answers.now z.requires (no_file a.file.now x.result x.ensures (not_true _ c.before.if1.true)) c.refused.result c.refused.ensures
 
 run-whole-requires : tie.Need-run-whole-requires
 run-whole-requires c κs =
     let x = c.before.before.before.before in
     let z = x.before.before in
-    (z.requires, listing z.args.file.now x.scan.result x.scan.ensures (not-false _ c.before.before.if1.false))
+    (z.requires, listing z.args.file.now x.scan.result x.scan.ensures (not_false _ c.before.before.if1.false))
 
 same_length : tie.Need-same-length
 same_length c = search rules

@@ -1,6 +1,6 @@
 -- SMALL, or every operation. Assumes nothing.
 use native.Mathlib.Omega.{arith}
-use Rattle.record_runs.proofs.Ending.{ran-small, ran-all}
+use Rattle.record_runs.proofs.Ending.{ran_small, ran_all}
 use borrow.Author.Rules.{rules}
 use Rattle.record_runs.proofs.run_whole.Statement.{statement}
 use Rattle.record_runs.proofs.run_whole.Tie as tie
@@ -12,7 +12,7 @@ returns : tie.Need-returns
 returns c =
     let z = c.before.before.before in
     let a = z.args in
-    ran-small a.b.now a.file.now a.answers.now z.requires.0 a.list a.count z.requires.1 c.before.if1.true c.refused.result c.refused.ensures
+    ran_small a.b.now a.file.now a.answers.now z.requires.0 a.list a.count z.requires.1 c.before.if1.true c.refused.result c.refused.ensures
 
 go-requires : tie.Need-go-requires
 go-requires c κs =
@@ -27,7 +27,7 @@ returns-2 c =
     let s = c.before.before.before.before in
     let z = s.before.before in
     let a = z.args in
-    ran-all a.b.now a.file.now a.answers.now z.requires.0 a.list a.count z.requires.1 s.if1.false _ _ c.before.go.ensures
+    ran_all a.b.now a.file.now a.answers.now z.requires.0 a.list a.count z.requires.1 s.if1.false _ _ c.before.go.ensures
 
 pub run-whole-spec : {M : Type 1} → statement M
 run-whole-spec =

@@ -4,10 +4,10 @@ use native.Mathlib.Omega.{arith}
 use mathlib.Core.Path.{sym}
 use lib.ListN.{length}
 use lib.Seq.{length-take-le}
-use borrow.Author.Tests.{not-true, not-false}
-use Rattle.record_files.proofs.Slices.{bytes-all}
+use borrow.Author.Tests.{not_true, not_false}
+use Rattle.record_files.proofs.Slices.{bytes_all}
 use borrow.Author.Rules.{rules}
-use Rattle.record_unpacks.proofs.Holding.{holds, no-file, not_own, too_small, start-inside, ready, moved}
+use Rattle.record_unpacks.proofs.Holding.{holds, no_file, not_own, too_small, start_inside, ready, moved}
 use Rattle.record_unpacks.proofs.to_text.Statement.{statement}
 use Rattle.record_unpacks.proofs.to_text.Tie as tie
 
@@ -17,21 +17,21 @@ scan-requires c κs = search rules
 returns : tie.Need-returns
 returns c =
     let w = c.before.before.scan in
-    no-file c.before.before.before.before.before.args.file.now w.result w.ensures c.before.before.before.before.before.args.out.now (not-true _ c.if1.true)
+    no_file c.before.before.before.before.before.args.file.now w.result w.ensures c.before.before.before.before.before.args.out.now (not_true _ c.if1.true)
 
 returns-2 : tie.Need-returns-2
 returns-2 c =
     let at-scan = c.before.before.before.before in
     let start = at-scan.before.before.before in
     let s = start.args.file.now in
-    not_own s at-scan.scan.result (holds s at-scan.scan.result at-scan.scan.ensures (not-false _ c.before.before.if1.false)) start.args.out.now (not-true _ c.if2.true)
+    not_own s at-scan.scan.result (holds s at-scan.scan.result at-scan.scan.ensures (not_false _ c.before.before.if1.false)) start.args.out.now (not_true _ c.if2.true)
 
 returns-3 : tie.Need-returns-3
 returns-3 c =
     let at-scan = c.before.before.before.before.before in
     let start = at-scan.before.before.before in
     let s = start.args.file.now in
-    too_small s at-scan.scan.result (holds s at-scan.scan.result at-scan.scan.ensures (not-false _ c.before.before.before.if1.false)) (not-false _ c.before.if2.false) start.args.out.now c.if3.true
+    too_small s at-scan.scan.result (holds s at-scan.scan.result at-scan.scan.ensures (not_false _ c.before.before.before.if1.false)) (not_false _ c.before.if2.false) start.args.out.now c.if3.true
 
 slice-aggregate-fill : tie.Need-slice-aggregate-fill
 slice-aggregate-fill c =
@@ -40,9 +40,9 @@ slice-aggregate-fill c =
     let at-shared-slice-known = at-scan.before.before in
     let start = at-shared-slice-known.before in
     let s = start.args.file.now in
-    let m = holds s at-scan.scan.result at-scan.scan.ensures (not-false _ at-if1.if1.false) in
-    let b = bytes-all s at-shared-slice-known.shared-slice-known.given in
-    let h : at-scan.scan.result.start ≤ length s = omega (arith, start-inside s at-scan.scan.result m (not-false _ c.before.before.if2.false) b) in
+    let m = holds s at-scan.scan.result at-scan.scan.ensures (not_false _ at-if1.if1.false) in
+    let b = bytes_all s at-shared-slice-known.shared-slice-known.given in
+    let h : at-scan.scan.result.start ≤ length s = omega (arith, start_inside s at-scan.scan.result m (not_false _ c.before.before.if2.false) b) in
     sym (length-take-le _ _ h)
 
 fill-requires : tie.Need-fill-requires
@@ -52,10 +52,10 @@ fill-requires c κs =
     let at-shared-slice-known = at-scan.before.before in
     let start = at-shared-slice-known.before in
     let s = start.args.file.now in
-    let m = holds s at-scan.scan.result at-scan.scan.ensures (not-false _ at-if1.if1.false) in
-    let b = bytes-all s at-shared-slice-known.shared-slice-known.given in
-    let o = not-false _ c.before.before.before.if2.false in
-    (start-inside s at-scan.scan.result m o b, ready s at-scan.scan.result m o b start.args.out.now c.before.before.if3.false)
+    let m = holds s at-scan.scan.result at-scan.scan.ensures (not_false _ at-if1.if1.false) in
+    let b = bytes_all s at-shared-slice-known.shared-slice-known.given in
+    let o = not_false _ c.before.before.before.if2.false in
+    (start_inside s at-scan.scan.result m o b, ready s at-scan.scan.result m o b start.args.out.now c.before.before.if3.false)
 
 same_length : tie.Need-same-length
 same_length c = search rules
@@ -69,8 +69,8 @@ returns-4 c =
     let at-shared-slice-known = at-scan.before.before in
     let start = at-shared-slice-known.before in
     let s = start.args.file.now in
-    let m = holds s at-scan.scan.result at-scan.scan.ensures (not-false _ at-if1.if1.false) in
-    moved s at-scan.scan.result m (not-false _ at-if2.if2.false) (bytes-all s at-shared-slice-known.shared-slice-known.given) start.args.out.now _ at-if3.if3.false c.before.before.fill.ensures
+    let m = holds s at-scan.scan.result at-scan.scan.ensures (not_false _ at-if1.if1.false) in
+    moved s at-scan.scan.result m (not_false _ at-if2.if2.false) (bytes_all s at-shared-slice-known.shared-slice-known.given) start.args.out.now _ at-if3.if3.false c.before.before.fill.ensures
 
 pub to-text-spec : {M : Type 1} → statement M
 to-text-spec =

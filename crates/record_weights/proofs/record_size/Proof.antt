@@ -2,7 +2,7 @@
 use native.Mathlib.Omega.{arith}
 use mathlib.Core.Path.{◌≡◌, sym, ap}
 use Rattle.text_lines.specs.declared.Line.TheVariants.{Blossom}
-use Rattle.record_weights.specs.Weights.{sizeBy}
+use Rattle.record_weights.specs.Weights.{size_by}
 use borrow.Author.Rules.{rules}
 use Rattle.record_weights.proofs.record_size.Statement.{statement}
 use Rattle.record_weights.proofs.record_size.Tie as tie
@@ -16,12 +16,12 @@ enum-known-line c = search rules
 mul-result : tie.Need-overflow-mul-result
 mul-result c =
     let q : c.before.before.before.args.line ≡ Blossom c.before.line.given.0.0 c.before.line.given.0.1.0 = cc in
-    omega (arith, c.before.before.before.requires, ap sizeBy q)
+    omega (arith, c.before.before.before.requires, ap size_by q)
 
 add-result : tie.Need-overflow-add-result
 add-result c =
     let q : c.before.before.before.args.line ≡ Blossom c.before.line.given.0.0 c.before.line.given.0.1.0 = cc in
-    omega (arith, c.before.before.before.requires, ap sizeBy q)
+    omega (arith, c.before.before.before.requires, ap size_by q)
 
 enum-told-2 : tie.Need-enum-told-2
 enum-told-2 c = search rules
@@ -50,7 +50,7 @@ returns c = search rules
 returns-2 : tie.Need-returns-2
 returns-2 c =
     let q : c.before.before.before.args.line ≡ Blossom c.before.line.given.0.0 c.before.line.given.0.1.0 = cc in
-    sym (ap sizeBy q)
+    sym (ap size_by q)
 
 returns-3 : tie.Need-returns-3
 returns-3 c = search rules

@@ -5,7 +5,7 @@ use mathlib.Core.Path.{◌≡◌, ◌∙◌}
 use borrow.Author.Rules.{rules}
 use lib.ListN.{length, take, drop}
 use Rattle.record_weights.proofs.Sizes.{read_small, read_none, read_some}
-use Rattle.record_weights.proofs.Weighing.{Weighing, weighing, unended, bad-line, too_large, weigh-on, weighed}
+use Rattle.record_weights.proofs.Weighing.{Weighing, weighing, unended, bad_line, too_large, weigh_on, weighed}
 use Rattle.record_weights.proofs.weigh.Statement.{statement}
 use Rattle.record_weights.proofs.weigh.Tie as tie
 
@@ -71,7 +71,7 @@ returns-2 c =
     let f = take (g.result - l.start) (drop l.start s) in
     let r = t.before.before.read-line in
     let z = t.record-size in
-    c.not-text2.ensures ∙ bad-line s l.start l.count l.size l.invariant.0 g.result g.ensures h (read_none f r.result r.ensures.line z.result z.ensures c.before.if2.true)
+    c.not-text2.ensures ∙ bad_line s l.start l.count l.size l.invariant.0 g.result g.ensures h (read_none f r.result r.ensures.line z.result z.ensures c.before.if2.true)
 
 add-size : tie.Need-overflow-add-size invariant-loop decreases-loop
 add-size c =
@@ -187,7 +187,7 @@ loop-again c =
     let r = t.before.before.read-line in
     let z = t.record-size in
     let x = read_some f r.result r.ensures.line z.result z.ensures c.before.if2.false in
-    (weigh-on s l.start l.count l.size l.invariant.0 g.result g.ensures h x.op x.said z.result x.size c.if3.false, search rules)
+    (weigh_on s l.start l.count l.size l.invariant.0 g.result g.ensures h x.op x.said z.result x.size c.if3.false, search rules)
 
 returns-4 : tie.Need-returns-4 invariant-loop decreases-loop
 returns-4 c =

@@ -1,8 +1,8 @@
 -- The verdict first; accepted, the growth in one and the lengths. Assumes nothing.
 use mir.Facts.{to_z-of_z}
 use Rattle.bench_views.proofs.Fits.{fit_of}
-use Rattle.refuse_calls.proofs.Lengths.{forward-of}
-use Rattle.recorded_sound.proofs.Judging.{all-refused, ahead, ready, all_done}
+use Rattle.refuse_calls.proofs.Lengths.{forward_of}
+use Rattle.recorded_sound.proofs.Judging.{all_refused, ahead, ready, all_done}
 use borrow.Author.Rules.{rules}
 use Rattle.recorded_sound.proofs.grow_recorded.Statement.{statement}
 use Rattle.recorded_sound.proofs.grow_recorded.Tie as tie
@@ -14,7 +14,7 @@ returns : tie.Need-returns
 returns c =
     let s = c.before.before.before.before.before.before in
     let a = s.args in
-    all-refused a.b.now a.unit a.length a.groups.now a.out.now _ (rw (to_z-of_z s.ranges.length) at c.before.before.judge.ensures) s.requires c.if1.true
+    all_refused a.b.now a.unit a.length a.groups.now a.out.now _ (rw (to_z-of_z s.ranges.length) at c.before.before.judge.ensures) s.requires c.if1.true
 
 grow-requires : tie.Need-grow-requires
 grow-requires c κs = search rules
@@ -24,7 +24,7 @@ cast-put-lengths c =
     let s = c.before.before.before.before.before.before.before.before in
     let a = s.args in
     let j = rw (to_z-of_z s.ranges.length) at c.before.before.before.before.judge.ensures in
-    (forward-of a.length s.ranges.length (ahead a.b.now a.unit a.length a.groups.now a.out.now _ j c.before.before.if1.false)).whole
+    (forward_of a.length s.ranges.length (ahead a.b.now a.unit a.length a.groups.now a.out.now _ j c.before.before.if1.false)).whole
 
 put-lengths-requires : tie.Need-put-lengths-requires
 put-lengths-requires c κs =

@@ -2,7 +2,7 @@
 use Prim.Native.Nat.{◌-◌}
 use native.Mathlib.Omega.{arith}
 use lib.ListN.{length as size}
-use Rattle.recorded_steps.proofs.Reaching.{Writing, writing_start, goes_on, writing-room, writing-next, writing-end}
+use Rattle.recorded_steps.proofs.Reaching.{Writing, writing_start, goes_on, writing_room, writing_next, writing_end}
 use Rattle.recorded_steps.proofs.put_lengths.Statement.{statement}
 use Rattle.recorded_steps.proofs.put_lengths.Tie as tie
 
@@ -25,10 +25,10 @@ mul-out : tie.Need-overflow-mul-out invariant-loop decreases-loop
 mul-out c = omega arith
 
 slice-write-out : tie.Need-slice-write-out invariant-loop decreases-loop
-slice-write-out c = let l = c.before.before in let s = l.before.before.before in let a = s.args in writing-room a.ws.now a.length a.out.now l.loop.out l.loop.at l.loop.i l.loop.done l.loop.invariant s.requires c.before.loop-test.true _ c.step-at.ensures
+slice-write-out c = let l = c.before.before in let s = l.before.before.before in let a = s.args in writing_room a.ws.now a.length a.out.now l.loop.out l.loop.at l.loop.i l.loop.done l.loop.invariant s.requires c.before.loop-test.true _ c.step-at.ensures
 
 add_done : tie.Need-overflow-add-done invariant-loop decreases-loop
-add_done c = let l = c.before.before.before in let s = l.before.before.before in let a = s.args in omega (arith, (writing-next a.ws.now a.length a.out.now l.loop.out l.loop.at l.loop.i l.loop.done l.loop.invariant s.requires c.before.before.loop-test.true _ c.before.step-at.ensures).reached.low)
+add_done c = let l = c.before.before.before in let s = l.before.before.before in let a = s.args in omega (arith, (writing_next a.ws.now a.length a.out.now l.loop.out l.loop.at l.loop.i l.loop.done l.loop.invariant s.requires c.before.before.loop-test.true _ c.before.step-at.ensures).reached.low)
 
 add-i : tie.Need-overflow-add-i invariant-loop decreases-loop
 add-i c = let l = c.before.before.before in omega (arith, l.loop.invariant.reached.few, l.loop.invariant.reached.in_words)
@@ -37,13 +37,13 @@ loop-less : tie.Need-loop-smaller invariant-loop decreases-loop
 loop-less c = let l = c.before.before.before in let s = l.before.before.before in let a = s.args in omega (arith, c.before.step-at.ensures.end (goes_on a.ws.now a.length a.out.now l.loop.out l.loop.at l.loop.i l.loop.done l.loop.invariant s.requires c.before.before.loop-test.true _ c.before.step-at.ensures))
 
 loop-again : tie.Need-loop-preserved invariant-loop decreases-loop
-loop-again c = let l = c.before.before.before in let s = l.before.before.before in let a = s.args in writing-next a.ws.now a.length a.out.now l.loop.out l.loop.at l.loop.i l.loop.done l.loop.invariant s.requires c.before.before.loop-test.true _ c.before.step-at.ensures
+loop-again c = let l = c.before.before.before in let s = l.before.before.before in let a = s.args in writing_next a.ws.now a.length a.out.now l.loop.out l.loop.at l.loop.i l.loop.done l.loop.invariant s.requires c.before.before.loop-test.true _ c.before.step-at.ensures
 
 same_length : tie.Need-same-length invariant-loop decreases-loop
 same_length c = c.before.loop.invariant.long
 
 returns : tie.Need-returns invariant-loop decreases-loop
-returns c = let l = c.before in let a = l.before.before.before.args in writing-end a.ws.now a.length a.out.now l.loop.out l.loop.at l.loop.i l.loop.done l.loop.invariant (omega arith)
+returns c = let l = c.before in let a = l.before.before.before.args in writing_end a.ws.now a.length a.out.now l.loop.out l.loop.at l.loop.i l.loop.done l.loop.invariant (omega arith)
 
 pub put-lengths-spec : {M : Type 1} → statement M
 put-lengths-spec =

@@ -1,9 +1,9 @@
 -- The number is that of the first test that holds. Assumes nothing.
 use borrow.Author.Rules.{rules}
 use mathlib.Core.Path.{◌≡◌}
-use Rattle.ledger_spec.specs.Named.{handleNamed}
+use Rattle.ledger_spec.specs.Named.{handle_named}
 use Rattle.kinds.specs.declared.Parent.TheVariants.{Outermost, Inside}
-use Rattle.refuse_calls.proofs.Named.{state-no, named-low, state-fine, state-member}
+use Rattle.refuse_calls.proofs.Named.{state_no, named_low, state_fine, state_member}
 use Rattle.refuse_calls.proofs.state_number.Statement.{statement}
 use Rattle.refuse_calls.proofs.state_number.Tie as tie
 
@@ -11,7 +11,7 @@ named-number-requires : tie.Need-named-number-requires
 named-number-requires c κs = search rules
 
 returns : tie.Need-returns
-returns c = state-no c.before.before.args.b.now c.before.before.requires c.before.before.args.unit c.before.named-number.result (handleNamed c.before.before.args.h) c.before.named-number.ensures c.if1.true
+returns c = state_no c.before.before.args.b.now c.before.before.requires c.before.before.args.unit c.before.named-number.result (handle_named c.before.before.args.h) c.before.named-number.ensures c.if1.true
 
 cast-load-node : tie.Need-overflow-cast-load-node
 cast-load-node c = search rules
@@ -26,7 +26,7 @@ add-load-node : tie.Need-overflow-add-load-node
 add-load-node c = search rules
 
 load-node-requires : tie.Need-load-node-requires
-load-node-requires c κs = named-low c.before.before.before.before.args.b.now c.before.before.before.before.requires c.before.before.before.before.args.unit c.before.before.before.named-number.result (handleNamed c.before.before.before.before.args.h) c.before.before.before.named-number.ensures c.before.before.if1.false
+load-node-requires c κs = named_low c.before.before.before.before.args.b.now c.before.before.before.before.requires c.before.before.before.before.args.unit c.before.before.before.named-number.result (handle_named c.before.before.before.before.args.h) c.before.before.before.named-number.ensures c.before.before.if1.false
 
 enum_told : tie.Need-enum-told
 enum_told c = search rules
@@ -37,13 +37,13 @@ enum-told-2 c = search rules
 returns-2 : tie.Need-returns-2
 returns-2 c =
     let q : c.before.before.load-node.result.parent ≡ Outermost = cc in
-    state-fine c.before.before.before.before.before.before.before.args.b.now c.before.before.before.before.before.before.before.requires c.before.before.before.before.before.before.before.args.unit c.before.before.before.before.before.before.named-number.result (handleNamed c.before.before.before.before.before.before.before.args.h) c.before.before.before.before.before.before.named-number.ensures c.before.before.before.before.before.if1.false c.before.before.load-node.result c.before.before.load-node.ensures q
+    state_fine c.before.before.before.before.before.before.before.args.b.now c.before.before.before.before.before.before.before.requires c.before.before.before.before.before.before.before.args.unit c.before.before.before.before.before.before.named-number.result (handle_named c.before.before.before.before.before.before.before.args.h) c.before.before.before.before.before.before.named-number.ensures c.before.before.before.before.before.if1.false c.before.before.load-node.result c.before.before.load-node.ensures q
 
 returns-3 : tie.Need-returns-3
 returns-3 c =
     let h = c.enum-told2.given.0.0 in
     let q : c.before.before.load-node.result.parent ≡ Inside h = cc in
-    state-member c.before.before.before.before.before.before.before.args.b.now c.before.before.before.before.before.before.before.requires c.before.before.before.before.before.before.before.args.unit c.before.before.before.before.before.before.named-number.result (handleNamed c.before.before.before.before.before.before.before.args.h) c.before.before.before.before.before.before.named-number.ensures c.before.before.before.before.before.if1.false c.before.before.load-node.result c.before.before.load-node.ensures h q
+    state_member c.before.before.before.before.before.before.before.args.b.now c.before.before.before.before.before.before.before.requires c.before.before.before.before.before.before.before.args.unit c.before.before.before.before.before.before.named-number.result (handle_named c.before.before.before.before.before.before.before.args.h) c.before.before.before.before.before.before.named-number.ensures c.before.before.before.before.before.if1.false c.before.before.load-node.result c.before.before.load-node.ensures h q
 
 pub state-number-spec : {M : Type 1} → statement M
 state-number-spec =

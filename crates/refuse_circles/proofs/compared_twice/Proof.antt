@@ -4,7 +4,7 @@ use mathlib.Core.Path.{◌≡◌, refl, sym, ◌∙◌}
 use native.Mathlib.Omega.{arith}
 use borrow.Author.Rules.{rules}
 use lib.ListN.{length}
-use Rattle.refuse_circles.proofs.Twice.{in-at, still, still-here, still-on, still-end}
+use Rattle.refuse_circles.proofs.Twice.{in_at, still, still_here, still_on, still_end}
 use Rattle.refuse_circles.proofs.compared_twice.Statement.{statement}
 use Rattle.refuse_circles.proofs.compared_twice.Tie as tie
 
@@ -27,13 +27,13 @@ shared-slice-read-again : tie.Need-shared-slice-read-preserved invariant-loop de
 shared-slice-read-again c = search rules
 
 again-requires : tie.Need-again-requires invariant-loop decreases-loop
-again-requires c κs = (c.before.before.before.before.requires, in-at c.before.before.before.before.args.ws.now c.before.before.loop.i c.before.loop-test.true)
+again-requires c κs = (c.before.before.before.before.requires, in_at c.before.before.before.before.args.ws.now c.before.before.loop.i c.before.loop-test.true)
 
 returns : tie.Need-returns invariant-loop decreases-loop
 returns c =
     let at-loop = c.before.before.before.before in
     let start = at-loop.before.before in
-    sym (at-loop.loop.invariant ∙ still-here start.args.ws.now at-loop.loop.i c.before.before.before.loop-test.true (sym c.before.again.ensures ∙ c.if1.true))
+    sym (at-loop.loop.invariant ∙ still_here start.args.ws.now at-loop.loop.i c.before.before.before.loop-test.true (sym c.before.again.ensures ∙ c.if1.true))
 
 add-i : tie.Need-overflow-add-i invariant-loop decreases-loop
 add-i c = search rules
@@ -45,10 +45,10 @@ loop-again : tie.Need-loop-preserved invariant-loop decreases-loop
 loop-again c =
     let at-loop = c.before.before.before.before in
     let start = at-loop.before.before in
-    at-loop.loop.invariant ∙ still-on start.args.ws.now at-loop.loop.i c.before.before.before.loop-test.true (sym c.before.again.ensures ∙ c.if1.false)
+    at-loop.loop.invariant ∙ still_on start.args.ws.now at-loop.loop.i c.before.before.before.loop-test.true (sym c.before.again.ensures ∙ c.if1.false)
 
 returns-2 : tie.Need-returns-2 invariant-loop decreases-loop
-returns-2 c = sym (c.before.loop.invariant ∙ still-end c.before.before.before.args.ws.now c.before.loop.i (omega arith))
+returns-2 c = sym (c.before.loop.invariant ∙ still_end c.before.before.before.args.ws.now c.before.loop.i (omega arith))
 
 pub compared-twice-spec : {M : Type 1} → statement M
 compared-twice-spec =

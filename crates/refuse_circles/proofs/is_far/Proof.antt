@@ -5,12 +5,12 @@ use mathlib.Core.Bool.{not}
 use borrow.Author.Rules.{rules}
 use lib.Dec.{eqb}
 use Rattle.bench_views.specs.View.{view}
-use Rattle.refuse_circles.proofs.Marking.{near-own}
+use Rattle.refuse_circles.proofs.Marking.{near_own}
 use Rattle.refuse_circles.proofs.is_far.Statement.{statement}
 use Rattle.refuse_circles.proofs.is_far.Tie as tie
 
 returns : tie.Need-returns
-returns c = let s = c.before in near-own (view s.args.b.now) s.args.unit s.requires.2 s.args.home c.if1.true
+returns c = let s = c.before in near_own (view s.args.b.now) s.args.unit s.requires.2 s.args.home c.if1.true
 
 top-of-requires : tie.Need-top-of-requires
 top-of-requires c κs = search rules

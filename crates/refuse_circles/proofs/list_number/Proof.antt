@@ -4,21 +4,21 @@ use mathlib.Core.Path.{◌≡◌, sym}
 use native.Mathlib.Omega.{arith}
 use borrow.Author.Rules.{rules}
 use lib.ListN.{length}
-use Rattle.deed_circles.specs.Given.{handsGiven}
+use Rattle.deed_circles.specs.Given.{hands_given}
 use Rattle.bench_views.specs.View.{view}
-use Rattle.refuse_circles.specs.Marks.{listMark, lower}
-use Rattle.refuse_circles.proofs.Lowest.{none-lower, rest, turn, ends}
+use Rattle.refuse_circles.specs.Marks.{list_mark, lower}
+use Rattle.refuse_circles.proofs.Lowest.{none_lower, rest, turn, ends}
 use Rattle.refuse_circles.proofs.list_number.Statement.{statement}
 use Rattle.refuse_circles.proofs.list_number.Tie as tie
 
 abbrev invariant-loop : tie.invariant-loop
-invariant-loop b unit ws number₀ i₀ number i = listMark (view b) unit (handsGiven ws) ≡ lower number (rest (view b) unit ws i)
+invariant-loop b unit ws number₀ i₀ number i = list_mark (view b) unit (hands_given ws) ≡ lower number (rest (view b) unit ws i)
 
 abbrev decreases-loop : tie.decreases-loop
 decreases-loop b unit ws number₀ i₀ number i = length ws - i
 
 loop-holds : tie.Need-loop-init invariant-loop decreases-loop
-loop-holds c = sym (none-lower _)
+loop-holds c = sym (none_lower _)
 
 mul-word-number : tie.Need-overflow-mul-word-number invariant-loop decreases-loop
 mul-word-number c = search rules

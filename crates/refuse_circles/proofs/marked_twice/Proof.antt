@@ -3,7 +3,7 @@ use Prim.Native.Nat.{◌-◌}
 use native.Mathlib.Omega.{arith}
 use borrow.Author.Rules.{rules}
 use lib.ListN.{length}
-use Rattle.refuse_circles.proofs.Seen.{Going, going-starts, going-here, going_on, going-ends}
+use Rattle.refuse_circles.proofs.Seen.{Going, going_starts, going_here, going_on, going_ends}
 use Rattle.refuse_circles.proofs.marked_twice.Statement.{statement}
 use Rattle.refuse_circles.proofs.marked_twice.Tie as tie
 
@@ -14,7 +14,7 @@ abbrev decreases-loop : tie.decreases-loop
 decreases-loop ws seen₀ i₀ seen i = length ws - i
 
 loop-holds : tie.Need-loop-init invariant-loop decreases-loop
-loop-holds c = going-starts c.before.args.ws.now c.before.args.seen.now c.before.requires.1
+loop-holds c = going_starts c.before.args.ws.now c.before.args.seen.now c.before.requires.1
 
 mul-spot : tie.Need-overflow-mul-spot invariant-loop decreases-loop
 mul-spot c = search rules
@@ -33,7 +33,7 @@ returns c =
     let at-loop-test = c.before.before.before.before in
     let at-loop = at-loop-test.before in
     let start = at-loop.before.before in
-    going-here start.args.ws.now at-loop.loop.seen at-loop.loop.i at-loop.loop.invariant at-loop-test.loop-test.true c.before.before.spot.result c.before.before.spot.ensures.0 c.if1.true
+    going_here start.args.ws.now at-loop.loop.seen at-loop.loop.i at-loop.loop.invariant at-loop-test.loop-test.true c.before.before.spot.result c.before.before.spot.ensures.0 c.if1.true
 
 element-write-seen : tie.Need-element-write-seen invariant-loop decreases-loop
 element-write-seen c = omega (arith, c.before.before.spot.ensures.1, c.before.before.before.before.before.loop.invariant.long)
@@ -52,7 +52,7 @@ loop-again c =
     going_on start.args.ws.now at-loop.loop.seen at-loop.loop.i at-loop.loop.invariant at-loop-test.loop-test.true start.requires.0 c.before.before.spot.result c.before.before.spot.ensures.0 c.if1.false
 
 returns-2 : tie.Need-returns-2 invariant-loop decreases-loop
-returns-2 c = let l = c.before.loop in going-ends c.before.before.before.args.ws.now l.seen l.i l.invariant (omega arith)
+returns-2 c = let l = c.before.loop in going_ends c.before.before.before.args.ws.now l.seen l.i l.invariant (omega arith)
 
 pub marked-twice-spec : {M : Type 1} → statement M
 marked-twice-spec =

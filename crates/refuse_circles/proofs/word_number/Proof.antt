@@ -4,8 +4,8 @@ use native.Mathlib.Omega.{arith}
 use borrow.Author.Rules.{rules}
 use Rattle.kinds.specs.declared.Parent.TheVariants.{Outermost, Inside}
 use Rattle.bench_links.specs.declared.Found.TheVariants.{At, Stale}
-use Rattle.bench_views.specs.Given.{handGiven}
-use Rattle.refuse_circles.proofs.Marking.{word_at, word_none, mark-stale, mark-foreign, mark-inside, mark-free}
+use Rattle.bench_views.specs.Given.{hand_given}
+use Rattle.refuse_circles.proofs.Marking.{word_at, word_none, mark_stale, mark_foreign, mark_inside, mark_free}
 use Rattle.refuse_circles.proofs.word_number.Statement.{statement}
 use Rattle.refuse_circles.proofs.word_number.Tie as tie
 
@@ -30,10 +30,10 @@ returns : tie.Need-returns
 returns c =
     let s = c.before.before.before.before.before.before in
     let k = c.before.before.before.found.given.0.0 in
-    let h = handGiven s.args.w in
+    let h = hand_given s.args.w in
     let q : c.before.before.before.before.before.find-word.result ≡ At k = cc in
     let H = word_at s.args.b.now s.args.w c.before.before.before.before.before.find-word.result c.before.before.before.before.before.find-word.ensures k q in
-    mark-foreign s.args.b.now s.args.unit h k H c.before.is-far.result c.before.is-far.ensures c.if1.true
+    mark_foreign s.args.b.now s.args.unit h k H c.before.is-far.result c.before.is-far.ensures c.if1.true
 
 load-node-requires : tie.Need-load-node-requires
 load-node-requires c κs =
@@ -52,27 +52,27 @@ returns-2 : tie.Need-returns-2
 returns-2 c =
     let s = c.before.before.before in
     let q : c.before.before.find-word.result ≡ Stale = cc in
-    mark-stale s.args.b.now s.args.unit (handGiven s.args.w) (word_none s.args.b.now s.args.w c.before.before.find-word.result c.before.before.find-word.ensures q)
+    mark_stale s.args.b.now s.args.unit (hand_given s.args.w) (word_none s.args.b.now s.args.w c.before.before.find-word.result c.before.before.find-word.ensures q)
 
 returns-3 : tie.Need-returns-3
 returns-3 c =
     let s = c.before.before.before.before.before.before.before.before.before in
     let k = c.before.before.before.before.before.before.found.given.0.0 in
-    let h = handGiven s.args.w in
+    let h = hand_given s.args.w in
     let q : c.before.before.before.before.before.before.before.before.find-word.result ≡ At k = cc in
     let p : c.before.before.load-node.result.parent ≡ Inside c.enum-told2.given.0.0 = cc in
     let H = word_at s.args.b.now s.args.w c.before.before.before.before.before.before.before.before.find-word.result c.before.before.before.before.before.before.before.before.find-word.ensures k q in
-    mark-inside s.args.b.now s.args.unit h k H c.before.before.before.before.is-far.result c.before.before.before.before.is-far.ensures c.before.before.before.if1.false c.before.before.load-node.result c.before.before.load-node.ensures c.enum-told2.given.0.0 p
+    mark_inside s.args.b.now s.args.unit h k H c.before.before.before.before.is-far.result c.before.before.before.before.is-far.ensures c.before.before.before.if1.false c.before.before.load-node.result c.before.before.load-node.ensures c.enum-told2.given.0.0 p
 
 returns-4 : tie.Need-returns-4
 returns-4 c =
     let s = c.before.before.before.before.before.before.before.before.before in
     let k = c.before.before.before.before.before.before.found.given.0.0 in
-    let h = handGiven s.args.w in
+    let h = hand_given s.args.w in
     let q : c.before.before.before.before.before.before.before.before.find-word.result ≡ At k = cc in
     let p : c.before.before.load-node.result.parent ≡ Outermost = cc in
     let H = word_at s.args.b.now s.args.w c.before.before.before.before.before.before.before.before.find-word.result c.before.before.before.before.before.before.before.before.find-word.ensures k q in
-    mark-free s.args.b.now s.args.unit h k H c.before.before.before.before.is-far.result c.before.before.before.before.is-far.ensures c.before.before.before.if1.false c.before.before.load-node.result c.before.before.load-node.ensures p
+    mark_free s.args.b.now s.args.unit h k H c.before.before.before.before.is-far.result c.before.before.before.before.is-far.ensures c.before.before.before.if1.false c.before.before.load-node.result c.before.before.load-node.ensures p
 
 pub word-number-spec : {M : Type 1} → statement M
 word-number-spec =

@@ -4,27 +4,27 @@ use borrow.Author.Rules.{rules}
 use Prim.Native.Nat.{◌-◌, ◌≤◌}
 use mathlib.Core.Path.{◌≡◌, sym, ◌∙◌}
 use mathlib.Core.Bool.{true}
-use borrow.Author.Tests.{not-true, not-false}
-use Rattle.sound_trees.specs.Below.{allTo}
-use Rattle.sound_trees.proofs.Belows.{all_none, all_more, all-not, all_done}
-use Rattle.sound_nodes.specs.Nodes.{slotsTest}
+use borrow.Author.Tests.{not_true, not_false}
+use Rattle.sound_trees.specs.Below.{all_to}
+use Rattle.sound_trees.proofs.Belows.{all_none, all_more, all_not, all_done}
+use Rattle.sound_nodes.specs.Nodes.{slots_test}
 use Rattle.sound_nodes.proofs.are_nodes.Statement.{statement}
 use Rattle.sound_nodes.proofs.are_nodes.Tie as tie
 
 abbrev invariant-loop : tie.invariant-loop
-invariant-loop b u₀ u = (allTo (slotsTest b) u ≡ true) × (u ≤ 8)
+invariant-loop b u₀ u = (all_to (slots_test b) u ≡ true) × (u ≤ 8)
 
 abbrev decreases-loop : tie.decreases-loop
 decreases-loop b u₀ u = 8 - u
 
 loop-holds : tie.Need-loop-init invariant-loop decreases-loop
-loop-holds c = (sym (all_none (slotsTest c.args.b.now)), omega arith)
+loop-holds c = (sym (all_none (slots_test c.args.b.now)), omega arith)
 
 are-slots-requires : tie.Need-are-slots-requires invariant-loop decreases-loop
 are-slots-requires c κs = search rules
 
 returns : tie.Need-returns invariant-loop decreases-loop
-returns c = all-not (slotsTest c.before.before.before.before.args.b.now) 8 c.before.before.before.loop.u c.before.before.loop-test.true (sym c.before.are-slots.ensures ∙ not-true c.before.are-slots.result c.if1.true)
+returns c = all_not (slots_test c.before.before.before.before.args.b.now) 8 c.before.before.before.loop.u c.before.before.loop-test.true (sym c.before.are-slots.ensures ∙ not_true c.before.are-slots.result c.if1.true)
 
 add-u : tie.Need-overflow-add-u invariant-loop decreases-loop
 add-u c = search rules
@@ -33,10 +33,10 @@ loop-less : tie.Need-loop-smaller invariant-loop decreases-loop
 loop-less c = search rules
 
 loop-again : tie.Need-loop-preserved invariant-loop decreases-loop
-loop-again c = (all_more (slotsTest c.before.before.before.before.args.b.now) c.before.before.before.loop.u c.before.before.before.loop.invariant.0 (sym c.before.are-slots.ensures ∙ not-false c.before.are-slots.result c.if1.false), omega arith)
+loop-again c = (all_more (slots_test c.before.before.before.before.args.b.now) c.before.before.before.loop.u c.before.before.before.loop.invariant.0 (sym c.before.are-slots.ensures ∙ not_false c.before.are-slots.result c.if1.false), omega arith)
 
 returns-2 : tie.Need-returns-2 invariant-loop decreases-loop
-returns-2 c = all_done (slotsTest c.before.before.args.b.now) 8 c.before.loop.u c.before.loop.invariant.0 (omega arith)
+returns-2 c = all_done (slots_test c.before.before.args.b.now) 8 c.before.loop.u c.before.loop.invariant.0 (omega arith)
 
 pub are-nodes-spec : {M : Type 1} → statement M
 are-nodes-spec =

@@ -1,6 +1,6 @@
 -- Not in the map, past the used ones, or with a node. Assumes nothing.
-use borrow.Author.Tests.{not-true, not-false}
-use Rattle.sound_nodes.proofs.Slots.{slot-blank, slot-past, slot-node}
+use borrow.Author.Tests.{not_true, not_false}
+use Rattle.sound_nodes.proofs.Slots.{slot_blank, slot_past, slot_node}
 use borrow.Author.Rules.{rules}
 use Rattle.sound_nodes.proofs.is_slot.Statement.{statement}
 use Rattle.sound_nodes.proofs.is_slot.Tie as tie
@@ -24,13 +24,13 @@ returns : tie.Need-returns
 returns c =
     let a = c.before.before.before.args in
     let h = c.before.before.has in
-    slot-blank a.b.now a.u a.s a.used a.map h.result h.ensures (not-true h.result c.before.if1.true) c.is-blank.result c.is-blank.ensures
+    slot_blank a.b.now a.u a.s a.used a.map h.result h.ensures (not_true h.result c.before.if1.true) c.is-blank.result c.is-blank.ensures
 
 returns-2 : tie.Need-returns-2
 returns-2 c =
     let a = c.before.before.before.args in
     let h = c.before.before.has in
-    slot-past a.b.now a.u a.s a.used a.map h.result h.ensures (not-false h.result c.before.if1.false) c.if2.true
+    slot_past a.b.now a.u a.s a.used a.map h.result h.ensures (not_false h.result c.before.if1.false) c.if2.true
 
 is-node-requires : tie.Need-is-node-requires
 is-node-requires c κs = search rules
@@ -39,7 +39,7 @@ returns-3 : tie.Need-returns-3
 returns-3 c =
     let a = c.before.before.before.before.args in
     let h = c.before.before.before.has in
-    slot-node a.b.now a.u a.s a.used a.map h.result h.ensures (not-false h.result c.before.before.if1.false) c.before.if2.false c.is-node.result c.is-node.ensures
+    slot_node a.b.now a.u a.s a.used a.map h.result h.ensures (not_false h.result c.before.before.if1.false) c.before.if2.false c.is-node.result c.is-node.ensures
 
 pub is-slot-spec : {M : Type 1} → statement M
 is-slot-spec =

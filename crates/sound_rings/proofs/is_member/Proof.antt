@@ -1,5 +1,5 @@
 -- The parts of the test in the definition's order. Assumes nothing.
-use Rattle.sound_rings.proofs.Walking.{member-row}
+use Rattle.sound_rings.proofs.Walking.{member_row}
 use borrow.Author.Rules.{rules}
 use Rattle.sound_rings.proofs.is_member.Statement.{statement}
 use Rattle.sound_rings.proofs.is_member.Tie as tie
@@ -17,7 +17,7 @@ returns : tie.Need-returns
 returns c =
     let at-is-inside = c.before.before.before.before in
     let start = at-is-inside.before.before.before in
-    member-row start.args.m start.args.h start.args.i start.args.next at-is-inside.is-inside.result at-is-inside.is-inside.ensures
+    member_row start.args.m start.args.h start.args.i start.args.next at-is-inside.is_inside_lem.result at-is-inside.is_inside_lem.ensures
 
 pub is-member-spec : {M : Type 1} → statement M
 is-member-spec = tie.close (tie.spec is-inside-requires cast-touching cast-touching-2 returns)

@@ -1,8 +1,8 @@
 -- The remainders of the slots before k are marked; where two meet, all are compared. Assumes nothing.
 use borrow.Author.Rules.{rules}
 use Prim.Native.Nat.{◌-◌}
-use borrow.Author.Tests.{not-false}
-use Rattle.sound_serials.proofs.Marking.{Going, going-none, going_more, going-ends}
+use borrow.Author.Tests.{not_false}
+use Rattle.sound_serials.proofs.Marking.{Going, going_none, going_more, going_ends}
 use Rattle.sound_serials.proofs.are_different.Statement.{statement}
 use Rattle.sound_serials.proofs.are_different.Tie as tie
 
@@ -16,7 +16,7 @@ all-marks-requires : tie.Need-all-marks-requires invariant-loop decreases-loop
 all-marks-requires c κs = search rules
 
 loop-holds : tie.Need-loop-init invariant-loop decreases-loop
-loop-holds c = going-none c.before.before.args.b.now _ c.all-marks.ensures
+loop-holds c = going_none c.before.before.args.b.now _ c.all-marks.ensures
 
 serial-at-requires : tie.Need-serial-at-requires invariant-loop decreases-loop
 serial-at-requires c κs = search rules
@@ -41,10 +41,10 @@ loop-again c =
     let at-loop-test = c.before.before.before.before in
     let at-loop = at-loop-test.before in
     let start = at-loop.before.before.before in
-    going_more start.args.b.now at-loop.loop.t c.before.mark.new.0 at-loop.loop.k c.before.before.before.serial-at.result c.before.mark.result at-loop.loop.invariant at-loop-test.loop-test.true c.before.before.before.serial-at.ensures c.before.mark.ensures (not-false c.before.mark.result c.if1.false)
+    going_more start.args.b.now at-loop.loop.t c.before.mark.new.0 at-loop.loop.k c.before.before.before.serial-at.result c.before.mark.result at-loop.loop.invariant at-loop-test.loop-test.true c.before.before.before.serial-at.ensures c.before.mark.ensures (not_false c.before.mark.result c.if1.false)
 
 returns-2 : tie.Need-returns-2 invariant-loop decreases-loop
-returns-2 c = going-ends c.before.before.before.before.args.b.now c.before.loop.t c.before.loop.k c.before.loop.invariant c.loop-test.false
+returns-2 c = going_ends c.before.before.before.before.args.b.now c.before.loop.t c.before.loop.k c.before.loop.invariant c.loop-test.false
 
 pub are-different-spec : {M : Type 1} → statement M
 are-different-spec =

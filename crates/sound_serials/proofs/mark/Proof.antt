@@ -1,11 +1,11 @@
 -- No mark, one that was met, or a new one. Assumes nothing.
-use Rattle.sound_serials.proofs.Marking.{mark-none, mark-met, mark-new}
+use Rattle.sound_serials.proofs.Marking.{mark_none, mark_met, mark_new}
 use borrow.Author.Rules.{rules}
 use Rattle.sound_serials.proofs.mark.Statement.{statement}
 use Rattle.sound_serials.proofs.mark.Tie as tie
 
 returns : tie.Need-returns
-returns c = mark-none c.before.args.t.now c.before.args.serial c.if1.true
+returns c = mark_none c.before.args.t.now c.before.args.serial c.if1.true
 
 cast-i : tie.Need-overflow-cast-i
 cast-i c = search rules
@@ -14,13 +14,13 @@ element-copy-out-if2 : tie.Need-element-copy-out-if2
 element-copy-out-if2 c = search rules
 
 returns-2 : tie.Need-returns-2
-returns-2 c = mark-met c.before.before.before.args.t.now c.before.before.before.args.serial
+returns-2 c = mark_met c.before.before.before.args.t.now c.before.before.before.args.serial
 
 element-write-t : tie.Need-element-write-t
 element-write-t c = search rules
 
 returns-3 : tie.Need-returns-3
-returns-3 c = mark-new c.before.before.before.args.t.now c.before.before.before.args.serial c.before.before.before.requires c.if2.false
+returns-3 c = mark_new c.before.before.before.args.t.now c.before.before.before.args.serial c.before.before.before.requires c.if2.false
 
 pub mark_spec : {M : Type 1} → statement M
 mark_spec =

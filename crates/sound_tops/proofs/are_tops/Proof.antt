@@ -4,27 +4,27 @@ use borrow.Author.Rules.{rules}
 use Prim.Native.Nat.{◌-◌, ◌≤◌}
 use mathlib.Core.Path.{◌≡◌, sym, ◌∙◌}
 use mathlib.Core.Bool.{true}
-use borrow.Author.Tests.{not-true, not-false}
-use Rattle.sound_trees.specs.Below.{allTo}
-use Rattle.sound_trees.proofs.Belows.{all_none, all_more, all-not, all_done}
-use Rattle.sound_tops.specs.Tops.{topTest}
+use borrow.Author.Tests.{not_true, not_false}
+use Rattle.sound_trees.specs.Below.{all_to}
+use Rattle.sound_trees.proofs.Belows.{all_none, all_more, all_not, all_done}
+use Rattle.sound_tops.specs.Tops.{top_test}
 use Rattle.sound_tops.proofs.are_tops.Statement.{statement}
 use Rattle.sound_tops.proofs.are_tops.Tie as tie
 
 abbrev invariant-loop : tie.invariant-loop
-invariant-loop b u₀ u = (allTo (topTest b) u ≡ true) × (u ≤ 8)
+invariant-loop b u₀ u = (all_to (top_test b) u ≡ true) × (u ≤ 8)
 
 abbrev decreases-loop : tie.decreases-loop
 decreases-loop b u₀ u = 8 - u
 
 loop-holds : tie.Need-loop-init invariant-loop decreases-loop
-loop-holds c = (sym (all_none (topTest c.args.b.now)), omega arith)
+loop-holds c = (sym (all_none (top_test c.args.b.now)), omega arith)
 
 is-top-requires : tie.Need-is-top-requires invariant-loop decreases-loop
 is-top-requires c κs = search rules
 
 returns : tie.Need-returns invariant-loop decreases-loop
-returns c = all-not (topTest c.before.before.before.before.args.b.now) 8 c.before.before.before.loop.u c.before.before.loop-test.true (sym c.before.is-top.ensures ∙ not-true c.before.is-top.result c.if1.true)
+returns c = all_not (top_test c.before.before.before.before.args.b.now) 8 c.before.before.before.loop.u c.before.before.loop-test.true (sym c.before.is-top.ensures ∙ not_true c.before.is-top.result c.if1.true)
 
 add-u : tie.Need-overflow-add-u invariant-loop decreases-loop
 add-u c = search rules
@@ -33,10 +33,10 @@ loop-less : tie.Need-loop-smaller invariant-loop decreases-loop
 loop-less c = search rules
 
 loop-again : tie.Need-loop-preserved invariant-loop decreases-loop
-loop-again c = (all_more (topTest c.before.before.before.before.args.b.now) c.before.before.before.loop.u c.before.before.before.loop.invariant.0 (sym c.before.is-top.ensures ∙ not-false c.before.is-top.result c.if1.false), omega arith)
+loop-again c = (all_more (top_test c.before.before.before.before.args.b.now) c.before.before.before.loop.u c.before.before.before.loop.invariant.0 (sym c.before.is-top.ensures ∙ not_false c.before.is-top.result c.if1.false), omega arith)
 
 returns-2 : tie.Need-returns-2 invariant-loop decreases-loop
-returns-2 c = all_done (topTest c.before.before.args.b.now) 8 c.before.loop.u c.before.loop.invariant.0 (omega arith)
+returns-2 c = all_done (top_test c.before.before.args.b.now) 8 c.before.loop.u c.before.loop.invariant.0 (omega arith)
 
 pub are-tops-spec : {M : Type 1} → statement M
 are-tops-spec =

@@ -1,7 +1,7 @@
 -- A parent is told by its case. Assumes nothing.
 use mathlib.Core.Path.{◌≡◌}
 use Rattle.bench_words.specs.declared.Up.TheVariants.{Top, Under}
-use Rattle.sound_tops.proofs.Pacing.{top-under, top-row}
+use Rattle.sound_tops.proofs.Pacing.{top_under, top_row}
 use borrow.Author.Rules.{rules}
 use Rattle.sound_tops.proofs.is_top.Statement.{statement}
 use Rattle.sound_tops.proofs.is_top.Tie as tie
@@ -34,10 +34,10 @@ add-result : tie.Need-overflow-add-result
 add-result c = search rules
 
 returns : tie.Need-returns
-returns c = let q : c.before.before.before.load-interface.result.parent ≡ Under c.before.up.given.0.0 = cc in top-under c.before.before.before.before.args.b.now c.before.before.before.before.args.u c.before.before.before.load-interface.result c.before.before.before.load-interface.ensures c.before.up.given.0.0 q
+returns c = let q : c.before.before.before.load-interface.result.parent ≡ Under c.before.up.given.0.0 = cc in top_under c.before.before.before.before.args.b.now c.before.before.before.before.args.u c.before.before.before.load-interface.result c.before.before.before.load-interface.ensures c.before.up.given.0.0 q
 
 returns-2 : tie.Need-returns-2
-returns-2 c = let q : c.before.before.before.before.before.before.before.load-interface.result.parent ≡ Top = cc in top-row c.before.before.before.before.before.before.before.before.args.b.now c.before.before.before.before.before.before.before.before.args.u c.before.before.before.before.before.before.before.load-interface.result c.before.before.before.before.before.before.before.load-interface.ensures q c.before.before.before.before.width.result c.before.before.before.pace.result c.before.before.before.before.width.ensures c.before.before.before.pace.ensures
+returns-2 c = let q : c.before.before.before.before.before.before.before.load-interface.result.parent ≡ Top = cc in top_row c.before.before.before.before.before.before.before.before.args.b.now c.before.before.before.before.before.before.before.before.args.u c.before.before.before.before.before.before.before.load-interface.result c.before.before.before.before.before.before.before.load-interface.ensures q c.before.before.before.before.width.result c.before.before.before.pace.result c.before.before.before.before.width.ensures c.before.before.before.pace.ensures
 
 pub is-top-spec : {M : Type 1} → statement M
 is-top-spec =

@@ -3,8 +3,8 @@ use mathlib.Core.Path.{sym}
 use native.Mathlib.Omega.{arith}
 use borrow.Author.Rules.{rules}
 use lib.Seq.{length-take-le}
-use Rattle.outcomes.proofs.Outcomes.{sound-after}
-use Rattle.text_calls.proofs.Members.{turned-blossom}
+use Rattle.outcomes.proofs.Outcomes.{sound_after}
+use Rattle.text_calls.proofs.Members.{turned_blossom}
 use Rattle.text_calls.proofs.blossom.Statement.{statement}
 use Rattle.text_calls.proofs.blossom.Tie as tie
 
@@ -38,7 +38,7 @@ keep-requires c κs = search rules
 tell-requires : tie.Need-tell-requires
 tell-requires c κs =
     let s = c.before.before.before.before.before.before.before.before.before.before.before.before.before.before.before in
-    sound-after s.requires.0 c.before.before.before.create-blossom.ensures.0
+    sound_after s.requires.0 c.before.before.before.create_blossom.ensures.0
 
 same_length : tie.Need-same-length
 same_length c = search rules
@@ -49,8 +49,8 @@ returns c =
     let f = c.before.before.before.before.before.before.before.before.before.before.before.before.before.before.few in
     let n = c.before.before.before.before.before.before.before.before.before.before.name in
     let a = s.args in
-    turned-blossom a.b.now s.requires.0 a.unit a.serials.now a.count s.requires.1 f.result f.ensures _ n.ensures
-    _ _ _ c.before.before.before.before.create-blossom.ensures c.tell.result c.tell.ensures
+    turned_blossom a.b.now s.requires.0 a.unit a.serials.now a.count s.requires.1 f.result f.ensures _ n.ensures
+    _ _ _ c.before.before.before.before.create_blossom.ensures c.tell.result c.tell.ensures
 
 pub blossom-spec : {M : Type 1} → statement M
 blossom-spec =

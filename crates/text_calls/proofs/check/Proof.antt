@@ -1,7 +1,7 @@
 -- The check changes nothing, and its verdict stands where another line has the serial. Assumes nothing.
 use borrow.Author.Rules.{rules}
 use Rattle.bench_views.proofs.Fits.{fit_of}
-use Rattle.text_calls.proofs.Turning.{turned-check}
+use Rattle.text_calls.proofs.Turning.{turned_check}
 use Rattle.text_calls.proofs.check.Statement.{statement}
 use Rattle.text_calls.proofs.check.Tie as tie
 
@@ -17,7 +17,7 @@ show-requires c κs = search rules
 returns : tie.Need-returns
 returns c =
     let s = c.before.before.before.before.before in
-    turned-check s.args.b.now s.requires s.args.unit _ _ _ c.before.before.before.sanity-check.ensures c.show.result c.show.ensures
+    turned_check s.args.b.now s.requires s.args.unit _ _ _ c.before.before.before.sanity-check.ensures c.show.result c.show.ensures
 
 pub check-spec : {M : Type 1} → statement M
 check-spec = tie.close (tie.spec sanity-check-requires cast-show show-requires returns)

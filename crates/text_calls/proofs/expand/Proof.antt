@@ -6,10 +6,10 @@ use Rattle.ledger_spec.specs.Bench.{Handle}
 use Rattle.ledger_spec.specs.Calls.{Expand, perform}
 use Rattle.ledger_spec.specs.Operations.{E}
 use Rattle.ledger_spec.specs.Lines.{named, says}
-use Rattle.ledger_spec.specs.Named.{handleNamed}
+use Rattle.ledger_spec.specs.Named.{handle_named}
 use Rattle.bench_views.specs.View.{view}
 use Rattle.bench_views.proofs.Fits.{fit_of}
-use Rattle.outcomes.proofs.Outcomes.{sound-after}
+use Rattle.outcomes.proofs.Outcomes.{sound_after}
 use Rattle.text_calls.proofs.Turning.{turned}
 use Rattle.text_calls.proofs.expand.Statement.{statement}
 use Rattle.text_calls.proofs.expand.Tie as tie
@@ -21,7 +21,7 @@ expand-blossom-requires : tie.Need-expand-blossom-requires
 expand-blossom-requires c κs = search rules
 
 tell-requires : tie.Need-tell-requires
-tell-requires c κs = let s = c.before.before.before.before.before.before in sound-after s.requires c.before.expand-blossom.ensures.0
+tell-requires c κs = let s = c.before.before.before.before.before.before in sound_after s.requires c.before.expand_blossom.ensures.0
 
 returns : tie.Need-returns
 unfolding says
@@ -32,8 +32,8 @@ returns c =
     let k = s.args.serial.0 in
     let b = s.args.b.now in
     let h = t.named.result in
-    turned b s.requires (some (E u k)) u (Expand u (named (view b) k)) refl (Expand u (handleNamed h)) (ap (λ (x : Handle). perform (view b) (Expand u x)) t.named.ensures) _ _ _
-    c.before.before.expand-blossom.ensures c.tell.result c.tell.ensures
+    turned b s.requires (some (E u k)) u (Expand u (named (view b) k)) refl (Expand u (handle_named h)) (ap (λ (x : Handle). perform (view b) (Expand u x)) t.named.ensures) _ _ _
+    c.before.before.expand_blossom.ensures c.tell.result c.tell.ensures
 
 pub expand-spec : {M : Type 1} → statement M
 expand-spec = tie.close (tie.spec named-requires expand-blossom-requires tell-requires returns)

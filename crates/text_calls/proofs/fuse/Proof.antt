@@ -5,7 +5,7 @@ use borrow.Author.Rules.{rules}
 use Rattle.ledger_spec.specs.Calls.{Fuse}
 use Rattle.ledger_spec.specs.Operations.{F}
 use Rattle.ledger_spec.specs.Lines.{says}
-use Rattle.outcomes.proofs.Outcomes.{sound-after}
+use Rattle.outcomes.proofs.Outcomes.{sound_after}
 use Rattle.text_calls.proofs.Turning.{turned}
 use Rattle.text_calls.proofs.fuse.Statement.{statement}
 use Rattle.text_calls.proofs.fuse.Tie as tie
@@ -14,7 +14,7 @@ fuse-requires : tie.Need-fuse-requires
 fuse-requires c κs = search rules
 
 tell-requires : tie.Need-tell-requires
-tell-requires c κs = sound-after c.before.before.before.requires c.before.fuse.ensures.0
+tell-requires c κs = sound_after c.before.before.before.requires c.before.fuse.ensures.0
 
 returns : tie.Need-returns
 unfolding says

@@ -10,7 +10,7 @@ use Rattle.ledger_spec.specs.Calls.{Grow, perform}
 use Rattle.ledger_spec.specs.Operations.{G}
 use Rattle.ledger_spec.specs.Lines.{says}
 use Rattle.bench_views.specs.View.{view}
-use Rattle.outcomes.proofs.Outcomes.{sound-after}
+use Rattle.outcomes.proofs.Outcomes.{sound_after}
 use Rattle.text_calls.proofs.Turning.{turned}
 use Rattle.text_calls.proofs.grow.Statement.{statement}
 use Rattle.text_calls.proofs.grow.Tie as tie
@@ -19,7 +19,7 @@ grow-requires : tie.Need-grow-requires
 grow-requires c κs = search rules
 
 tell-requires : tie.Need-tell-requires
-tell-requires c κs = sound-after c.before.before.before.requires c.before.grow.ensures.0
+tell-requires c κs = sound_after c.before.before.before.requires c.before.grow.ensures.0
 
 returns : tie.Need-returns
 unfolding says

@@ -9,8 +9,8 @@ use mir.Facts.{to_z-of_z}
 use Rattle.ledger_spec.specs.Operations.{G}
 use Rattle.text_lines.specs.declared.Line.TheVariants.{Defect, Blossom, Expand, SetState, Grow, Fuse, Clear, Check, Wrong}
 use Rattle.text_calls.specs.Turned.{Turned}
-use Rattle.text_calls.proofs.Turning.{turned-wrong}
-use Rattle.text_calls.proofs.Reading.{turned_as, turned-serials}
+use Rattle.text_calls.proofs.Turning.{turned_wrong}
+use Rattle.text_calls.proofs.Reading.{turned_as, turned_serials}
 use Rattle.text_calls.proofs.turn.Statement.{statement}
 use Rattle.text_calls.proofs.turn.Tie as tie
 
@@ -85,7 +85,7 @@ returns-2 c l before same is =
     let s = x.before.before.before in
     let a = s.args in
     let q : a.line ≡ Blossom x.line2.given.0.0 x.line2.given.0.1.0 = cc in
-    turned-serials a.b.now t.blossom.result _ l before a.serials.now a.line is _ _ q s.requires.1 same t.blossom.ensures
+    turned_serials a.b.now t.blossom.result _ l before a.serials.now a.line is _ _ q s.requires.1 same t.blossom.ensures
 
 returns-3 : tie.Need-returns-3
 returns-3 c l before same is =
@@ -138,7 +138,7 @@ returns-9 c l before same is =
     let s = c.before.before.before.before in
     let a = s.args in
     let q : a.line ≡ Wrong = cc in
-    turned_as a.b.now c.silent.result _ l before a.serials.now a.line is Wrong q (turned-wrong a.b.now s.requires.0 c.silent.result c.silent.ensures)
+    turned_as a.b.now c.silent.result _ l before a.serials.now a.line is Wrong q (turned_wrong a.b.now s.requires.0 c.silent.result c.silent.ensures)
 
 pub turn_spec : {M : Type 1} → statement M
 turn_spec =

@@ -3,7 +3,7 @@ use Prim.Native.Nat.{◌-◌}
 use native.Mathlib.Omega.{arith}
 use mathlib.Core.Path.{sym, ◌∙◌}
 use lib.ListN.{length, take, drop}
-use Rattle.text_chunks.proofs.Feeding.{Feeding, feed-start, feed-turn, feed-line, feed-part}
+use Rattle.text_chunks.proofs.Feeding.{Feeding, feed_start, feed_turn, feed_line, feed_part}
 use Rattle.text_chunks.proofs.feed.Statement.{statement}
 use Rattle.text_chunks.proofs.feed.Tie as tie
 
@@ -14,7 +14,7 @@ abbrev decreases-loop : tie.decreases-loop
 decreases-loop chunk at buf₀ held n₀ i₀ buf n i = length chunk - i
 
 loop-holds : tie.Need-loop-init invariant-loop decreases-loop
-loop-holds c = let a = c.before.before.args in feed-start a.chunk.now a.buf.now a.held a.at c.before.before.requires.0 c.before.before.requires.1.0 c.before.before.requires.1.1
+loop-holds c = let a = c.before.before.args in feed_start a.chunk.now a.buf.now a.held a.at c.before.before.requires.0 c.before.before.requires.1.0 c.before.before.requires.1.1
 
 shared-slice-read-b : tie.Need-shared-slice-read-b invariant-loop decreases-loop
 shared-slice-read-b c = omega arith
@@ -31,7 +31,7 @@ returns : tie.Need-returns invariant-loop decreases-loop
 returns c =
     let a = c.before.before.before.before.before.before.args in
     let l = c.before.before.before.loop in
-    feed-line a.at (drop a.at a.chunk.now) (take a.held a.buf.now) a.chunk.now l.buf l.n l.i l.invariant c.before.before.loop-test.true c.if1.true
+    feed_line a.at (drop a.at a.chunk.now) (take a.held a.buf.now) a.chunk.now l.buf l.n l.i l.invariant c.before.before.loop-test.true c.if1.true
 
 push-requires : tie.Need-push-requires invariant-loop decreases-loop
 push-requires c κs = (c.before.before.before.before.loop.invariant.long, c.before.before.before.before.loop.invariant.short)
@@ -48,7 +48,7 @@ loop-again c =
     let at-loop-test = at-if1.before.before in
     let at-loop = at-loop-test.before in
     let start = at-loop.before.before.before in
-    feed-turn start.args.at (drop start.args.at start.args.chunk.now) (take start.args.held start.args.buf.now) start.args.chunk.now at-loop.loop.buf at-loop.loop.n at-loop.loop.i at-loop.loop.invariant at-loop-test.loop-test.true at-if1.if1.false
+    feed_turn start.args.at (drop start.args.at start.args.chunk.now) (take start.args.held start.args.buf.now) start.args.chunk.now at-loop.loop.buf at-loop.loop.n at-loop.loop.i at-loop.loop.invariant at-loop-test.loop-test.true at-if1.if1.false
     c.before.before.push.new.0 c.before.before.push.result c.before.before.push.auto.0 c.before.before.push.ensures
 
 same-length-2 : tie.Need-same-length-2 invariant-loop decreases-loop
@@ -58,7 +58,7 @@ returns-2 : tie.Need-returns-2 invariant-loop decreases-loop
 returns-2 c =
     let a = c.before.before.before.before.args in
     let l = c.before.loop in
-    feed-part a.at (drop a.at a.chunk.now) (take a.held a.buf.now) a.chunk.now l.buf l.n l.i l.invariant c.loop-test.false
+    feed_part a.at (drop a.at a.chunk.now) (take a.held a.buf.now) a.chunk.now l.buf l.n l.i l.invariant c.loop-test.false
 
 pub feed-spec : {M : Type 1} → statement M
 feed-spec =

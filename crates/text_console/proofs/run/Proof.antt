@@ -1,6 +1,6 @@
 -- The slices are long enough, and the bench is the one that the program starts with. Assumes nothing.
 use borrow.Author.Rules.{rules}
-use Rattle.text_console.proofs.Serving.{zeros, ready-first}
+use Rattle.text_console.proofs.Serving.{zeros, ready_first}
 use Rattle.text_console.proofs.run.Statement.{statement}
 use Rattle.text_console.proofs.run.Tie as tie
 
@@ -22,7 +22,7 @@ slice-aggregate-serve-4 c = search rules
 serve-requires : tie.Need-serve-requires
 serve-requires c κs =
     let at-start = c.before.before.before.before.before.before in
-    ready-first _ at-start.start.ensures _ _ _ _ (zeros 4096) (zeros 1024) (zeros 65) (zeros 233472)
+    ready_first _ at-start.start.ensures _ _ _ _ (zeros 4096) (zeros 1024) (zeros 65) (zeros 233472)
 
 returns : tie.Need-returns
 returns c = search rules

@@ -3,7 +3,7 @@ use mathlib.Core.Path.{◌≡◌, ◌∙◌}
 use native.Mathlib.Omega.{arith}
 use borrow.Author.Rules.{rules}
 use Rattle.text_console.specs.declared.Next.TheVariants.{More}
-use Rattle.text_console.proofs.Serving.{Serving, serving-start, serving-on}
+use Rattle.text_console.proofs.Serving.{Serving, serving_start, serving_on}
 use Rattle.text_console.proofs.serve.Statement.{statement}
 use Rattle.text_console.proofs.serve.Tie as tie
 
@@ -18,7 +18,7 @@ decreases-loop b₀ piece₀ buf₀ serials₀ hints₀ out₀ held₀ fresh₀ 
 loop-holds : tie.Need-loop-init invariant-loop decreases-loop
 loop-holds c =
     let s = c.before.before.before.before in
-    serving-start _ _ _ _ _ s.requires.0 s.requires.1
+    serving_start _ _ _ _ _ s.requires.0 s.requires.1
 
 step-requires : tie.Need-step-requires invariant-loop decreases-loop
 step-requires c κs =
@@ -43,7 +43,7 @@ loop-again c =
     let l = c.before.before.before.before.before.before.before.before.before.before.before.before.before.before.before.before.before.before.before.loop in
     let t = c.before.before.before.before.before.before.before.before.before.before.before.step in
     let q : t.result ≡ More c.before.next.given.0.0 c.before.next.given.0.1.0 = cc in
-    serving-on _ _ _ _ _ _ _ _ _ _ l.invariant _ _ _ _ _ _ t.ensures _ _ q t.auto.1.0 t.auto.1.1.0 t.auto.1.1.1.1.1.0 t.auto.1.1.1.1.1.1.1.0
+    serving_on _ _ _ _ _ _ _ _ _ _ l.invariant _ _ _ _ _ _ t.ensures _ _ q t.auto.1.0 t.auto.1.1.0 t.auto.1.1.1.1.1.0 t.auto.1.1.1.1.1.1.1.0
 
 enum_told : tie.Need-enum-told invariant-loop decreases-loop
 enum_told c = search rules
@@ -58,19 +58,19 @@ same_length : tie.Need-same-length invariant-loop decreases-loop
 same_length c =
     let at-step = c.before.before.before.before.before.before.before.before.before.before.before.before.before.before in
     let at-loop = at-step.before.before.before.before.before.before.before.before in
-    at-step.step.auto.1.0 ∙ at-loop.loop.invariant.same-piece
+    at-step.step.auto.1.0 ∙ at-loop.loop.invariant.same_piece
 
 same-length-2 : tie.Need-same-length-2 invariant-loop decreases-loop
 same-length-2 c =
     let at-step = c.before.before.before.before.before.before.before.before.before.before.before.before.before.before in
     let at-loop = at-step.before.before.before.before.before.before.before.before in
-    at-step.step.auto.1.1.0 ∙ at-loop.loop.invariant.same-buf
+    at-step.step.auto.1.1.0 ∙ at-loop.loop.invariant.same_buf
 
 same-length-3 : tie.Need-same-length-3 invariant-loop decreases-loop
 same-length-3 c =
     let at-step = c.before.before.before.before.before.before.before.before.before.before.before.before.before.before in
     let at-loop = at-step.before.before.before.before.before.before.before.before in
-    at-step.step.auto.1.1.1.1.1.0 ∙ at-loop.loop.invariant.same-serials
+    at-step.step.auto.1.1.1.1.1.0 ∙ at-loop.loop.invariant.same_serials
 
 same-length-4 : tie.Need-same-length-4 invariant-loop decreases-loop
 same-length-4 c =
@@ -88,19 +88,19 @@ same-length-5 : tie.Need-same-length-5 invariant-loop decreases-loop
 same-length-5 c =
     let at-step = c.before.before.before.before.before.before.before.before.before.before in
     let at-loop = at-step.before.before.before.before.before.before.before.before in
-    at-step.step.auto.1.0 ∙ at-loop.loop.invariant.same-piece
+    at-step.step.auto.1.0 ∙ at-loop.loop.invariant.same_piece
 
 same-length-6 : tie.Need-same-length-6 invariant-loop decreases-loop
 same-length-6 c =
     let at-step = c.before.before.before.before.before.before.before.before.before.before in
     let at-loop = at-step.before.before.before.before.before.before.before.before in
-    at-step.step.auto.1.1.0 ∙ at-loop.loop.invariant.same-buf
+    at-step.step.auto.1.1.0 ∙ at-loop.loop.invariant.same_buf
 
 same-length-7 : tie.Need-same-length-7 invariant-loop decreases-loop
 same-length-7 c =
     let at-step = c.before.before.before.before.before.before.before.before.before.before in
     let at-loop = at-step.before.before.before.before.before.before.before.before in
-    at-step.step.auto.1.1.1.1.1.0 ∙ at-loop.loop.invariant.same-serials
+    at-step.step.auto.1.1.1.1.1.0 ∙ at-loop.loop.invariant.same_serials
 
 same-length-8 : tie.Need-same-length-8 invariant-loop decreases-loop
 same-length-8 c =
@@ -112,13 +112,13 @@ returns-2 : tie.Need-returns-2 invariant-loop decreases-loop
 returns-2 c = tt
 
 same-length-9 : tie.Need-same-length-9 invariant-loop decreases-loop
-same-length-9 c = c.before.loop.invariant.same-piece
+same-length-9 c = c.before.loop.invariant.same_piece
 
 same-length-10 : tie.Need-same-length-10 invariant-loop decreases-loop
-same-length-10 c = c.before.loop.invariant.same-buf
+same-length-10 c = c.before.loop.invariant.same_buf
 
 same-length-11 : tie.Need-same-length-11 invariant-loop decreases-loop
-same-length-11 c = c.before.loop.invariant.same-serials
+same-length-11 c = c.before.loop.invariant.same_serials
 
 same-length-12 : tie.Need-same-length-12 invariant-loop decreases-loop
 same-length-12 c = c.before.loop.invariant.same_out

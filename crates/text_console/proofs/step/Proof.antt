@@ -3,7 +3,7 @@ use mathlib.Core.Path.{sym}
 use native.Mathlib.Omega.{arith}
 use borrow.Author.Rules.{rules}
 use lib.Seq.{length-take-le}
-use Rattle.text_console.proofs.Serving.{piece-done}
+use Rattle.text_console.proofs.Serving.{piece_done}
 use Rattle.text_console.proofs.step.Statement.{statement}
 use Rattle.text_console.proofs.step.Tie as tie
 
@@ -46,7 +46,7 @@ slice-reshare-prefix-send c =
     let at_count = at-answer-next.before.before.before.before.before.before.before in
     let at_read = at_count.before.before.before.before.before.before in
     let start = at_read.before.before.before.before.before.before in
-    omega (arith, (piece-done _ _ _ _ _ _ _ _ _ _ at-answer-next.answer-next.ensures).2, at-answer-next.answer-next.auto.1.1.1.1.1.1.1.0, at_count.count.ensures.0, at_read.read.auto.1.0, start.requires.room)
+    omega (arith, (piece_done _ _ _ _ _ _ _ _ _ _ at-answer-next.answer-next.ensures).2, at-answer-next.answer-next.auto.1.1.1.1.1.1.1.0, at_count.count.ensures.0, at_read.read.auto.1.0, start.requires.room)
 
 slice-aggregate-send : tie.Need-slice-aggregate-send
 slice-aggregate-send c =
@@ -54,7 +54,7 @@ slice-aggregate-send c =
     let at_count = at-answer-next.before.before.before.before.before.before.before in
     let at_read = at_count.before.before.before.before.before.before in
     let start = at_read.before.before.before.before.before.before in
-    sym (length-take-le _ _ (omega (arith, (piece-done _ _ _ _ _ _ _ _ _ _ at-answer-next.answer-next.ensures).2, at-answer-next.answer-next.auto.1.1.1.1.1.1.1.0, at_count.count.ensures.0, at_read.read.auto.1.0, start.requires.room)))
+    sym (length-take-le _ _ (omega (arith, (piece_done _ _ _ _ _ _ _ _ _ _ at-answer-next.answer-next.ensures).2, at-answer-next.answer-next.auto.1.1.1.1.1.1.1.0, at_count.count.ensures.0, at_read.read.auto.1.0, start.requires.room)))
 
 send-requires : tie.Need-send-requires
 send-requires c κs = search rules
@@ -74,7 +74,7 @@ same-length-6 c = search rules
 returns-3 : tie.Need-returns-3
 returns-3 c =
     let at-answer-next = c.before.before.before.before.before.before.before.before.before in
-    let d = piece-done _ _ _ _ _ _ _ _ _ _ at-answer-next.answer-next.ensures in
+    let d = piece_done _ _ _ _ _ _ _ _ _ _ at-answer-next.answer-next.ensures in
     record { words = d.0; short = d.1 }
 
 same-length-7 : tie.Need-same-length-7
@@ -92,7 +92,7 @@ same-length-10 c = search rules
 returns-4 : tie.Need-returns-4
 returns-4 c =
     let at-answer-next = c.before.before.before.before.before.before.before.before.before in
-    let d = piece-done _ _ _ _ _ _ _ _ _ _ at-answer-next.answer-next.ensures in
+    let d = piece_done _ _ _ _ _ _ _ _ _ _ at-answer-next.answer-next.ensures in
     record { words = d.0; short = omega arith }
 
 pub step_spec : {M : Type 1} → statement M

@@ -1,7 +1,7 @@
 -- The digits before the last are written by the call within, which has fewer: n / 10 is below n. Assumes nothing.
 use native.Mathlib.Omega.{arith}
 use lib.ListN.{length-set}
-use Rattle.text_decimals.proofs.Writes.{one-digit, room, first-digit, last-digit}
+use Rattle.text_decimals.proofs.Writes.{one_digit, room, first_digit, last_digit}
 use Prim.Native.Nat.{ℕ, ◌<◌}
 use borrow.Fn.Kinds.{In}
 use borrow.Fn.PlainCycle.{Measures, is, falls, and}
@@ -42,13 +42,13 @@ put-number-slice-write-out : (t : ℕ) → put-number-lts.Need-slice-write-out (
   put-number-below t,
   put-number.Post,
 ) (put-number-at t) put-number.Post
-put-number-slice-write-out t c = omega (arith, one-digit c.before.before.args.n c.if1.true, c.before.before.requires.1)
+put-number-slice-write-out t c = omega (arith, one_digit c.before.before.args.n c.if1.true, c.before.before.requires.1)
 
 put-number-add-result : (t : ℕ) → put-number-lts.Need-overflow-add-result (
   put-number-below t,
   put-number.Post,
 ) (put-number-at t) put-number.Post
-put-number-add-result t c = omega (arith, one-digit c.before.before.args.n c.if1.true, c.before.before.requires.1)
+put-number-add-result t c = omega (arith, one_digit c.before.before.args.n c.if1.true, c.before.before.requires.1)
 
 put-number-same-length : (t : ℕ) → put-number-lts.Need-same-length (
   put-number-below t,
@@ -62,7 +62,7 @@ put-number-returns :
     (put-number-below t, put-number.Post)
     (put-number-at t)
     put-number.Post
-put-number-returns t c = first-digit c.before.before.args.out.now c.before.before.args.at c.before.before.args.n c.if1.true
+put-number-returns t c = first_digit c.before.before.args.out.now c.before.before.args.at c.before.before.args.n c.if1.true
 
 put-number-put-number-requires : (t : ℕ) → put-number-lts.Need-put-number-requires (
   put-number-below t,
@@ -104,7 +104,7 @@ put-number-returns-2 : (t : ℕ) → put-number-lts.Need-returns-2 (
   put-number-below t,
   put-number.Post,
 ) (put-number-at t) put-number.Post
-put-number-returns-2 t c = last-digit c.before.before.before.before.before.before.args.out.now c.before.before.before.before.before.before.args.at c.before.before.before.before.before.before.args.n _ c.before.before.put-number.result c.before.before.before.before.if1.false c.before.before.put-number.ensures
+put-number-returns-2 t c = last_digit c.before.before.before.before.before.before.args.out.now c.before.before.before.before.before.before.args.at c.before.before.before.before.before.before.args.n _ c.before.before.put-number.result c.before.before.before.before.if1.false c.before.before.put-number.ensures
 
 pub +put-number-spec : {M : Type 1} → statement M
 +put-number-spec = close μ-put-number λ t. put-number-lts.spec (

@@ -3,7 +3,7 @@ use native.Mathlib.Omega.{arith}
 use mathlib.Core.Path.{◌≡◌, sym}
 use Rattle.text_decimals.specs.declared.MaybeNumber.TheVariants.{NoNumber, Number}
 use Rattle.text_decimals.proofs.Fields.{integer_empty}
-use Rattle.text_decimals.proofs.Integers.{number-range, minus-said, minus-none, plus-said, plus_none}
+use Rattle.text_decimals.proofs.Integers.{number_range, minus_said, minus_none, plus_said, plus_none}
 use borrow.Author.Rules.{rules}
 use Rattle.text_decimals.proofs.integer_in.Statement.{statement}
 use Rattle.text_decimals.proofs.integer_in.Tie as tie
@@ -33,7 +33,7 @@ minus-requires : tie.Need-minus-requires
 minus-requires c κs =
     let v = c.before.before.before.number_in in
     let q : v.result ≡ Number c.before.n.given.0.0 = cc in
-    number-range 1 9223372036854775808 _ v.result _ v.ensures q
+    number_range 1 9223372036854775808 _ v.result _ v.ensures q
 
 enum_told : tie.Need-enum-told
 enum_told c = search rules
@@ -42,13 +42,13 @@ returns-2 : tie.Need-returns-2
 returns-2 c =
     let v = c.before.before.before.before.number_in in
     let q : v.result ≡ Number c.before.before.n.given.0.0 = cc in
-    minus-said c.before.before.before.before.before.before.before.before.before.before.args.f.now c.before.before.before.before.before.before.before.before.if1.false v.result c.before.before.before.before.before.before.if2.true v.ensures _ q c.minus.result c.minus.ensures
+    minus_said c.before.before.before.before.before.before.before.before.before.before.args.f.now c.before.before.before.before.before.before.before.before.if1.false v.result c.before.before.before.before.before.before.if2.true v.ensures _ q c.minus.result c.minus.ensures
 
 returns-3 : tie.Need-returns-3
 returns-3 c =
     let v = c.before.before.number_in in
     let q : v.result ≡ NoNumber = cc in
-    minus-none c.before.before.before.before.before.before.before.before.args.f.now c.before.before.before.before.before.before.if1.false v.result c.before.before.before.before.if2.true v.ensures q
+    minus_none c.before.before.before.before.before.before.before.before.args.f.now c.before.before.before.before.before.before.if1.false v.result c.before.before.before.before.if2.true v.ensures q
 
 number-in-requires-2 : tie.Need-number-in-requires-2
 number-in-requires-2 c κs = search rules
@@ -60,7 +60,7 @@ plus-requires : tie.Need-plus-requires
 plus-requires c κs =
     let v = c.before.before.before.number-in2 in
     let q : v.result ≡ Number c.before.n2.given.0.0 = cc in
-    omega (arith, (number-range 0 9223372036854775807 _ v.result _ v.ensures q).1)
+    omega (arith, (number_range 0 9223372036854775807 _ v.result _ v.ensures q).1)
 
 enum-told-2 : tie.Need-enum-told-2
 enum-told-2 c = search rules
@@ -69,7 +69,7 @@ returns-4 : tie.Need-returns-4
 returns-4 c =
     let v = c.before.before.before.before.number-in2 in
     let q : v.result ≡ Number c.before.before.n2.given.0.0 = cc in
-    plus-said c.before.before.before.before.before.before.before.before.before.args.f.now c.before.before.before.before.before.before.before.if1.false v.result c.before.before.before.before.before.if2.false v.ensures _ q c.plus.result c.plus.ensures
+    plus_said c.before.before.before.before.before.before.before.before.before.args.f.now c.before.before.before.before.before.before.before.if1.false v.result c.before.before.before.before.before.if2.false v.ensures _ q c.plus.result c.plus.ensures
 
 returns-5 : tie.Need-returns-5
 returns-5 c =

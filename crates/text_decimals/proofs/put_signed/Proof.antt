@@ -3,7 +3,7 @@ use native.Mathlib.Omega.{arith}
 use mathlib.Core.Path.{sym, ◌∙◌, ap}
 use lib.ListN.{length, length-set}
 use Rattle.text_decimals.proofs.Signs.{turned, plain}
-use Rattle.text_decimals.proofs.Writes.{after-byte, same_text}
+use Rattle.text_decimals.proofs.Writes.{after_byte, same_text}
 use borrow.Author.Rules.{rules}
 use Rattle.text_decimals.proofs.put_signed.Statement.{statement}
 use Rattle.text_decimals.proofs.put_signed.Tie as tie
@@ -34,7 +34,7 @@ returns c =
     let at-if1 = c.before.before.before.before in
     let start = at-if1.before.before in
     let t = turned start.args.z start.ranges.z at-if1.if1.true in
-    same_text start.args.out.now start.args.at _ _ _ _ (sym t.text) (after-byte start.args.out.now start.args.at 45 _ _ _ c.before.before.put-number.ensures)
+    same_text start.args.out.now start.args.at _ _ _ _ (sym t.text) (after_byte start.args.out.now start.args.at 45 _ _ _ c.before.before.put-number.ensures)
 
 cast-put-number-2 : tie.Need-overflow-cast-put-number-2
 cast-put-number-2 c = (plain c.before.before.before.args.z c.before.before.before.ranges.z c.before.if1.false).whole

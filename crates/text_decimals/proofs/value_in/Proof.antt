@@ -2,7 +2,7 @@
 use Prim.Native.Nat.{◌-◌}
 use native.Mathlib.Omega.{arith}
 use lib.ListN.{length}
-use Rattle.text_decimals.proofs.Values.{Going, start, turn, low_byte, high_byte, passing, too-little, enough}
+use Rattle.text_decimals.proofs.Values.{Going, start, turn, low_byte, high_byte, passing, too_little, enough}
 use Rattle.text_decimals.proofs.value_in.Statement.{statement}
 use Rattle.text_decimals.proofs.value_in.Tie as tie
 
@@ -64,7 +64,7 @@ loop-again c =
     turn start.args.f.now start.args.most at-loop.loop.n at-loop.loop.i at-loop.loop.invariant c.before.wide.result at-loop-test.loop-test.true at-if1.if1.false c.before.before.before.if2.false c.before.wide.ensures (omega arith)
 
 returns-5 : tie.Need-returns-5 invariant-loop decreases-loop
-returns-5 c = let l = c.before.before.loop in let a = c.before.before.before.before.args in too-little a.f.now a.most l.n l.i l.invariant a.least c.before.loop-test.false c.if5.true
+returns-5 c = let l = c.before.before.loop in let a = c.before.before.before.before.args in too_little a.f.now a.most l.n l.i l.invariant a.least c.before.loop-test.false c.if5.true
 
 returns-6 : tie.Need-returns-6 invariant-loop decreases-loop
 returns-6 c = let l = c.before.before.loop in let a = c.before.before.before.before.args in enough a.f.now a.most l.n l.i l.invariant a.least c.before.loop-test.false c.if5.false

@@ -5,7 +5,7 @@ use mir.Val.{SFits}
 use mir.Facts.{to_z-of_z}
 use Rattle.text_fields.specs.declared.NextLength.TheVariants.{Length, NoLength}
 use Rattle.text_fields.specs.Places.{from}
-use Rattle.text_fields.proofs.States.{state-some, state-none}
+use Rattle.text_fields.proofs.States.{state_some, state_none}
 use borrow.Author.Rules.{rules}
 use Rattle.text_fields.proofs.next_state.Statement.{statement}
 use Rattle.text_fields.proofs.next_state.Tie as tie
@@ -27,13 +27,13 @@ returns c =
     let l = c.before.before.before.before.next-length in
     let q : l.result ≡ Length c.before.before.z.given.0.0 c.before.before.z.given.0.1.0 = cc in
     let ok : SFits w64 c.before.before.z.given.0.0 = record { sfits = c.before.known-told.given.0.1 } in
-    state-some c.before.before.before.before.before.before.args.s.now (from c.before.before.before.before.before.before.args.s.now c.before.before.before.before.before.before.args.place) l.result l.ensures _ _ c.state-at.result q (rw (to_z-of_z ok) at c.state-at.ensures)
+    state_some c.before.before.before.before.before.before.args.s.now (from c.before.before.before.before.before.before.args.s.now c.before.before.before.before.before.before.args.place) l.result l.ensures _ _ c.state-at.result q (rw (to_z-of_z ok) at c.state-at.ensures)
 
 returns-2 : tie.Need-returns-2
 returns-2 c =
     let l = c.before.before.next-length in
     let q : l.result ≡ NoLength = cc in
-    state-none c.before.before.before.before.args.s.now (from c.before.before.before.before.args.s.now c.before.before.before.before.args.place) l.result l.ensures q
+    state_none c.before.before.before.before.args.s.now (from c.before.before.before.before.args.s.now c.before.before.before.before.args.place) l.result l.ensures q
 
 pub next-state-spec : {M : Type 1} → statement M
 next-state-spec =

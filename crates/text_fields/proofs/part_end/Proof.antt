@@ -2,7 +2,7 @@
 use Prim.Native.Nat.{◌-◌}
 use native.Mathlib.Omega.{arith}
 use lib.ListN.{length}
-use Rattle.text_fields.proofs.Ends.{Seeking, seek, seek-on, seek_found, seek-out}
+use Rattle.text_fields.proofs.Ends.{Seeking, seek, seek_on, seek_found, seek_out}
 use Rattle.text_fields.proofs.part_end.Statement.{statement}
 use Rattle.text_fields.proofs.part_end.Tie as tie
 
@@ -34,10 +34,10 @@ loop-again : tie.Need-loop-preserved invariant-loop decreases-loop
 loop-again c =
     let l = c.before.before.before in
     let a = l.before.args in
-    seek-on a.mark a.s.now a.start l.loop.e l.loop.invariant c.before.before.loop-test.true c.if1.false
+    seek_on a.mark a.s.now a.start l.loop.e l.loop.invariant c.before.before.loop-test.true c.if1.false
 
 returns-2 : tie.Need-returns-2 invariant-loop decreases-loop
-returns-2 c = let a = c.before.before.args in seek-out a.mark a.s.now a.start c.before.loop.e c.before.loop.invariant c.loop-test.false
+returns-2 c = let a = c.before.before.args in seek_out a.mark a.s.now a.start c.before.loop.e c.before.loop.invariant c.loop-test.false
 
 pub part-end-spec : {M : Type 1} → statement M
 part-end-spec =

@@ -1,6 +1,6 @@
 -- The match goes by the letter as the grammar does; only B touches the lent slice. Assumes nothing.
 use Rattle.text_fields.specs.Places.{from}
-use Rattle.text_lines.proofs.Whole.{rest-D, rest-B, rest-E, rest-S, rest-G, rest-F, rest-C, rest-K, rest-else}
+use Rattle.text_lines.proofs.Whole.{rest-D, rest-B, rest-E, rest-S, rest-G, rest-F, rest-C, rest-K, rest_else}
 use borrow.Author.Rules.{rules}
 use Rattle.text_lines.proofs.rest_of.Statement.{statement}
 use Rattle.text_lines.proofs.rest_of.Tie as tie
@@ -60,7 +60,7 @@ returns-9 : tie.Need-returns-9
 returns-9 c =
     let a = c.before.before.before.args in
     let m = c.match.rest in
-    rest-else a.letter a.unit (from a.s.now a.place) a.serials.now
+    rest_else a.letter a.unit (from a.s.now a.place) a.serials.now
     m.0.0.0.0.0.0.0.1 m.0.0.0.0.0.0.1 m.0.0.0.0.0.1 m.0.0.0.0.1 m.0.0.0.1 m.0.0.1 m.0.1 m.1
 
 pub rest-of-spec : {M : Type 1} → statement M

@@ -3,7 +3,7 @@ use Prim.Native.Nat.{◌-◌}
 use native.Mathlib.Omega.{arith}
 use borrow.Author.Rules.{rules}
 use Rattle.bench_views.specs.View.{view}
-use Rattle.text_members.proofs.Naming.{Passed, passed_none, passed-one, passed-all}
+use Rattle.text_members.proofs.Naming.{Passed, passed_none, passed_one, passed_all}
 use Rattle.text_members.proofs.name.Statement.{statement}
 use Rattle.text_members.proofs.name.Tie as tie
 
@@ -44,13 +44,13 @@ loop-again : tie.Need-loop-preserved invariant-loop decreases-loop
 loop-again c =
     let s = c.before.before.before.before.before.before in
     let l = c.before.before.before.before.loop in
-    passed-one (view s.args.b.now) s.args.serials.now l.serials s.args.n l.i l.invariant s.requires.1 c.before.before.before.loop-test.true c.member.result c.member.ensures
+    passed_one (view s.args.b.now) s.args.serials.now l.serials s.args.n l.i l.invariant s.requires.1 c.before.before.before.loop-test.true c.member.result c.member.ensures
 
 same_length : tie.Need-same-length invariant-loop decreases-loop
 same_length c = c.before.loop.invariant.long
 
 returns : tie.Need-returns invariant-loop decreases-loop
-returns c = let s = c.before.before.before in let l = c.before.loop in passed-all (view s.args.b.now) s.args.serials.now l.serials s.args.n l.i l.invariant c.loop-test.false
+returns c = let s = c.before.before.before in let l = c.before.loop in passed_all (view s.args.b.now) s.args.serials.now l.serials s.args.n l.i l.invariant c.loop-test.false
 
 pub name-spec : {M : Type 1} → statement M
 name-spec =

@@ -1,5 +1,5 @@
 -- It chooses, or it is a line as any other. Assumes nothing.
-use Rattle.text_sessions.proofs.Opening.{first-chosen, first_any}
+use Rattle.text_sessions.proofs.Opening.{first_chosen, first_any}
 use mathlib.Core.Path.{◌≡◌}
 use borrow.Author.Rules.{rules}
 use Rattle.text_chunks.specs.declared.Choice.TheVariants.{Engine}
@@ -32,7 +32,7 @@ returns c =
     let a = c.before.before.before.before.before.before.before.before.before.before.before.before.before.args in
     let k = c.before.before.before.before.before.before.before.before.before.engine-chosen in
     let q : k.result ≡ Engine c.before.before.before.before.before.before.before.plain.given.0.0 = cc in
-    first-chosen a.line.now k.result k.ensures c.before.before.before.before.before.before.before.plain.given.0.0 q c.before.before.before.before.set-up-in.new.0 c.before.before.before.before.set-up-in.ensures a.out.now c.before.before.write-answer.new.0 c.before.before.write-answer.result c.before.before.write-answer.ensures
+    first_chosen a.line.now k.result k.ensures c.before.before.before.before.before.before.before.plain.given.0.0 q c.before.before.before.before.set_up_in.new.0 c.before.before.before.before.set_up_in.ensures a.out.now c.before.before.write-answer.new.0 c.before.before.write-answer.result c.before.before.write-answer.ensures
 
 same-length-2 : tie.Need-same-length-2
 same-length-2 c = search rules

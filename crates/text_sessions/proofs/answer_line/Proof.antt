@@ -6,7 +6,7 @@ use mir.Syntax.{w64}
 use mir.Val.{SFits}
 use mir.Facts.{to_z-of_z}
 use Rattle.ledger_spec.specs.Grammar.{line_of}
-use Rattle.text_sessions.proofs.Session.{line-done}
+use Rattle.text_sessions.proofs.Session.{line_done}
 use Rattle.text_sessions.proofs.answer_line.Statement.{statement}
 use Rattle.text_sessions.proofs.answer_line.Tie as tie
 
@@ -36,7 +36,7 @@ returns c =
     let w : SFits w64 r.sum = record { sfits = t.1.1.1.0.1 } in
     let n : r.number < 256 = t.0.1 in
     let k : r.serial < 4294967296 = t.1.0.1 in
-    line-done start.args.b.now start.args.line.now r at_turn.turn.new.0
+    line_done start.args.b.now start.args.line.now r at_turn.turn.new.0
     (at_turn.turn.ensures (line_of start.args.line.now) start.args.serials.now (sym at-read-line.read-line.auto.1.0) at-read-line.read-line.ensures)
     n k v w
     start.args.out.now start.args.at c.before.before.write-answer.new.0 c.before.before.write-answer.result

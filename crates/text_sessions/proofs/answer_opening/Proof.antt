@@ -1,10 +1,10 @@
 -- The first line ends in the chunk, or does not. Assumes nothing.
 use mathlib.Core.Path.{sym}
 use native.Mathlib.Omega.{arith}
-use borrow.Author.Tests.{not-false}
+use borrow.Author.Tests.{not_false}
 use lib.ListN.{take}
 use lib.Seq.{length-take-le}
-use Rattle.text_sessions.proofs.Opening.{opening-part, opening-room, opening-line}
+use Rattle.text_sessions.proofs.Opening.{opening_part, opening_room, opening_line}
 use borrow.Author.Rules.{rules}
 use Rattle.text_sessions.proofs.answer_opening.Statement.{statement}
 use Rattle.text_sessions.proofs.answer_opening.Tie as tie
@@ -23,7 +23,7 @@ returns c =
     let at-feed = c.before.before.before.before in
     let at-start = at-feed.before.before in
     let start = at-start.before.before.before.before.before.before in
-    opening-part start.args.chunk.now (take start.args.before start.args.buf.now) at-feed.feed.new.1.1.0 at-feed.feed.result.ended at-feed.feed.result.held at-feed.feed.result.at at-feed.feed.ensures start.args.out.now c.if1.true at-start.start.new.0 at-start.start.ensures
+    opening_part start.args.chunk.now (take start.args.before start.args.buf.now) at-feed.feed.new.1.1.0 at-feed.feed.result.ended at-feed.feed.result.held at-feed.feed.result.at at-feed.feed.ensures start.args.out.now c.if1.true at-start.start.new.0 at-start.start.ensures
 
 slice-reshare-prefix-answer-first : tie.Need-slice-reshare-prefix-answer-first
 slice-reshare-prefix-answer-first c = search rules
@@ -39,7 +39,7 @@ answer-first-requires c κs =
     let at-feed = at-if1.before.before.before.before in
     let at-start = at-feed.before.before in
     let s = c.before.before.before.before.before.before.before.before.before.before.before.before.before.before.before.before.before in
-    (at-start.start.ensures, s.requires.0, omega (arith, s.requires.3, at-feed.feed.ensures.in-chunk, at-feed.feed.ensures.on (not-false at-feed.feed.result.ended at-if1.if1.false)))
+    (at-start.start.ensures, s.requires.0, omega (arith, s.requires.3, at-feed.feed.ensures.in_chunk, at-feed.feed.ensures.on (not_false at-feed.feed.result.ended at-if1.if1.false)))
 
 answer-rest-requires : tie.Need-answer-rest-requires
 answer-rest-requires c κs =
@@ -52,8 +52,8 @@ answer-rest-requires c κs =
       omega (arith, s.requires.0, at-answer-first.answer-first.auto.1.1.0),
       at-feed.feed.ensures.long,
       omega arith,
-      at-feed.feed.ensures.in-chunk,
-      opening-room a.chunk.now (take a.before a.buf.now) at-feed.feed.new.1.1.0 at-feed.feed.result.ended at-feed.feed.result.held at-feed.feed.result.at at-feed.feed.ensures a.out.now at-answer-first.answer-first.new.0 at-answer-first.answer-first.new.1.1.1.1.0 at-answer-first.answer-first.result at-if1.if1.false at-answer-first.answer-first.ensures,
+      at-feed.feed.ensures.in_chunk,
+      opening_room a.chunk.now (take a.before a.buf.now) at-feed.feed.new.1.1.0 at-feed.feed.result.ended at-feed.feed.result.held at-feed.feed.result.at at-feed.feed.ensures a.out.now at-answer-first.answer-first.new.0 at-answer-first.answer-first.new.1.1.1.1.0 at-answer-first.answer-first.result at-if1.if1.false at-answer-first.answer-first.ensures,
       omega (arith, s.requires.3, at-answer-first.answer-first.auto.1.1.1.1.0),
     )
 
@@ -73,7 +73,7 @@ returns-2 c =
     let at-if1 = at-answer-first.before.before.before.before.before.before in
     let at-feed = at-if1.before.before.before.before in
     let start = at-feed.before.before.before.before.before.before.before.before in
-    opening-line start.args.chunk.now (take start.args.before start.args.buf.now) at-feed.feed.new.1.1.0 at-feed.feed.result.ended at-feed.feed.result.held at-feed.feed.result.at at-feed.feed.ensures start.args.out.now at-if1.if1.false
+    opening_line start.args.chunk.now (take start.args.before start.args.buf.now) at-feed.feed.new.1.1.0 at-feed.feed.result.ended at-feed.feed.result.held at-feed.feed.result.at at-feed.feed.ensures start.args.out.now at-if1.if1.false
     at-answer-first.answer-first.new.0 at-answer-first.answer-first.new.1.1.1.1.0 at-answer-first.answer-first.result at-answer-first.answer-first.ensures at-answer-rest.answer-rest.new.0 at-answer-rest.answer-rest.new.1.1.1.0 at-answer-rest.answer-rest.new.1.1.1.1.1.1.1.0 at-answer-rest.answer-rest.result.held at-answer-rest.answer-rest.result.wrote at-answer-rest.answer-rest.ensures
 
 pub answer-opening-spec : {M : Type 1} → statement M

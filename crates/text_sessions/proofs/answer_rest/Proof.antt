@@ -4,7 +4,7 @@ use mathlib.Core.Path.{refl, sym, ◌∙◌}
 use native.Mathlib.Omega.{arith}
 use lib.ListN.{length, take, drop}
 use lib.Seq.{length-take-le}
-use Rattle.text_chunks.proofs.Going.{going_start, going-long, going-room, going-line, going-part, going_end}
+use Rattle.text_chunks.proofs.Going.{going_start, going_long, going_room, going_line, going_part, going_end}
 use Rattle.bench_views.specs.View.{view}
 use Rattle.text_sessions.proofs.Session.{Working}
 use Rattle.text_sessions.proofs.answer_rest.Statement.{statement}
@@ -27,7 +27,7 @@ loop-holds c =
 feed-requires : tie.Need-feed-requires invariant-loop decreases-loop
 feed-requires c κs =
     let g = c.before.before.loop.invariant.going in
-    (g.in-chunk, (g.long, g.short))
+    (g.in_chunk, (g.long, g.short))
 
 slice-reshare-prefix-answer-line : tie.Need-slice-reshare-prefix-answer-line invariant-loop decreases-loop
 slice-reshare-prefix-answer-line c = let f = c.before.before.before.before.feed.ensures in omega (arith, f.short, f.long)
@@ -43,7 +43,7 @@ answer-line-requires c κs =
     let a = s.args in (
       at-loop.loop.invariant.words,
       omega (arith, at-loop.loop.invariant.same, s.requires.1),
-      going-room (view a.b.now) a.chunk.now (drop a.from a.chunk.now) (take a.before a.buf.now) a.out.now a.written (view at-loop.loop.b) at-loop.loop.buf at-loop.loop.out at-loop.loop.held at-loop.loop.wrote at-loop.loop.at at-loop.loop.invariant.going s.requires.6 at-loop-test.loop-test.true,
+      going_room (view a.b.now) a.chunk.now (drop a.from a.chunk.now) (take a.before a.buf.now) a.out.now a.written (view at-loop.loop.b) at-loop.loop.buf at-loop.loop.out at-loop.loop.held at-loop.loop.wrote at-loop.loop.at at-loop.loop.invariant.going s.requires.6 at-loop-test.loop-test.true,
     )
 
 loop-less : tie.Need-loop-smaller invariant-loop decreases-loop
@@ -51,7 +51,7 @@ loop-less c =
     let at-if1 = c.before.before.before.before.before.before.before.before.before.before in
     let at-feed = at-if1.before.before.before in
     let at-loop-test = at-feed.before.before in
-    let f = at-feed.feed.ensures in omega (arith, f.on at-if1.if1.true, f.in-chunk, at-loop-test.loop-test.true)
+    let f = at-feed.feed.ensures in omega (arith, f.on at-if1.if1.true, f.in_chunk, at-loop-test.loop-test.true)
 
 loop-again : tie.Need-loop-preserved invariant-loop decreases-loop
 loop-again c =
@@ -63,7 +63,7 @@ loop-again c =
     record {
       words = at-answer-line.answer-line.ensures.words;
       same = at-answer-line.answer-line.auto.1.1.0 ∙ at-loop.loop.invariant.same;
-      going = going-line (view start.args.b.now) start.args.chunk.now (drop start.args.from start.args.chunk.now) (take start.args.before start.args.buf.now) start.args.out.now start.args.written (view at-loop.loop.b) at-loop.loop.buf at-loop.loop.out at-loop.loop.held at-loop.loop.wrote at-loop.loop.at at-loop.loop.invariant.going
+      going = going_line (view start.args.b.now) start.args.chunk.now (drop start.args.from start.args.chunk.now) (take start.args.before start.args.buf.now) start.args.out.now start.args.written (view at-loop.loop.b) at-loop.loop.buf at-loop.loop.out at-loop.loop.held at-loop.loop.wrote at-loop.loop.at at-loop.loop.invariant.going
           at-feed.feed.new.1.1.0 at-feed.feed.result.ended at-feed.feed.result.held at-feed.feed.result.at at-feed.feed.ensures at-if1.if1.true
           (view at-answer-line.answer-line.new.0) at-answer-line.answer-line.new.1.1.1.1.0 at-answer-line.answer-line.result at-answer-line.answer-line.ensures.answered;
     }
@@ -78,7 +78,7 @@ loop-again-2 c =
     record {
       words = l.invariant.words;
       same = l.invariant.same;
-      going = going-part (view a.b.now) a.chunk.now (drop a.from a.chunk.now) (take a.before a.buf.now) a.out.now a.written (view l.b) l.buf l.out l.held l.wrote l.at l.invariant.going
+      going = going_part (view a.b.now) a.chunk.now (drop a.from a.chunk.now) (take a.before a.buf.now) a.out.now a.written (view l.b) l.buf l.out l.held l.wrote l.at l.invariant.going
           c.before.before.before.feed.new.1.1.0 c.before.before.before.feed.result.ended c.before.before.before.feed.result.held c.before.before.before.feed.result.at c.before.before.before.feed.ensures c.if1.false;
     }
 
@@ -94,7 +94,7 @@ same-length-3 : tie.Need-same-length-3 invariant-loop decreases-loop
 same-length-3 c =
     let a = c.before.before.before.before.before.before.args in
     let l = c.before.loop in
-    going-long (view a.b.now) a.chunk.now (drop a.from a.chunk.now) (take a.before a.buf.now) a.out.now a.written (view l.b) l.buf l.out l.held l.wrote l.at l.invariant.going
+    going_long (view a.b.now) a.chunk.now (drop a.from a.chunk.now) (take a.before a.buf.now) a.out.now a.written (view l.b) l.buf l.out l.held l.wrote l.at l.invariant.going
 
 returns : tie.Need-returns invariant-loop decreases-loop
 returns c =
@@ -103,7 +103,7 @@ returns c =
     record {
       words = l.invariant.words;
       answered = going_end (view a.b.now) a.chunk.now (drop a.from a.chunk.now) (take a.before a.buf.now) a.out.now a.written (view l.b) l.buf l.out l.held l.wrote l.at l.invariant.going c.loop-test.false;
-      few = omega (arith, l.invariant.going.few, l.invariant.going.in-chunk);
+      few = omega (arith, l.invariant.going.few, l.invariant.going.in_chunk);
     }
 
 pub answer-rest-spec : {M : Type 1} → statement M

@@ -8,7 +8,7 @@ set-up-requires : tie.Need-set-up-requires
 set-up-requires c κs = search rules
 
 returns : tie.Need-returns
-returns c = started c.set-up.new.0 c.set-up.ensures
+returns c = started c.set_up_lem.new.0 c.set_up_lem.ensures
 
 pub start_spec : {M : Type 1} → statement M
 start_spec = tie.close (tie.spec set-up-requires returns)

@@ -1,5 +1,5 @@
 -- The word is read where the definition has it. Assumes nothing.
-use Rattle.bench_words.specs.Store.{nodeAt}
+use Rattle.bench_words.specs.Store.{node_at}
 use borrow.Author.Rules.{rules}
 use Rattle.bench_words.proofs.biases.load_bias.Statement.{statement}
 use Rattle.bench_words.proofs.biases.load_bias.Tie as tie
@@ -20,7 +20,7 @@ element-copy-out-result : tie.Need-element-copy-out-result
 element-copy-out-result c = search rules
 
 returns : tie.Need-returns
-unfolding nodeAt
+unfolding node_at
 returns c = search rules
 
 pub load-bias-spec : {M : Type 1} → statement M

@@ -1,5 +1,5 @@
 -- The word is read where the definition has it. Assumes nothing.
-use Rattle.bench_words.specs.Store.{nodeAt}
+use Rattle.bench_words.specs.Store.{node_at}
 use borrow.Author.Rules.{rules}
 use Rattle.bench_words.proofs.biases.load_state.Statement.{statement}
 use Rattle.bench_words.proofs.biases.load_state.Tie as tie
@@ -23,7 +23,7 @@ state-of-requires : tie.Need-state-of-requires
 state-of-requires c κs = search rules
 
 returns : tie.Need-returns
-unfolding nodeAt
+unfolding node_at
 returns c = search rules
 
 pub load-state-spec : {M : Type 1} → statement M

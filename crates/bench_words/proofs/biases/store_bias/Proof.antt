@@ -1,5 +1,5 @@
 -- The word is written where the definition has it. Assumes nothing.
-use Rattle.bench_words.specs.Store.{storeBias}
+use Rattle.bench_words.specs.Store.{store_bias}
 use borrow.Author.Rules.{rules}
 use Rattle.bench_words.proofs.biases.store_bias.Statement.{statement}
 use Rattle.bench_words.proofs.biases.store_bias.Tie as tie
@@ -20,7 +20,7 @@ element-write-b : tie.Need-element-write-b
 element-write-b c = search rules
 
 returns : tie.Need-returns
-unfolding storeBias
+unfolding store_bias
 returns c = search rules
 
 pub store-bias-spec : {M : Type 1} → statement M

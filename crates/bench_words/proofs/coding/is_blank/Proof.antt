@@ -1,5 +1,5 @@
 -- Each word is read and tested, in the definition's order. Assumes nothing.
-use Rattle.bench_words.specs.Coding.{blankAt}
+use Rattle.bench_words.specs.Coding.{blank_at}
 use borrow.Author.Rules.{rules}
 use Rattle.bench_words.proofs.coding.is_blank.Statement.{statement}
 use Rattle.bench_words.proofs.coding.is_blank.Tie as tie
@@ -119,7 +119,7 @@ element-copy-out-result-12 : tie.Need-element-copy-out-result-12
 element-copy-out-result-12 c = search rules
 
 returns : tie.Need-returns
-unfolding blankAt
+unfolding blank_at
 returns c = search rules
 
 pub is-blank-spec : {M : Type 1} → statement M

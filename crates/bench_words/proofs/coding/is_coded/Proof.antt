@@ -1,5 +1,5 @@
 -- Each word is read and tested, in the definition's order. Assumes nothing.
-use Rattle.bench_words.specs.Coding.{codedAt}
+use Rattle.bench_words.specs.Coding.{coded_at}
 use borrow.Author.Rules.{rules}
 use Rattle.bench_words.proofs.coding.is_coded.Statement.{statement}
 use Rattle.bench_words.proofs.coding.is_coded.Tie as tie
@@ -65,7 +65,7 @@ element-copy-out-result-6 : tie.Need-element-copy-out-result-6
 element-copy-out-result-6 c = search rules
 
 returns : tie.Need-returns
-unfolding codedAt
+unfolding coded_at
 returns c = search rules
 
 pub is-coded-spec : {M : Type 1} → statement M

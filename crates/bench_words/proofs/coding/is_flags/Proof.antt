@@ -1,5 +1,5 @@
 -- Both words are read and tested. Assumes nothing.
-use Rattle.bench_words.specs.Coding.{flagsAt}
+use Rattle.bench_words.specs.Coding.{flags_at}
 use borrow.Author.Rules.{rules}
 use Rattle.bench_words.proofs.coding.is_flags.Statement.{statement}
 use Rattle.bench_words.proofs.coding.is_flags.Tie as tie
@@ -20,7 +20,7 @@ element-copy-out-result : tie.Need-element-copy-out-result
 element-copy-out-result c = search rules
 
 returns : tie.Need-returns
-unfolding flagsAt
+unfolding flags_at
 returns c = search rules
 
 pub is-flags-spec : {M : Type 1} → statement M

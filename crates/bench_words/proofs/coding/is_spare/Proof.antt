@@ -1,5 +1,5 @@
 -- Each word is read and tested, in the definition's order. Assumes nothing.
-use Rattle.bench_words.specs.Coding.{spareAt}
+use Rattle.bench_words.specs.Coding.{spare_at}
 use borrow.Author.Rules.{rules}
 use Rattle.bench_words.proofs.coding.is_spare.Statement.{statement}
 use Rattle.bench_words.proofs.coding.is_spare.Tie as tie
@@ -71,7 +71,7 @@ element-copy-out-result-7 : tie.Need-element-copy-out-result-7
 element-copy-out-result-7 c = search rules
 
 returns : tie.Need-returns
-unfolding spareAt
+unfolding spare_at
 returns c = search rules
 
 pub is-spare-spec : {M : Type 1} → statement M

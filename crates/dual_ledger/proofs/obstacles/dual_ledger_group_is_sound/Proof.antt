@@ -1,7 +1,7 @@
 -- The sound test decides. Assumes nothing.
 use borrow.Author.Rules.{rules}
 use mathlib.Core.Path.{sym, ap, ◌∙◌}
-use Rattle.link_answers.specs.Forms.{flagWord}
+use Rattle.link_answers.specs.Forms.{flag_word}
 use Rattle.dual_ledger.proofs.obstacles.dual_ledger_group_is_sound.Statement.{statement}
 use Rattle.dual_ledger.proofs.obstacles.dual_ledger_group_is_sound.Tie as tie
 
@@ -9,10 +9,10 @@ is-group-requires : tie.Need-is-group-requires
 is-group-requires c κs = search rules
 
 returns : tie.Need-returns
-returns c = ap flagWord (sym c.if1.true ∙ c.before.is-group.ensures.is)
+returns c = ap flag_word (sym c.if1.true ∙ c.before.is-group.ensures.is)
 
 returns-2 : tie.Need-returns-2
-returns-2 c = ap flagWord (sym c.if1.false ∙ c.before.is-group.ensures.is)
+returns-2 c = ap flag_word (sym c.if1.false ∙ c.before.is-group.ensures.is)
 
 pub dual-ledger-group-is-sound-spec : {M : Type 1} → statement M
 dual-ledger-group-is-sound-spec = tie.close (tie.spec is-group-requires returns returns-2)

@@ -1,6 +1,6 @@
 -- BROKEN on words that hold no sound bench; else the call on sound words answers. Assumes nothing.
 use mathlib.Core.Path.{refl}
-use Rattle.dual_ledger.proofs.Telling.{sound-so, called-broken, called-sound}
+use Rattle.dual_ledger.proofs.Telling.{sound_so, called_broken, called_sound}
 use borrow.Author.Rules.{rules}
 use Rattle.dual_ledger.proofs.open_calls.dual_ledger_expand_blossom.Statement.{statement}
 use Rattle.dual_ledger.proofs.open_calls.dual_ledger_expand_blossom.Tie as tie
@@ -12,13 +12,13 @@ refused-requires : tie.Need-refused-requires
 refused-requires c κs = search rules
 
 returns : tie.Need-returns
-returns c = called-broken c.before.before.before.is-bench.ensures c.before.before.if1.true _ c.refused.ensures refl
+returns c = called_broken c.before.before.before.is-bench.ensures c.before.before.if1.true _ c.refused.ensures refl
 
 dual-ledger-told-expand-blossom-requires : tie.Need-dual-ledger-told-expand-blossom-requires
-dual-ledger-told-expand-blossom-requires c κs = sound-so c.before.before.before.is-bench.ensures c.before.before.if1.false
+dual-ledger-told-expand-blossom-requires c κs = sound_so c.before.before.before.is-bench.ensures c.before.before.if1.false
 
 returns-2 : tie.Need-returns-2
-returns-2 c = called-sound c.before.before.before.before.is-bench.ensures c.before.before.before.if1.false _ c.dual-ledger-told-expand-blossom.ensures
+returns-2 c = called_sound c.before.before.before.before.is-bench.ensures c.before.before.before.if1.false _ c.dual-ledger-told-expand-blossom.ensures
 
 pub dual-ledger-expand-blossom-spec : {M : Type 1} → statement M
 dual-ledger-expand-blossom-spec =

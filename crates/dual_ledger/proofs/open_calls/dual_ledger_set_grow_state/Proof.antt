@@ -1,7 +1,7 @@
 -- BROKEN on words that hold no sound bench; else the call on sound words answers. Assumes nothing.
 use mathlib.Core.Path.{refl}
-use Rattle.dual_ledger.proofs.Settling.{same-state}
-use Rattle.dual_ledger.proofs.Telling.{sound-so, called-broken, called-sound, told-as}
+use Rattle.dual_ledger.proofs.Settling.{same_state}
+use Rattle.dual_ledger.proofs.Telling.{sound_so, called_broken, called_sound, told_as}
 use borrow.Author.Rules.{rules}
 use Rattle.dual_ledger.proofs.open_calls.dual_ledger_set_grow_state.Statement.{statement}
 use Rattle.dual_ledger.proofs.open_calls.dual_ledger_set_grow_state.Tie as tie
@@ -13,15 +13,15 @@ refused-requires : tie.Need-refused-requires
 refused-requires c κs = search rules
 
 returns : tie.Need-returns
-returns c = called-broken c.before.before.before.is-bench.ensures c.before.before.if1.true _ c.refused.ensures refl
+returns c = called_broken c.before.before.before.is-bench.ensures c.before.before.if1.true _ c.refused.ensures refl
 
 dual-ledger-told-set-grow-state-requires : tie.Need-dual-ledger-told-set-grow-state-requires
-dual-ledger-told-set-grow-state-requires c κs = sound-so c.before.before.before.is-bench.ensures c.before.before.if1.false
+dual-ledger-told-set-grow-state-requires c κs = sound_so c.before.before.before.is-bench.ensures c.before.before.if1.false
 
 returns-2 : tie.Need-returns-2
 returns-2 c =
     let s = c.before.before.before.before.before.before in
-    called-sound c.before.before.before.before.is-bench.ensures c.before.before.before.if1.false _ (told-as _ (same-state _ refl s.ranges.state refl) c.dual-ledger-told-set-grow-state.ensures)
+    called_sound c.before.before.before.before.is-bench.ensures c.before.before.before.if1.false _ (told_as _ (same_state _ refl s.ranges.state refl) c.dual-ledger-told-set-grow-state.ensures)
 
 pub dual-ledger-set-grow-state-spec : {M : Type 1} → statement M
 dual-ledger-set-grow-state-spec =

@@ -3,11 +3,11 @@ use borrow.Author.Rules.{rules}
 use mathlib.Core.Path.{ap, ◌∙◌}
 use Rattle.bench_views.specs.View.{view}
 use Rattle.ledger_spec.specs.Bench.{Handle}
-use Rattle.dual_ledger.proofs.Handing.{worded-by}
-use Rattle.link_answers.specs.Forms.{flagWord}
+use Rattle.dual_ledger.proofs.Handing.{worded_by}
+use Rattle.link_answers.specs.Forms.{flag_word}
 use Rattle.dual_ledger.proofs.open_reads.dual_ledger_check_ptr_belonging.Statement.{statement}
 use Rattle.dual_ledger.proofs.open_reads.dual_ledger_check_ptr_belonging.Tie as tie
-use Rattle.sound_lent.specs.Verdict.{readWords}
+use Rattle.sound_lent.specs.Verdict.{read_words}
 use Rattle.ledger_spec.specs.Answers.{belongsRead}
 
 hand-requires : tie.Need-hand-requires
@@ -20,7 +20,7 @@ flag-word-requires : tie.Need-flag-word-requires
 flag-word-requires c κs = search rules
 
 returns : tie.Need-returns
-returns c = let s = c.before.before.before in worded-by flagWord (c.before.check-ptr-belonging.ensures ∙ ap (λ (h : Handle). readWords s.args.bench.now (belongsRead (view s.args.bench.now) s.args.unit h)) c.before.before.hand.ensures) c.flag_word.ensures
+returns c = let s = c.before.before.before in worded_by flag_word (c.before.check-ptr-belonging.ensures ∙ ap (λ (h : Handle). read_words s.args.bench.now (belongsRead (view s.args.bench.now) s.args.unit h)) c.before.before.hand.ensures) c.flag_word.ensures
 
 pub dual-ledger-check-ptr-belonging-spec : {M : Type 1} → statement M
 dual-ledger-check-ptr-belonging-spec = tie.close (tie.spec hand-requires check-ptr-belonging-requires flag-word-requires returns)

@@ -1,6 +1,6 @@
 -- The read below answers; its number and its values as words are handed on. Assumes nothing.
 use borrow.Author.Rules.{rules}
-use Rattle.dual_ledger.proofs.Handing.{indexed-by}
+use Rattle.dual_ledger.proofs.Handing.{indexed_by}
 use Rattle.dual_ledger.proofs.open_reads.dual_ledger_get_node.Statement.{statement}
 use Rattle.dual_ledger.proofs.open_reads.dual_ledger_get_node.Tie as tie
 
@@ -11,7 +11,7 @@ indexed-word-requires : tie.Need-indexed-word-requires
 indexed-word-requires c κs = search rules
 
 returns : tie.Need-returns
-returns c = indexed-by c.before.get-node.ensures c.indexed-word.ensures
+returns c = indexed_by c.before.get-node.ensures c.indexed-word.ensures
 
 pub dual-ledger-get-node-spec : {M : Type 1} → statement M
 dual-ledger-get-node-spec = tie.close (tie.spec get-node-requires indexed-word-requires returns)

@@ -2,7 +2,7 @@
 use borrow.Author.Rules.{rules}
 use mir.Syntax.{w64}
 use mir.Val.{SFits}
-use Rattle.dual_ledger.proofs.Texting.{line-left}
+use Rattle.dual_ledger.proofs.Texting.{line_left}
 use Rattle.dual_ledger.proofs.text.dual_ledger_text_line.Statement.{statement}
 use Rattle.dual_ledger.proofs.text.dual_ledger_text_line.Tie as tie
 
@@ -25,7 +25,7 @@ returns c =
     let t = c.before.struct-told2.given in
     let f : SFits w64 r.speed = record { sfits = t.1.1.0.1 } in
     let g : SFits w64 r.sum = record { sfits = t.1.1.1.0.1 } in
-    line-left a.bench.now a.line.now r _ f g c.before.before.signed_word.ensures c.signed-word2.ensures c.before.before.before.before.before.line-on-any.ensures
+    line_left a.bench.now a.line.now r _ f g c.before.before.signed_word.ensures c.signed-word2.ensures c.before.before.before.before.before.line-on-any.ensures
 
 pub dual-ledger-text-line-spec : {M : Type 1} → statement M
 dual-ledger-text-line-spec = tie.close (tie.spec line-on-any-requires cast-serial signed-word-requires signed-word-requires-2 returns)

@@ -1,16 +1,16 @@
 -- The tests decide; what the circle tells is written before the work. Assumes nothing.
 use mathlib.Core.Path.{refl, sym, ap, ◌∙◌}
 use Rattle.ledger_spec.specs.Calls.{Expand}
-use Rattle.ledger_spec.specs.Named.{handleNamed}
+use Rattle.ledger_spec.specs.Named.{handle_named}
 use Rattle.ledger_spec.specs.Tests.{first}
-use Rattle.ledger_spec.specs.Refuse.{expandTests}
-use Rattle.ledger_laws.proofs.Answered.{testsOf, deed_of, node_of}
+use Rattle.ledger_spec.specs.Refuse.{expand_tests}
+use Rattle.ledger_laws.proofs.Answered.{tests_of, deed_of, node_of}
 use Rattle.bench_views.specs.View.{view}
 use Rattle.outcomes.proofs.Answers.{did, refused}
-use Rattle.outcome_notices.proofs.Tells.{tells-expand}
+use Rattle.outcome_notices.proofs.Tells.{tells_expand}
 use Rattle.call_sound.proofs.Settling.{fits}
 use Rattle.call_told.proofs.Telling.{ring_of}
-use Rattle.dual_ledger.proofs.Telling.{told-stops, told-goes, told-as}
+use Rattle.dual_ledger.proofs.Telling.{told_stops, told_goes, told_as}
 use borrow.Author.Rules.{rules}
 use Rattle.dual_ledger.proofs.told_calls.dual_ledger_told_expand_blossom.Statement.{
   statement,
@@ -27,20 +27,20 @@ refused-requires : tie.Need-refused-requires
 refused-requires c κs = search rules
 
 returns : tie.Need-returns
-unfolding testsOf
+unfolding tests_of
 returns c =
     let s = c.before.before.before.before.before.before in
     let h = c.before.before.before.before.before.hand in
     let n = c.before.before.before.expand-number in
     let b = s.args.bench.now in
     let q = c.before.before.if1.true in
-    told-as _ (ap (Expand s.args.unit) h.ensures)
-    (told-stops (refused b (Expand s.args.unit (handleNamed h.result)) s.requires b n.result q n.ensures refl).0 q _ c.refused.ensures)
+    told_as _ (ap (Expand s.args.unit) h.ensures)
+    (told_stops (refused b (Expand s.args.unit (handle_named h.result)) s.requires b n.result q n.ensures refl).0 q _ c.refused.ensures)
 
 expanded-requires : tie.Need-expanded-requires
 expanded-requires c κs =
     let s = c.before.before.before.before.before.before in
-    ring_of s.args.bench.now s.requires s.args.unit (handleNamed c.before.before.before.before.before.hand.result) c.before.before.before.expand-number.result c.before.before.before.expand-number.ensures c.before.before.if1.false
+    ring_of s.args.bench.now s.requires s.args.unit (handle_named c.before.before.before.before.before.hand.result) c.before.before.before.expand-number.result c.before.before.before.expand-number.ensures c.before.before.if1.false
 
 remove-blossom-requires : tie.Need-remove-blossom-requires
 remove-blossom-requires c κs =
@@ -48,20 +48,20 @@ remove-blossom-requires c κs =
     let at-expand-number = at-if1.before in
     let at-hand = at-expand-number.before.before in
     let s = c.before.before.before.before.before.before.before.before in
-    let h = handleNamed at-hand.hand.result in
-    fits s.args.bench.now s.requires (first (expandTests (view s.args.bench.now) s.args.unit h)) at-expand-number.expand-number.result at-expand-number.expand-number.ensures at-if1.if1.false
+    let h = handle_named at-hand.hand.result in
+    fits s.args.bench.now s.requires (first (expand_tests (view s.args.bench.now) s.args.unit h)) at-expand-number.expand-number.result at-expand-number.expand-number.ensures at-if1.if1.false
 
 returns-2 : tie.Need-returns-2
-unfolding testsOf deed_of node_of
+unfolding tests_of deed_of node_of
 returns-2 c =
     let s = c.before.before.before.before.before.before.before.before.before in
     let h = c.before.before.before.before.before.before.before.before.hand in
     let n = c.before.before.before.before.before.before.expand-number in
     let b = s.args.bench.now in
-    let k = handleNamed h.result in
+    let k = handle_named h.result in
     let z = sym n.ensures ∙ c.before.before.before.before.before.if1.false in
-    told-as _ (ap (Expand s.args.unit) h.ensures)
-    (told-goes (did b (Expand s.args.unit k) s.requires _ h.result z c.remove-blossom.ensures refl).0 refl refl (tells-expand (view b) s.args.unit k) _ c.before.before.expanded.ensures)
+    told_as _ (ap (Expand s.args.unit) h.ensures)
+    (told_goes (did b (Expand s.args.unit k) s.requires _ h.result z c.remove-blossom.ensures refl).0 refl refl (tells_expand (view b) s.args.unit k) _ c.before.before.expanded.ensures)
 
 pub dual-ledger-told-expand-blossom-spec : {M : Type 1} → statement M
 dual-ledger-told-expand-blossom-spec =

@@ -4,8 +4,8 @@ use mathlib.Core.Path.{ap, ◌∙◌}
 use Rattle.bench_views.proofs.Fits.{fit_of}
 use Rattle.bench_views.specs.View.{view}
 use Rattle.ledger_spec.specs.Reads.{belongs}
-use Rattle.dual_ledger.proofs.Handing.{worded-by}
-use Rattle.link_answers.specs.Forms.{flagWord}
+use Rattle.dual_ledger.proofs.Handing.{worded_by}
+use Rattle.link_answers.specs.Forms.{flag_word}
 use Rattle.dual_ledger.proofs.trusted_reads.dual_ledger_trusted_check_ptr_belonging.Statement.{statement}
 use Rattle.dual_ledger.proofs.trusted_reads.dual_ledger_trusted_check_ptr_belonging.Tie as tie
 
@@ -19,7 +19,7 @@ flag-word-requires : tie.Need-flag-word-requires
 flag-word-requires c κs = search rules
 
 returns : tie.Need-returns
-returns c = let s = c.before.before.before in worded-by flagWord (c.before.check-ptr-belonging.ensures ∙ ap (belongs (view s.args.bench.now) s.args.unit) c.before.before.hand.ensures) c.flag_word.ensures
+returns c = let s = c.before.before.before in worded_by flag_word (c.before.check-ptr-belonging.ensures ∙ ap (belongs (view s.args.bench.now) s.args.unit) c.before.before.hand.ensures) c.flag_word.ensures
 
 pub dual-ledger-trusted-check-ptr-belonging-spec : {M : Type 1} → statement M
 dual-ledger-trusted-check-ptr-belonging-spec = tie.close (tie.spec hand-requires check-ptr-belonging-requires flag-word-requires returns)

@@ -4,7 +4,7 @@ use mathlib.Core.Path.{ap, ◌∙◌}
 use Rattle.ledger_spec.specs.Bench.{Handle}
 use Rattle.bench_views.proofs.Fits.{fit_of}
 use Rattle.bench_views.specs.View.{view}
-use Rattle.ledger_spec.specs.Walk.{verticesInto}
+use Rattle.ledger_spec.specs.Walk.{vertices_into}
 use Rattle.dual_ledger.proofs.trusted_reads.dual_ledger_trusted_get_all_vertices.Statement.{statement}
 use Rattle.dual_ledger.proofs.trusted_reads.dual_ledger_trusted_get_all_vertices.Tie as tie
 
@@ -18,7 +18,7 @@ same_length : tie.Need-same-length
 same_length c = search rules
 
 returns : tie.Need-returns
-returns c = let s = c.before.before.before.before.before.before in c.before.before.get-all-vertices.ensures ∙ ap (λ (h : Handle). verticesInto (view s.args.bench.now) h s.args.out.now) c.before.before.before.before.hand.ensures
+returns c = let s = c.before.before.before.before.before.before in c.before.before.get-all-vertices.ensures ∙ ap (λ (h : Handle). vertices_into (view s.args.bench.now) h s.args.out.now) c.before.before.before.before.hand.ensures
 
 pub dual-ledger-trusted-get-all-vertices-spec : {M : Type 1} → statement M
 dual-ledger-trusted-get-all-vertices-spec = tie.close (tie.spec hand-requires get-all-vertices-requires same_length returns)

@@ -3,9 +3,9 @@ use borrow.Author.Rules.{rules}
 use mathlib.Core.Path.{ap, ◌∙◌}
 use Rattle.bench_views.proofs.Fits.{fit_of}
 use Rattle.bench_views.specs.View.{view}
-use Rattle.ledger_spec.specs.Walk.{belowOf}
-use Rattle.dual_ledger.proofs.Handing.{worded-by}
-use Rattle.link_answers.specs.Forms.{nodeWord}
+use Rattle.ledger_spec.specs.Walk.{below_of}
+use Rattle.dual_ledger.proofs.Handing.{worded_by}
+use Rattle.link_answers.specs.Forms.{node_word}
 use Rattle.dual_ledger.proofs.trusted_reads.dual_ledger_trusted_get_secondary_ancestor_blossom.Statement.{statement}
 use Rattle.dual_ledger.proofs.trusted_reads.dual_ledger_trusted_get_secondary_ancestor_blossom.Tie as tie
 
@@ -19,7 +19,7 @@ node-word-requires : tie.Need-node-word-requires
 node-word-requires c κs = search rules
 
 returns : tie.Need-returns
-returns c = worded-by nodeWord (c.before.before.get-secondary-ancestor-blossom.ensures ∙ ap (belowOf (view c.before.before.before.before.args.bench.now)) c.before.before.before.hand.ensures) c.node-word.ensures
+returns c = worded_by node_word (c.before.before.get-secondary-ancestor-blossom.ensures ∙ ap (below_of (view c.before.before.before.before.args.bench.now)) c.before.before.before.hand.ensures) c.node_word_lem.ensures
 
 pub dual-ledger-trusted-get-secondary-ancestor-blossom-spec : {M : Type 1} → statement M
 dual-ledger-trusted-get-secondary-ancestor-blossom-spec = tie.close (tie.spec hand-requires get-secondary-ancestor-blossom-requires node-word-requires returns)

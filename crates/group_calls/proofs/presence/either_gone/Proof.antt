@@ -1,7 +1,7 @@
 -- The first decides where it is gone, else the second does. Assumes nothing.
 use mathlib.Core.Path.{sym, ◌∙◌}
 use borrow.Author.Rules.{rules}
-use Rattle.group_calls.proofs.Turns.{one_has, first-has, rest_has}
+use Rattle.group_calls.proofs.Turns.{one_has, first_has, rest_has}
 use Rattle.group_calls.proofs.presence.either_gone.Statement.{statement}
 use Rattle.group_calls.proofs.presence.either_gone.Tie as tie
 
@@ -9,7 +9,7 @@ is-gone-requires : tie.Need-is-gone-requires
 is-gone-requires c κs = search rules
 
 returns : tie.Need-returns
-returns c = first-has _ _ _ (sym c.before.is-gone.ensures ∙ c.if1.true)
+returns c = first_has _ _ _ (sym c.before.is-gone.ensures ∙ c.if1.true)
 
 is-gone-requires-2 : tie.Need-is-gone-requires-2
 is-gone-requires-2 c κs = search rules

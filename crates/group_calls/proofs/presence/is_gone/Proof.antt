@@ -1,12 +1,12 @@
 -- A handle is gone exactly where none is found by it. Assumes nothing.
 use mathlib.Core.Path.{◌≡◌, sym}
 use borrow.Author.Rules.{rules}
-use Rattle.ledger_spec.specs.Named.{handleNamed}
+use Rattle.ledger_spec.specs.Named.{handle_named}
 use Rattle.bench_views.specs.View.{view}
 use Rattle.bench_links.specs.declared.Found.TheVariants.{At, Stale}
 use Rattle.bench_links.proofs.Finding.{found_at, found_none}
-use Rattle.bench_links.proofs.Rising.{seen-some}
-use Rattle.read_sound.proofs.Numbers.{stale-yes, stale-no}
+use Rattle.bench_links.proofs.Rising.{seen_some}
+use Rattle.read_sound.proofs.Numbers.{stale_yes, stale_no}
 use Rattle.group_calls.proofs.presence.is_gone.Statement.{statement}
 use Rattle.group_calls.proofs.presence.is_gone.Tie as tie
 
@@ -23,19 +23,19 @@ returns : tie.Need-returns
 returns c =
     let s = c.before.before.before in
     let b = s.args.b.now in
-    let h = handleNamed s.args.h in
+    let h = handle_named s.args.h in
     let k = c.enum_told.given.0.0 in
     let q : c.before.before.find.result ≡ At k = cc in
-    let n = seen-some b h (found_at b h c.before.before.find.ensures k q).stands in
-    sym (stale-no (view b) h n.0 n.1)
+    let n = seen_some b h (found_at b h c.before.before.find.ensures k q).stands in
+    sym (stale_no (view b) h n.0 n.1)
 
 returns-2 : tie.Need-returns-2
 returns-2 c =
     let s = c.before.before.before in
     let b = s.args.b.now in
-    let h = handleNamed s.args.h in
+    let h = handle_named s.args.h in
     let q : c.before.before.find.result ≡ Stale = cc in
-    sym (stale-yes (view b) h (found_none b h c.before.before.find.ensures q))
+    sym (stale_yes (view b) h (found_none b h c.before.before.find.ensures q))
 
 pub is-gone-spec : {M : Type 1} → statement M
 is-gone-spec = tie.close (tie.spec find-requires enum_told enum-told-2 returns returns-2)

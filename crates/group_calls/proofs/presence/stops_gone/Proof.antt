@@ -5,15 +5,15 @@ use native.Mathlib.Omega.{arith}
 use borrow.Author.Rules.{rules}
 use lib.ListN.{length, take, drop}
 use Rattle.ledger_spec.specs.Tests.{any}
-use Rattle.ledger_spec.specs.GroupCalls.{staleCode, stopHandles}
+use Rattle.ledger_spec.specs.GroupCalls.{stale_code, stop_handles}
 use Rattle.bench_views.specs.View.{view}
-use Rattle.group_handles.proofs.Handles.{stop-turn, stop-end}
+use Rattle.group_handles.proofs.Handles.{stop_turn, stop_end}
 use Rattle.group_calls.proofs.Turns.{or_yes, or_no}
 use Rattle.group_calls.proofs.presence.stops_gone.Statement.{statement}
 use Rattle.group_calls.proofs.presence.stops_gone.Tie as tie
 
 abbrev invariant-loop : tie.invariant-loop
-invariant-loop b n stops i₀ i = (i ≤ n) × (any (staleCode (view b)) (stopHandles (take n stops)) ≡ any (staleCode (view b)) (stopHandles (drop i (take n stops))))
+invariant-loop b n stops i₀ i = (i ≤ n) × (any (stale_code (view b)) (stop_handles (take n stops)) ≡ any (stale_code (view b)) (stop_handles (drop i (take n stops))))
 
 abbrev decreases-loop : tie.decreases-loop
 decreases-loop b n stops i₀ i = n - i
@@ -38,7 +38,7 @@ returns c =
     let at = c.before.before.before.before in
     let l = long at.before in
     let k = at.before.requires.1 in
-    or_yes _ (sym c.before.names-gone.ensures ∙ c.if1.true) ∙ sym (at.loop.invariant.1 ∙ stop-turn _ _ at.loop.i _ _ c.before.before.before.loop-test.true (omega arith))
+    or_yes _ (sym c.before.names-gone.ensures ∙ c.if1.true) ∙ sym (at.loop.invariant.1 ∙ stop_turn _ _ at.loop.i _ _ c.before.before.before.loop-test.true (omega arith))
 
 add-i : tie.Need-overflow-add-i invariant-loop decreases-loop
 add-i c = omega (arith, c.before.before.before.before.before.requires.1)
@@ -51,13 +51,13 @@ loop-again c =
     let at = c.before.before.before.before in
     let l = long at.before in
     let k = at.before.requires.1 in
-    (omega arith, at.loop.invariant.1 ∙ stop-turn _ _ at.loop.i _ _ c.before.before.before.loop-test.true (omega arith) ∙ sym (or_no _ (sym c.before.names-gone.ensures ∙ c.if1.false)))
+    (omega arith, at.loop.invariant.1 ∙ stop_turn _ _ at.loop.i _ _ c.before.before.before.loop-test.true (omega arith) ∙ sym (or_no _ (sym c.before.names-gone.ensures ∙ c.if1.false)))
 
 returns-2 : tie.Need-returns-2 invariant-loop decreases-loop
 returns-2 c =
     let l = long c.before.before in
     let k = c.before.before.requires.1 in
-    sym (c.before.loop.invariant.1 ∙ stop-end _ _ c.before.loop.i _ c.loop-test.false (omega arith))
+    sym (c.before.loop.invariant.1 ∙ stop_end _ _ c.before.loop.i _ c.loop-test.false (omega arith))
 
 pub stops-gone-spec : {M : Type 1} → statement M
 stops-gone-spec =

@@ -3,7 +3,7 @@ use Prim.Native.Nat.{ℕ}
 use mathlib.Core.Path.{sym, ap, ◌∙◌}
 use borrow.Author.Rules.{rules}
 use Rattle.kinds.specs.declared.Obstacle.{Obstacle}
-use Rattle.ledger_spec.specs.GroupCalls.{vertexOf}
+use Rattle.ledger_spec.specs.GroupCalls.{vertex_of}
 use Rattle.bench_views.specs.View.{view}
 use Rattle.group_calls.proofs.presence.vertex_of.Statement.{statement}
 use Rattle.group_calls.proofs.presence.vertex_of.Tie as tie
@@ -39,7 +39,7 @@ returns-4 : tie.Need-returns-4
 returns-4 c = search rules
 
 returns-5 : tie.Need-returns-5
-returns-5 c = ap (λ (p : ℕ × ℕ). p.1) c.before.get-representative-vertex.ensures ∙ sym (ap (λ (o : Obstacle). vertexOf (view c.before.before.before.before.before.args.b.now) o) c.before.before.before.o.given.1)
+returns-5 c = ap (λ (p : ℕ × ℕ). p.1) c.before.get-representative-vertex.ensures ∙ sym (ap (λ (o : Obstacle). vertex_of (view c.before.before.before.before.before.args.b.now) o) c.before.before.before.o.given.1)
 
 pub vertex-of-spec : {M : Type 1} → statement M
 vertex-of-spec =

@@ -1,6 +1,6 @@
 -- The nodes are those of the known case.
 -- Assumes nothing.
-use Rattle.kinds.proofs.Tests.{nodes-known}
+use Rattle.kinds.proofs.Tests.{nodes_known}
 use borrow.Author.Rules.{rules}
 use Rattle.kinds.proofs.Obstacle.get_conflicting.Statement.{statement}
 use Rattle.kinds.proofs.Obstacle.get_conflicting.Tie as tie
@@ -24,7 +24,7 @@ returns : tie.Need-returns
 returns c = search rules
 
 returns-2 : tie.Need-returns-2
-returns-2 c = nodes-known _ _ _ c.before.before.before.self.given.1
+returns-2 c = nodes_known _ _ _ c.before.before.before.self.given.1
 
 returns-3 : tie.Need-returns-3
 returns-3 c = search rules

@@ -1,6 +1,6 @@
 -- The length is that of the known case, read back from its 64 bits.
 -- Assumes nothing.
-use Rattle.kinds.proofs.Tests.{length-known}
+use Rattle.kinds.proofs.Tests.{length_known}
 use mir.Syntax.{w64}
 use mir.ValLaws.{to_z-of_z}
 use borrow.Author.Rules.{rules}
@@ -23,7 +23,7 @@ enum-told-4 : tie.Need-enum-told-4
 enum-told-4 c = search rules
 
 returns : tie.Need-returns
-returns c = length-known _ _ _ _ (to_z-of_z w64 _ (record { sfits = c.known-told.given.0.1 })) c.before.self.given.1
+returns c = length_known _ _ _ _ (to_z-of_z w64 _ (record { sfits = c.known-told.given.0.1 })) c.before.self.given.1
 
 returns-2 : tie.Need-returns-2
 returns-2 c = search rules

@@ -1,6 +1,6 @@
 -- The node and the vertex are those of the known case.
 -- Assumes nothing.
-use Rattle.kinds.proofs.Tests.{virtual-known}
+use Rattle.kinds.proofs.Tests.{virtual_known}
 use borrow.Author.Rules.{rules}
 use Rattle.kinds.proofs.Obstacle.get_touching_virtual.Statement.{statement}
 use Rattle.kinds.proofs.Obstacle.get_touching_virtual.Tie as tie
@@ -27,7 +27,7 @@ returns-2 : tie.Need-returns-2
 returns-2 c = search rules
 
 returns-3 : tie.Need-returns-3
-returns-3 c = virtual-known _ _ _ _ c.before.before.self.given.1
+returns-3 c = virtual_known _ _ _ _ c.before.before.self.given.1
 
 returns-4 : tie.Need-returns-4
 returns-4 c = search rules

@@ -1,6 +1,6 @@
 -- A conflict is asked for its two nodes; nothing else is one.
 -- Assumes nothing.
-use Rattle.kinds.proofs.Tests.{conflict-known}
+use Rattle.kinds.proofs.Tests.{conflict_known}
 use borrow.Author.Rules.{rules}
 use Rattle.kinds.proofs.Obstacle.is_conflicting.Statement.{statement}
 use Rattle.kinds.proofs.Obstacle.is_conflicting.Tie as tie
@@ -27,7 +27,7 @@ returns : tie.Need-returns
 returns c = search rules
 
 returns-2 : tie.Need-returns-2
-returns-2 c = conflict-known _ _ _ _ _ _ c.before.before.self.given.1 c.are-both.ensures
+returns-2 c = conflict_known _ _ _ _ _ _ c.before.before.self.given.1 c.are-both.ensures
 
 returns-3 : tie.Need-returns-3
 returns-3 c = search rules

@@ -6,7 +6,7 @@ use mir.Facts.{to_z-of_z}
 use Prim.Native.Nat.{ℕ}
 use Rattle.text_lines.specs.declared.Line.TheVariants.{Defect, Blossom, Expand, SetState, Grow, Fuse, Clear, Check, Wrong}
 use Rattle.record_spec.specs.Numbers.{complement}
-use Rattle.record_gets.specs.Gets.{frontOf}
+use Rattle.record_gets.specs.Gets.{front_of}
 use borrow.Author.Rules.{rules}
 use Rattle.record_gets.proofs.words.front_of.Statement.{statement}
 use Rattle.record_gets.proofs.words.front_of.Tie as tie
@@ -89,42 +89,42 @@ two-requires-3 c κs = search rules
 returns : tie.Need-returns
 returns c =
     let q : c.before.before.before.before.before.args.line ≡ Defect c.before.before.before.line.given.0.0 c.before.before.before.line.given.0.1.0 = cc in
-    c.three.ensures ∙ sym (ap frontOf q)
+    c.three.ensures ∙ sym (ap front_of q)
 
 returns-2 : tie.Need-returns-2
 returns-2 c =
     let q : c.before.before.before.before.args.line ≡ Blossom c.before.before.line2.given.0.0 c.before.before.line2.given.0.1.0 = cc in
-    c.three2.ensures ∙ sym (ap frontOf q)
+    c.three2.ensures ∙ sym (ap front_of q)
 
 returns-3 : tie.Need-returns-3
 returns-3 c =
     let q : c.before.before.before.before.before.args.line ≡ Expand c.before.before.before.line3.given.0.0 c.before.before.before.line3.given.0.1.0 = cc in
-    c.three3.ensures ∙ sym (ap frontOf q)
+    c.three3.ensures ∙ sym (ap front_of q)
 
 returns-4 : tie.Need-returns-4
 returns-4 c =
     let q : c.before.before.before.before.before.before.args.line ≡ SetState c.before.before.before.before.line4.given.0.0 c.before.before.before.before.line4.given.0.1.0 c.before.before.before.before.line4.given.0.1.1.0 = cc in
-    c.four.ensures ∙ ap (λ (n : ℕ). record { many = 4; letter = 83; unit = c.before.before.before.before.line4.given.0.0; third = c.before.before.before.before.line4.given.0.1.0.0; fourth = n; members = 0 }) c.before.state-word.ensures ∙ sym (ap frontOf q)
+    c.four.ensures ∙ ap (λ (n : ℕ). record { many = 4; letter = 83; unit = c.before.before.before.before.line4.given.0.0; third = c.before.before.before.before.line4.given.0.1.0.0; fourth = n; members = 0 }) c.before.state-word.ensures ∙ sym (ap front_of q)
 
 returns-5 : tie.Need-returns-5
 returns-5 c =
     let ok : SFits w64 c.before.before.before.line5.given.0.1.0 = record { sfits = c.before.before.known-told5.given.1.0.1 } in
     let q : c.before.before.before.before.before.args.line ≡ Grow c.before.before.before.line5.given.0.0 c.before.before.before.line5.given.0.1.0 = cc in
-    c.three4.ensures ∙ ap (λ (n : ℕ). record { many = 3; letter = 71; unit = c.before.before.before.line5.given.0.0; third = n; fourth = 0; members = 0 }) (c.before.complement-of.ensures ∙ ap complement (to_z-of_z ok)) ∙ sym (ap frontOf q)
+    c.three4.ensures ∙ ap (λ (n : ℕ). record { many = 3; letter = 71; unit = c.before.before.before.line5.given.0.0; third = n; fourth = 0; members = 0 }) (c.before.complement-of.ensures ∙ ap complement (to_z-of_z ok)) ∙ sym (ap front_of q)
 
 returns-6 : tie.Need-returns-6
 returns-6 c =
     let q : c.before.before.before.before.args.line ≡ Fuse c.before.before.line6.given.0.0 c.before.before.line6.given.0.1.0 c.before.before.line6.given.0.1.1.0 = cc in
-    c.four2.ensures ∙ sym (ap frontOf q)
+    c.four2.ensures ∙ sym (ap front_of q)
 
 returns-7 : tie.Need-returns-7
-returns-7 c = let q : c.before.before.before.before.args.line ≡ Clear c.before.before.line7.given.0.0 = cc in c.two.ensures ∙ sym (ap frontOf q)
+returns-7 c = let q : c.before.before.before.before.args.line ≡ Clear c.before.before.line7.given.0.0 = cc in c.two.ensures ∙ sym (ap front_of q)
 
 returns-8 : tie.Need-returns-8
-returns-8 c = let q : c.before.before.before.before.args.line ≡ Check c.before.before.line8.given.0.0 = cc in c.two2.ensures ∙ sym (ap frontOf q)
+returns-8 c = let q : c.before.before.before.before.args.line ≡ Check c.before.before.line8.given.0.0 = cc in c.two2.ensures ∙ sym (ap front_of q)
 
 returns-9 : tie.Need-returns-9
-returns-9 c = let q : c.before.before.before.args.line ≡ Wrong = cc in c.two3.ensures ∙ sym (ap frontOf q)
+returns-9 c = let q : c.before.before.before.args.line ≡ Wrong = cc in c.two3.ensures ∙ sym (ap front_of q)
 
 pub front-of-spec : {M : Type 1} → statement M
 front-of-spec =

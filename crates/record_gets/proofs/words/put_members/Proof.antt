@@ -1,6 +1,6 @@
 -- What is written and what is left make the whole (`Putting`). Assumes nothing.
 use native.Mathlib.Omega.{arith}
-use Rattle.record_gets.proofs.Writing.{Putting, putting, put_on, put-done}
+use Rattle.record_gets.proofs.Writing.{Putting, putting, put_on, put_done}
 use Rattle.record_gets.proofs.words.put_members.Statement.{statement}
 use Rattle.record_gets.proofs.words.put_members.Tie as tie
 
@@ -48,7 +48,7 @@ returns : tie.Need-returns invariant-loop decreases-loop
 returns c =
     let a = c.before.before.before.before.args in
     let l = c.before.loop in
-    put-done a.s.now a.q a.count a.out.now a.place l.out l.p l.at l.left l.invariant c.loop-test.false
+    put_done a.s.now a.q a.count a.out.now a.place l.out l.p l.at l.left l.invariant c.loop-test.false
 
 pub put-members-spec : {M : Type 1} → statement M
 put-members-spec =

@@ -9,9 +9,9 @@ use Rattle.ledger_spec.specs.Operations.{B}
 use Rattle.record_spec.specs.Operations.{Op}
 use Rattle.record_spec.specs.Reader.{rest}
 use Rattle.record_spec.specs.Places.{at}
-use Rattle.record_measures.specs.Measures.{measuredOf, kept, membersAt, triedMembers}
+use Rattle.record_measures.specs.Measures.{measured_of, kept, members_at, tried_members}
 use Rattle.record_measures.proofs.Rests.{rest-B, few-B, short-B}
-use Rattle.record_measures.proofs.Measuring.{none-measured, whatever-after}
+use Rattle.record_measures.proofs.Measuring.{none_measured, whatever_after}
 use borrow.Author.Rules.{rules}
 use Rattle.record_measures.proofs.blossoms.blossom.Statement.{statement}
 use Rattle.record_measures.proofs.blossoms.blossom.Tie as tie
@@ -25,7 +25,7 @@ nothing-requires c κs = search rules
 returns : tie.Need-returns
 returns c =
     let a = c.before.before.before.args in
-    c.nothing.ensures ∙ none-measured (rest 66 a.unit (drop a.q a.t.now)) (short-B a.t.now a.q a.unit (omega (arith, c.before.if1.true, c.before.before.before.requires.0)))
+    c.nothing.ensures ∙ none_measured (rest 66 a.unit (drop a.q a.t.now)) (short-B a.t.now a.q a.unit (omega (arith, c.before.if1.true, c.before.before.before.requires.0)))
 
 two-at-requires : tie.Need-two-at-requires
 two-at-requires c κs = search rules
@@ -45,7 +45,7 @@ nothing-requires-2 c κs = search rules
 returns-2 : tie.Need-returns-2
 returns-2 c =
     let a = c.before.before.before.before.before.args in
-    c.nothing2.ensures ∙ none-measured (rest 66 a.unit (drop a.q a.t.now)) (few-B a.t.now a.q a.unit (omega (arith, c.before.before.before.if1.false, c.before.before.before.before.before.requires.0)) (omega (arith, c.before.before.before.if1.false, c.before.before.before.before.before.requires.0, c.before.if2.true, c.before.before.two_at.ensures.0)))
+    c.nothing2.ensures ∙ none_measured (rest 66 a.unit (drop a.q a.t.now)) (few-B a.t.now a.q a.unit (omega (arith, c.before.before.before.if1.false, c.before.before.before.before.before.requires.0)) (omega (arith, c.before.before.before.if1.false, c.before.before.before.before.before.requires.0, c.before.if2.true, c.before.before.two_at.ensures.0)))
 
 add-members : tie.Need-overflow-add-members
 add-members c = search rules
@@ -58,7 +58,7 @@ returns-3 c =
     let a = c.before.before.before.before.before.args in
     let n = c.before.before.two_at in
     let many = at 2 a.t.now a.q in
-    c.members.ensures ∙ ap (λ (k : ℕ). triedMembers a.unit (membersAt k a.t.now (a.q + 2))) n.ensures.0 ∙ sym (whatever-after (B a.unit (membersAt many a.t.now (a.q + 2))) (drop (a.q + 2 + 12 * many) a.t.now)) ∙ sym (ap (λ (o : Option (Op × List ℕ)). measuredOf (kept o)) (rest-B a.t.now a.q a.unit (omega (arith, c.before.before.before.if1.false, c.before.before.before.before.before.requires.0, c.before.if2.false, n.ensures.0))))
+    c.members.ensures ∙ ap (λ (k : ℕ). tried_members a.unit (members_at k a.t.now (a.q + 2))) n.ensures.0 ∙ sym (whatever_after (B a.unit (members_at many a.t.now (a.q + 2))) (drop (a.q + 2 + 12 * many) a.t.now)) ∙ sym (ap (λ (o : Option (Op × List ℕ)). measured_of (kept o)) (rest-B a.t.now a.q a.unit (omega (arith, c.before.before.before.if1.false, c.before.before.before.before.before.requires.0, c.before.if2.false, n.ensures.0))))
 
 pub blossom-spec : {M : Type 1} → statement M
 blossom-spec =

@@ -3,9 +3,9 @@ use native.Mathlib.Omega.{arith}
 use Prim.Native.Nat.{ℕ}
 use mathlib.Core.Path.{◌∙◌, sym, ap}
 use borrow.Author.Rules.{rules}
-use Rattle.record_measures.specs.Measures.{membersAt, triedMembers}
+use Rattle.record_measures.specs.Measures.{members_at, tried_members}
 use Rattle.record_measures.proofs.Measuring.{line-B}
-use Rattle.record_measures.proofs.Members.{Weighing, weighing, weigh-on, weigh-bad, weighed, members-many, none_tried, bad-tried, long_tried, good-tried}
+use Rattle.record_measures.proofs.Members.{Weighing, weighing, weigh_on, weigh_bad, weighed, members_many, none_tried, bad_tried, long_tried, good_tried}
 use Rattle.record_measures.proofs.blossoms.members.Statement.{statement}
 use Rattle.record_measures.proofs.blossoms.members.Tie as tie
 
@@ -21,7 +21,7 @@ nothing-requires c κs = search rules
 returns : tie.Need-returns invariant-loop decreases-loop
 returns c =
     let a = c.before.before.before.args in
-    c.nothing.ensures ∙ none_tried a.unit a.t.now a.q ∙ ap (λ (n : ℕ). triedMembers a.unit (membersAt n a.t.now a.q)) (sym c.before.if1.true)
+    c.nothing.ensures ∙ none_tried a.unit a.t.now a.q ∙ ap (λ (n : ℕ). tried_members a.unit (members_at n a.t.now a.q)) (sym c.before.if1.true)
 
 loop-holds : tie.Need-loop-init invariant-loop decreases-loop
 loop-holds c = weighing c.before.before.args.t.now c.before.before.args.count c.before.before.args.q
@@ -36,7 +36,7 @@ returns-2 : tie.Need-returns-2 invariant-loop decreases-loop
 returns-2 c =
     let a = c.before.before.before.before.before.before.before.args in
     let l = c.before.before.before.before.loop in
-    c.nothing2.ensures ∙ bad-tried a.unit (membersAt a.count a.t.now a.q) (weigh-bad a.t.now a.count a.q l.at l.line l.own l.left c.before.before.weigh-member.result l.invariant c.before.before.before.loop-test.true c.before.before.weigh-member.ensures.0 c.before.if2.true)
+    c.nothing2.ensures ∙ bad_tried a.unit (members_at a.count a.t.now a.q) (weigh_bad a.t.now a.count a.q l.at l.line l.own l.left c.before.before.weigh-member.result l.invariant c.before.before.before.loop-test.true c.before.before.weigh-member.ensures.0 c.before.if2.true)
 
 both-requires : tie.Need-both-requires invariant-loop decreases-loop
 both-requires c κs = search rules
@@ -64,7 +64,7 @@ loop-again c =
     let a = c.before.before.before.before.before.before.before.args in
     let l = c.before.before.before.before.loop in
     let w = c.before.before.weigh-member in
-    weigh-on a.t.now a.count a.q l.at l.line l.own l.left w.result c.both.result l.invariant c.before.before.before.loop-test.true w.ensures.0 w.ensures.1 c.before.if2.false c.both.ensures
+    weigh_on a.t.now a.count a.q l.at l.line l.own l.left w.result c.both.result l.invariant c.before.before.before.loop-test.true w.ensures.0 w.ensures.1 c.before.if2.false c.both.ensures
 
 digits-requires : tie.Need-digits-requires invariant-loop decreases-loop
 digits-requires c κs = search rules
@@ -83,7 +83,7 @@ returns-3 c =
     let a = c.before.before.before.before.before.before.before.args in
     let l = c.before.before.before.before.loop in
     let w = weighed a.t.now a.count a.q l.at l.left l.line l.own l.invariant c.before.before.before.loop-test.false in
-    let ms = membersAt a.count a.t.now a.q in
+    let ms = members_at a.count a.t.now a.q in
     c.nothing3.ensures ∙ long_tried a.unit ms (omega (arith, line-B a.unit ms, w.text, c.before.before.digits.ensures.0, c.before.if3.true))
 
 mul-t15 : tie.Need-overflow-mul-t15 invariant-loop decreases-loop
@@ -104,9 +104,9 @@ returns-4 c =
     let a = c.before.before.before.before.before.before.args in
     let l = c.before.before.before.loop in
     let w = weighed a.t.now a.count a.q l.at l.left l.line l.own l.invariant c.before.before.loop-test.false in
-    let ms = membersAt a.count a.t.now a.q in
-    let k = members-many a.count a.t.now a.q in
-    good-tried a.unit ms (omega (arith, k, c.before.before.before.before.if1.false)) w.fine (omega (arith, line-B a.unit ms, w.text, c.before.digits.ensures.0, c.if3.false)) _ _ _ (omega (arith, k)) (omega (arith, line-B a.unit ms, w.text, c.before.digits.ensures.0)) w.owns
+    let ms = members_at a.count a.t.now a.q in
+    let k = members_many a.count a.t.now a.q in
+    good_tried a.unit ms (omega (arith, k, c.before.before.before.before.if1.false)) w.fine (omega (arith, line-B a.unit ms, w.text, c.before.digits.ensures.0, c.if3.false)) _ _ _ (omega (arith, k)) (omega (arith, line-B a.unit ms, w.text, c.before.digits.ensures.0)) w.owns
 
 pub members-spec : {M : Type 1} → statement M
 members-spec =

@@ -6,8 +6,8 @@ use lib.Dec.{eqb}
 use lib.ListN.{length}
 use Prim.Native.Nat.{ℕ}
 use Rattle.ledger_spec.specs.Decimals.{decimal}
-use Rattle.record_measures.specs.Measures.{memberAt}
-use Rattle.record_measures.proofs.Members.{weight-bad, weight-good, serial-zero, first-zero, second-zero, none-zero}
+use Rattle.record_measures.specs.Measures.{member_at}
+use Rattle.record_measures.proofs.Members.{weight_bad, weight_good, serial_zero, first_zero, second_zero, none_zero}
 use borrow.Author.Rules.{rules}
 use Rattle.record_measures.proofs.blossoms.weigh_member.Statement.{statement}
 use Rattle.record_measures.proofs.blossoms.weigh_member.Tie as tie
@@ -29,20 +29,20 @@ four-at-requires-3 c κs = search rules
 
 returns : tie.Need-returns
 returns c =
-    let m = memberAt c.before.before.before.before.before.args.t.now c.before.before.before.before.before.args.q in
-    (weight-bad m (serial-zero m (sym c.before.before.before.four-at.ensures.0 ∙ c.if1.true)), omega arith)
+    let m = member_at c.before.before.before.before.before.args.t.now c.before.before.before.before.before.args.q in
+    (weight_bad m (serial_zero m (sym c.before.before.before.four-at.ensures.0 ∙ c.if1.true)), omega arith)
 
 returns-2 : tie.Need-returns-2
 returns-2 c =
     let start = c.before.before.before.before.before.before in
-    let m = memberAt start.args.t.now start.args.q in
-    (weight-bad m (first-zero m (sym c.before.before.before.four-at2.ensures.0 ∙ c.if2.true)), omega arith)
+    let m = member_at start.args.t.now start.args.q in
+    (weight_bad m (first_zero m (sym c.before.before.before.four-at2.ensures.0 ∙ c.if2.true)), omega arith)
 
 returns-3 : tie.Need-returns-3
 returns-3 c =
     let start = c.before.before.before.before.before.before.before in
-    let m = memberAt start.args.t.now start.args.q in
-    (weight-bad m (second-zero m (sym c.before.before.before.four-at3.ensures.0 ∙ c.if3.true)), omega arith)
+    let m = member_at start.args.t.now start.args.q in
+    (weight_bad m (second_zero m (sym c.before.before.before.four-at3.ensures.0 ∙ c.if3.true)), omega arith)
 
 digits-requires : tie.Need-digits-requires
 digits-requires c κs = search rules
@@ -60,8 +60,8 @@ returns-4 c =
     let at-four-at2 = at-four-at3.before in
     let at-four-at = at-four-at2.before in
     let start = at-four-at.before.before in
-    let m = memberAt start.args.t.now start.args.q in
-    (weight-good m _ _ (none-zero m (omega (arith, at-four-at.four-at.ensures.0, at-if1.if1.false)) (omega (arith, at-four-at2.four-at2.ensures.0, c.before.before.before.if2.false)) (omega (arith, at-four-at3.four-at3.ensures.0, c.before.before.if3.false))) (omega (arith, c.before.digits.ensures.0, ap (λ (n : ℕ). length (decimal n)) at-four-at.four-at.ensures.0)) (c.is-self.ensures ∙ (λ i. eqb (at-four-at2.four-at2.ensures.0 i) (at-four-at.four-at.ensures.0 i) && eqb (at-four-at3.four-at3.ensures.0 i) (at-four-at.four-at.ensures.0 i))), omega (arith, c.before.digits.ensures.1))
+    let m = member_at start.args.t.now start.args.q in
+    (weight_good m _ _ (none_zero m (omega (arith, at-four-at.four-at.ensures.0, at-if1.if1.false)) (omega (arith, at-four-at2.four-at2.ensures.0, c.before.before.before.if2.false)) (omega (arith, at-four-at3.four-at3.ensures.0, c.before.before.if3.false))) (omega (arith, c.before.digits.ensures.0, ap (λ (n : ℕ). length (decimal n)) at-four-at.four-at.ensures.0)) (c.is-self.ensures ∙ (λ i. eqb (at-four-at2.four-at2.ensures.0 i) (at-four-at.four-at.ensures.0 i) && eqb (at-four-at3.four-at3.ensures.0 i) (at-four-at.four-at.ensures.0 i))), omega (arith, c.before.digits.ensures.1))
 
 pub weigh-member-spec : {M : Type 1} → statement M
 weigh-member-spec =

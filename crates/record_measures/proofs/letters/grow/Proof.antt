@@ -4,7 +4,7 @@ use mathlib.Core.Path.{◌∙◌}
 use lib.ListN.{drop}
 use Rattle.record_spec.specs.Reader.{rest}
 use Rattle.record_measures.proofs.Rests.{short-G}
-use Rattle.record_measures.proofs.Measuring.{none-measured}
+use Rattle.record_measures.proofs.Measuring.{none_measured}
 use Rattle.record_measures.proofs.Plains.{is-G}
 use borrow.Author.Rules.{rules}
 use Rattle.record_measures.proofs.letters.grow.Statement.{statement}
@@ -19,7 +19,7 @@ nothing-requires c κs = search rules
 returns : tie.Need-returns
 returns c =
     let a = c.before.before.before.args in
-    c.nothing.ensures ∙ none-measured (rest 71 a.unit (drop a.q a.t.now)) (short-G a.t.now a.q a.unit (omega (arith, c.before.if1.true, c.before.before.before.requires.0)))
+    c.nothing.ensures ∙ none_measured (rest 71 a.unit (drop a.q a.t.now)) (short-G a.t.now a.q a.unit (omega (arith, c.before.if1.true, c.before.before.before.requires.0)))
 
 eight-at-requires : tie.Need-eight-at-requires
 eight-at-requires c κs = search rules

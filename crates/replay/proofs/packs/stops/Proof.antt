@@ -37,8 +37,8 @@ mul-stop : tie.Need-overflow-mul-stop invariant-loop decreases-loop
 mul-stop c = search rules
 
 -- src/packs.rt:205:31
-add-stop : tie.Need-overflow-add-stop invariant-loop decreases-loop
-add-stop c = search rules
+add_stop_lem : tie.Need-overflow-add-stop invariant-loop decreases-loop
+add_stop_lem c = search rules
 
 -- src/packs.rt:205:9
 stop-requires : tie.Need-stop-requires invariant-loop decreases-loop
@@ -73,7 +73,7 @@ stops-spec =
     element-copy-out-if1
     returns
     mul-stop
-    add-stop
+    add_stop_lem
     stop-requires
     add-i
     loop-less

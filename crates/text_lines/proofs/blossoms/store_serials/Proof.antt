@@ -5,8 +5,8 @@ use mathlib.Core.Path.{◌≡◌}
 use lib.ListN.{length}
 use borrow.Author.Rules.{rules}
 use Rattle.text_fields.specs.declared.NextNumber.TheVariants.{Got, Missed}
-use Rattle.text_lines.proofs.Follow.{got-further}
-use Rattle.text_lines.proofs.Serials.{Storing, store-start, store-turn, store-bad, store-end}
+use Rattle.text_lines.proofs.Follow.{got_further}
+use Rattle.text_lines.proofs.Serials.{Storing, store_start, store_turn, store_bad, store_end}
 use Rattle.text_lines.proofs.blossoms.store_serials.Statement.{statement}
 use Rattle.text_lines.proofs.blossoms.store_serials.Tie as tie
 
@@ -17,7 +17,7 @@ abbrev decreases-loop : tie.decreases-loop
 decreases-loop s place out₀ e₀ n₀ out e n = length s - e
 
 loop-holds : tie.Need-loop-init invariant-loop decreases-loop
-loop-holds c = store-start c.before.before.args.s.now c.before.before.args.out.now c.before.before.args.place
+loop-holds c = store_start c.before.before.args.s.now c.before.before.args.out.now c.before.before.args.place
 
 next-number-requires : tie.Need-next-number-requires invariant-loop decreases-loop
 next-number-requires c κs = search rules
@@ -36,7 +36,7 @@ returns c =
     let l = c.before.before.before.before.loop in
     let n = c.before.before.next-number in
     let q : n.result ≡ Missed = cc in
-    store-bad c.before.before.before.before.before.before.before.args.s.now c.before.before.before.before.before.before.before.args.out.now c.before.before.before.before.before.before.before.args.place l.e l.n l.out l.invariant n.result n.ensures c.before.before.before.loop-test.true q
+    store_bad c.before.before.before.before.before.before.before.args.s.now c.before.before.before.before.before.before.before.args.out.now c.before.before.before.before.before.before.before.args.place l.e l.n l.out l.invariant n.result n.ensures c.before.before.before.loop-test.true q
 
 put-requires : tie.Need-put-requires invariant-loop decreases-loop
 put-requires c κs = search rules
@@ -49,7 +49,7 @@ loop-less c =
     let l = c.before.before.before.before.before.before.before.before.before.loop in
     let n = c.before.before.before.before.before.before.before.next-number in
     let q : n.result ≡ Got c.before.before.before.before.before.v.given.0.0 c.before.before.before.before.before.v.given.0.1.0 = cc in
-    let i = got-further c.before.before.before.before.before.before.before.before.before.before.before.before.args.s.now l.e 1 4294967295 n.result n.ensures _ _ q in
+    let i = got_further c.before.before.before.before.before.before.before.before.before.before.before.before.args.s.now l.e 1 4294967295 n.result n.ensures _ _ q in
     omega (arith, i.0, i.1)
 
 loop-again : tie.Need-loop-preserved invariant-loop decreases-loop
@@ -58,13 +58,13 @@ loop-again c =
     let n = c.before.before.before.before.before.before.before.next-number in
     let q : n.result ≡ Got c.before.before.before.before.before.v.given.0.0 c.before.before.before.before.before.v.given.0.1.0 = cc in
     let a = c.before.before.before.before.before.before.before.before.before.before.before.before.args in
-    store-turn a.s.now a.out.now a.place l.e l.n l.out l.invariant n.result n.ensures _ _ q _ c.before.before.put.ensures
+    store_turn a.s.now a.out.now a.place l.e l.n l.out l.invariant n.result n.ensures _ _ q _ c.before.before.put.ensures
 
 same-length-2 : tie.Need-same-length-2 invariant-loop decreases-loop
 same-length-2 c = c.before.loop.invariant.long
 
 returns-2 : tie.Need-returns-2 invariant-loop decreases-loop
-returns-2 c = store-end c.before.before.before.before.args.s.now c.before.before.before.before.args.out.now c.before.before.before.before.args.place c.before.loop.e c.before.loop.n c.before.loop.out c.before.loop.invariant c.loop-test.false
+returns-2 c = store_end c.before.before.before.before.args.s.now c.before.before.before.before.args.out.now c.before.before.before.before.args.place c.before.loop.e c.before.loop.n c.before.loop.out c.before.loop.invariant c.loop-test.false
 
 pub store-serials-spec : {M : Type 1} → statement M
 store-serials-spec =

@@ -3,10 +3,10 @@ use native.Mathlib.Omega.{arith}
 use mathlib.Core.Path.{◌≡◌, sym, ◌∙◌, ap}
 use mathlib.Core.Option.{some}
 use Rattle.ledger_spec.specs.Operations.{F}
-use Rattle.ledger_spec.specs.Grammar.{aUnit, then, no_more}
+use Rattle.ledger_spec.specs.Grammar.{a_unit, then, no_more}
 use Rattle.text_fields.specs.declared.NextNumber.TheVariants.{Got, Missed}
-use Rattle.text_lines.specs.Shown.{lineShown}
-use Rattle.text_lines.proofs.Follow.{got, got-further, missed, ended, goes_on}
+use Rattle.text_lines.specs.Shown.{line_shown}
+use Rattle.text_lines.proofs.Follow.{got, got_further, missed, ended, goes_on}
 use borrow.Author.Rules.{rules}
 use Rattle.text_lines.proofs.letters.fuse.Statement.{statement}
 use Rattle.text_lines.proofs.letters.fuse.Tie as tie
@@ -25,7 +25,7 @@ returns c =
     let a = c.before.before.before.before.args in
     let n = c.before.before.next-number in
     let q : n.result ≡ Missed = cc in
-    sym (ap lineShown (missed a.s.now a.place 0 255 n.result n.ensures (λ x. then aUnit (λ y. no_more (some (F a.parent x y)))) q))
+    sym (ap line_shown (missed a.s.now a.place 0 255 n.result n.ensures (λ x. then a_unit (λ y. no_more (some (F a.parent x y)))) q))
 
 next-number-requires-2 : tie.Need-next-number-requires-2
 next-number-requires-2 c κs = search rules
@@ -44,7 +44,7 @@ returns-2 c =
     let o = c.before.before.next-number2 in
     let q : n.result ≡ Got t.l.given.0.0 t.l.given.0.1.0 = cc in
     let w : o.result ≡ Missed = cc in
-    sym (ap lineShown (got a.s.now a.place 0 255 n.result n.ensures _ _ q (λ x. then aUnit (λ y. no_more (some (F a.parent x y)))) ∙ missed a.s.now _ 0 255 o.result o.ensures (λ y. no_more (some (F a.parent _ y))) w))
+    sym (ap line_shown (got a.s.now a.place 0 255 n.result n.ensures _ _ q (λ x. then a_unit (λ y. no_more (some (F a.parent x y)))) ∙ missed a.s.now _ 0 255 o.result o.ensures (λ y. no_more (some (F a.parent _ y))) w))
 
 returns-3 : tie.Need-returns-3
 returns-3 c =
@@ -55,7 +55,7 @@ returns-3 c =
     let o = t.before.before.next-number2 in
     let q : n.result ≡ Got z.l.given.0.0 z.l.given.0.1.0 = cc in
     let w : o.result ≡ Got t.m.given.0.0 t.m.given.0.1.0 = cc in
-    sym (ap lineShown (got a.s.now a.place 0 255 n.result n.ensures _ _ q (λ x. then aUnit (λ y. no_more (some (F a.parent x y)))) ∙ got a.s.now _ 0 255 o.result o.ensures _ _ w (λ y. no_more (some (F a.parent _ y))) ∙ goes_on a.s.now _ _ c.if1.true))
+    sym (ap line_shown (got a.s.now a.place 0 255 n.result n.ensures _ _ q (λ x. then a_unit (λ y. no_more (some (F a.parent x y)))) ∙ got a.s.now _ 0 255 o.result o.ensures _ _ w (λ y. no_more (some (F a.parent _ y))) ∙ goes_on a.s.now _ _ c.if1.true))
 
 cast-t12 : tie.Need-overflow-cast-t12
 cast-t12 c =
@@ -63,7 +63,7 @@ cast-t12 c =
     let a = t.before.before.before.before.before.args in
     let n = t.before.before.before.next-number in
     let q : n.result ≡ Got t.before.l.given.0.0 t.before.l.given.0.1.0 = cc in
-    omega (arith, (got-further a.s.now a.place 0 255 n.result n.ensures _ _ q).2)
+    omega (arith, (got_further a.s.now a.place 0 255 n.result n.ensures _ _ q).2)
 
 cast-t13 : tie.Need-overflow-cast-t13
 cast-t13 c =
@@ -72,7 +72,7 @@ cast-t13 c =
     let a = x.before.before.before.before.before.args in
     let o = t.before.before.next-number2 in
     let w : o.result ≡ Got t.m.given.0.0 t.m.given.0.1.0 = cc in
-    omega (arith, (got-further a.s.now _ 0 255 o.result o.ensures _ _ w).2)
+    omega (arith, (got_further a.s.now _ 0 255 o.result o.ensures _ _ w).2)
 
 returns-4 : tie.Need-returns-4
 returns-4 c =
@@ -83,7 +83,7 @@ returns-4 c =
     let o = t.before.before.next-number2 in
     let q : n.result ≡ Got z.l.given.0.0 z.l.given.0.1.0 = cc in
     let w : o.result ≡ Got t.m.given.0.0 t.m.given.0.1.0 = cc in
-    sym (ap lineShown (got a.s.now a.place 0 255 n.result n.ensures _ _ q (λ x. then aUnit (λ y. no_more (some (F a.parent x y)))) ∙ got a.s.now _ 0 255 o.result o.ensures _ _ w (λ y. no_more (some (F a.parent _ y))) ∙ ended a.s.now _ _ c.if1.false))
+    sym (ap line_shown (got a.s.now a.place 0 255 n.result n.ensures _ _ q (λ x. then a_unit (λ y. no_more (some (F a.parent x y)))) ∙ got a.s.now _ 0 255 o.result o.ensures _ _ w (λ y. no_more (some (F a.parent _ y))) ∙ ended a.s.now _ _ c.if1.false))
 
 pub fuse-spec : {M : Type 1} → statement M
 fuse-spec =

@@ -4,12 +4,12 @@ use mathlib.Core.Path.{◌≡◌, sym, ◌∙◌, ap}
 use mathlib.Core.Option.{some}
 use Rattle.kinds.specs.declared.GrowState.{GrowState}
 use Rattle.ledger_spec.specs.Operations.{S}
-use Rattle.ledger_spec.specs.Grammar.{aState, then, no_more}
+use Rattle.ledger_spec.specs.Grammar.{a_state, then, no_more}
 use Rattle.text_fields.specs.declared.NextNumber.TheVariants.{Got, Missed}
 use Rattle.text_fields.specs.declared.NextState.TheVariants.{To, NoState}
 use Rattle.text_lines.specs.declared.Line.TheVariants.{SetState}
-use Rattle.text_lines.specs.Shown.{lineShown}
-use Rattle.text_lines.proofs.Follow.{got, got-further, missed, state-got, state-missed, state-same, ended, goes_on}
+use Rattle.text_lines.specs.Shown.{line_shown}
+use Rattle.text_lines.proofs.Follow.{got, got_further, missed, state_got, state_missed, state_same, ended, goes_on}
 use borrow.Author.Rules.{rules}
 use Rattle.text_lines.proofs.letters.set_state.Statement.{statement}
 use Rattle.text_lines.proofs.letters.set_state.Tie as tie
@@ -28,7 +28,7 @@ returns c =
     let a = c.before.before.before.before.args in
     let n = c.before.before.next-number in
     let q : n.result ≡ Missed = cc in
-    sym (ap lineShown (missed a.s.now a.place 1 4294967295 n.result n.ensures (λ x. then aState (λ y. no_more (some (S a.unit x y)))) q))
+    sym (ap line_shown (missed a.s.now a.place 1 4294967295 n.result n.ensures (λ x. then a_state (λ y. no_more (some (S a.unit x y)))) q))
 
 next-state-requires : tie.Need-next-state-requires
 next-state-requires c κs = search rules
@@ -47,7 +47,7 @@ returns-2 c =
     let o = c.before.before.next-state in
     let q : n.result ≡ Got t.n.given.0.0 t.n.given.0.1.0 = cc in
     let w : o.result ≡ NoState = cc in
-    sym (ap lineShown (got a.s.now a.place 1 4294967295 n.result n.ensures _ _ q (λ x. then aState (λ y. no_more (some (S a.unit x y)))) ∙ state-missed a.s.now _ o.result o.ensures (λ y. no_more (some (S a.unit _ y))) w))
+    sym (ap line_shown (got a.s.now a.place 1 4294967295 n.result n.ensures _ _ q (λ x. then a_state (λ y. no_more (some (S a.unit x y)))) ∙ state_missed a.s.now _ o.result o.ensures (λ y. no_more (some (S a.unit _ y))) w))
 
 returns-3 : tie.Need-returns-3
 returns-3 c =
@@ -58,7 +58,7 @@ returns-3 c =
     let o = t.before.before.next-state in
     let q : n.result ≡ Got z.n.given.0.0 z.n.given.0.1.0 = cc in
     let w : o.result ≡ To t.g.given.0.0 t.g.given.0.1.0 = cc in
-    sym (ap lineShown (got a.s.now a.place 1 4294967295 n.result n.ensures _ _ q (λ x. then aState (λ y. no_more (some (S a.unit x y)))) ∙ state-got a.s.now _ o.result o.ensures (λ y. no_more (some (S a.unit _ y))) _ _ w ∙ goes_on a.s.now _ _ c.if1.true))
+    sym (ap line_shown (got a.s.now a.place 1 4294967295 n.result n.ensures _ _ q (λ x. then a_state (λ y. no_more (some (S a.unit x y)))) ∙ state_got a.s.now _ o.result o.ensures (λ y. no_more (some (S a.unit _ y))) _ _ w ∙ goes_on a.s.now _ _ c.if1.true))
 
 cast-t12 : tie.Need-overflow-cast-t12
 cast-t12 c =
@@ -66,7 +66,7 @@ cast-t12 c =
     let a = t.before.before.before.before.before.args in
     let n = t.before.before.before.next-number in
     let q : n.result ≡ Got t.before.n.given.0.0 t.before.n.given.0.1.0 = cc in
-    omega (arith, (got-further a.s.now a.place 1 4294967295 n.result n.ensures _ _ q).2)
+    omega (arith, (got_further a.s.now a.place 1 4294967295 n.result n.ensures _ _ q).2)
 
 returns-4 : tie.Need-returns-4
 returns-4 c =
@@ -77,8 +77,8 @@ returns-4 c =
     let o = t.before.before.next-state in
     let q : n.result ≡ Got z.n.given.0.0 z.n.given.0.1.0 = cc in
     let w : o.result ≡ To t.g.given.0.0 t.g.given.0.1.0 = cc in
-    ap (λ (x : GrowState). SetState a.unit (record { 0 = z.n.given.0.0 }) x) (sym (state-same t.g.given.0.0))
-    ∙ sym (ap lineShown (got a.s.now a.place 1 4294967295 n.result n.ensures _ _ q (λ x. then aState (λ y. no_more (some (S a.unit x y)))) ∙ state-got a.s.now _ o.result o.ensures (λ y. no_more (some (S a.unit _ y))) _ _ w ∙ ended a.s.now _ _ c.if1.false))
+    ap (λ (x : GrowState). SetState a.unit (record { 0 = z.n.given.0.0 }) x) (sym (state_same t.g.given.0.0))
+    ∙ sym (ap line_shown (got a.s.now a.place 1 4294967295 n.result n.ensures _ _ q (λ x. then a_state (λ y. no_more (some (S a.unit x y)))) ∙ state_got a.s.now _ o.result o.ensures (λ y. no_more (some (S a.unit _ y))) _ _ w ∙ ended a.s.now _ _ c.if1.false))
 
 pub set-state-spec : {M : Type 1} → statement M
 set-state-spec =
