@@ -1,3 +1,4 @@
+#![tactic(auto)]
 // The least value of a shrinking node in a floored tree. On the way it stands 2^60 higher than it is, as a value stands in the words. Everything here only
 // reads. Assumes nothing.
 ghost use Rattle.std.specs.Prelude.{◌≡◌, ◌/◌, ◌%◌, ◌<◌};

@@ -1,3 +1,4 @@
+#![tactic(auto)]
 // Finding nodes: a handle to its slot, up the parents to the outermost blossom, whether two nodes stand in one tree, and a node's value.
 // Everything here only reads. Positions are 64 * interface + slot. Assumes nothing.
 ghost use Rattle.std.specs.Prelude.{◌≡◌, ◌<◌};
@@ -18,7 +19,7 @@ use bench_words::{Interface, Node, WORDS};
 use kinds::{Class, Handle, Parent};
 
 // The position of the present node that a handle names.
-#[derive(Drop)]
+#[derive(Clone, Copy)]
 pub enum Found {
     At(usize),
     Stale,
@@ -69,7 +70,7 @@ pub fn find_word(b: &[u64; WORDS], w: u64) -> Found
 }
 
 // The outermost blossom of a node, the last node on the way below it, and the number of links followed.
-#[derive(Drop)]
+#[derive(Clone, Copy)]
 pub struct Outer {
     pub node: Handle,
     pub under: Handle,

@@ -1,3 +1,4 @@
+#![tactic(auto)]
 // The order of the index: a tree's interfaces from its left half to its right half to itself, its slots counted, an index to its slot and back.
 // Everything here only reads. Assumes nothing.
 ghost use Rattle.std.specs.Prelude.{◌≡◌, ◌∷◌, [], ◌+◌, ◌<◌, ◌≤◌, length};
@@ -15,7 +16,7 @@ use bench_words::WORDS;
 use kinds::{Handle, NodeIndex};
 
 // The first `count` of `units` are a tree's interfaces in the order of the index.
-#[derive(Drop)]
+#[derive(Clone, Copy)]
 pub struct Order {
     pub units: [usize; 8],
     pub count: usize,
@@ -80,7 +81,7 @@ pub fn count(b: &[u64; WORDS], unit: usize) -> u64
 }
 
 // The position at an index, or that the index is past the count.
-#[derive(Drop)]
+#[derive(Clone, Copy)]
 pub enum Spot {
     Slot(usize),
     Past,

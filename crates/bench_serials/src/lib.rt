@@ -1,3 +1,4 @@
+#![tactic(auto)]
 // The present node with a serial: by a hint that is looked at first and never trusted, else by a scan of the used slots. The hints are the
 // caller's to keep and may hold anything: no answer depends on them. Assumes nothing.
 ghost use Rattle.std.specs.Prelude.{◌≡◌, ◌<◌, ◌/◌, ◌%◌, set};

@@ -1,3 +1,4 @@
+#![tactic(auto)]
 // The slot that a new node of an interface takes, off the interface's words and its map: no slot is read. Assumes nothing.
 ghost use Rattle.std.specs.Prelude.{◌≡◌, ◌<◌};
 ghost use Rattle.ledger_spec.specs.Look.{free_slot};

@@ -1,3 +1,4 @@
+#![tactic(auto)]
 // Up the tree of fused interfaces: its top, and T, the progress of an interface and of all above it (0 in the plain engine); and a node's value by its bias and T.
 // Everything here only reads. Assumes nothing.
 ghost use Rattle.std.specs.Prelude.{◌≡◌, ◌+◌, ◌<◌, ◌≤◌};
@@ -56,7 +57,7 @@ pub fn lag(plain: bool, progress: u64) -> u64
 }
 
 // The interface without a parent at the top of a tree, and T on the way to it.
-#[derive(Drop)]
+#[derive(Clone, Copy)]
 pub struct Climbed {
     pub top: usize,
     pub total: u64,

@@ -1,3 +1,4 @@
+#![tactic(auto)]
 // The vertices under a node: the walk into a circle's members, depth first in circle order. A member's serial is lower than its blossom's, so the
 // walks end: down to the first vertex by a loop, with no call for a level; to all of them by recursion. Everything here only reads the bench.
 // Assumes nothing.

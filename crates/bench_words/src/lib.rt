@@ -1,3 +1,4 @@
+#![tactic(auto)]
 // The bench as one lent array of words: where each record lies, and how it is loaded and stored. Nothing above this crate names a word.
 // A node or an interface is a struct by value; a store changes its own words and no other. Assumes nothing.
 //
@@ -26,7 +27,7 @@ pub const PAST_HANDLES: u64 = 2199023255552;
 
 // A slot. An empty one is all zero. `place` and `next` are a member's in its circle, `first` and `count` a blossom's circle; positions are
 // 64 * interface + slot. Value = bias - 2^60, and T more or less as the node grows or shrinks.
-#[derive(Drop)]
+#[derive(Clone, Copy)]
 pub struct Node {
     pub serial: Serial,
     pub class: Class,
@@ -47,7 +48,7 @@ impl Node {
 }
 
 // The interface that an interface is a half of, if any.
-#[derive(Drop)]
+#[derive(Clone, Copy)]
 pub enum Up {
     Top,
     Under(u8),
@@ -55,7 +56,7 @@ pub enum Up {
 
 // What an interface was marked with while it was empty. One that `fills` gives a new node its lowest empty slot; in the tree of one that is
 // `floored` no growth takes a value below zero. `plain` is the bench's: a growth adds to every value of the tree, and T is 0.
-#[derive(Drop)]
+#[derive(Clone, Copy)]
 pub struct Marks {
     pub fills: bool,
     pub floored: bool,
@@ -63,7 +64,7 @@ pub struct Marks {
 }
 
 // `left` and `right` are a half's number and one more, or 0 without halves.
-#[derive(Drop)]
+#[derive(Clone, Copy)]
 pub struct Interface {
     pub used: u64,
     pub progress: u64,

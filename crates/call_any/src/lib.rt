@@ -1,3 +1,4 @@
+#![tactic(auto)]
 // The public calls: any words at all may be lent, with any handle, number, list and slice. The words are tested once; where they hold no sound bench
 // the answer is BROKEN (2) and every word stays as it was; else the call on sound words answers. Assumes nothing.
 ghost use Rattle.ledger_spec.specs.Bench.{filling, floor};

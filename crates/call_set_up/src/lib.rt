@@ -1,3 +1,4 @@
+#![tactic(auto)]
 // Set-up: any words at all become the empty bench, whose first node will have the serial given. 0 is no serial: WORN (15), and the bench as from serial 1.
 // Assumes nothing.
 ghost use Rattle.call_set_up.specs.Opened.{Opened, OpenedBy, OpenedInBy};

@@ -1,3 +1,4 @@
+#![tactic(auto)]
 // The calls that change a bench, on words that hold a sound one: each decides its number, and where that is 0 does the work in place, with no scan of
 // the slots. (Add blossom has a crate of its own.) The answer and the words after are the plain ledger's own. Assumes nothing.
 ghost use Rattle.ledger_spec.specs.Bench.{filling, floor};

@@ -1,3 +1,4 @@
+#![tactic(auto)]
 // The trusted add blossom, on words that hold a sound bench: the first refusal of the manual's table (docs/MANUAL.md, Refusals) that applies, or the work. Members and touching
 // handles are lists of any length, of words of any kind. Assumes nothing.
 ghost use Rattle.std.specs.Prelude.{◌≡◌};

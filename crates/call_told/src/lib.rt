@@ -1,3 +1,4 @@
+#![tactic(auto)]
 // The calls that change a bench, on words that hold a sound one, with what they tell the dual module. Each is the call of the crates below, which has no
 // scan of the slots, and the notices of an accepted one. Assumes nothing.
 ghost use Rattle.std.specs.Prelude.{◌≡◌};
@@ -14,7 +15,7 @@ use kinds::{GrowState, Handle, Vertex};
 use outcome_notices::Notices;
 
 // A number, the node made or named (all fields 0 where there is none), and the notices.
-#[derive(Drop)]
+#[derive(Clone, Copy)]
 pub struct Answer {
     pub number: u8,
     pub node: Handle,

@@ -1,3 +1,4 @@
+#![tactic(auto)]
 // The check and the strict check (docs/MANUAL.md, The check) for anyone, on any words: BROKEN (2) where they hold no sound bench, then UNIT (3) and CHILD (4), else a
 // verdict and an index. Neither changes the bench. Assumes nothing.
 ghost use Rattle.std.specs.Prelude.{◌≡◌};

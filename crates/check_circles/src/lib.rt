@@ -1,3 +1,4 @@
+#![tactic(auto)]
 // The members of one circle, checked in circle order: a defect touches by itself (else 2), a blossom by present nodes (else 4) of its outermost blossom
 // (else 3), and strictly by nodes under it, from which parents lead to it (else 6). A lent table says where each node lies in its nest, so that a handle
 // costs no walk up, but for one that is not under its member. Everything here only reads. Assumes nothing.
@@ -22,7 +23,7 @@ use kinds::{Class, Handle, Parent};
 const LINKS: u64 = 512;
 
 // A verdict, and the member that it is of; 0 and nobody where nothing was found.
-#[derive(Drop)]
+#[derive(Clone, Copy)]
 pub struct Finding {
     pub verdict: u8,
     pub node: Handle,

@@ -1,3 +1,4 @@
+#![tactic(auto)]
 // Where each node lies in its nest, noted once a check: its outermost blossom, and how many of that one's vertices come before the node's own. So the
 // outermost blossom is a word that is read, and whether a node is under another is told by two words, where a walk up would pass a link a level.
 // Only the lent table is written. A slot's word is 0 where nothing is noted, and then the walk up tells. Assumes nothing.

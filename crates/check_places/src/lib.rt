@@ -1,3 +1,4 @@
+#![tactic(auto)]
 // The slots of a tree in the order of the index, listed once as positions, so that a walk along them costs a step a slot and no search.
 // Only the lent list is written. Assumes nothing.
 ghost use Rattle.std.specs.Prelude.{◌≡◌, ◌+◌, ◌<◌, ◌≤◌, length};

@@ -1,3 +1,4 @@
+#![tactic(auto)]
 // The vertices met so far, in buckets, and in a bucket as a tree by the bits of the vertex, so that a vertex is looked for among few whichever they are:
 // one that has 448 others in its bucket is compared with 24 of them at most. It knows no bench. Assumes nothing.
 //

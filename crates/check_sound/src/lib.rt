@@ -1,3 +1,4 @@
+#![tactic(auto)]
 // The check and the strict check (docs/MANUAL.md, The check) on words that hold a sound bench: a refusal number, and where that is 0 a verdict and an index.
 // Neither changes the bench; UNIT (3) and CHILD (4) refuse. Assumes nothing.
 ghost use Rattle.std.specs.Prelude.{◌≡◌, ◌<◌};
@@ -13,7 +14,7 @@ use check_walks::Judged;
 use kinds::NodeIndex;
 
 // A number, a verdict and an index.
-#[derive(Drop)]
+#[derive(Clone, Copy)]
 pub struct Checked {
     pub number: u8,
     pub verdict: u8,

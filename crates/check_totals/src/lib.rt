@@ -1,3 +1,4 @@
+#![tactic(auto)]
 // The total of the values of a tree's present nodes, 2^62 higher than it is, as a stored sum stands. Everything here only reads. Assumes nothing.
 ghost use Rattle.std.specs.Prelude.{◌≡◌, ◌/◌, ◌%◌, ◌<◌, ◌≤◌};
 ghost use Rattle.bench_words.specs.Store.{interface_at};

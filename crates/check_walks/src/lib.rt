@@ -1,3 +1,4 @@
+#![tactic(auto)]
 // The check's walk along a tree's slots by index, plainly or strictly: the first finding, a verdict and an index. Everything here only reads the bench;
 // where nodes lie in their nests is noted in a lent table, for this walk and a later one. Assumes nothing.
 ghost use Rattle.std.specs.Prelude.{◌≡◌, ◌<◌, ◌≤◌};
@@ -19,14 +20,14 @@ use check_nests::SLOTS;
 use kinds::{Class, NodeIndex};
 
 // A verdict and an index; both 0 where nothing was found.
-#[derive(Drop)]
+#[derive(Clone, Copy)]
 pub struct Judged {
     pub verdict: u8,
     pub index: NodeIndex,
 }
 
 // The same, and how many vertices were met.
-#[derive(Drop)]
+#[derive(Clone, Copy)]
 struct Step {
     verdict: u8,
     index: NodeIndex,

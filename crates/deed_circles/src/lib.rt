@@ -1,3 +1,4 @@
+#![tactic(auto)]
 // The work of add blossom and expand, over the words that the caller lends, against the plain ledger's own definitions. Members come as packed
 // handles, their touching handles two a member, or none. No refusal is left: each asks that its tests pass on words that fit. Assumes nothing.
 ghost use Rattle.std.specs.Prelude.{◌≡◌, false, ◌+◌, ◌*◌, ◌/◌, ◌%◌, ◌<◌, ◌≤◌, length};
@@ -19,7 +20,7 @@ use deed_nodes::Seat;
 use kinds::{Class, GrowState, Handle, Parent, Serial};
 
 // What a member adds to its blossom: its size, and its share of the speed, one higher than it is.
-#[derive(Drop)]
+#[derive(Clone, Copy)]
 struct Share {
     size: u64,
     rate: u64,

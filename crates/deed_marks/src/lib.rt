@@ -1,3 +1,4 @@
+#![tactic(auto)]
 // The work of the two marks, over the words that the caller lends, against the plain ledger's own definition. No refusal is left: each asks that its
 // tests pass on words that fit. Assumes nothing.
 ghost use Rattle.std.specs.Prelude.{◌≡◌};

@@ -1,3 +1,4 @@
+#![tactic(auto)]
 // The work of grow, set state and add defect, over the words that the caller lends, against the plain ledger's own definitions; and the steps
 // that blossoms need too. No refusal is left: each asks that its tests pass on words that fit. Assumes nothing.
 ghost use Rattle.std.specs.Prelude.{◌≡◌, suc, max, ◌+◌, ◌-◌, ◌*◌, ◌<◌, ◌≤◌, pos, length, get_or};
@@ -17,7 +18,7 @@ use bench_words::{Node, WORDS};
 use kinds::{Class, GrowState, Handle, Parent, Serial, Vertex};
 
 // Where a node stands: the blossom that it is a member of, its place in the circle, the position of the next member, its two touching handles.
-#[derive(Drop)]
+#[derive(Clone, Copy)]
 pub struct Seat {
     pub parent: Parent,
     pub place: u64,

@@ -1,3 +1,4 @@
+#![tactic(auto)]
 // The plain engine's growth: every node of a tree is touched, and its value moves by the length, by its state. An empty slot stays, so that all
 // used slots can be walked. Assumes nothing.
 ghost use Rattle.std.specs.Prelude.{◌≡◌, ◌<◌};

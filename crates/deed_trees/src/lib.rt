@@ -1,3 +1,4 @@
+#![tactic(auto)]
 // The work of fuse, clear and set_up_lem, over the words that the caller lends, against the plain ledger's own definitions. A fuse touches no node; a
 // clear touches the slots used in its tree. No refusal is left: each asks that its tests pass on words that fit. Assumes nothing.
 ghost use Rattle.std.specs.Prelude.{◌≡◌, ℕ, ◌+◌, ◌*◌, ◌<◌, ◌≤◌, length, get_or};

@@ -1,3 +1,4 @@
+#![tactic(auto)]
 // What Rust and C link: every public call, read and check under its C name, over words, numbers and slices (include/dual_ledger.h). Each is one call of
 // the crate that does it, its answer written out as words. Assumes nothing.
 pub mod marks; // the marks of an interface

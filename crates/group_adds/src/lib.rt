@@ -1,3 +1,4 @@
+#![tactic(auto)]
 // An obstacle is added to a sound group, as docs/MANUAL.md, Obstacle groups, has it, once its handles are known to name nodes and a stop's first vertex is found: the
 // trusted part of the public add. ROOM (20) hands back the very group. Assumes nothing.
 ghost use Rattle.std.specs.Prelude.{◌≡◌, true, ◌||◌, [], ◌∷◌, ◌++◌, ◌≤◌, ◌<◌, take};
@@ -12,7 +13,7 @@ use groups::{Group, Kind};
 use kinds::{Entry, Obstacle, Stop, Vertex, numbers};
 
 // A number, and the group after the call.
-#[derive(Drop)]
+#[derive(Clone, Copy)]
 pub struct Changed {
     pub number: u8,
     pub group: Group,

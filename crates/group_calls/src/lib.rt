@@ -1,3 +1,4 @@
+#![tactic(auto)]
 // The public add and extend of obstacle groups over a lent bench, for any words, group and obstacle. BROKEN (2) where the words hold no sound bench or a
 // group is unsound, then STALE (8), then ROOM (20), lowest first; refused, the very group comes back. The bench is only read. Assumes nothing.
 mod presence;

@@ -1,3 +1,4 @@
+#![tactic(auto)]
 // One sound group extended by another, as docs/MANUAL.md, Obstacle groups, has it, once the other's handles are known to name nodes: the trusted part of the public extend.
 // ROOM (20) hands back the very group. Assumes nothing.
 ghost use Rattle.std.specs.Prelude.{◌≡◌, true, ◌&&◌, ◌≤◌};
@@ -11,7 +12,7 @@ use groups::{Group, Kind};
 use kinds::{Obstacle, numbers};
 
 // The length and the flag of a growth.
-#[derive(Drop)]
+#[derive(Clone, Copy)]
 pub struct Least {
     pub length: i64,
     pub flag: bool,

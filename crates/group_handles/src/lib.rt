@@ -1,3 +1,4 @@
+#![tactic(auto)]
 // The nodes that an obstacle names, in order, for a caller that has to look each up: add asks it of the obstacle, extend of every entry and stop of the
 // other group. proofs/Handles.antt has the turns and the end of such a loop over a group. Assumes nothing.
 ghost use Rattle.std.specs.Prelude.{◌≡◌};
@@ -7,7 +8,7 @@ ghost use Rattle.group_handles.specs.Named.{named_by};
 use kinds::{Handle, MaybePair, Obstacle};
 
 // Up to four nodes.
-#[derive(Drop)]
+#[derive(Clone, Copy)]
 pub enum Nodes {
     None,
     One(Handle),

@@ -1,3 +1,4 @@
+#![tactic(auto)]
 // Obstacles and groups as lent words, in the forms of include/dual_ledger.h: five words read, tested and written, and stops that move. An obstacle is its
 // five words, and nothing is decoded. Assumes nothing.
 ghost use Rattle.std.specs.Prelude.{◌≡◌, ◌+◌, ◌≤◌, length};
@@ -12,7 +13,7 @@ pub const OBSTACLE: usize = 5;
 pub const GROUP: usize = 1413;
 
 // An obstacle's words, or a group's first five.
-#[derive(Drop)]
+#[derive(Clone, Copy)]
 pub struct Five {
     pub kind: u64,
     pub a: u64,

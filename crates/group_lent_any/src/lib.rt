@@ -1,3 +1,4 @@
+#![tactic(auto)]
 // Every call on groups over any words (include/dual_ledger.h): tested once, then the call on sound words. BROKEN (2) where they hold no sound group, no sound
 // bench or no obstacle; refused, every word of the group stays. Assumes nothing.
 ghost use Rattle.std.specs.Prelude.{◌≡◌, false};

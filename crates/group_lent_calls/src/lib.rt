@@ -1,3 +1,4 @@
+#![tactic(auto)]
 // The calls on groups over lent words that hold a sound group, and for add and extend a sound bench: nothing is tested but what the manual refuses.
 // Assumes nothing.
 ghost use Rattle.std.specs.Prelude.{◌≡◌, true};

@@ -1,3 +1,4 @@
+#![tactic(auto)]
 // One group extended by another, in place: of a growth three words are read and two written; of conflicts what counts of the other is copied once, and its
 // stops are added where they stand. Both hold a sound group, and so does what is left. Assumes nothing.
 ghost use Rattle.std.specs.Prelude.{◌≡◌, ◌+◌, ◌≤◌, length};

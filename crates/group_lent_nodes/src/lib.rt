@@ -1,3 +1,4 @@
+#![tactic(auto)]
 // Whether a node that an obstacle or a group in words names is gone from the bench, and the first vertex of a stop's node. Everything here only reads, and
 // no obstacle is decoded. Assumes nothing.
 ghost use Rattle.std.specs.Prelude.{◌≡◌, true, [], ◌∷◌, ◌<◌};

@@ -1,3 +1,4 @@
+#![tactic(auto)]
 // Whether a group has room for another's entries and stops: both are only read, and the counts of each step are reckoned. Assumes nothing.
 ghost use Rattle.std.specs.Prelude.{◌≡◌, ◌≤◌};
 ghost use Rattle.ledger_spec.specs.Tests.{is_some};

@@ -1,3 +1,4 @@
+#![tactic(auto)]
 // Whether any words hold a sound group, in place: only the words that count are looked at. Assumes nothing.
 ghost use Rattle.std.specs.Prelude.{◌≡◌, ◌+◌, ◌≤◌, ◌<◌, length};
 ghost use Rattle.group_lent_sound.specs.Test.{entry_fits, stop_fits, entries_fit, stops_fit, head_fits, sound_in};

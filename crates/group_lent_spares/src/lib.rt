@@ -1,3 +1,4 @@
+#![tactic(auto)]
 // The pop that spares the stops, in place, over lent words that hold a sound group, and leaves them so: the last of the list goes, and a stop only where the
 // list is empty. An obstacle is its five words. Assumes nothing.
 ghost use Rattle.group_lent.specs.Place.{SoundGroup};

@@ -1,3 +1,4 @@
+#![tactic(auto)]
 // A stop is added to a group in place: it is found by its vertex, comes in where it stands, replaces a stop or is dropped, or becomes a conflict with
 // one. The words hold a sound group: the call requires it, and leaves them so. Assumes nothing.
 ghost use Rattle.std.specs.Prelude.{◌≡◌, true, ◌&&◌, ◌∷◌, ◌+◌, ◌≤◌, ◌<◌, eqb, ltb, length, get_or};

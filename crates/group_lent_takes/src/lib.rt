@@ -1,3 +1,4 @@
+#![tactic(auto)]
 // The calls on a group of obstacles in place, over the words that the caller lends: each reads and writes only the words that it is about.
 // The words hold a sound group: every call requires it, and leaves them so. An obstacle is its five words. Assumes nothing.
 ghost use Rattle.std.specs.Prelude.{◌≡◌, true, ℕ, ◌-◌};
@@ -16,7 +17,7 @@ use kinds::{MaybeLength, numbers};
 const LARGEST: u64 = 9223372036854775807;
 
 // A number, and the words of the obstacle on top, five zeros where there is none.
-#[derive(Drop)]
+#[derive(Clone, Copy)]
 pub struct Top {
     pub number: u8,
     pub obstacle: Five,

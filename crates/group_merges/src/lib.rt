@@ -1,3 +1,4 @@
+#![tactic(auto)]
 // The stops of another group added to a group's own, each under the vertex it was kept by, in one pass over both. Assumes nothing.
 ghost use Rattle.std.specs.Prelude.{◌≡◌, true, ◌+◌, ◌-◌, ◌≤◌, take, drop};
 ghost use Rattle.ledger_spec.specs.Groups.{rising_from, grouped, add_stops};
@@ -16,7 +17,7 @@ type Stops = [Stop; Group::MOST];
 
 // What a turn of the pass does: a stop is written, and so many of the own stops and of the others are done with; or an entry is listed for one of each; or there
 // is no room.
-#[derive(Drop)]
+#[derive(Clone, Copy)]
 enum Turn {
     Put(Stop, usize, usize),
     Enter(Entry),

@@ -1,3 +1,4 @@
+#![tactic(auto)]
 // A run of one array laid into another, for entries and for stops: elements `from` to `n` of the one, from place `at` of the other on.
 // Assumes nothing.
 ghost use Rattle.std.specs.Prelude.{◌≡◌, ◌+◌, ◌-◌, ◌≤◌};

@@ -1,3 +1,4 @@
+#![tactic(auto)]
 // The pop that spares the stops, of a group by value: the last of the list goes, and a stop only where the list is empty. Total as the other pop: BROKEN (2)
 // of an unsound group, KIND (10) of a growth, and a refusal hands back the very group. Assumes nothing.
 ghost use Rattle.std.specs.Prelude.{◌≡◌};

@@ -1,3 +1,4 @@
+#![tactic(auto)]
 // The pending stops of a group as an array: where a vertex stands among them, a stop that comes in or goes, and what becomes of two stops at one
 // vertex. Each says in its `requires` how many of the array count. Assumes nothing.
 ghost use Rattle.std.specs.Prelude.{◌≡◌, ◌≤◌, ◌<◌, take};
@@ -9,14 +10,14 @@ use groups::Group;
 use kinds::{MaybePair, Pair, Stop, Vertex};
 
 // Where a vertex stands among the pending stops: a free place, or the stop that is pending there.
-#[derive(Drop)]
+#[derive(Clone, Copy)]
 pub enum Spot {
     Free(usize),
     Held(usize, Stop),
 }
 
 // What becomes of two stops at one vertex.
-#[derive(Drop)]
+#[derive(Clone, Copy)]
 pub enum Meeting {
     Keep,
     Replace,

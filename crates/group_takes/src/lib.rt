@@ -1,3 +1,4 @@
+#![tactic(auto)]
 // Pop and peek of an obstacle group: the last of the list, else the stop of smallest vertex, else nothing. Pop also takes both out.
 // Both are total: BROKEN (2) of an unsound group, KIND (10) of a growth, and a refused pop hands back the very group. Assumes nothing.
 ghost use Rattle.std.specs.Prelude.{◌≡◌, ◌-◌, ◌<◌};
@@ -8,21 +9,21 @@ ghost use Rattle.group_takes.specs.Takes.{top_by, shifted, shown_peeked, shown_p
 use groups::{Group, Kind};
 use kinds::{Entry, Obstacle, Stop, numbers};
 
-#[derive(Drop)]
+#[derive(Clone, Copy)]
 pub enum MaybeObstacle {
     NoObstacle,
     WithObstacle(Obstacle),
 }
 
 // A number, and what stands on top.
-#[derive(Drop)]
+#[derive(Clone, Copy)]
 pub struct Peeked {
     pub number: u8,
     pub obstacle: MaybeObstacle,
 }
 
 // A number, what was taken, and the group that is left.
-#[derive(Drop)]
+#[derive(Clone, Copy)]
 pub struct Popped {
     pub number: u8,
     pub obstacle: MaybeObstacle,

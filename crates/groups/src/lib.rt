@@ -1,3 +1,4 @@
+#![tactic(auto)]
 // Obstacle groups by value: the type, the empty group, the test of a sound group, and what a group can be asked without taking anything out.
 // Every public function is total: a group that breaks a rule is answered by BROKEN (2). Assumes nothing.
 ghost use Rattle.std.specs.Prelude.{◌≡◌, false, ◌≤◌, take};
@@ -8,14 +9,14 @@ ghost use Rattle.groups.specs.Shown.{empty_of, shown_told, shown_asked};
 
 use kinds::{Entry, Handle, MaybeLength, MaybePair, Obstacle, Stop, Vertex, numbers};
 
-#[derive(Drop)]
+#[derive(Clone, Copy)]
 pub enum Kind {
     Growth(i64, bool),
     Conflicts,
 }
 
 // Of a growth the two arrays and counts say nothing. Of conflicts the first `listed` and the first `stopped` elements count.
-#[derive(Drop)]
+#[derive(Clone, Copy)]
 pub struct Group {
     pub kind: Kind,
     pub list: [Entry; Group::MOST],
@@ -29,14 +30,14 @@ impl Group {
 }
 
 // A number, and yes or no.
-#[derive(Drop)]
+#[derive(Clone, Copy)]
 pub struct Told {
     pub number: u8,
     pub yes: bool,
 }
 
 // A number, and the length of a growth.
-#[derive(Drop)]
+#[derive(Clone, Copy)]
 pub struct Asked {
     pub number: u8,
     pub length: MaybeLength,

@@ -1,3 +1,4 @@
+#![tactic(auto)]
 // The plain types that everything names: counters, handles, states, obstacles, notices, and their limits.
 // All are plain data by value; each function is proved by a definition of specs/. Assumes nothing.
 mod getters; // what an obstacle says
@@ -9,13 +10,13 @@ ghost use Rattle.kinds.specs.States.{against_of, blossom_of};
 ghost use Rattle.kinds.specs.Obstacles.{listable, is_stop, pair_of, these_of, both_of, conflicting_of};
 
 // Three counters that never stand in for one another.
-#[derive(Drop)]
+#[derive(Clone, Copy)]
 pub struct Serial(pub u32);
 
-#[derive(Drop)]
+#[derive(Clone, Copy)]
 pub struct NodeIndex(pub u32);
 
-#[derive(Drop)]
+#[derive(Clone, Copy)]
 pub struct Vertex(pub u32);
 
 impl Serial {
@@ -26,7 +27,7 @@ impl Serial {
 }
 
 // A node by its interface, its slot there, and its serial. It names a node only as long as that slot holds that serial.
-#[derive(Drop)]
+#[derive(Clone, Copy)]
 pub struct Handle {
     pub unit: u8,
     pub slot: u8,
@@ -63,7 +64,7 @@ impl Handle {
 }
 
 // Whether a node's value rises, stays or falls as its tree grows: +1, 0, -1.
-#[derive(Drop)]
+#[derive(Clone, Copy)]
 pub enum GrowState {
     Grow,
     Stay,
@@ -92,7 +93,7 @@ impl GrowState {
 }
 
 // What a slot holds. An empty slot, and one emptied by expansion, holds no node.
-#[derive(Drop)]
+#[derive(Clone, Copy)]
 pub enum Class {
     Absent,
     Blossom,
@@ -112,27 +113,27 @@ impl Class {
 }
 
 // The blossom that a node is a member of, if any.
-#[derive(Drop)]
+#[derive(Clone, Copy)]
 pub enum Parent {
     Outermost,
     Inside(Handle),
 }
 
 // A node, and the node of it that touches.
-#[derive(Drop)]
+#[derive(Clone, Copy)]
 pub struct Pair {
     pub node: Handle,
     pub touching: Handle,
 }
 
-#[derive(Drop)]
+#[derive(Clone, Copy)]
 pub enum MaybePair {
     NoPair,
     WithPair(Pair),
 }
 
 // What stands in the way of growing: the Rust's `MaxUpdateLength`, with its variants' names.
-#[derive(Drop)]
+#[derive(Clone, Copy)]
 pub enum Obstacle {
     // So much can be grown; whether some boundary node is empty.
     NonZeroGrow(i64, bool),
@@ -143,25 +144,25 @@ pub enum Obstacle {
     VertexShrinkStop(Handle, MaybePair),
 }
 
-#[derive(Drop)]
+#[derive(Clone, Copy)]
 pub enum MaybeLength {
     NoLength,
     Length(i64),
 }
 
-#[derive(Drop)]
+#[derive(Clone, Copy)]
 pub enum MaybeNode {
     NoNode,
     Node(Handle),
 }
 
-#[derive(Drop)]
+#[derive(Clone, Copy)]
 pub enum MaybeNodes {
     NoNodes,
     Nodes(Handle, Handle),
 }
 
-#[derive(Drop)]
+#[derive(Clone, Copy)]
 pub enum MaybeVirtual {
     NoVirtual,
     Virtual(Handle, Vertex),
@@ -245,20 +246,20 @@ impl Obstacle {
 }
 
 // An element of a group's list. (An array of enums is no field that the checker walks; an array of these is.)
-#[derive(Drop)]
+#[derive(Clone, Copy)]
 pub struct Entry {
     pub obstacle: Obstacle,
 }
 
 // A pending stop of a group, with the vertex that it is kept by.
-#[derive(Drop)]
+#[derive(Clone, Copy)]
 pub struct Stop {
     pub vertex: Vertex,
     pub obstacle: Obstacle,
 }
 
 // What a call tells the dual module, with its trait call's arguments. The circle of "shrink prepared" stands beside the list of notices.
-#[derive(Drop)]
+#[derive(Clone, Copy)]
 pub enum Notice {
     DefectAdded(Handle),
     StateSet(Handle, GrowState),

@@ -1,3 +1,4 @@
+#![tactic(auto)]
 // The text program (docs/MANUAL.md): calls in lines on standard input, a line of four numbers for each on standard output. It takes --help and --version; with
 // any other argument it says so on standard error and reads nothing.
 const WORD: usize = 16;

@@ -1,3 +1,4 @@
+#![tactic(auto)]
 // Answers and arguments as the words that Rust and C see (include/dual_ledger.h): a handle, a state, whether, a signed length. (Notices: crate link_told.)
 // Assumes nothing.
 ghost use Rattle.std.specs.Prelude.{◌≡◌};

@@ -1,3 +1,4 @@
+#![tactic(auto)]
 // Files of byte records, for Rust and C: is a slice one, and how many records it has. Assumes nothing.
 ghost use Rattle.std.specs.Prelude.{◌≡◌};
 ghost use Rattle.record_spec.specs.Files.{file_ops};
@@ -6,7 +7,7 @@ ghost use Rattle.link_records.specs.Answers.{counted};
 use kinds::numbers;
 
 // 0 and the records, or FILE.
-#[derive(Drop)]
+#[derive(Clone, Copy)]
 pub struct Counted {
     pub number: u8,
     pub count: usize,

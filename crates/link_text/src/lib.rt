@@ -1,3 +1,4 @@
+#![tactic(auto)]
 // The text program's engine over lent words and slices, for Rust and C: an input's beginning, a line, a chunk, the input's end. A line and a chunk come in two
 // forms, on words that hold a sound bench and on any words; a beginning sets the bench up, on any words. A slice that is too short is SMALL (19), and more held than a line has is BROKEN (2): then nothing has changed.
 // Assumes nothing.
@@ -16,7 +17,7 @@ use text_numbers::Reply;
 pub const HELD: usize = 1024;
 
 // A chunk's number; how many bytes are held after it, and how many were written.
-#[derive(Drop)]
+#[derive(Clone, Copy)]
 pub struct Chunked {
     pub number: u8,
     pub held: usize,

@@ -1,3 +1,4 @@
+#![tactic(auto)]
 // The answers of calls that tell notices, written straight into the words that Rust and C see (include/dual_ledger.h): the node, the counts, the notices and
 // the circle; a word that says nothing stays as it was. The caller has been accepted by its tests, or tells nothing. Assumes nothing.
 ghost use Rattle.std.specs.Prelude.{◌≡◌, [], ◌∷◌, map, ◌+◌, ◌<◌, ◌≤◌, length};

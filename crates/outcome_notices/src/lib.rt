@@ -1,3 +1,4 @@
+#![tactic(auto)]
 // What a call tells the dual module, by value: the notices in order and, once beside them, the circle of "shrink prepared".
 // Entries past the counts are blank, so that a list of notices has one value. The caller has been accepted by its tests. Assumes nothing.
 ghost use Rattle.std.specs.Prelude.{◌≡◌, [], ◌∷◌, ◌≤◌, length};
@@ -14,13 +15,13 @@ use bench_words::WORDS;
 use kinds::{GrowState, Handle, Notice};
 
 // A notice in its place. (An array of enums is no field that the checker walks; an array of these is.)
-#[derive(Drop)]
+#[derive(Clone, Copy)]
 pub struct Told {
     pub notice: Notice,
 }
 
 // The first `count` of `told` count, and the first `members` of `circle`.
-#[derive(Drop)]
+#[derive(Clone, Copy)]
 pub struct Notices {
     pub told: [Told; Notice::MOST],
     pub count: usize,

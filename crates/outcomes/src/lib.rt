@@ -1,3 +1,4 @@
+#![tactic(auto)]
 // What a call that changes a bench answers, and what that answer has to be: the plain ledger's own. Assumes nothing.
 ghost use Rattle.std.specs.Prelude.{◌≡◌};
 ghost use Rattle.outcomes.specs.Refused.{refused_by};
@@ -5,7 +6,7 @@ ghost use Rattle.outcomes.specs.Refused.{refused_by};
 use kinds::Handle;
 
 // A number, and the node made or named (all fields 0 where there is none).
-#[derive(Drop)]
+#[derive(Clone, Copy)]
 pub struct Made {
     pub number: u8,
     pub node: Handle,

@@ -1,3 +1,4 @@
+#![tactic(auto)]
 // The picture of an interface, of any words at all: BROKEN (2) where they hold no sound bench; else the picture on sound words. The bench does not change.
 // Assumes nothing.
 ghost use Rattle.std.specs.Prelude.{◌≡◌};

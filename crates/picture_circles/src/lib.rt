@@ -1,3 +1,4 @@
+#![tactic(auto)]
 // The circle of a blossom in a picture: its members' indices, or those of the nodes that they touch by, as a list. Only the lent bytes are written.
 // Assumes nothing.
 ghost use Rattle.std.specs.Prelude.{◌≡◌, map, ◌<◌};

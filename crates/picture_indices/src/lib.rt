@@ -1,3 +1,4 @@
+#![tactic(auto)]
 // The index of each slot of a tree by its position, listed once, so that a handle's index costs a step and no search. Everything here only reads the bench.
 // Assumes nothing.
 ghost use Rattle.check_places.specs.Places.{Places};

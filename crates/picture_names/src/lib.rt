@@ -1,3 +1,4 @@
+#![tactic(auto)]
 // A node's state in a picture: the word, and the number that says the same. Assumes nothing.
 ghost use Rattle.ledger_spec.specs.Named.{state_named};
 ghost use Rattle.picture_spec.specs.Text.{state_text, growth_text};

@@ -1,3 +1,4 @@
+#![tactic(auto)]
 // The slots of a tree in a picture, by index: null for an emptied one, or a node with its keys in the order of the original's `snapshot`. Only the lent bytes
 // are written. Assumes nothing.
 ghost use Rattle.std.specs.Prelude.{◌≡◌, map, get_or, ◌<◌};

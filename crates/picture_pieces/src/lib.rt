@@ -1,3 +1,4 @@
+#![tactic(auto)]
 // Pieces of a text, put one after the other into a lent slice of bytes. A piece that does not fit is counted and not written, so that one and the same walk
 // measures a text, over a slice without room, and writes it. Assumes nothing.
 ghost use Rattle.std.specs.Prelude.{◌≡◌, length};

@@ -1,3 +1,4 @@
+#![tactic(auto)]
 // The picture of an interface (docs/MANUAL.md, The picture) on words that hold a sound bench: measured first, and written only where it fits. The bench does
 // not change; UNIT (3), CHILD (4), UNSOUND (24) and SMALL (19) refuse, in this order. Assumes nothing.
 ghost use Rattle.std.specs.Prelude.{◌≡◌, ◌<◌};

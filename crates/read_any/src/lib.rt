@@ -1,3 +1,4 @@
+#![tactic(auto)]
 // The public reads: any words at all may be lent, with any handle, number and slice. The words are tested once; where they hold no sound bench the answer
 // is BROKEN (2) without a value; else the read on sound words answers. None changes the bench. Assumes nothing.
 ghost use Rattle.std.specs.Prelude.{◌≡◌, false, pos};

@@ -1,3 +1,4 @@
+#![tactic(auto)]
 // The reads of an interface's marks, on words that hold a sound bench. None changes the bench. Assumes nothing.
 ghost use Rattle.std.specs.Prelude.{◌≡◌};
 ghost use Rattle.bench_words.specs.Codec.{pick};
@@ -8,7 +9,7 @@ ghost use Rattle.read_marks.specs.Shown.{shown_mark};
 use bench_words::WORDS;
 
 // A number, and whether the interface bears the mark.
-#[derive(Drop)]
+#[derive(Clone, Copy)]
 pub struct Marked {
     pub number: u8,
     pub marked: bool,

@@ -1,3 +1,4 @@
+#![tactic(auto)]
 // The reads of present nodes, on words that hold a sound bench: how many a tree has, and the next one at or after an index. They look at the maps of the
 // tree's interfaces and pass over emptied slots unread. None changes the bench. Assumes nothing.
 ghost use Rattle.std.specs.Prelude.{◌≡◌, ◌∷◌, [], leb, ◌+◌, ◌-◌, ◌<◌, ◌≤◌};
@@ -21,7 +22,7 @@ use read_sound::Counted;
 use slot_map::Found;
 
 // A number, and the next present node with its index: 0 and nothing where there is none.
-#[derive(Drop)]
+#[derive(Clone, Copy)]
 pub struct Next {
     pub number: u8,
     pub index: NodeIndex,

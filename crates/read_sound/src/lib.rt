@@ -1,3 +1,4 @@
+#![tactic(auto)]
 // The reads of docs/MANUAL.md, Reads, on words that hold a sound bench: each answers its refusal number, and a value where that is 0. None changes the bench.
 // A read of an interface is refused by UNIT (3) or CHILD (4), a read of a node by STALE (8). Assumes nothing.
 ghost use Rattle.std.specs.Prelude.{◌≡◌, ◌<◌, ◌/◌, ◌%◌};
@@ -18,35 +19,35 @@ use bench_words::{Up, WORDS};
 use kinds::{Handle, MaybeNode, NodeIndex, Vertex, numbers};
 
 // A number and a weight.
-#[derive(Drop)]
+#[derive(Clone, Copy)]
 pub struct Weighed {
     pub number: u8,
     pub weight: i64,
 }
 
 // A number and a count.
-#[derive(Drop)]
+#[derive(Clone, Copy)]
 pub struct Counted {
     pub number: u8,
     pub count: u64,
 }
 
 // A number and whether the node stands in the interface's tree.
-#[derive(Drop)]
+#[derive(Clone, Copy)]
 pub struct Belongs {
     pub number: u8,
     pub inside: bool,
 }
 
 // A number and the node at an index, or nothing where its slot was emptied.
-#[derive(Drop)]
+#[derive(Clone, Copy)]
 pub struct Indexed {
     pub number: u8,
     pub node: MaybeNode,
 }
 
 // A number, the outermost blossom, and the links followed to it.
-#[derive(Drop)]
+#[derive(Clone, Copy)]
 pub struct Ancestor {
     pub number: u8,
     pub node: Handle,
@@ -54,14 +55,14 @@ pub struct Ancestor {
 }
 
 // A number and the node below the outermost blossom.
-#[derive(Drop)]
+#[derive(Clone, Copy)]
 pub struct Second {
     pub number: u8,
     pub node: Handle,
 }
 
 // A number and a vertex.
-#[derive(Drop)]
+#[derive(Clone, Copy)]
 pub struct Represented {
     pub number: u8,
     pub vertex: Vertex,

@@ -1,3 +1,4 @@
+#![tactic(auto)]
 // One operation at a place of a file's bytes, on a sound bench: read in place, its serials made nodes by hints that no answer depends on, and its call made.
 // A blossom's members and touching nodes stand in two lent slices meanwhile; what those hold says nothing. Assumes nothing.
 ghost use Rattle.std.specs.Prelude.{◌≡◌, ◌+◌, ◌*◌, ◌≤◌, length, drop, get_or};

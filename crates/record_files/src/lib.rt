@@ -1,3 +1,4 @@
+#![tactic(auto)]
 // Whether a slice is a file of records, read from the trailer back, and what it holds: how many records, where the list starts, how many bytes its
 // text has, whether every pair is the member. One pass, and nothing is copied. Assumes nothing.
 ghost use Rattle.std.specs.Prelude.{◌≡◌, ◌+◌, ◌*◌, ◌≤◌, ◌<◌, length};
@@ -10,7 +11,7 @@ pub const MARK: u64 = 843533380;
 
 pub const LARGEST: usize = 4294967295;
 
-#[derive(Drop)]
+#[derive(Clone, Copy)]
 pub struct Scanned {
     pub whole: bool,
     pub count: usize,
@@ -20,7 +21,7 @@ pub struct Scanned {
 }
 
 // A trailer's start of the list and number of records, if its numbers fit the slice.
-#[derive(Drop)]
+#[derive(Clone, Copy)]
 pub struct Trailer {
     pub fits: bool,
     pub start: usize,

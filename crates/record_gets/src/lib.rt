@@ -1,3 +1,4 @@
+#![tactic(auto)]
 // The k-th record of any bytes, in constant time by the trailer and the list, written as words into a lent slice: letter, then the record's fields. FILE where
 // trailer, list or record do not fit, RANGE where there is no such record, SMALL last. Refused, the slice is as it was. Assumes nothing.
 ghost use Rattle.std.specs.Prelude.{◌≡◌, ◌+◌, ◌*◌, ◌≤◌, ◌<◌, length};
@@ -12,7 +13,7 @@ use record_packs::Moved;
 mod words; // words.rt: an operation's words
 
 // Where a record stands, or the number by which it is refused.
-#[derive(Drop)]
+#[derive(Clone, Copy)]
 pub struct Found {
     pub number: u8,
     pub place: usize,

@@ -10,7 +10,7 @@ use kinds::GrowState;
 use text_lines::Line;
 
 // The words before the members, `many` of them, 2 to 4; and how many members there are.
-#[derive(Drop)]
+#[derive(Clone, Copy)]
 pub struct Front {
     pub many: usize,
     pub letter: u64,

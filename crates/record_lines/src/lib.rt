@@ -1,3 +1,4 @@
+#![tactic(auto)]
 // A record's line with its newline, written at a place of a lent slice that has room for it. A pair is not looked at: the line has none. Assumes nothing.
 ghost use Rattle.std.specs.Prelude.{◌+◌, ◌*◌, ◌≤◌, ◌<◌, [], ◌∷◌, length, drop};
 ghost use Rattle.ledger_spec.specs.Decimals.{decimal, signed};

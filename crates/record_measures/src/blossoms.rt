@@ -6,7 +6,7 @@ use crate::Measured;
 use text_lines::Line;
 
 // A member's bytes in the line, its space counted, and whether its pair is the member: 0 bytes, if one of the three is no serial.
-#[derive(Drop)]
+#[derive(Clone, Copy)]
 pub struct Weight {
     pub line: usize,
     pub own: bool,

@@ -1,3 +1,4 @@
+#![tactic(auto)]
 // A record at a place of a slice: whether one stands there, its bytes, its line's bytes with the newline, and whether every pair is the member.
 // Assumes nothing.
 ghost use Rattle.std.specs.Prelude.{◌&&◌, ◌≡◌, drop};
@@ -9,7 +10,7 @@ mod letters; // letters.rt: the records of every letter but B
 mod blossoms; // blossoms.rt: B, with its members
 
 // What stands at a place: no record, if the size is 0.
-#[derive(Drop)]
+#[derive(Clone, Copy)]
 pub struct Measured {
     pub size: usize,
     pub line: usize,

@@ -1,3 +1,4 @@
+#![tactic(auto)]
 // Numbers of 1, 2, 4 and 8 bytes, low byte first, read at a place of a slice and written there, by record_spec's `Numbers` and `Places`.
 // Assumes nothing.
 ghost use Rattle.std.specs.Prelude.{◌≡◌, ◌+◌, ◌≤◌, ◌<◌, length};

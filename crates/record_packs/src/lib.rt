@@ -1,3 +1,4 @@
+#![tactic(auto)]
 // A text moved to a file of records, into a lent slice: one pass tests and measures it, one writes. A text that does not move is FILE, a slice that is
 // too short SMALL, last; then the slice is as it was. Assumes nothing.
 ghost use Rattle.std.specs.Prelude.{◌+◌, ◌*◌, ◌≤◌, ◌<◌, length};
@@ -12,7 +13,7 @@ use kinds::numbers;
 const SERIALS: usize = 1024;
 
 // A move's number, and how many bytes it wrote.
-#[derive(Drop)]
+#[derive(Clone, Copy)]
 pub struct Moved {
     pub number: u8,
     pub size: usize,

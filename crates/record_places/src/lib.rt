@@ -1,3 +1,4 @@
+#![tactic(auto)]
 // Where a record starts, by the list of a file that is known to be whole: in constant time. Assumes nothing.
 ghost use Rattle.record_places.specs.Places.{Listed, Placed};
 

@@ -1,3 +1,4 @@
+#![tactic(auto)]
 // A line's record, written at a place of a lent slice that has room for it: its letter, its unit, its numbers; a blossom's pairs are the members
 // themselves. Assumes nothing.
 ghost use Rattle.std.specs.Prelude.{◌≡◌, ◌++◌, map, ◌+◌, ◌*◌, ◌≤◌, length, take, length as «long»};

@@ -1,3 +1,4 @@
+#![tactic(auto)]
 // The record at a place of a slice where one is known to stand, read as its line: letter and numbers. A blossom's members stand 4 bytes further, 12 bytes each,
 // and are read by their number. Nothing is copied. Assumes nothing.
 ghost use Rattle.std.specs.Prelude.{◌≡◌, ◌+◌, ◌≤◌, length, drop};

@@ -1,3 +1,4 @@
+#![tactic(auto)]
 // A run over a whole file of records: every operation in turn, as the single calls answer it, four signed numbers each into a lent slice. FILE comes first,
 // then BROKEN, once, then SMALL; a run that is refused changes neither bench nor slice, an operation that is refused does not end it. Assumes nothing.
 ghost use Rattle.std.specs.Prelude.{◌≡◌, ◌+◌, ◌*◌, ◌≤◌, length};
@@ -12,7 +13,7 @@ use record_calls::{MEMBERS, TOUCHING};
 use text_numbers::Reply;
 
 // A run's number, and how many operations it answered.
-#[derive(Drop)]
+#[derive(Clone, Copy)]
 pub struct Ran {
     pub number: u8,
     pub count: usize,

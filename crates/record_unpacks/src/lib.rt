@@ -1,3 +1,4 @@
+#![tactic(auto)]
 // A file of records moved to text, into a lent slice: one pass tests and measures it, one writes. What is no file is FILE; then a pair that is not the
 // member SELF; a slice that is too short SMALL, last. Refused, the slice is as it was. Assumes nothing.
 ghost use Rattle.std.specs.Prelude.{◌+◌, ◌*◌, ◌≤◌, ◌<◌, length};

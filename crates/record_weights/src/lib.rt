@@ -1,3 +1,4 @@
+#![tactic(auto)]
 // A text tested and weighed: whether each line is of the grammar and ended by a newline, how many there are, and how many bytes their records take.
 // The first of the two passes from text to records; it writes nothing. Assumes nothing.
 ghost use Rattle.std.specs.Prelude.{◌≡◌, ◌<◌};
@@ -7,7 +8,7 @@ ghost use Rattle.record_weights.specs.Weights.{size_by, not_text as «not-text»
 use text_lines::Line;
 
 // What a text holds: nothing that moves, if it is not whole.
-#[derive(Drop)]
+#[derive(Clone, Copy)]
 pub struct Weighed {
     pub whole: bool,
     pub count: usize,

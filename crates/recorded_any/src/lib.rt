@@ -1,3 +1,4 @@
+#![tactic(auto)]
 // Growing against a recording, as a public call: any words may be lent as bench, and any as recording. The bench is tested once, before all else: words that
 // hold no sound bench are BROKEN (2), and nothing changes; else the call on sound words answers. Assumes nothing.
 ghost use Rattle.recorded_any.specs.Any.{RecordedAny};

@@ -1,3 +1,4 @@
+#![tactic(auto)]
 // One position of a recording: what a step is refused for there before the bench is asked, how far it goes; and how many groups a recording has. Only a
 // growth's three words are read; conflicts are tested whole, and end the call. Assumes nothing.
 ghost use Rattle.std.specs.Prelude.{◌≡◌, ◌<◌, length, pos};

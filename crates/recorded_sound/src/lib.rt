@@ -1,3 +1,4 @@
+#![tactic(auto)]
 // Growing against a recording, on words that hold a sound bench: every step is tested first, and the bench grows once. Assumes nothing.
 ghost use Rattle.std.specs.Prelude.{◌≡◌};
 ghost use Rattle.bench_views.specs.Fit.{Fit, SoundWords};

@@ -1,3 +1,4 @@
+#![tactic(auto)]
 // The pass over a recording that tests every step before anything grows, and the pass that writes the steps' lengths. A step reads three words of its
 // group. Assumes nothing.
 ghost use Rattle.std.specs.Prelude.{◌≡◌, map, ◌≤◌, ◌<◌, length, pos, nat_abs};
@@ -10,14 +11,14 @@ use group_lent::GROUP;
 use kinds::numbers;
 
 // A number, and how many groups were taken.
-#[derive(Drop)]
+#[derive(Clone, Copy)]
 pub struct Passed {
     pub number: u8,
     pub taken: usize,
 }
 
 // A number; accepted, how far a step goes and where the next group starts.
-#[derive(Drop)]
+#[derive(Clone, Copy)]
 pub struct Step {
     pub number: u8,
     pub by: u64,

@@ -1,3 +1,4 @@
+#![tactic(auto)]
 // The number that each call is refused by, 0 where it is accepted: its tests in rising order of their numbers, the first that holds. Everything here
 // only reads, and none scans the slots. (Add blossom's is where its lists are.) Assumes nothing.
 ghost use Rattle.std.specs.Prelude.{◌≡◌, ◌||◌, not, ◌<◌, eqb, leb};

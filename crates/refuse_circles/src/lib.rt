@@ -1,3 +1,4 @@
+#![tactic(auto)]
 // What a circle, given as words, is refused by: a node that is stale, foreign or inside a blossom, and a member given twice. Lists of any length,
 // words of any kind. Everything here only reads. Assumes nothing.
 ghost use Rattle.std.specs.Prelude.{◌≡◌, not, ◌<◌, eqb, drop};

@@ -1,3 +1,4 @@
+#![tactic(auto)]
 // Replays recordings of the Rust (oracle/README.md has their language): each line's call is made on the bench, and what it answers is compared
 // with the recorded answer. Writes the lines that differ, by their number, and at the end how many answers were compared and how many differ.
 mod acts;
@@ -20,7 +21,7 @@ const LINE: usize = 4096;
 const CHUNK: usize = 4096;
 
 // Lines read, answers compared, answers that differ; numbers said by the last call.
-#[derive(Drop)]
+#[derive(Clone, Copy)]
 struct Count {
     lines: u64,
     answers: u64,

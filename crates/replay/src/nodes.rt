@@ -58,7 +58,7 @@ fn parent(out: &mut [i64; ROOM], n: usize, p: Parent) -> usize {
 }
 
 // A member of a circle with its touching handles, and where the next one stands.
-#[derive(Drop)]
+#[derive(Clone, Copy)]
 struct Step {
     said: usize,
     next: u64,

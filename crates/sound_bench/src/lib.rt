@@ -1,3 +1,4 @@
+#![tactic(auto)]
 // Whether words are the encoding of a bench that keeps every rule of "A sound bench": BROKEN is exactly where they are not. Any words whatever
 // may be lent; nothing is changed. The cost goes with the slots used. Assumes nothing.
 ghost use Rattle.std.specs.Prelude.{◌≡◌};

@@ -1,3 +1,4 @@
+#![tactic(auto)]
 // The floors of a sound bench: all interfaces of a tree bear one mark, and in a floored tree no value is below zero. Only floored interfaces have their
 // slots read. Everything here only reads, and any words may be lent whose interfaces are in range. Assumes nothing.
 ghost use Rattle.std.specs.Prelude.{◌≡◌, ◌<◌, ◌≤◌};

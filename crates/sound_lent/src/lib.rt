@@ -1,3 +1,4 @@
+#![tactic(auto)]
 // The test that every public call and read makes once: whether the words that were lent hold a sound bench. Any words may be lent. Assumes nothing.
 ghost use Rattle.sound_lent.specs.Verdict.{Verdict};
 

@@ -1,3 +1,4 @@
+#![tactic(auto)]
 // The slots of a sound bench: each is blank and not in the map, or is in the map, used and holds a node that keeps every rule. Everything here only reads, and any words may be
 // lent whose interfaces are in range. Assumes nothing.
 ghost use Rattle.std.specs.Prelude.{◌≡◌, ◌<◌, ◌≤◌};
@@ -9,7 +10,7 @@ use bench_words::{Node, WORDS};
 use kinds::{GrowState, Handle};
 
 // What the nodes of one interface have in common: the top of their tree, T and W.
-#[derive(Drop)]
+#[derive(Clone, Copy)]
 pub struct Ground {
     pub top: usize,
     pub total: u64,

@@ -1,3 +1,4 @@
+#![tactic(auto)]
 // A node's class: a defect has no circle and size 1; a blossom's circle is walked once, each member linking back to it from its place. Everything
 // here only reads, and any words may be lent. Assumes nothing.
 ghost use Rattle.std.specs.Prelude.{◌≡◌};

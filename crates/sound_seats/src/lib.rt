@@ -1,3 +1,4 @@
+#![tactic(auto)]
 // A node's place: outside any circle it has none; in one it is a staying member that its blossom's circle comes to after so many steps. Everything
 // here only reads, and any words may be lent. Assumes nothing.
 ghost use Rattle.std.specs.Prelude.{◌≡◌, ◌<◌};

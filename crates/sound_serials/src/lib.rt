@@ -1,3 +1,4 @@
+#![tactic(auto)]
 // Whether the serials of present nodes are all different: a blank slot has serial 0, and any other serial stands once. Everything here only
 // reads, and any words may be lent. Assumes nothing.
 ghost use Rattle.std.specs.Prelude.{◌≡◌, ◌<◌, ◌≤◌, length};

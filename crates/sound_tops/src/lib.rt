@@ -1,3 +1,4 @@
+#![tactic(auto)]
 // The sum and the speed of an interface without a parent: the sum within 512 W, the speed what the nodes of its tree make it. Everything here
 // only reads, and any words may be lent whose interfaces are in range. Assumes nothing.
 ghost use Rattle.std.specs.Prelude.{◌≡◌, ◌<◌, ◌≤◌};

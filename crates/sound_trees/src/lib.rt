@@ -1,3 +1,4 @@
+#![tactic(auto)]
 // The interfaces of a sound bench: their ranges, and links both ways between a parent and its halves; and W, the progress of a whole tree.
 // Everything here only reads, and any words may be lent. Assumes nothing.
 ghost use Rattle.std.specs.Prelude.{◌≡◌, ◌<◌, ◌≤◌};

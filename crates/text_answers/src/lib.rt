@@ -1,3 +1,4 @@
+#![tactic(auto)]
 // An answer of the text program: four numbers as a line of text, by ledger_spec's `Program.text_of`. Assumes nothing.
 ghost use Rattle.std.specs.Prelude.{◌∷◌, ◌+◌, ◌≤◌, length};
 ghost use Rattle.text_decimals.specs.Wrote.{Wrote};

@@ -1,3 +1,4 @@
+#![tactic(auto)]
 // One line of the text program: the call that it says on a sound bench, and its four numbers. Serials become nodes by hints that no answer depends on.
 // Every line leaves the bench sound. Assumes nothing.
 ghost use Rattle.std.specs.Prelude.{◌≡◌, List, ℕ, ◌≤◌, length};

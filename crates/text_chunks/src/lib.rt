@@ -1,3 +1,4 @@
+#![tactic(auto)]
 // Lines out of chunks. What is held of a line that is not ended yet is its first 1,024 bytes, in a lent slice of 1,024: as many as tell that it is
 // overlong. However the input is cut into chunks, its lines are `lines_of` of the whole (proofs/Chunks). And the first line's choice of an engine. Assumes
 // nothing.
@@ -7,7 +8,7 @@ ghost use Rattle.text_chunks.specs.Chunks.{Feeds};
 ghost use Rattle.text_chunks.specs.Choices.{choice_of};
 
 // Whether a line ended, how many bytes of it are held, and where the rest of the chunk starts.
-#[derive(Drop)]
+#[derive(Clone, Copy)]
 pub struct Fed {
     pub ended: bool,
     pub held: usize,
@@ -15,7 +16,7 @@ pub struct Fed {
 }
 
 // The engine that a line chooses: none, or one: is it the plain one?
-#[derive(Drop)]
+#[derive(Clone, Copy)]
 pub enum Choice {
     NoEngine,
     Engine(bool),

@@ -1,3 +1,4 @@
+#![tactic(auto)]
 // The text program at its two ends: standard input in pieces, and each piece's answers to standard output as soon as it has been answered.
 // What the bytes are is crate text_sessions'; here is only reading and writing, of which no contract can speak. Assumes nothing.
 ghost use Rattle.std.specs.Prelude.{◌≤◌, length};
@@ -12,7 +13,7 @@ const PIECE: usize = 4096;
 const ROOM: usize = 233472;
 
 // How the run goes on: so many bytes of a line are held, and is it the first line; the input has ended; or reading or writing failed.
-#[derive(Drop)]
+#[derive(Clone, Copy)]
 pub enum Next {
     More(usize, bool),
     Ended,

@@ -1,3 +1,4 @@
+#![tactic(auto)]
 // Numbers as text: a field read as a number, and a number written at a place of a lent slice, by ledger_spec's `Decimals`.
 // Assumes nothing.
 ghost use Rattle.std.specs.Prelude.{◌≡◌, ◌+◌, ◌≤◌, ◌<◌, length, pos, neg_ℤ};
@@ -6,13 +7,13 @@ ghost use Rattle.text_decimals.specs.Read.{number_of, integer_of};
 ghost use Rattle.text_decimals.specs.Wrote.{Wrote};
 
 // The number that a field says, if it says one.
-#[derive(Drop)]
+#[derive(Clone, Copy)]
 pub enum MaybeNumber {
     NoNumber,
     Number(u64),
 }
 
-#[derive(Drop)]
+#[derive(Clone, Copy)]
 pub enum MaybeInteger {
     NoInteger,
     Integer(i64),

@@ -1,3 +1,4 @@
+#![tactic(auto)]
 // A line's fields, one after the other. A place is where a field ends: the index of its space, or the line's length; what follows a place is
 // the fields after it (`from`). Assumes nothing.
 ghost use Rattle.std.specs.Prelude.{◌≡◌, ◌≤◌, length};
@@ -9,26 +10,26 @@ use kinds::GrowState;
 use text_decimals::{MaybeInteger, MaybeNumber};
 
 // Where a field starts and ends.
-#[derive(Drop)]
+#[derive(Clone, Copy)]
 pub enum NextField {
     At(usize, usize),
     NoField,
 }
 
 // A number that was read, and the place after it.
-#[derive(Drop)]
+#[derive(Clone, Copy)]
 pub enum NextNumber {
     Got(u64, usize),
     Missed,
 }
 
-#[derive(Drop)]
+#[derive(Clone, Copy)]
 pub enum NextLength {
     Length(i64, usize),
     NoLength,
 }
 
-#[derive(Drop)]
+#[derive(Clone, Copy)]
 pub enum NextState {
     To(GrowState, usize),
     NoState,

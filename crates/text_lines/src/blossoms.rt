@@ -10,7 +10,7 @@ ghost use Rattle.text_lines.specs.Shown.{ReadAs};
 use crate::Line;
 use text_fields::NextNumber;
 
-#[derive(Drop)]
+#[derive(Clone, Copy)]
 pub enum Count {
     All(usize),
     NotAll,

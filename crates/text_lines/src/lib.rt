@@ -1,3 +1,4 @@
+#![tactic(auto)]
 // The text program's lines: what a line says, by ledger_spec's `Grammar`. Assumes nothing.
 ghost use Rattle.ledger_spec.specs.Grammar.{rest, line_of};
 ghost use Rattle.text_fields.specs.Places.{from};
@@ -10,7 +11,7 @@ mod blossoms; // blossoms.rt: B, with its serials
 mod letters; // letters.rt: the other seven letters
 
 // What a line says. A blossom's serials stand in the slice that was lent to read it.
-#[derive(Drop)]
+#[derive(Clone, Copy)]
 pub enum Line {
     Defect {
         unit: u8,

@@ -1,3 +1,4 @@
+#![tactic(auto)]
 // The members that a `B` line names by their serials, as the packed handles that a call takes. Everything here only reads. Assumes nothing.
 ghost use Rattle.std.specs.Prelude.{◌≤◌, length};
 ghost use Rattle.bench_views.specs.Fit.{SoundWords};

@@ -1,3 +1,4 @@
+#![tactic(auto)]
 // A line's four numbers: number, serial, and the interface's speed and sum as they stand after the call. Everything here only reads. Assumes nothing.
 ghost use Rattle.std.specs.Prelude.{◌≡◌, pos};
 ghost use Rattle.ledger_spec.specs.Lines.{shown};
@@ -7,7 +8,7 @@ ghost use Rattle.text_numbers.specs.Numbers.{numbers_of};
 
 use bench_words::WORDS;
 
-#[derive(Drop)]
+#[derive(Clone, Copy)]
 pub struct Reply {
     pub number: u8,
     pub serial: u32,

@@ -1,3 +1,4 @@
+#![tactic(auto)]
 // The text program on slices: an input that comes in chunks of any size, and the bytes of its answers. Nothing here reads or writes a file.
 // However the input is cut, what is written is ledger_spec's `program` of the whole (proofs/Inputs). Assumes nothing.
 ghost use Rattle.std.specs.Prelude.{◌≡◌, ◌+◌, ◌*◌, ◌≤◌, length, take};
@@ -10,7 +11,7 @@ use kinds::numbers;
 use text_chunks::Choice;
 
 // How many bytes of the line that is not ended yet are held, and how many bytes were written.
-#[derive(Drop)]
+#[derive(Clone, Copy)]
 pub struct Taken {
     pub held: usize,
     pub wrote: usize,
