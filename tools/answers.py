@@ -16,8 +16,7 @@ said = []
 
 
 def plain(name):
-    name = re.sub(r"_lem$", "", name.replace("-", "_"))
-    return name
+    return re.sub(r"_lem$", "", name.replace("-", "_")).lower()
 
 
 def of_need(name):
@@ -150,8 +149,8 @@ class Turn:
                 for field, old, path in arm[2]:
                     if plain(old) == plain(step) and path and rest[: len(path)] == path:
                         return "path", ".".join(["c", arm[0], field, *rest[len(path) :]])
-        if step in ("args", "ranges", "well_formed", "told", "facts", "lifetimes"):
-            return "path", ".".join(["c", step, *rest])
+        if plain(step) in ("args", "ranges", "well_formed", "told", "facts", "lifetimes"):
+            return "path", ".".join(["c", plain(step), *rest])
         if step == "requires":
             pre = names.of["pre"]
             if pre and rest and rest[0].isdigit():
@@ -259,6 +258,22 @@ def turn(crate, folder, names):
     labels = ensures_of(crate, path)
     head, found = blocks(text)
     inv, ans, local = [], [], []
+    # a lemma over a place stands where it is cited
+    inlined = {}
+    for block in found:
+        m = DECL.search(block)
+        kind = block[m.end() :].split("\n")[0]
+        over = re.match(r"\((\w+) : tie\.", kind)
+        clause = re.search(r"^" + re.escape(m[2]) + r" (\w+) = (.*)", block[m.end() :], re.M | re.S)
+        if over and clause and not re.search(r"^unfolding", block, re.M):
+            inlined[m[2]] = (clause[1], clause[2].strip())
+
+    def put_in(text):
+        for _ in range(3):
+            for name, (var, body) in inlined.items():
+                text = re.sub(r"(?<![\w'.-])" + re.escape(name) + r" ([A-Za-z_][\w'-]*(?:\.before)*)(?![\w'.-])", lambda m: "(" + re.sub(r"(?<![\w'.-])" + var + r"(?=[.\s)])", m[1], body) + ")", text)
+        return text
+
     for block in found:
         m = DECL.search(block)
         kind = block[m.end() :].split("\n")[0]
@@ -280,6 +295,8 @@ def turn(crate, folder, names):
             new, vs, changed = lists[0]
             want = [f"l.initial.{v}" if c else f"l.{v}" for v, c in zip(vs, changed)] + [f"l.{v}" for v, c in zip(vs, changed) if c]
             if len(want) != len(args):
+                args = [a for a in args if not re.fullmatch(r"t\d+", a)]
+            if len(want) != len(args):
                 said.append(f"{file}: {name} has {len(args)} arguments ({' '.join(args)}), and today {len(want)} ({' '.join(vs)})")
                 want = []
                 for a in args:
@@ -296,7 +313,7 @@ def turn(crate, folder, names):
             if not clause:
                 said.append(f"{file}: {name} has no clause that is read")
                 continue
-            before, term = body[: clause.start()], body[clause.end() :].rstrip()
+            before, term = body[: clause.start()], put_in(body[clause.end() :].rstrip())
             if re.fullmatch(r"\s*search rules", term):
                 continue
             got = n.needs.get(of_need(need))
@@ -316,6 +333,8 @@ def turn(crate, folder, names):
             if wanted and len(wanted) > 1:
                 term = labelled(term, wanted)
             ans.append(f"{comment}pub {new} : goal.{new}\n{before}{new}{''.join(' ' + a for a in args)} ={term if term.startswith((chr(10), ' ')) else ' ' + term}\n")
+            continue
+        if name in inlined:
             continue
         if "tie." in kind or "lts." in kind:
             said.append(f"{file}: a lemma over a place: {name} : {kind[:120]}")

@@ -1,0 +1,15 @@
+-- The word that stands for a sound speed is near 1024. Asspeedes nothing.
+use mathlib.Core.Path.{◌∙◌}
+use mir.Facts.{to_z-of_z}
+use native.Mathlib.Omega.{arith}
+use borrow.Author.Rules.{rules}
+use Rattle.bench_links.proofs.Weighing.{speed_seen, speed_small}
+use Rattle.bench_links.proofs.speed.Goals as goal
+
+
+pub lowered-requires : goal.lowered-requires
+lowered-requires c = (speed_small c.args.b.now c.requires.fit c.args.unit c.requires.unit_bound.0 c.requires.unit_bound.1 c.load_interface-f.result c.load_interface-f.ensures, omega arith)
+
+
+pub returns : goal.returns
+returns c = to_z-of_z (record { sfits = c.lowered.type-inv }) ∙ c.lowered.ensures ∙ speed_seen c.args.b.now c.requires.fit c.args.unit c.requires.unit_bound.0 c.requires.unit_bound.1 c.load_interface-f.result c.load_interface-f.ensures

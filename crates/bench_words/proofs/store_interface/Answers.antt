@@ -1,0 +1,9 @@
+-- The words are written one after the other, as the definition has it. Assumes nothing.
+use Rattle.bench_words.specs.Store.{store_interface}
+use borrow.Author.Rules.{rules}
+use Rattle.bench_words.proofs.store_interface.Goals as goal
+
+
+pub returns : goal.returns
+unfolding store_interface
+returns c = cc

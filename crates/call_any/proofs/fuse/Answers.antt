@@ -1,0 +1,17 @@
+-- BROKEN on words that hold no sound bench; else the call on sound words. Assumes nothing.
+use borrow.Author.Rules.{rules}
+use mathlib.Core.Path.{refl}
+use Rattle.call_any.proofs.Public.{no_bench, sound_bench, answers}
+use Rattle.call_any.proofs.fuse.Goals as goal
+
+
+pub returns-then-not-is_bench : goal.returns-then-not-is_bench
+returns-then-not-is_bench c = no_bench c.is_bench.ensures c.if-not-is_bench.true c.refused.ensures refl
+
+
+pub fuse-requires : goal.fuse-requires
+fuse-requires c = sound_bench c.is_bench.ensures c.if-not-is_bench.false
+
+
+pub returns : goal.returns
+returns c = answers c.is_bench.ensures c.if-not-is_bench.false c.fuse.ensures

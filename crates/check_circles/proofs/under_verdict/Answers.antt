@@ -1,0 +1,77 @@
+-- The member itself, a handle that is gone, a node whose word says that it is under the member; else the walk up tells. Assumes nothing.
+use mathlib.Core.Path.{◌≡◌, ap, sym, ◌∙◌, subst}
+use mathlib.Core.Bool.{Bool}
+use borrow.Author.Rules.{rules}
+use Rattle.bench_words.specs.Store.{node_at}
+use Rattle.ledger_spec.specs.Bench.{Handle}
+use Rattle.ledger_spec.specs.Look.{same_handle}
+use Rattle.ledger_spec.specs.Named.{handle_named}
+use Rattle.ledger_laws.specs.Clean.{Descends}
+use Rattle.bench_links.specs.declared.Found.TheVariants.{At, Stale}
+use Rattle.bench_links.proofs.Finding.{found_at, found_none}
+use Rattle.bench_links.proofs.Rising.{seen_some}
+use Rattle.bench_views.specs.View.{view, handle_at}
+use Rattle.bench_vertices.proofs.Named.{held_placed}
+use Rattle.check_nests.proofs.Reading.{held_back}
+use Rattle.check_circles.specs.Found.{under_verdict}
+use Rattle.check_circles.proofs.Touching.{same_named}
+use Rattle.check_circles.proofs.Arriving.{under_self, under_gone, under_below}
+use Rattle.check_circles.proofs.under_verdict.Goals as goal
+
+
+pub returns-then-same : goal.returns-then-same
+returns-then-same c =
+    let b = c.args.b.now in
+    let h = handle_named c.args.h in
+    let m = handle_at (node_at b) c.args.k in
+    under_self (view b) m h (sym (ap (same_handle h) c.handle_at-own.ensures) ∙ sym (same_named c.args.h c.handle_at-own.result) ∙ sym c.same.ensures ∙ c.if-same.true)
+
+
+pub is_within-requires : goal.is_within-requires
+is_within-requires c =
+    let b = c.args.b.now in
+    let h = handle_named c.args.h in
+    let m = handle_at (node_at b) c.args.k in
+    let k = c.in-At.p in
+    let q : c.find-found.result ≡ At k = cc in
+    let H = found_at b h c.find-found.ensures k q in let whole = (c.requires.fit, (c.requires.nests.1, (held_placed b h k H, c.requires.nests.0))) in record { fit = whole.0; placed = whole.1; placed_2 = whole.2; nests = whole.3 }
+
+
+pub returns-then-is_within : goal.returns-then-is_within
+returns-then-is_within c =
+    let b = c.args.b.now in
+    let h = handle_named c.args.h in
+    let m = handle_at (node_at b) c.args.k in
+    let k = c.in-At.p in
+    let q : c.find-found.result ≡ At k = cc in
+    let H = found_at b h c.find-found.ensures k q in
+    let n = seen_some b h H.stands in
+    under_below (view b) m c.requires.fit.facts h n.0 n.1 (subst (λ (x : Handle). Descends (view b) m x) (held_back b h k H) (c.is_within.ensures c.if-is_within.true))
+
+
+pub rise-requires : goal.rise-requires
+rise-requires c =
+    let b = c.args.b.now in
+    let h = handle_named c.args.h in
+    let m = handle_at (node_at b) c.args.k in
+    let k = c.in-At.p in
+    let q : c.find-found.result ≡ At k = cc in
+    let H = found_at b h c.find-found.ensures k q in record { fit = c.requires.fit; stands = H.stands }
+
+
+pub returns-in-Stale : goal.returns-in-Stale
+returns-in-Stale c =
+    let b = c.args.b.now in
+    let h = handle_named c.args.h in
+    let m = handle_at (node_at b) c.args.k in
+    let q : c.find-found.result ≡ Stale = cc in
+    under_gone (view b) m h (sym (ap (same_handle h) c.handle_at-own.ensures) ∙ sym (same_named c.args.h c.handle_at-own.result) ∙ sym c.same.ensures ∙ c.if-same.false)
+    (found_none b h c.find-found.ensures q)
+
+
+pub returns-else-is_within : goal.returns-else-is_within
+returns-else-is_within c =
+    let b = c.args.b.now in
+    let h = handle_named c.args.h in
+    let m = handle_at (node_at b) c.args.k in
+    c.rise.ensures ∙ ap (λ (x : Handle). under_verdict (view b) x h) c.handle_at-own.ensures

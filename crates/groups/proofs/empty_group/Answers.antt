@@ -1,0 +1,25 @@
+-- `empty_group` makes the empty group out of a handle that is nobody's. Assumes nothing.
+use mathlib.Core.Path.{ap}
+use mathlib.Core.Bool.{false}
+use borrow.Author.Rules.{rules}
+use lib.ListN.{replicate}
+use Rattle.kinds.specs.declared.Handle.{Handle}
+use Rattle.kinds.specs.declared.MaybePair.TheVariants.{NoPair}
+use Rattle.kinds.specs.declared.Obstacle.TheVariants.{BlossomNeedExpand, VertexShrinkStop}
+use Rattle.ledger_spec.specs.Groups.{largest}
+use Rattle.groups.specs.declared.Kind.TheVariants.{Growth}
+use Rattle.groups.specs.declared.Group.{Group as Code}
+use Rattle.groups.proofs.empty_group.Goals as goal
+
+abbrev emptyBy : Handle → Code
+emptyBy h = record {
+  kind = Growth largest false;
+  list = replicate 128 (record { obstacle = BlossomNeedExpand h });
+  stops = replicate 128 (record { vertex = record { 0 = 0 }; obstacle = VertexShrinkStop h NoPair });
+  listed = 0;
+  stopped = 0;
+}
+
+
+pub returns : goal.returns
+returns c = ap emptyBy c.nobody-h.ensures

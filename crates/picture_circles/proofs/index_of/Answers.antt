@@ -1,0 +1,8 @@
+-- It stands at the handle's position. Assumes nothing.
+use Rattle.ledger_spec.specs.Named.{handle_named}
+use borrow.Author.Rules.{rules}
+use Rattle.picture_circles.proofs.index_of.Goals as goal
+
+
+pub returns : goal.returns
+returns c = c.requires.indices.at (handle_named c.args.h) c.requires.unit_bound.0 c.requires.unit_bound.1

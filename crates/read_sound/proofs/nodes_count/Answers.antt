@@ -1,0 +1,20 @@
+-- A refusal has its number and no count; else that of the tree. Assumes nothing.
+use mathlib.Core.Path.{sym, ◌∙◌}
+use borrow.Author.Rules.{rules}
+use Rattle.bench_views.specs.View.{view}
+use Rattle.ledger_spec.proofs.Accepted.{clear_passed}
+use Rattle.read_sound.proofs.Saying.{count_no, count_yes}
+use Rattle.read_sound.proofs.nodes_count.Goals as goal
+
+
+pub returns-then-number-ne0 : goal.returns-then-number-ne0
+returns-then-number-ne0 c = count_no (view c.args.b.now) c.args.unit c.unit_number-number.result c.unit_number-number.ensures c.if-number-ne0.true
+
+
+pub count-count-requires : goal.count-count-requires
+count-count-requires c =
+    let o = clear_passed (view c.args.b.now) c.args.unit (sym c.unit_number-number.ensures ∙ c.if-number-ne0.false) in let whole = (c.requires, (o.low, o.free)) in record { fit = whole.0; unit_bound = whole.1; unit_value = whole.2 }
+
+
+pub returns : goal.returns
+returns c = count_yes (view c.args.b.now) c.args.unit c.unit_number-number.result c.unit_number-number.ensures c.if-number-ne0.false c.count-count.result c.count-count.ensures

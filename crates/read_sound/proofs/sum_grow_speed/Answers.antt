@@ -1,0 +1,23 @@
+-- A refusal has its number and no weight; else the interface's own. Assumes nothing.
+use mathlib.Core.Path.{sym, ◌∙◌}
+use borrow.Author.Rules.{rules}
+use mir.Syntax.{w64}
+use mir.Val.{to_z, of_z}
+use mir.Facts.{to_z-of_z}
+use Rattle.bench_views.specs.View.{view}
+use Rattle.ledger_spec.proofs.Accepted.{clear_passed}
+use Rattle.read_sound.proofs.Saying.{speed_no, speed_yes}
+use Rattle.read_sound.proofs.sum_grow_speed.Goals as goal
+
+
+pub returns-then-number-ne0 : goal.returns-then-number-ne0
+returns-then-number-ne0 c = speed_no (view c.args.b.now) c.args.unit c.unit_number-number.result c.unit_number-number.ensures c.if-number-ne0.true
+
+
+pub speed-weight-requires : goal.speed-weight-requires
+speed-weight-requires c =
+    let o = clear_passed (view c.args.b.now) c.args.unit (sym c.unit_number-number.ensures ∙ c.if-number-ne0.false) in let whole = (c.requires, (o.low, o.free)) in record { fit = whole.0; unit_bound = whole.1; unit_value = whole.2 }
+
+
+pub returns : goal.returns
+returns c = speed_yes (view c.args.b.now) c.args.unit c.unit_number-number.result c.unit_number-number.ensures c.if-number-ne0.false (to_z w64 (of_z w64 c.speed-weight.result)) (to_z-of_z (record { sfits = c.speed-weight.type-inv }) ∙ c.speed-weight.ensures)

@@ -1,0 +1,18 @@
+-- The low half, and the high half after it. Assumes nothing.
+use native.Mathlib.Omega.{arith}
+use Rattle.text_decimals.proofs.Writes.{chain}
+use Rattle.record_spec.specs.Numbers.{bytes}
+use Rattle.record_spec.proofs.Numbers.{length_bytes}
+use borrow.Author.Rules.{rules}
+use Rattle.record_numbers.proofs.put_eight.Goals as goal
+
+
+pub put_four-requires : goal.put_four-requires
+put_four-requires c =
+    omega (arith, c.put_four-p.ensures.next, c.put_four-p.auto.0, length_bytes 4 c.args.n, c.requires)
+
+
+pub returns : goal.returns
+unfolding bytes
+returns c =
+    chain c.args.out.now c.args.at (bytes 4 c.args.n) _ c.put_four-p.result _ _ _ c.put_four-p.ensures c.put_four.ensures

@@ -1,0 +1,18 @@
+-- The low half, and the high half after it. Assumes nothing.
+use native.Mathlib.Omega.{arith}
+use Rattle.text_decimals.proofs.Writes.{chain}
+use Rattle.record_spec.specs.Numbers.{bytes}
+use Rattle.record_spec.proofs.Numbers.{length_bytes}
+use borrow.Author.Rules.{rules}
+use Rattle.record_numbers.proofs.put_two.Goals as goal
+
+
+pub put_byte-requires : goal.put_byte-requires
+put_byte-requires c =
+    omega (arith, c.put_byte-p.ensures.next, c.put_byte-p.auto.0, length_bytes 1 c.args.n, c.requires)
+
+
+pub returns : goal.returns
+unfolding bytes
+returns c =
+    chain c.args.out.now c.args.at (bytes 1 c.args.n) _ c.put_byte-p.result _ _ _ c.put_byte-p.ensures c.put_byte.ensures
