@@ -159,6 +159,13 @@ class Turn:
                 return "path", "(" + ", ".join("c.requires." + it for it in pre["fields"]) + ")"
             return "path", ".".join(["c", "requires", *rest])
         new, at_place = names.step(here, step)
+        if new and plain(step) == "match":
+            for up in names.chain(here):
+                arm = names.of["arms"][names.place[up]]
+                if arm and arm[0] == new:
+                    for field, old, path in arm[2]:
+                        if plain(old) == "match" and not path:
+                            return "path", ".".join(["c", new, field, *rest])
         if new is None:
             for var, old in (names.of["typed"][names.place[here]] if here in names.place else []):
                 if plain(old) == plain(step):
@@ -314,7 +321,7 @@ def turn(crate, folder, names):
                 said.append(f"{file}: {name} has no clause that is read")
                 continue
             before, term = body[: clause.start()], put_in(body[clause.end() :].rstrip())
-            if re.fullmatch(r"\s*search rules", term):
+            if re.fullmatch(r"\s*search rules", term) and "unfolding" not in before:
                 continue
             got = n.needs.get(of_need(need))
             if not got:

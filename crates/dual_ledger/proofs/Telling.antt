@@ -4,7 +4,7 @@ use mathlib.Core.Path.{◌≡◌, sym, ap, ◌∙◌, subst}
 use mathlib.Core.Bool.{Bool, not, true, false}
 use mathlib.Core.Logic.{◌≢◌}
 use mathlib.Core.List.{List, []}
-use borrow.Author.Tests.{not_true, not_false}
+use borrow.Author.Tests.{not-true, not-false}
 use Rattle.ledger_spec.specs.Bench as plain
 use Rattle.ledger_spec.specs.Calls.{Call, nobody}
 use Rattle.ledger_spec.specs.Notices.{Notice, tells}
@@ -38,13 +38,13 @@ told_as {b} {n = n} ws {ws'} {b'} e T = subst (λ (x : Call). ToldBy b x n ws ws
 -- ---- on any words, by the verdict on them
 module _ {b : List ℕ} {s : Bool} (v : Verdict b s) where
   pub sound_so : not s ≡ false → SoundWords b
-  sound_so t = v.says (not_false s t)
+  sound_so t = v.says (not-false s t)
 
   no_bench : not s ≡ true → sound_words b ≡ false
-  no_bench t = sym v.is ∙ not_true s t
+  no_bench t = sym v.is ∙ not-true s t
 
   a_bench : not s ≡ false → true ≡ sound_words b
-  a_bench t = sym (not_false s t) ∙ v.is
+  a_bench t = sym (not-false s t) ∙ v.is
 
   module _ {c : Call} {n : ℕ} {b' : List ℕ} where
     pub left_broken : not s ≡ true → n ≡ 2 → b' ≡ b → Left b c n b'

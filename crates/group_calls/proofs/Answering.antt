@@ -4,7 +4,7 @@ use mathlib.Core.Path.{◌≡◌, refl, sym, ap, ap₂, ◌∙◌}
 use mathlib.Core.Bool.{Bool, true, false, false≢true, not, ◌&&◌}
 use mathlib.Core.Option.{Option, none, some}
 use mathlib.Core.List.{List, [], ◌∷◌}
-use borrow.Author.Tests.{not_true, not_false}
+use borrow.Author.Tests.{not-true, not-false}
 use Rattle.kinds.specs.declared.Obstacle.{Obstacle}
 use Rattle.ledger_spec.specs.Tests.{first, any, is_some}
 use Rattle.ledger_spec.specs.Reads.{said}
@@ -72,10 +72,10 @@ module _ (b : List ℕ) {s : Bool} (v : Verdict b s) where
 
   module _ (t : not s ≡ false) where
     pub fit : Fit b
-    fit = fit_of b (v.says (not_false s t))
+    fit = fit_of b (v.says (not-false s t))
 
     is_sound : sound (view b) ≡ true
-    is_sound = (v.says (not_false s t)).sound
+    is_sound = (v.says (not-false s t)).sound
 
     -- ---- add
     module _ (g : Code) (o : Obstacle) where
@@ -151,22 +151,22 @@ module _ (b : List ℕ) (g : Code) {r : Bool} (R : Ready b (group_of g) r) where
       where
         go : (s : Bool) → Verdict b s → r ≡ (s && sound_group (group_of g)) → refusal 2 g ≡ whole (asked b (group_of g) (add (view b) (group_of g) o)) g g
         go false v x = no_words b v (add (view b) (group_of g) o) g g refl
-        go true v x = add_broken b v refl g o (sym x ∙ not_true r e)
+        go true v x = add_broken b v refl g o (sym x ∙ not-true r e)
 
     pub extend_unready : (h : Code) → refusal 2 g ≡ whole (asked b (group_of g) (extend (view b) (group_of g) (group_of h))) g (whole_of g h)
     extend_unready h = go R.bench R.verdict R.both
       where
         go : (s : Bool) → Verdict b s → r ≡ (s && sound_group (group_of g)) → refusal 2 g ≡ whole (asked b (group_of g) (extend (view b) (group_of g) (group_of h))) g (whole_of g h)
         go false v x = no_words b v (extend (view b) (group_of g) (group_of h)) g (whole_of g h) refl
-        go true v x = own_broken b v refl g h (sym x ∙ not_true r e)
+        go true v x = own_broken b v refl g h (sym x ∙ not-true r e)
 
   module _ (e : not r ≡ false) where
     both : (R.bench ≡ true) × (sound_group (group_of g) ≡ true)
     both = go R.bench R.both
       where
         go : (s : Bool) → r ≡ (s && sound_group (group_of g)) → (s ≡ true) × (sound_group (group_of g) ≡ true)
-        go false x = absurd (false≢true (sym x ∙ not_false r e))
-        go true x = (refl, sym x ∙ not_false r e)
+        go false x = absurd (false≢true (sym x ∙ not-false r e))
+        go true x = (refl, sym x ∙ not-false r e)
 
     pub on_bench : not R.bench ≡ false
     on_bench = ap not both.0

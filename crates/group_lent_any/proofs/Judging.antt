@@ -3,7 +3,7 @@ use Prim.Native.Nat.{ℕ}
 use mathlib.Core.Path.{◌≡◌, refl, sym, ap, ◌∙◌}
 use mathlib.Core.Bool.{Bool, true, false, false≢true, true≢false, not, ◌&&◌}
 use mathlib.Core.List.{List}
-use borrow.Author.Tests.{not_true, not_false}
+use borrow.Author.Tests.{not-true, not-false}
 use Rattle.bench_words.specs.Codec.{pick}
 use Rattle.ledger_spec.specs.Groups.{Group}
 use Rattle.sound_bench.specs.Sound.{sound_words}
@@ -34,24 +34,24 @@ all_pass true b c e f = rw (e, f)
 -- of a call that also asks for t
 module _ (b ws : List ℕ) (s : Bool) (R : Ready b ws s) (t : Bool) (X Y : Type 0) where
   pub not_ready : not s ≡ true → Y → pick (sound_words b && (sound_in ws && t)) X Y
-  not_ready n y = skips _ X Y (two_fail (sound_words b) (sound_in ws) t (sym R.is ∙ not_true s n)) y
+  not_ready n y = skips _ X Y (two_fail (sound_words b) (sound_in ws) t (sym R.is ∙ not-true s n)) y
 
   pub not_fit : not s ≡ false → t ≡ false → Y → pick (sound_words b && (sound_in ws && t)) X Y
-  not_fit n e y = skips _ X Y (third_fails (sound_words b) (sound_in ws) t (sym R.is ∙ not_false s n) e) y
+  not_fit n e y = skips _ X Y (third_fails (sound_words b) (sound_in ws) t (sym R.is ∙ not-false s n) e) y
 
   pub all_fit : not s ≡ false → t ≡ true → X → pick (sound_words b && (sound_in ws && t)) X Y
-  all_fit n e x = picks _ X Y (all_pass (sound_words b) (sound_in ws) t (sym R.is ∙ not_false s n) e) x
+  all_fit n e x = picks _ X Y (all_pass (sound_words b) (sound_in ws) t (sym R.is ∙ not-false s n) e) x
 
 module _ (ws : List ℕ) (s : Bool) (J : Judged ws s) where
   pub is_not : not s ≡ true → sound_in ws ≡ false
-  is_not t = sym J.is ∙ not_true s t
+  is_not t = sym J.is ∙ not-true s t
 
   module _ (t : not s ≡ false) where
     pub is_yes : sound_in ws ≡ true
-    is_yes = sym J.is ∙ not_false s t
+    is_yes = sym J.is ∙ not-false s t
 
     pub says_sound : SoundGroup ws
-    says_sound = J.says (not_false s t)
+    says_sound = J.says (not-false s t)
 
   module _ {A : Type 0} (z : A) (f : Group → ℕ × A) where
     pub asked_no : not s ≡ true → (2, z) ≡ asked_of ws z f

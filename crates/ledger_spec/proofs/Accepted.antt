@@ -8,7 +8,7 @@ use mathlib.Core.List.{List, [], ◌∷◌, ◌++◌}
 use native.Mathlib.Omega.{arith}
 use native.Mathlib.Decide.{ℕ_discrete}
 use lib.Dec.{eqb, ltb}
-use borrow.Author.Tests.{leb-false, ltb-false, eqb-true, eq-eqb, ne_eqb, not_false}
+use borrow.Author.Tests.{leb-false, ltb-false, eqb-true, eq-eqb, ne_eqb, not-false}
 use lib.ListN.{length}
 use lib.IntN.{ℤ, pos, ◌+ℤ◌}
 use lib.Signed.{lt_z}
@@ -32,7 +32,7 @@ pub record Named (b : Bench) (u : ℕ) (h : Handle) : Type 0 where
   pub near : top b h.unit ≡ u
 
 named_of : (b : Bench) (u : ℕ) (h : Handle) → stale b h ≡ false → foreign b u h ≡ false → Named b u h
-named_of b u h e f = let p = has_of b h e in record { node = p.0; has = p.1; is = p.2; near = eqb-true (top b h.unit) u (not_false (eqb (top b h.unit) u) f) }
+named_of b u h e f = let p = has_of b h e in record { node = p.0; has = p.1; is = p.2; near = eqb-true (top b h.unit) u (not-false (eqb (top b h.unit) u) f) }
 
 orphan_of : (b : Bench) (u : ℕ) (h : Handle) (N : Named b u h) → has_parent (node_named b h) ≡ false → N.node.parent ≡ none
 orphan_of b u h N e = given_false N.node.parent (ap has_parent (sym N.is) ∙ e)
@@ -67,11 +67,11 @@ pub record BlossomPassed (b : Bench) (u : ℕ) (hs : List Handle) (ts : List (Ha
   pub unworn : b.next < 2 ^ 32
 
 -- no handle twice
-pub once_of : (hs : List Handle) (h : Handle) → twice hs ≡ false → In h hs → tally (same_handle h) hs ≡ 1
+pub once_of : (h : Handle) (hs : List Handle) → twice hs ≡ false → In h hs → tally (same_handle h) hs ≡ 1
 unfolding twice
-once_of hs h e (here {g} {hs = tl} k) = tally_yes (same_handle h) g tl (ap (same_handle h) (sym k) ∙ same_self h)
+once_of h hs e (here {g} {hs = tl} k) = tally_yes (same_handle h) g tl (ap (same_handle h) (sym k) ∙ same_self h)
     ∙ ap suc (none_tally (same_handle h) tl (λ x i. ap (λ (z : Handle). same_handle z x) k ∙ any_no (same_handle g) tl (or_false (any (same_handle g) tl) (twice tl) e).0 i))
-once_of hs h e (there {g} {hs = tl} i) = go (same_handle h g) refl (once_of tl h (or_false (any (same_handle g) tl) (twice tl) e).1 i)
+once_of h hs e (there {g} {hs = tl} i) = go (same_handle h g) refl (once_of h tl (or_false (any (same_handle g) tl) (twice tl) e).1 i)
   where
     go : (c : Bool) → same_handle h g ≡ c → tally (same_handle h) tl ≡ 1 → tally (same_handle h) (g ∷ tl) ≡ 1
     go true k ih = absurd (true≢false (sym (same_self h) ∙ ap (λ (z : Handle). same_handle z h) (same_handle_lem h g k) ∙ any_no (same_handle g) tl (or_false (any (same_handle g) tl) (twice tl) e).0 i))
@@ -96,7 +96,7 @@ blossom_passed b u hs ts e = record {
   member = member;
   orphan = λ h i. orphan_of b u h (member h i) (any_no (λ g. has_parent (node_named b g)) hs t.1.1.1.1.1.1.0 i);
   touch = λ h i. named h (in_right hs i);
-  once = λ h i. once_of hs h t.1.1.1.1.1.1.1.0 i;
+  once = λ h i. once_of h hs t.1.1.1.1.1.1.1.0 i;
   room = leb-false 64 (free_slot b u) t.1.1.1.1.1.1.1.1.0;
   unworn = leb-false (2 ^ 32) b.next t.1.1.1.1.1.1.1.1.1.0;
 }
@@ -121,7 +121,7 @@ unfolding mark_tests
 mark_passed b u e =
     let t = passed (mark_tests b u) tt e in
     let o = or_false (not (empty (interface b u).slots)) (is_some (interface b u).halves) t.1.1.0 in
-    record { here = open_of b u t.0 t.1.0; no_slots = empty_true (interface b u).slots (not_false (empty (interface b u).slots) o.0); no_halves = o.1 }
+    record { here = open_of b u t.0 t.1.0; no_slots = empty_true (interface b u).slots (not-false (empty (interface b u).slots) o.0); no_halves = o.1 }
 
 -- ---- expand
 pub record ExpandPassed (b : Bench) (u : ℕ) (h : Handle) : Type 0 where

@@ -138,11 +138,11 @@ in_slots u k (x ∷ xs) t i = go (in_cases i) (in_slots u (suc k) xs t)
     go (inr j) ih = let r = ih j in (suc r.0, omega (arith, r.1), r.2, omega (arith, r.3), r.4)
 
 module _ (b : Bench) where
-  pub gather_in : (us : List ℕ) (u s : ℕ) → In u us → s < length (interface b u).slots → In (u, s, slot_of b u s) (gather b us)
+  pub gather_in : (u : ℕ) (us : List ℕ) (s : ℕ) → In u us → s < length (interface b u).slots → In (u, s, slot_of b u s) (gather b us)
   unfolding gather
-  gather_in us u s (here {g} {hs = tl} e) h = in_left (gather b tl) (subst (λ (z : ℕ). In (u, s, slot_of b u s) (slots_from z 0 (interface b z).slots)) e
+  gather_in u us s (here {g} {hs = tl} e) h = in_left (gather b tl) (subst (λ (z : ℕ). In (u, s, slot_of b u s) (slots_from z 0 (interface b z).slots)) e
       (subst (λ (m : ℕ). In (u, m, slot_of b u s) (slots_from u 0 (interface b u).slots)) (zero-add s) (slots_in u 0 (interface b u).slots s h)))
-  gather_in us u s (there {g} {hs = tl} i) h = in_right (slots_from g 0 (interface b g).slots) (gather_in tl u s i h)
+  gather_in u us s (there {g} {hs = tl} i) h = in_right (slots_from g 0 (interface b g).slots) (gather_in u tl s i h)
 
   pub in_gather : (us : List ℕ) (t : ℕ × ℕ × Option Node) → In t (gather b us) → Slot b us t
   unfolding gather
@@ -177,4 +177,4 @@ module _ (b : Bench) (F : Frame b) (u s : ℕ) (n : Node) (e : slot_of b u s ≡
       go (no h) = absurd (none_some (get_or-eq_default (interface b u).slots none (omega arith)) e)
 
   pub held_in : In (u, s, some n) (slots_of b (top b u))
-  held_in = subst (λ (o : Option Node). In (u, s, o) (slots_of b (top b u))) e (gather_in b (tree 8 b (top b u)) u s (tree_in b F u held_unit) held_slot)
+  held_in = subst (λ (o : Option Node). In (u, s, o) (slots_of b (top b u))) e (gather_in (tree 8 b (top b u)) b u s (tree_in b F u held_unit) held_slot)

@@ -2,7 +2,7 @@
 use Prim.Native.Nat.{ℕ, suc, ◌*◌, ◌≤◌, ◌<◌, ◌^◌}
 use mathlib.Core.Path.{◌≡◌, refl, sym, ◌∙◌, ap, subst}
 use mathlib.Core.Logic.{◌⊎◌, inl, inr}
-use mathlib.Core.Bool.{Bool, true, false, not, ◌&&◌, ◌||◌, true≢false, or_true}
+use mathlib.Core.Bool.{Bool, true, false, not, ◌&&◌, ◌||◌, true≢false, or-true}
 use mathlib.Core.Option.{Option, none, some}
 use mathlib.Core.List.{List}
 use native.Mathlib.Omega.{arith}
@@ -46,7 +46,7 @@ module _ (b : Bench) (S : Sound b) where
     where
       either : (l r : ℕ) → (u ≡ l) ⊎ (u ≡ r) → (eqb l u || eqb r u) ≡ true
       either l r (inl x) = ap (λ (c : Bool). c || eqb r u) (eq-eqb l u (sym x))
-      either l r (inr x) = ap (λ (c : Bool). eqb l u || c) (eq-eqb r u (sym x)) ∙ or_true (eqb l u)
+      either l r (inr x) = ap (λ (c : Bool). eqb l u || c) (eq-eqb r u (sym x)) ∙ or-true (eqb l u)
 
       go : (q : Option (ℕ × ℕ)) → (interface b p).halves ≡ q → is_some (interface b p).halves ≡ true → is_half (interface b p).halves u ≡ true
       go none f g = absurd (true≢false (sym g ∙ ap is_some f))

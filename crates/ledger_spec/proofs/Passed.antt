@@ -8,7 +8,7 @@ use mathlib.Core.List.{List, [], ◌∷◌}
 use native.Mathlib.Omega.{arith}
 use lib.Dec.{T, eqb, leb, ltb, ltb→lt}
 use lib.IntN.{nat_abs}
-use borrow.Author.Tests.{lt-leb, ne_eqb, eqb-true, eq-eqb, leb-false, eqb-false, not_false}
+use borrow.Author.Tests.{lt-leb, ne_eqb, eqb-true, eq-eqb, leb-false, eqb-false, not-false}
 use Rattle.ledger_spec.specs.Bench.{Handle, Node, Bench}
 use Rattle.ledger_spec.specs.Look.{interface, slot_of, node_named, if_serial}
 use Rattle.ledger_spec.specs.Knit.{Has}
@@ -148,10 +148,10 @@ fusable b p l r e =
       p_none = given_false (interface b p).parent c₁.0;
       l_none = given_false (interface b l).parent c₂.0;
       r_none = given_false (interface b r).parent c₂.1;
-      no_slots = empty_true (interface b p).slots (not_false (empty (interface b p).slots) u₁.0);
-      no_progress = eqb-true (nat_abs (interface b p).progress) 0 (not_false (eqb (nat_abs (interface b p).progress) 0) u₂.0);
+      no_slots = empty_true (interface b p).slots (not-false (empty (interface b p).slots) u₁.0);
+      no_progress = eqb-true (nat_abs (interface b p).progress) 0 (not-false (eqb (nat_abs (interface b p).progress) 0) u₂.0);
       no_halves = u₂.1;
-      alike = same_eq (floored b l) (floored b r) (not_false (same (floored b l) (floored b r)) t.1.1.1.1.0);
+      alike = same_eq (floored b l) (floored b r) (not-false (same (floored b l) (floored b r)) t.1.1.1.1.0);
     }
 
 -- and back: what can be fused is

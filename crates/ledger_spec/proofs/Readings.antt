@@ -170,11 +170,11 @@ module _ (s : State) (p : Option Handle) where
       go (yes x) (no y) = mark_off b g s p u t (λ a c. y c) ∙ e
       go (no x) y = mark_off b g s p u t (λ a c. x a) ∙ e
 
-  pub mark_all_at : (b : Bench) (hs : List Handle) (h : Handle) → In h hs → slot_of (mark_all b hs s p) h.unit h.slot ≡ restate (slot_of b h.unit h.slot) s p
+  pub mark_all_at : (h : Handle) (b : Bench) (hs : List Handle) → In h hs → slot_of (mark_all b hs s p) h.unit h.slot ≡ restate (slot_of b h.unit h.slot) s p
   unfolding mark_all
-  mark_all_at b hs h (here {g} {hs = tl} e) = mark_all_fix (mark b g s p) tl h.unit h.slot (slot_of b h.unit h.slot)
+  mark_all_at h b hs (here {g} {hs = tl} e) = mark_all_fix (mark b g s p) tl h.unit h.slot (slot_of b h.unit h.slot)
       (subst (λ (z : Handle). slot_of (mark b g s p) z.unit z.slot ≡ restate (slot_of b z.unit z.slot) s p) (sym e) (mark_at b g s p))
-  mark_all_at b hs h (there {g} {hs = tl} i) = go (ℕ_discrete g.unit h.unit) (ℕ_discrete g.slot h.slot) (mark_all_at (mark b g s p) tl h i)
+  mark_all_at h b hs (there {g} {hs = tl} i) = go (ℕ_discrete g.unit h.unit) (ℕ_discrete g.slot h.slot) (mark_all_at h (mark b g s p) tl i)
     where
       off : (g.unit ≡ h.unit → g.slot ≡ h.slot → ⊥) → slot_of (mark_all (mark b g s p) tl s p) h.unit h.slot ≡ restate (slot_of (mark b g s p) h.unit h.slot) s p → slot_of (mark_all (mark b g s p) tl s p) h.unit h.slot ≡ restate (slot_of b h.unit h.slot) s p
       off k ih = ih ∙ ap (λ (z : Option Node). restate z s p) (mark_off b g s p h.unit h.slot k)

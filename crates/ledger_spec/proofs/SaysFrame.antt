@@ -8,7 +8,7 @@ use mathlib.Core.Option.{Option, none, some}
 use native.Mathlib.Omega.{arith}
 use native.Mathlib.Decide.{dec_lt}
 use lib.Dec.{eqb, leb, ltb}
-use borrow.Author.Tests.{leb-true, ltb-true, eqb-true, eqb-false, not_true}
+use borrow.Author.Tests.{leb-true, ltb-true, eqb-true, eqb-false, not-true}
 use lib.ListN.{length, get_or-eq_default}
 use lib.IntN.{ℤ, pos, negsuc, nat_abs}
 use lib.Signed.{le_z}
@@ -123,7 +123,7 @@ linked b u e =
         let x = and_true (not (eqb lr.0 lr.1) && (ltb lr.0 u && ltb lr.1 u)) (is_parent (interface b lr.0).parent u && is_parent (interface b lr.1).parent u) h in
         let y = and_true (not (eqb lr.0 lr.1)) (ltb lr.0 u && ltb lr.1 u) x.0 in
         let w = and_true (is_parent (interface b lr.0).parent u) (is_parent (interface b lr.1).parent u) x.1 in
-        (eqb-false lr.0 lr.1 (not_true (eqb lr.0 lr.1) y.0), parent_of (interface b lr.0).parent u w.0, parent_of (interface b lr.1).parent u w.1)
+        (eqb-false lr.0 lr.1 (not-true (eqb lr.0 lr.1) y.0), parent_of (interface b lr.0).parent u w.0, parent_of (interface b lr.1).parent u w.1)
 
 pub every_linked : (b : Bench) → Parts b → (u : ℕ) → Linked b u
 every_linked b P u = go (dec_lt u 8)

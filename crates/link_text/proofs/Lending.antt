@@ -6,7 +6,7 @@ use mathlib.Core.Bool.{Bool, not, true, false, true≢false}
 use mathlib.Core.List.{List, [], ◌∷◌}
 use native.Mathlib.Decide.{dec_le}
 use native.Mathlib.Omega.{arith}
-use borrow.Author.Tests.{lt-ltb, le-ltb, not_true, not_false}
+use borrow.Author.Tests.{lt-ltb, le-ltb, not-true, not-false}
 use lib.Dec.{ltb}
 use lib.ListN.{length, take}
 use lib.IntN.{pos}
@@ -62,13 +62,13 @@ module _ (b chunk buf : List ℕ) (held : ℕ) (out : List ℕ) where
 
 module _ (b : List ℕ) (s : Bool) (v : Verdict b s) where
   unsound : {A : Type 0} → not s ≡ true → sound_words b ≡ true → A
-  unsound t e = absurd (true≢false (sym e ∙ (sym v.is ∙ not_true s t)))
+  unsound t e = absurd (true≢false (sym e ∙ (sym v.is ∙ not-true s t)))
 
   sounds : {A : Type 0} → not s ≡ false → sound_words b ≡ false → A
-  sounds t e = absurd (true≢false (sym (sym v.is ∙ not_false s t) ∙ e))
+  sounds t e = absurd (true≢false (sym (sym v.is ∙ not-false s t) ∙ e))
 
   pub sound_bench : not s ≡ false → SoundWords b
-  sound_bench t = v.says (not_false s t)
+  sound_bench t = v.says (not-false s t)
 
   pub line_broken : (line : List ℕ) (r : Reply) → not s ≡ true → numbers_of r ≡ (2, 0, pos 0, pos 0) → LineOn b line r b
   line_broken line r t e = record { sound = λ y. unsound t y; broken = λ _. (e, refl) }

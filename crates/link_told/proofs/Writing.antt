@@ -1,7 +1,7 @@
 -- Words while an answer is written over them: a run of stores goes on where the one before it ended; a loop's run after one member more. Assumes nothing.
 use Prim.Native.Nat.{ℕ, zero, suc, ◌+◌, ◌*◌, ◌/◌, ◌%◌, ◌<◌, ◌≤◌}
 use mathlib.Core.Path.{◌≡◌, refl, ap, ap₂, sym, ◌∙◌, subst}
-use mathlib.Core.List.{List, [], ◌∷◌, ◌++◌, map, map-append, map_map}
+use mathlib.Core.List.{List, [], ◌∷◌, ◌++◌, map, map-append, map-map}
 use native.Mathlib.Numerals.{add-one}
 use native.Mathlib.Omega.{arith}
 use lib.ListN.{length, take, get_or, set, length-append, length-map}
@@ -92,7 +92,7 @@ module _ (ms ws : List ℕ) (q : Handle) where
   told_made =
       let es : List Notice = shrink_prepared (map hand_given ms) ∷ blossom_added q ∷ [] in
       told_append (map (λ (h : Handle). state_set h stays) (map hand_given ms)) es
-      ∙ ap (λ (ns : List Notice). toldWords ns ++ ends) (map_map (λ (h : Handle). state_set h stays) hand_given ms)
+      ∙ ap (λ (ns : List Notice). toldWords ns ++ ends) (map-map (λ (h : Handle). state_set h stays) hand_given ms)
 
   count_made : length ms + 2 ≡ length (blossom_made (map hand_given ms) q)
   count_made =

@@ -1,7 +1,7 @@
 -- What the two loops have told after i members, one member more, and at their ends: the lists of a blossom made and of one expanded. Assumes nothing.
 use Prim.Native.Nat.{ℕ, zero, suc, ◌+◌, ◌/◌, ◌%◌, ◌<◌, ◌≤◌}
 use mathlib.Core.Path.{◌≡◌, refl, ap, ap₂, sym, ◌∙◌}
-use mathlib.Core.List.{List, [], ◌∷◌, ◌++◌, map, map-append, map_map}
+use mathlib.Core.List.{List, [], ◌∷◌, ◌++◌, map, map-append, map-map}
 use native.Mathlib.Numerals.{add-one}
 use native.Mathlib.Omega.{arith}
 use lib.ListN.{length, take, get_or, set, length-append, length-map}
@@ -66,8 +66,8 @@ laid_made ms q =
     let ends : List Notice = shrink_prepared hs ∷ blossom_added (handle_named q) ∷ [] in
     ap₂ filled
     (map-append entry (map (λ (h : Handle). state_set h stays) hs) ends
-    ∙ ap (λ (l : List Told). l ++ map entry ends) (ap (map entry) (map_map (λ (h : Handle). state_set h stays) hand_given ms) ∙ map_map entry (λ (w : ℕ). state_set (hand_given w) stays) ms))
-    (ap (map packed) (circle_made hs hs (blossom_added (handle_named q) ∷ [])) ∙ map_map packed hand_given ms)
+    ∙ ap (λ (l : List Told). l ++ map entry ends) (ap (map entry) (map-map (λ (h : Handle). state_set h stays) hand_given ms) ∙ map-map entry (λ (w : ℕ). state_set (hand_given w) stays) ms))
+    (ap (map packed) (circle_made hs hs (blossom_added (handle_named q) ∷ [])) ∙ map-map packed hand_given ms)
 
 pub stay_ends : (ms : List ℕ) (q : Packed) (i : ℕ) (r : Notices) → length ms ≤ 64 → i ≡ length ms → r ≡ halfway (map stay (take i ms)) (map hand_of (take i ms))
     → told (set (set r.told (length ms) (record { notice = ShrinkPrepared })) (length ms + 1) (record { notice = BlossomAdded q })) r.circle (length ms + 2) (length ms) ≡ laid (blossom_made (map hand_given ms) (handle_named q))
@@ -171,7 +171,7 @@ circle_none (g ∷ gs) = circle_none gs
 
 laid_gone : (h : Packed) (gs : List Handle) → laid (blossom_removed (handle_named h) ∷ map (λ (g : Handle). state_set g grows) gs) ≡ filled (removed h ∷ map grow gs) []
 unfolding laid circle_in
-laid_gone h gs = ap₂ (λ (ts : List Told) (hs : List Handle). filled (removed h ∷ ts) (map packed hs)) (map_map entry (λ (g : Handle). state_set g grows) gs) (circle_none gs)
+laid_gone h gs = ap₂ (λ (ts : List Told) (hs : List Handle). filled (removed h ∷ ts) (map packed hs)) (map-map entry (λ (g : Handle). state_set g grows) gs) (circle_none gs)
 
 pub grow_ends : (r : Notices) (t : Told) (h : Packed) (A : ℕ → Node) (k i n : ℕ) (gs : List Handle) → r ≡ halfway (t ∷ past A k i) [] → t ≡ removed h → i ≡ n → gs ≡ nodes (follow n A k)
     → told r.told r.circle (n + 1) r.members ≡ laid (blossom_removed (handle_named h) ∷ map (λ (g : Handle). state_set g grows) gs)

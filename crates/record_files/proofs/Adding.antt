@@ -2,7 +2,7 @@
 use Prim.Native.Nat.{ℕ, suc, ◌+◌}
 use native.Mathlib.Omega.{arith}
 use mathlib.Core.Path.{◌≡◌, refl, ◌∙◌, ap}
-use mathlib.Core.Bool.{Bool, true, false, ◌&&◌, and_true}
+use mathlib.Core.Bool.{Bool, true, false, ◌&&◌, and-true}
 use mathlib.Core.Option.{Option, none, some}
 use mathlib.Core.List.{List, [], ◌∷◌}
 use lib.ListN.{length, length-append}
@@ -41,4 +41,4 @@ more_onto a b x o op (some ops) =
 
 pub more_end : (a b x : ℕ) (o : Bool) (r : Option (List Op)) → r ≡ some [] → more a b x o r ≡ record { whole = true; count = a; start = b; text = x; own = o }
 unfolding records_of text_of all_self
-more_end a b x o r e = ap (more a b x o) e ∙ same_scan _ _ _ _ _ _ _ _ (omega arith) (omega arith) (omega arith) (and_true o)
+more_end a b x o r e = ap (more a b x o) e ∙ same_scan _ _ _ _ _ _ _ _ (omega arith) (omega arith) (omega arith) (and-true o)

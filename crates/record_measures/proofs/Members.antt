@@ -2,7 +2,7 @@
 use Prim.Native.Nat.{ℕ, zero, suc, ◌+◌, ◌-◌, ◌*◌, ◌≤◌, ◌<◌}
 use native.Mathlib.Omega.{arith}
 use mathlib.Core.Path.{◌≡◌, refl, sym, ◌∙◌, ap}
-use mathlib.Core.Bool.{Bool, true, false, ◌&&◌, and_true}
+use mathlib.Core.Bool.{Bool, true, false, ◌&&◌, and-true}
 use mathlib.Core.Option.{some}
 use mathlib.Core.List.{List, [], ◌∷◌, map}
 use lib.Dec.{eqb, leb}
@@ -132,7 +132,7 @@ pub record Weighed (t : List ℕ) (n q line : ℕ) (own : Bool) : Type 0 where
 
 pub weighed : (t : List ℕ) (n q p left line : ℕ) (own : Bool) → Weighing t n q p left line own → left ≤ 0 → Weighed t n q line own
 unfolding members_at members_good selves total
-weighed t n q p zero line own c h = record { fine = c.fine; owns = sym (and_true own) ∙ sym c.owns; text = omega (arith, c.text) }
+weighed t n q p zero line own c h = record { fine = c.fine; owns = sym (and-true own) ∙ sym c.owns; text = omega (arith, c.text) }
 weighed t n q p (suc k) line own c h = absurd (omega arith)
 
 -- ---- a blossom

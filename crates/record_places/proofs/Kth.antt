@@ -5,7 +5,7 @@ use mathlib.Core.Path.{◌≡◌, refl, sym, ◌∙◌, ap, subst}
 use mathlib.Core.Option.{some-injective}
 use mathlib.Core.List.{List, [], ◌∷◌, ◌++◌, append_assoc}
 use lib.ListN.{length, take, drop, get_or, length-append}
-use lib.Seq.{length-take-le, drop_cons, split_at, drop-append_seam}
+use lib.Seq.{length-take-le, drop-cons, split_at, drop-append_seam}
 use Rattle.ledger_spec.specs.Operations.{C}
 use Rattle.record_spec.specs.Numbers.{Bytes, bytes, fours, number}
 use Rattle.record_spec.specs.Operations.{Op}
@@ -115,7 +115,7 @@ module _ (ops : List Op) (i : ℕ) (l : i < length ops) where
             (λ j. record_in (drop (q j) (file_record j)))
             ∙ ap record_in (drop-append_seam (records_of before) (bytes_of op ++ (records_of behind ++ (fours (starts 0 ops) ++ ending))))
             ∙ record_back op (records_of behind ++ (fours (starts 0 ops) ++ ending)) (writable_at ops i (C 0) w l);
-        is = drop_cons ops i (C 0) l;
+        is = drop-cons ops i (C 0) l;
       }
     where
       zero_first : 0 + place ≡ length (records_of before)

@@ -5,7 +5,7 @@ use mathlib.Core.Path.{◌≡◌, refl, sym, ◌∙◌, ap}
 use mathlib.Core.List.{List, [], ◌∷◌, ◌++◌, map}
 use lib.IntN.{ℤ}
 use lib.ListN.{length, drop, get_or, length-append, length-map}
-use lib.Seq.{sets, drop_cons, drop-length}
+use lib.Seq.{sets, drop-cons, drop-length}
 use Rattle.ledger_spec.specs.Bench.{State}
 use Rattle.ledger_spec.specs.Operations.{D, B, E, S, G, F, C, K}
 use Rattle.text_decimals.specs.Wrote.{Wrote}
@@ -44,7 +44,7 @@ module _ (ns out₀ : List ℕ) (at i p : ℕ) (out : List ℕ) (g : Putting ns 
   put_on h n e out' q l w =
       let m = (bytes 4 n ++ bytes 4 n) ++ bytes 4 n in
       let s : suc i ≡ i + 1 = omega arith in
-      let d : drop i ns ≡ n ∷ drop (i + 1) ns = drop_cons ns i 0 h ∙ (λ j. sym e j ∷ drop (s j) ns) in
+      let d : drop i ns ≡ n ∷ drop (i + 1) ns = drop-cons ns i 0 h ∙ (λ j. sym e j ∷ drop (s j) ns) in
       let k : length m ≡ 12 = omega (arith, length-append (bytes 4 n ++ bytes 4 n) (bytes 4 n), length-append (bytes 4 n) (bytes 4 n), length_bytes 4 n) in
       record {
         long = l ∙ g.long;

@@ -6,7 +6,7 @@ use mathlib.Core.Bool.{true, false}
 use mathlib.Core.Option.{Option, none, some, some-ne-none}
 use mathlib.Core.List.{List, [], ◌∷◌}
 use lib.ListN.{length, take, drop, get_or, length-append, length-drop}
-use lib.Seq.{drop_cons, drop_at}
+use lib.Seq.{drop-cons, drop_at}
 use borrow.Author.Tests.{ne_eqb, eq-eqb}
 use Rattle.record_spec.specs.Numbers.{Bytes, then, number, fours_in}
 use Rattle.record_spec.specs.Operations.{Op}
@@ -25,7 +25,7 @@ unfolding number at
 number_at zero s p h = let e : p ≡ p + 0 = omega arith in ap (λ (n : ℕ). some (0, drop n s)) e
 number_at (suc k) s p h =
     let e : suc p + k ≡ p + suc k = omega arith in
-    ap (number (suc k)) (drop_cons s p 0 (omega arith))
+    ap (number (suc k)) (drop-cons s p 0 (omega arith))
     ∙ then_back (number k (drop (suc p) s)) (λ n r. some (get_or s p 0 + 256 * n, r)) (at k s (suc p)) (drop (suc p + k) s) (number_at k s (suc p) (omega arith))
     ∙ ap (λ (n : ℕ). some (get_or s p 0 + 256 * at k s (suc p), drop n s)) e
 

@@ -2,7 +2,7 @@
 use Prim.Native.Nat.{ℕ, ◌+◌, ◌≤◌}
 use native.Mathlib.Omega.{arith}
 use mathlib.Core.Path.{◌≡◌}
-use mathlib.Core.Bool.{and_true}
+use mathlib.Core.Bool.{and-true}
 use mathlib.Core.List.{List, [], ◌∷◌, map}
 use lib.ListN.{length, length-append}
 use borrow.Author.Tests.{le-leb}
@@ -59,4 +59,4 @@ plain_short (K u) p h = omega (arith, length_spaced (75 ∷ []) (decimal u ∷ [
 -- then only the serials are tested
 pub plain_good : (op : Op) → Plain op → Held op → good op ≡ serials_good op
 unfolding good
-plain_good op p h = rw (le-leb (length (line_of_op op)) 1023 (plain_short op p h)) (and_true (serials_good op))
+plain_good op p h = rw (le-leb (length (line_of_op op)) 1023 (plain_short op p h)) (and-true (serials_good op))

@@ -9,7 +9,7 @@ use native.Mathlib.Omega.{arith}
 use borrow.Author.Tests.{lt-ltb, le-ltb, ne_eqb}
 use lib.Dec.{ltb}
 use lib.ListN.{length, get_or, drop, drop_of_length-le}
-use lib.Seq.{drop_cons}
+use lib.Seq.{drop-cons}
 use Rattle.bench_words.specs.Codec.{pick}
 use Rattle.ledger_spec.specs.Bench.{Bench}
 use Rattle.ledger_spec.specs.Tests.{first, any}
@@ -91,7 +91,7 @@ rest b u ws i = list_mark b u (hands_given (drop i ws))
 module _ (b : Bench) (u : ℕ) (ws : List ℕ) where
   rest_on : (i : ℕ) → i < length ws → rest b u ws i ≡ lower (node_mark b u (hand_given (get_or ws i 0))) (rest b u ws (i + 1))
   unfolding any
-  rest_on i l = rw (add-one, drop_cons ws i 0) (lower_marks _ _ _ _ _ _)
+  rest_on i l = rw (add-one, drop-cons ws i 0) (lower_marks _ _ _ _ _ _)
 
   pub turn : (n m i : ℕ) {k : ℕ} → i < length ws → k ≡ lower n m → m ≡ node_mark b u (hand_given (get_or ws i 0)) → list_mark b u (hands_given ws) ≡ lower n (rest b u ws i) → list_mark b u (hands_given ws) ≡ lower k (rest b u ws (i + 1))
   turn n m i l e f h = h ∙ ap (lower n) (rest_on i l ∙ ap (λ (x : ℕ). lower x (rest b u ws (i + 1))) (sym f)) ∙ lower_of n m (rest b u ws (i + 1)) ∙ ap (λ (x : ℕ). lower x (rest b u ws (i + 1))) (sym e)

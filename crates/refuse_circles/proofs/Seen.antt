@@ -10,7 +10,7 @@ use native.Mathlib.Omega.{arith}
 use borrow.Author.Tests.{eq-eqb, ne_eqb}
 use lib.Dec.{eqb}
 use lib.ListN.{length, get_or, set, drop, replicate, drop_of_length-le, length-set, length-replicate}
-use lib.Seq.{drop_cons, get_or-set_same, get_or-set_other}
+use lib.Seq.{drop-cons, get_or-set_same, get_or-set_other}
 use Rattle.ledger_spec.specs.Look.{same_handle}
 use Rattle.ledger_spec.specs.Tests.{any, twice}
 use Rattle.ledger_spec.specs.Knit.{In, there}
@@ -74,7 +74,7 @@ module _ (ws seen : List ℕ) (i : ℕ) (G : Going ws seen i) where
 
     next : (any (marked seen) (drop i ws) || still ws i) ≡ ((marked seen w || any (marked seen) rest) || (any (same_handle (hand_given w)) (hands_given rest) || twice (hands_given rest)))
     unfolding any twice w rest
-    next = rw (add-one, drop_cons ws i 0)
+    next = rw (add-one, drop-cons ws i 0)
 
     pub going_here : (k : ℕ) → k ≡ spot_of (get_or ws i 0) → get_or seen k 0 ≡ 1 → true ≡ twice (hands_given ws)
     unfolding w

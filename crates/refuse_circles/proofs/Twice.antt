@@ -7,7 +7,7 @@ use mathlib.Core.List.{List, [], ◌∷◌}
 use native.Mathlib.Numerals.{add-one}
 use native.Mathlib.Omega.{arith}
 use lib.ListN.{length, get_or, drop, drop_of_length-le}
-use lib.Seq.{drop_cons}
+use lib.Seq.{drop-cons}
 use Rattle.ledger_spec.specs.Bench.{Handle}
 use Rattle.ledger_spec.specs.Look.{same_handle}
 use Rattle.ledger_spec.specs.Tests.{any, twice}
@@ -47,7 +47,7 @@ after ws w i = any (same_handle (hand_given w)) (hands_given (drop i ws))
 module _ (ws : List ℕ) (w : ℕ) where
   after_next : (i : ℕ) → i < length ws → after ws w i ≡ (same_handle (hand_given w) (hand_given (get_or ws i 0)) || after ws w (i + 1))
   unfolding any
-  after_next i l = rw (add-one, drop_cons ws i 0)
+  after_next i l = rw (add-one, drop-cons ws i 0)
 
   pub after_here : (i : ℕ) → i < length ws → get_or ws i 0 ≡ w → after ws w i ≡ true
   after_here i l e = after_next i l ∙ or_true _ (after ws w (i + 1)) (same_yes (get_or ws i 0) w e)
@@ -66,7 +66,7 @@ still ws i = twice (hands_given (drop i ws))
 module _ (ws : List ℕ) where
   still_next : (i : ℕ) → i < length ws → still ws i ≡ (after ws (get_or ws i 0) (i + 1) || still ws (i + 1))
   unfolding twice
-  still_next i l = rw (add-one, drop_cons ws i 0)
+  still_next i l = rw (add-one, drop-cons ws i 0)
 
   pub still_here : (i : ℕ) → i < length ws → after ws (get_or ws i 0) (i + 1) ≡ true → still ws i ≡ true
   still_here i l e = still_next i l ∙ or_true _ (still ws (i + 1)) e

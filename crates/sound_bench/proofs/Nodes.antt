@@ -4,7 +4,7 @@ use mathlib.Core.Path.{◌≡◌, refl, sym, ◌∙◌, ap}
 use mathlib.Core.Bool.{true, not, ◌&&◌, true≢false}
 use mathlib.Core.List.{List}
 use lib.Dec.{eqb, leb, ltb}
-use borrow.Author.Tests.{eqb-true, eqb-false, eq-eqb, ne_eqb, leb-true, le-leb, ltb-true, lt-ltb, not_true}
+use borrow.Author.Tests.{eqb-true, eqb-false, eq-eqb, ne_eqb, leb-true, le-leb, ltb-true, lt-ltb, not-true}
 use Rattle.kinds.specs.Names.{same_code, no_code}
 use Rattle.kinds.specs.States.{blossom_of}
 use Rattle.kinds.specs.declared.GrowState.{GrowState}
@@ -92,7 +92,7 @@ module _ (A : ℕ → Node) (next : ℕ) (h : Handle) where
       let z = and_true (all_to (member_test A next h n.first) n.count) _ y.1 in
       let w = and_true (eqb n.size (sum_to (size_in A n.first) n.count)) (eqb (walk n.count A n.first) 0) z.1 in
       record {
-        some = eqb-false n.count 0 (not_true (eqb n.count 0) x.0);
+        some = eqb-false n.count 0 (not-true (eqb n.count 0) x.0);
         few = leb-true n.count 64 y.0;
         member = λ i l. member_says n.first i (all_each (member_test A next h n.first) n.count z.0 i l);
         size = eqb-true n.size _ w.0;

@@ -5,7 +5,7 @@ use mathlib.Core.Bool.{Bool, true, false, not, ◌&&◌}
 use mathlib.Core.List.{List}
 use lib.Dec.{eqb, leb, ltb}
 use lib.ListN.{get_or}
-use borrow.Author.Tests.{eqb-false, ne_eqb, leb-true, le-leb, ltb-true, lt-ltb, not_true}
+use borrow.Author.Tests.{eqb-false, ne_eqb, leb-true, le-leb, ltb-true, lt-ltb, not-true}
 use Rattle.slot_map.specs.Slots.{bit_at}
 use Rattle.bench_words.specs.Codec.{pick}
 use Rattle.bench_words.specs.Store.{node_at, interface_at, map_at}
@@ -90,7 +90,7 @@ parts b e =
     let t = and_true (all_to (once_test b) 512) (all_to (floor_test b) 8) v.1 in
     let slots : (u : ℕ) → u < 8 → (ltb (map_at b u) 18446744073709551616 ≡ true) × (all_to (slot_test b (interface_at b u).used (map_at b u) u) 64 ≡ true) = λ u lu. and_true (ltb (map_at b u) 18446744073709551616) _ (all_each (slots_test b) 8 w.0 u lu) in
     record {
-      some = eqb-false (get_or b 0 0) 0 (not_true (eqb (get_or b 0 0) 0) x.0);
+      some = eqb-false (get_or b 0 0) 0 (not-true (eqb (get_or b 0 0) 0) x.0);
       worn = leb-true (get_or b 0 0) 4294967296 y.0;
       interface = all_each (interface_test b) 8 z.0;
       map = λ u lu. ltb-true (map_at b u) 18446744073709551616 (slots u lu).0;

@@ -1,7 +1,7 @@
 -- The words of a sound bench pass the test: each part of it from the fact of the same thing. Assumes nothing.
 use Prim.Native.Nat.{ℕ, zero, suc, ◌+◌, ◌-◌, ◌*◌, ◌/◌, ◌%◌, ◌<◌, ◌≤◌}
 use mathlib.Core.Path.{◌≡◌, refl, sym, ◌∙◌, ap, subst}
-use mathlib.Core.Bool.{Bool, true, not, ◌&&◌, ◌||◌, or_true}
+use mathlib.Core.Bool.{Bool, true, not, ◌&&◌, ◌||◌, or-true}
 use mathlib.Core.Option.{some}
 use mathlib.Core.List.{List}
 use native.Mathlib.Decide.{ℕ_discrete, dec_lt}
@@ -276,7 +276,7 @@ module _ (b : List ℕ) (Z : SoundWords b) where
     where
       go : Dec (serial_at b k ≡ 0) → once_test b k ≡ true
       go (yes e) = ap (λ (x : Bool). x || all_to (unlike b (serial_at b k)) k) (eq-eqb (serial_at b k) 0 e)
-      go (no z) = ap (λ (x : Bool). eqb (serial_at b k) 0 || x) (all_of (unlike b (serial_at b k)) k (λ j lj. ap not (ne_eqb (serial_at b j) (serial_at b k) (λ e. apart j lj e)))) ∙ or_true (eqb (serial_at b k) 0)
+      go (no z) = ap (λ (x : Bool). eqb (serial_at b k) 0 || x) (all_of (unlike b (serial_at b k)) k (λ j lj. ap not (ne_eqb (serial_at b j) (serial_at b k) (λ e. apart j lj e)))) ∙ or-true (eqb (serial_at b k) 0)
         where
           apart : (j : ℕ) → j < k → serial_at b j ≡ serial_at b k → ⊥
           apart j lj e =

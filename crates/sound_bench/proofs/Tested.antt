@@ -9,7 +9,7 @@ use native.Mathlib.Omega.{arith}
 use lib.Dec.{eqb, leb}
 use lib.ListN.{length, get_or, get_or-eq_default}
 use lib.IntN.{ℤ, pos, nat_abs}
-use borrow.Author.Tests.{eqb-true, eqb-false, ne_eqb, leb-true, not_true}
+use borrow.Author.Tests.{eqb-true, eqb-false, ne_eqb, leb-true, not-true}
 use Rattle.kinds.specs.declared.Class.TheVariants.{Absent, Blossom, Defect}
 use Rattle.kinds.specs.declared.Handle.{Handle as Packed}
 use Rattle.kinds.specs.declared.Parent.{Parent}
@@ -110,7 +110,7 @@ module _ (b : List ℕ) (P : Parts b) (len : length b ≡ 6273) where
   before : (j k : ℕ) → j < k → k < 512 → 1 ≤ serial_at b k → serial_at b j ≡ serial_at b k → ⊥
   unfolding once_test
   before j k l lk full e =
-      eqb-false (serial_at b j) (serial_at b k) (not_true (eqb (serial_at b j) (serial_at b k)) (all_each (unlike b (serial_at b k)) k (rest (eqb (serial_at b k) 0) (ne_eqb (serial_at b k) 0 (λ z. omega (arith, z, full))) (P.once k lk)) j l)) e
+      eqb-false (serial_at b j) (serial_at b k) (not-true (eqb (serial_at b j) (serial_at b k)) (all_each (unlike b (serial_at b k)) k (rest (eqb (serial_at b k) 0) (ne_eqb (serial_at b k) 0 (λ z. omega (arith, z, full))) (P.once k lk)) j l)) e
     where
       rest : (c : Bool) → c ≡ false → (c || all_to (unlike b (serial_at b k)) k) ≡ true → all_to (unlike b (serial_at b k)) k ≡ true
       rest true q e = absurd (true≢false q)

@@ -7,7 +7,7 @@ use mathlib.Core.Logic.{by_cases}
 use native.Mathlib.Decide.{dec_lt}
 use native.Mathlib.Omega.{arith}
 use lib.Dec.{leb}
-use borrow.Author.Tests.{le-leb, lt-leb, not_true, not_false}
+use borrow.Author.Tests.{le-leb, lt-leb, not-true, not-false}
 use Rattle.kinds.specs.declared.GrowState.{GrowState}
 use Rattle.kinds.specs.declared.GrowState.TheVariants.{Grow, Shrink}
 use Rattle.kinds.specs.declared.Class.TheVariants.{Absent, Blossom, Defect}
@@ -78,15 +78,15 @@ module _ (b : List ℕ) (u : ℕ) (f : Interface) (e : f ≡ interface_at b u) w
 
     pub not_level : not r ≡ true → false ≡ floor_test b u
     unfolding floor_test
-    not_level h = sym (ap (λ (x : Bool). x && rest (interface_at b u).marks.floored) (sym level ∙ not_true r h))
+    not_level h = sym (ap (λ (x : Bool). x && rest (interface_at b u).marks.floored) (sym level ∙ not-true r h))
 
     module _ (h : not r ≡ false) where
       opened : floor_test b u ≡ rest f.marks.floored
       unfolding floor_test
-      opened = ap (λ (x : Bool). x && rest (interface_at b u).marks.floored) (sym level ∙ not_false r h) ∙ ap (λ (x : Interface). rest x.marks.floored) (sym e)
+      opened = ap (λ (x : Bool). x && rest (interface_at b u).marks.floored) (sym level ∙ not-false r h) ∙ ap (λ (x : Interface). rest x.marks.floored) (sym e)
 
       pub unfloored : not f.marks.floored ≡ true → true ≡ floor_test b u
-      unfloored k = sym (opened ∙ ap rest (not_true f.marks.floored k))
+      unfloored k = sym (opened ∙ ap rest (not-true f.marks.floored k))
 
       pub all_afloat : not f.marks.floored ≡ false → {top t : ℕ} → Climbs b u top t → (a : Bool) → a ≡ all_to (slot_afloat b u t) f.used → a ≡ floor_test b u
-      all_afloat k {t = t} C a ea = ea ∙ ap (all_to (slot_afloat b u t)) (ap (λ (x : Interface). x.used) e) ∙ ap (λ (x : ℕ). all_to (slot_afloat b u x) (interface_at b u).used) C.total ∙ sym (opened ∙ ap rest (not_false f.marks.floored k))
+      all_afloat k {t = t} C a ea = ea ∙ ap (all_to (slot_afloat b u t)) (ap (λ (x : Interface). x.used) e) ∙ ap (λ (x : ℕ). all_to (slot_afloat b u x) (interface_at b u).used) C.total ∙ sym (opened ∙ ap rest (not-false f.marks.floored k))

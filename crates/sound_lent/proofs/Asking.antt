@@ -3,7 +3,7 @@ use Prim.Native.Nat.{ℕ}
 use mathlib.Core.Path.{◌≡◌, sym, ap, ◌∙◌}
 use mathlib.Core.Bool.{Bool, not, true, false}
 use mathlib.Core.List.{List}
-use borrow.Author.Tests.{not_true, not_false}
+use borrow.Author.Tests.{not-true, not-false}
 use Rattle.bench_words.specs.Codec.{pick}
 use Rattle.bench_views.specs.Fit.{Fit}
 use Rattle.bench_views.proofs.Fits.{fit_of}
@@ -17,10 +17,10 @@ module _ {A : Type 0} (b : List ℕ) (z : A) (r : ℕ × A) where
 
   module _ {s : Bool} (v : Verdict b s) where
     pub no_bench : not s ≡ true → (2, z) ≡ asked b z r
-    no_bench t = sym (asked_by false (sym v.is ∙ not_true s t))
+    no_bench t = sym (asked_by false (sym v.is ∙ not-true s t))
 
     pub a_bench : not s ≡ false → {x : ℕ × A} → x ≡ r → x ≡ asked b z r
-    a_bench t e = e ∙ sym (asked_by true (sym v.is ∙ not_false s t))
+    a_bench t e = e ∙ sym (asked_by true (sym v.is ∙ not-false s t))
 
 pub fits : {b : List ℕ} {s : Bool} → Verdict b s → not s ≡ false → Fit b
-fits {b} {s} v t = fit_of b (v.says (not_false s t))
+fits {b} {s} v t = fit_of b (v.says (not-false s t))

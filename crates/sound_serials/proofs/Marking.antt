@@ -2,7 +2,7 @@
 use Prim.Native.Nat.{ℕ, ◌+◌, ◌%◌, ◌<◌, ◌≤◌}
 use mathlib.Core.Path.{◌≡◌, refl, sym, ◌∙◌, ap}
 use mathlib.Core.Logic.{by_cases}
-use mathlib.Core.Bool.{Bool, true, false, not, ◌||◌, true≢false, or_true}
+use mathlib.Core.Bool.{Bool, true, false, not, ◌||◌, true≢false, or-true}
 use mathlib.Core.List.{List}
 use native.Mathlib.Decide.{ℕ_discrete}
 use native.Mathlib.Omega.{arith}
@@ -55,7 +55,7 @@ going_more b t t' k x r G l e M q = record {
     go : Dec (serial_at b k ≡ 0) → once_test b k ≡ true
     go (yes z) = ap (λ (c : Bool). c || all_to (unlike b (serial_at b k)) k) (eq-eqb (serial_at b k) 0 z)
     go (no z) = ap (λ (c : Bool). eqb (serial_at b k) 0 || c) (all_of (unlike b (serial_at b k)) k (λ j lj. ap not (ne_eqb (serial_at b j) (serial_at b k) (λ s.
-        omega (arith, G.marked j lj (λ y. z (sym s ∙ y)), ap (λ (y : ℕ). get_or t (y % 512) 0) (s ∙ sym e), M.free q (λ y. z (sym e ∙ y))))))) ∙ or_true (eqb (serial_at b k) 0)
+        omega (arith, G.marked j lj (λ y. z (sym s ∙ y)), ap (λ (y : ℕ). get_or t (y % 512) 0) (s ∙ sym e), M.free q (λ y. z (sym e ∙ y))))))) ∙ or-true (eqb (serial_at b k) 0)
 
 pub going_ends : (b t : List ℕ) (k : ℕ) → Going b t k → 512 ≤ k → true ≡ all_to (once_test b) 512
 going_ends b t k G l = all_done (once_test b) 512 k G.once (omega (arith, G.low))

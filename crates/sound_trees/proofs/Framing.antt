@@ -3,14 +3,14 @@
 use Prim.Native.Nat.{ℕ, zero, suc, ◌+◌, ◌-◌, ◌<◌, ◌≤◌}
 use mathlib.Core.Path.{◌≡◌, refl, sym, ◌∙◌, ap, subst}
 use mathlib.Core.Logic.{◌≢◌, ◌⊎◌, inl, inr}
-use mathlib.Core.Bool.{Bool, true, false, not, ◌&&◌, ◌||◌, true≢false, or_true}
+use mathlib.Core.Bool.{Bool, true, false, not, ◌&&◌, ◌||◌, true≢false, or-true}
 use mathlib.Core.Option.{none, some}
 use mathlib.Core.List.{List}
 use native.Mathlib.Decide.{ℕ_discrete, dec_lt}
 use native.Mathlib.Omega.{arith}
 use lib.Dec.{eqb, leb, ltb}
 use lib.ListN.{length, get_or, get_or-eq_default}
-use borrow.Author.Tests.{eqb-true, eqb-false, eq-eqb, ne_eqb, leb-true, le-leb, ltb-true, lt-ltb, not_true}
+use borrow.Author.Tests.{eqb-true, eqb-false, eq-eqb, ne_eqb, leb-true, le-leb, ltb-true, lt-ltb, not-true}
 use Rattle.bench_words.specs.Codec.{pick}
 use Rattle.bench_words.specs.Store.{node_at, interface_at}
 use Rattle.bench_words.specs.declared.Interface.{Interface}
@@ -73,7 +73,7 @@ module _ (U : ℕ → Interface) (u : ℕ) where
     where
       either : ((U n).left ≡ u + 1) ⊎ ((U n).right ≡ u + 1) → (eqb (U n).left (u + 1) || eqb (U n).right (u + 1)) ≡ true
       either (inl x) = ap (λ (c : Bool). c || eqb (U n).right (u + 1)) (eq-eqb (U n).left (u + 1) x)
-      either (inr x) = ap (λ (c : Bool). eqb (U n).left (u + 1) || c) (eq-eqb (U n).right (u + 1) x) ∙ or_true (eqb (U n).left (u + 1))
+      either (inr x) = ap (λ (c : Bool). eqb (U n).left (u + 1) || c) (eq-eqb (U n).right (u + 1) x) ∙ or-true (eqb (U n).left (u + 1))
 
   abbrev lo : ℕ
   lo = (U u).left
@@ -91,12 +91,12 @@ module _ (U : ℕ → Interface) (u : ℕ) where
       let c = and_true (not (eqb hi 0)) _ b.1 in
       let d = and_true (not (eqb lo hi)) _ c.1 in
       let f = and_true (is_under (U (lo - 1)).parent u) _ d.1 in
-      let z = eqb-false hi 0 (not_true (eqb hi 0) c.0) in
+      let z = eqb-false hi 0 (not-true (eqb hi 0) c.0) in
       record {
         left = leb-true lo u a.0;
         right = leb-true hi u b.0;
         some = go (ℕ_discrete hi 0) z;
-        apart = eqb-false lo hi (not_true (eqb lo hi) d.0);
+        apart = eqb-false lo hi (not-true (eqb lo hi) d.0);
         left_up = under_is (U (lo - 1)).parent u f.0;
         right_up = under_is (U (hi - 1)).parent u f.1;
       }

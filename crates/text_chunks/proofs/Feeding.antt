@@ -6,7 +6,7 @@ use mathlib.Core.Bool.{true, false, true≢false}
 use mathlib.Core.Path.{◌≡◌, refl, sym, ◌∙◌, ap}
 use mathlib.Core.List.{List, [], ◌∷◌, ◌++◌}
 use lib.ListN.{length, take, drop, get_or, set, length-append, drop_of_length-le}
-use lib.Seq.{take_all, length-take-le, take-append-le, take-suc-set, drop_cons}
+use lib.Seq.{take_all, length-take-le, take-append-le, take-suc-set, drop-cons}
 use Rattle.text_chunks.specs.Chunks.{lines, left, first_line, Feeds}
 use Rattle.text_chunks.proofs.Chunks.{lines_none, lines_end, lines_on, left_none, left_end, left_on, first_none, first_end, first_on}
 
@@ -40,9 +40,9 @@ module _ (a : ℕ) (t p chunk buf : List ℕ) (n i : ℕ) (g : Feeding a t p chu
     short = w.0;
     in_chunk = h;
     long = l ∙ g.long;
-    lns = g.lns ∙ ap (lines (take n buf)) (drop_cons chunk i 0 h) ∙ lines_on (take n buf) (get_or chunk i 0) (drop (suc i) chunk) e ∙ ap (λ (q : List ℕ). lines q (drop (suc i) chunk)) (sym w.1);
-    lft = g.lft ∙ ap (left (take n buf)) (drop_cons chunk i 0 h) ∙ left_on (take n buf) (get_or chunk i 0) (drop (suc i) chunk) e ∙ ap (λ (q : List ℕ). left q (drop (suc i) chunk)) (sym w.1);
-    fst = g.fst ∙ ap (first_line (take n buf)) (drop_cons chunk i 0 h) ∙ first_on (take n buf) (get_or chunk i 0) (drop (suc i) chunk) e ∙ ap (λ (q : List ℕ). first_line q (drop (suc i) chunk)) (sym w.1);
+    lns = g.lns ∙ ap (lines (take n buf)) (drop-cons chunk i 0 h) ∙ lines_on (take n buf) (get_or chunk i 0) (drop (suc i) chunk) e ∙ ap (λ (q : List ℕ). lines q (drop (suc i) chunk)) (sym w.1);
+    lft = g.lft ∙ ap (left (take n buf)) (drop-cons chunk i 0 h) ∙ left_on (take n buf) (get_or chunk i 0) (drop (suc i) chunk) e ∙ ap (λ (q : List ℕ). left q (drop (suc i) chunk)) (sym w.1);
+    fst = g.fst ∙ ap (first_line (take n buf)) (drop-cons chunk i 0 h) ∙ first_on (take n buf) (get_or chunk i 0) (drop (suc i) chunk) e ∙ ap (λ (q : List ℕ). first_line q (drop (suc i) chunk)) (sym w.1);
   })
 
   pub feed_line : i < length chunk → get_or chunk i 0 ≡ 10 → Feeds a t p chunk buf true n (i + 1)
@@ -52,11 +52,11 @@ module _ (a : ℕ) (t p chunk buf : List ℕ) (n i : ℕ) (g : Feeding a t p chu
     in_chunk = h;
     long = g.long;
     line = λ _. (
-      g.lns ∙ ap (lines (take n buf)) (drop_cons chunk i 0 h) ∙ lines_end (take n buf) (get_or chunk i 0) (drop (suc i) chunk) e,
-      g.lft ∙ ap (left (take n buf)) (drop_cons chunk i 0 h) ∙ left_end (take n buf) (get_or chunk i 0) (drop (suc i) chunk) e,
+      g.lns ∙ ap (lines (take n buf)) (drop-cons chunk i 0 h) ∙ lines_end (take n buf) (get_or chunk i 0) (drop (suc i) chunk) e,
+      g.lft ∙ ap (left (take n buf)) (drop-cons chunk i 0 h) ∙ left_end (take n buf) (get_or chunk i 0) (drop (suc i) chunk) e,
     );
     part = λ q. absurd (true≢false q);
-    first = λ _. g.fst ∙ ap (first_line (take n buf)) (drop_cons chunk i 0 h) ∙ first_end (take n buf) (get_or chunk i 0) (drop (suc i) chunk) e;
+    first = λ _. g.fst ∙ ap (first_line (take n buf)) (drop-cons chunk i 0 h) ∙ first_end (take n buf) (get_or chunk i 0) (drop (suc i) chunk) e;
     no_first = λ q. absurd (true≢false q);
   })
 

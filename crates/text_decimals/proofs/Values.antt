@@ -8,7 +8,7 @@ use mathlib.Core.Option.{Option, none, some, some-ne-none, some-injective}
 use mathlib.Core.List.{List, [], ◌∷◌}
 use lib.Dec.{leb}
 use lib.ListN.{length, get_or, drop}
-use lib.Seq.{drop_cons, drop-length}
+use lib.Seq.{drop-cons, drop-length}
 use borrow.Author.Tests.{le-leb, lt-leb, leb-true, leb-false}
 use Rattle.ledger_spec.specs.Decimals.{after_digits, between}
 
@@ -121,7 +121,7 @@ start f m = record { in_range = omega arith; small = omega arith; left = refl }
 
 module _ (f : List ℕ) (m n i : ℕ) (g : Going f m n i) where
   here : i < length f → after_digits n (get_or f i 0 ∷ drop (suc i) f) ≡ after_digits 0 f
-  here h = rw (drop_cons f i 0 h) at g.left
+  here h = rw (drop-cons f i 0 h) at g.left
 
   pub turn : (d : ℕ) → i < length f → 48 ≤ get_or f i 0 → get_or f i 0 ≤ 57 → d ≡ get_or f i 0 - 48 → n * 10 + d ≤ m → Going f m (n * 10 + d) (i + 1)
   turn d h p q r s = record {

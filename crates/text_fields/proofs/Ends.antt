@@ -6,7 +6,7 @@ use native.Mathlib.Nat.{sub_self}
 use mathlib.Core.Path.{◌≡◌, refl, sym, ◌∙◌, ap}
 use mathlib.Core.List.{List, [], ◌∷◌, ◌++◌, append_assoc, append-nil}
 use lib.ListN.{length, get_or, take, drop, length-drop}
-use lib.Seq.{drop_cons, drop-length, take-suc, get_or-drop}
+use lib.Seq.{drop-cons, drop-length, take-suc, get_or-drop}
 use borrow.Author.Tests.{lt-ltb, le-ltb}
 use Rattle.ledger_spec.specs.Fields.{upto, parts_after, cut}
 use Rattle.text_fields.specs.Places.{parts_from, Ends}
@@ -39,7 +39,7 @@ take_one s a e l h =
 module _ (mark : ℕ) (s : List ℕ) (a e : ℕ) (g : Seeking mark s a e) where
   pub seek_on : e < length s → (get_or s e 0 ≡ mark → ⊥) → Seeking mark s a (e + 1)
   seek_on h n =
-      let d = drop_cons s e 0 h in
+      let d = drop-cons s e 0 h in
       rw add-one (record {
         low = omega (arith, g.low);
         high = h;
@@ -50,7 +50,7 @@ module _ (mark : ℕ) (s : List ℕ) (a e : ℕ) (g : Seeking mark s a e) where
 
   pub seek_found : e < length s → get_or s e 0 ≡ mark → Ends mark s a e
   seek_found h n =
-      let d = drop_cons s e 0 h in
+      let d = drop-cons s e 0 h in
       record {
         low = g.low;
         high = g.high;

@@ -4,7 +4,7 @@ use mathlib.Core.Bool.{Bool, true, false, not, true≢false}
 use mathlib.Core.Path.{◌≡◌, refl, sym, ◌∙◌, ap, subst}
 use mathlib.Core.List.{List}
 use native.Mathlib.Omega.{arith}
-use borrow.Author.Tests.{not_true, not_false}
+use borrow.Author.Tests.{not-true, not-false}
 use lib.Dec.{lit<}
 use lib.IntN.{pos}
 use lib.ListN.{length, take}
@@ -78,19 +78,19 @@ module _ (chunk p buf : List ℕ) (ended : Bool) (n at : ℕ) (f : Feeds 0 chunk
   pub opening_part : not ended ≡ true → (b : List ℕ) → Started b → OpeningDone chunk p out b buf out n 0
   opening_part e b s = record {
     words = s.words;
-    answered = opened_part chunk p buf n at out (fed false (not_true ended e)) (view b) s.seen;
+    answered = opened_part chunk p buf n at out (fed false (not-true ended e)) (view b) s.seen;
     few = omega arith;
   }
 
   -- the first line's answer has its room
   pub opening_room : (b out₁ : List ℕ) (w : ℕ) → not ended ≡ false → FirstDone (take n buf) b out out₁ w → w ≤ 57 * at
-  opening_room b out₁ w e F = omega (arith, F.answered.text.next, F.answered.few, f.on (not_false ended e))
+  opening_room b out₁ w e F = omega (arith, F.answered.text.next, F.answered.few, f.on (not-false ended e))
 
   pub opening_line : not ended ≡ false → (b out₁ : List ℕ) (w : ℕ) → FirstDone (take n buf) b out out₁ w
       → (b₂ buf₂ out₂ : List ℕ) (held wrote : ℕ) → RestDone b chunk at (take 0 buf) out₁ w b₂ buf₂ out₂ held wrote → OpeningDone chunk p out b₂ buf₂ out₂ held wrote
   opening_line e b out₁ w F b₂ buf₂ out₂ held wrote R = record {
     words = R.words;
-    answered = opened_line chunk p buf n at out (fed true (not_false ended e)) (view b) out₁ w F.answered (view b₂) buf₂ out₂ held wrote R.answered;
+    answered = opened_line chunk p buf n at out (fed true (not-false ended e)) (view b) out₁ w F.answered (view b₂) buf₂ out₂ held wrote R.answered;
     few = R.few;
   }
 

@@ -1,6 +1,6 @@
 -- Each way out is one of the laws of the lower number. Assumes nothing.
 use borrow.Author.Rules.{rules}
-use borrow.Author.Tests.{not_true, not_false}
+use borrow.Author.Tests.{not-true, not-false}
 use Rattle.bench_floors.proofs.Lowers.{lower_none, bias_room, lower_still, lower_it, lower_not}
 use Rattle.bench_floors.proofs.lower.Goals as goal
 
@@ -15,7 +15,7 @@ pub returns-then-not-is_shrink : goal.returns-then-not-is_shrink
 returns-then-not-is_shrink c =
     let n = c.load_node-n in
     lower_still c.args.b.now c.requires.fit c.args.k c.requires.k_bound.0 c.requires.k_bound.1.0 n.result n.ensures c.is_absent.ensures c.if-is_absent.false c.args.t c.requires.k_bound.1.1
-    c.is_shrink.ensures (not_true c.is_shrink.result c.if-not-is_shrink.true) c.args.m
+    c.is_shrink.ensures (not-true c.is_shrink.result c.if-not-is_shrink.true) c.args.m
 
 
 pub valued-v-requires : goal.valued-v-requires
@@ -28,11 +28,11 @@ pub returns-then-v-m : goal.returns-then-v-m
 returns-then-v-m c =
     let n = c.load_node-n in
     lower_it c.args.b.now c.requires.fit c.args.k c.requires.k_bound.0 c.requires.k_bound.1.0 n.result n.ensures c.is_absent.ensures c.if-is_absent.false c.args.t c.requires.k_bound.1.1
-    c.is_shrink.ensures (not_false c.is_shrink.result c.if-not-is_shrink.false) c.valued-v.result c.valued-v.ensures c.args.m c.if-v-m.true
+    c.is_shrink.ensures (not-false c.is_shrink.result c.if-not-is_shrink.false) c.valued-v.result c.valued-v.ensures c.args.m c.if-v-m.true
 
 
 pub returns : goal.returns
 returns c =
     let n = c.load_node-n in
     lower_not c.args.b.now c.requires.fit c.args.k c.requires.k_bound.0 c.requires.k_bound.1.0 n.result n.ensures c.is_absent.ensures c.if-is_absent.false c.args.t c.requires.k_bound.1.1
-    c.is_shrink.ensures (not_false c.is_shrink.result c.if-not-is_shrink.false) c.valued-v.result c.valued-v.ensures c.args.m c.if-v-m.false
+    c.is_shrink.ensures (not-false c.is_shrink.result c.if-not-is_shrink.false) c.valued-v.result c.valued-v.ensures c.args.m c.if-v-m.false

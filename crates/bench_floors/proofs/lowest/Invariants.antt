@@ -4,7 +4,7 @@ use mathlib.Core.Path.{refl}
 use native.Mathlib.Omega.{arith}
 use lib.ListN.{get_or}
 use borrow.Author.Rules.{rules}
-use borrow.Author.Tests.{not_true, not_false}
+use borrow.Author.Tests.{not-true, not-false}
 use Rattle.bench_orders.proofs.Counting.{unit_low}
 use Rattle.bench_floors.proofs.Along.{Leasting, unfloored, leasting_starts, leasting_ends, leasting_on}
 use Rattle.bench_floors.proofs.lowest.Given as goal

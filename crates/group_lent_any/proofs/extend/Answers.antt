@@ -1,7 +1,7 @@
 -- BROKEN, or the call on sound words. Assumes nothing.
 use mathlib.Core.Path.{refl}
 use borrow.Author.Rules.{rules}
-use borrow.Author.Tests.{not_false}
+use borrow.Author.Tests.{not-false}
 use Rattle.group_lent_sound.specs.Test.{sound_in}
 use Rattle.group_lent_any.proofs.Judging.{not_ready, not_fit, all_fit, is_not, is_yes, says_sound}
 use Rattle.group_lent_any.proofs.extend.Goals as goal
@@ -22,7 +22,7 @@ returns-then-not-is_group c =
 
 pub extend-requires : goal.extend-requires
 extend-requires c =
-    let sound = c.is_ready.ensures.says (not_false _ c.if-not-is_ready.false) in
+    let sound = c.is_ready.ensures.says (not-false _ c.if-not-is_ready.false) in
     (sound.0, (sound.1, says_sound c.args.other.now _ c.is_group.ensures c.if-not-is_group.false))
 
 

@@ -2,7 +2,7 @@
 use Prim.Native.Nat.{◌-◌, ◌≤◌}
 use mathlib.Core.Path.{◌≡◌, ap}
 use native.Mathlib.Omega.{arith}
-use borrow.Author.Tests.{not_true, not_false}
+use borrow.Author.Tests.{not-true, not-false}
 use Rattle.group_lent_sound.specs.Test.{entries_fit}
 use Rattle.group_lent_sound.proofs.Fits.{entries_no, entries_on, entries_end}
 use Rattle.group_lent_sound.proofs.entries_fit.Given as goal

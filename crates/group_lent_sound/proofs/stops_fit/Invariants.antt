@@ -2,7 +2,7 @@
 use Prim.Native.Nat.{◌-◌, ◌≤◌}
 use mathlib.Core.Path.{◌≡◌, ap}
 use native.Mathlib.Omega.{arith}
-use borrow.Author.Tests.{not_true, not_false}
+use borrow.Author.Tests.{not-true, not-false}
 use Rattle.group_lent_sound.specs.Test.{stops_fit}
 use Rattle.group_lent_sound.proofs.Fits.{stops_no, stops_on, stops_end}
 use Rattle.group_lent_sound.proofs.stops_fit.Given as goal

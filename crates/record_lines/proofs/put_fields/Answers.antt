@@ -112,6 +112,6 @@ pub returns-in_default : goal.returns-in_default
 unfolding tail
 returns-in_default c =
     let a = c.args in
-    let m = c.in_default.rest in
+    let m = c.in_default.in_default-own.rest in
     let e = ap tail (fields_none a.letter a.t.now a.q m.0.0.0.0.0.1 m.0.0.0.1 m.0.0.0.0.1 m.0.0.1 m.0.1 m.1).0 in
     record { next = omega (arith, ap length e); stands = ap (λ (l : List ℕ). sets a.out.now a.at l) (sym e) }

@@ -68,6 +68,6 @@ returns-in-75 c =
 pub returns-in_default : goal.returns-in_default
 returns-in_default c =
     let a = c.args in
-    let m = c.in_default.rest in
+    let m = c.in_default.in_default-own.rest in
     let l = get_or a.t.now a.p 0 in
     c.nothing-in_default.ensures ∙ letter_none a.t.now a.p l c.byte_at-unit.result (omega (arith, c.if-t-p.false, c.if-t-lt2.false)) refl c.byte_at-unit.ensures.0 (rest_none l c.byte_at-unit.result (drop (a.p + 2) a.t.now) m.0.0.0.0.0.0.0.1 m.0.0.0.0.0.0.1 m.0.0.0.0.0.1 m.0.0.0.0.1 m.0.0.0.1 m.0.0.1 m.0.1 m.1)

@@ -79,4 +79,4 @@ returns-in-75 c = let a = c.args in rec.line_is a.s.now a.p c.requires _ _ (rec.
 
 
 pub returns-in_default : goal.returns-in_default
-returns-in_default c = let a = c.args in let m = c.in_default.rest in absurd (rec.no_letter a.s.now a.p c.requires (get_or a.s.now a.p 0) refl m.0.0.0.0.0.0.0.1 m.0.0.0.0.0.0.1 m.0.0.0.0.0.1 m.0.0.0.0.1 m.0.0.0.1 m.0.0.1 m.0.1 m.1)
+returns-in_default c = let a = c.args in let m = c.in_default.in_default-own.rest in absurd (rec.no_letter a.s.now a.p c.requires (get_or a.s.now a.p 0) refl m.0.0.0.0.0.0.0.1 m.0.0.0.0.0.0.1 m.0.0.0.0.0.1 m.0.0.0.0.1 m.0.0.0.1 m.0.0.1 m.0.1 m.1)

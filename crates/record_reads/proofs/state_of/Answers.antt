@@ -12,4 +12,4 @@ returns-in-1 c = state_1 c.args.n c.in-1.is
 
 
 pub returns-in_default : goal.returns-in_default
-returns-in_default c = state_other c.args.n c.in_default.rest.0.1 c.in_default.rest.1
+returns-in_default c = state_other c.args.n c.in_default.in_default-own.rest.0.1 c.in_default.in_default-own.rest.1

@@ -1,7 +1,7 @@
 -- The number is that of the first test that holds: DEFECT before MEMBER. Assumes nothing.
 use borrow.Author.Rules.{rules}
 use mathlib.Core.Path.{◌≡◌}
-use borrow.Author.Tests.{not_true, not_false}
+use borrow.Author.Tests.{not-true, not-false}
 use Rattle.ledger_spec.specs.Named.{handle_named}
 use Rattle.kinds.specs.declared.Parent.TheVariants.{Outermost, Inside}
 use Rattle.refuse_calls.proofs.Named.{expand_no, named_low, expand_defect, expand_fine, expand_member}
@@ -18,17 +18,17 @@ load_node-n-requires c = named_low c.args.b.now c.requires c.args.unit c.named_n
 
 pub returns-then-not-is_blossom : goal.returns-then-not-is_blossom
 returns-then-not-is_blossom c =
-    expand_defect c.args.b.now c.requires c.args.unit c.named_number-number.result (handle_named c.args.h) c.named_number-number.ensures c.if-number-ne0.false c.load_node-n.result c.load_node-n.ensures c.is_blossom.result c.is_blossom.ensures (not_true c.is_blossom.result c.if-not-is_blossom.true)
+    expand_defect c.args.b.now c.requires c.args.unit c.named_number-number.result (handle_named c.args.h) c.named_number-number.ensures c.if-number-ne0.false c.load_node-n.result c.load_node-n.ensures c.is_blossom.result c.is_blossom.ensures (not-true c.is_blossom.result c.if-not-is_blossom.true)
 
 
 pub returns-in-Outermost : goal.returns-in-Outermost
 returns-in-Outermost c =
     let q : c.load_node-n.result.parent ≡ Outermost = cc in
-    expand_fine c.args.b.now c.requires c.args.unit c.named_number-number.result (handle_named c.args.h) c.named_number-number.ensures c.if-number-ne0.false c.load_node-n.result c.load_node-n.ensures c.is_blossom.result c.is_blossom.ensures (not_false c.is_blossom.result c.if-not-is_blossom.false) q
+    expand_fine c.args.b.now c.requires c.args.unit c.named_number-number.result (handle_named c.args.h) c.named_number-number.ensures c.if-number-ne0.false c.load_node-n.result c.load_node-n.ensures c.is_blossom.result c.is_blossom.ensures (not-false c.is_blossom.result c.if-not-is_blossom.false) q
 
 
 pub returns-in-Inside : goal.returns-in-Inside
 returns-in-Inside c =
     let h = c.in-Inside.field-0 in
     let q : c.load_node-n.result.parent ≡ Inside h = cc in
-    expand_member c.args.b.now c.requires c.args.unit c.named_number-number.result (handle_named c.args.h) c.named_number-number.ensures c.if-number-ne0.false c.load_node-n.result c.load_node-n.ensures c.is_blossom.result c.is_blossom.ensures (not_false c.is_blossom.result c.if-not-is_blossom.false) h q
+    expand_member c.args.b.now c.requires c.args.unit c.named_number-number.result (handle_named c.args.h) c.named_number-number.ensures c.if-number-ne0.false c.load_node-n.result c.load_node-n.ensures c.is_blossom.result c.is_blossom.ensures (not-false c.is_blossom.result c.if-not-is_blossom.false) h q

@@ -1,5 +1,5 @@
 -- Those before s pass, and the first that does not ends it. Assumes nothing.
-use borrow.Author.Tests.{not_true, not_false}
+use borrow.Author.Tests.{not-true, not-false}
 use native.Mathlib.Omega.{arith}
 use borrow.Author.Rules.{rules}
 use Prim.Native.Nat.{◌-◌, ◌≤◌}
@@ -20,11 +20,11 @@ is_afloat-requires c = record { k_bound = omega (arith, c.requires.u_bound, c.re
 
 
 pub returns-then-not-is_afloat : goal.returns-then-not-is_afloat
-returns-then-not-is_afloat c = let a = c.args in all_not (slot_afloat a.b.now a.u a.t) a.used c.loop-s.s c.loop-s-test.true (sym c.is_afloat.ensures ∙ not_true c.is_afloat.result c.if-not-is_afloat.true)
+returns-then-not-is_afloat c = let a = c.args in all_not (slot_afloat a.b.now a.u a.t) a.used c.loop-s.s c.loop-s-test.true (sym c.is_afloat.ensures ∙ not-true c.is_afloat.result c.if-not-is_afloat.true)
 
 
 pub loop-s-preserved : goal.loop-s-preserved
-loop-s-preserved c = let a = c.args in (all_more (slot_afloat a.b.now a.u a.t) c.loop-s.s c.loop-s.invariant.0 (sym c.is_afloat.ensures ∙ not_false c.is_afloat.result c.if-not-is_afloat.false), omega arith)
+loop-s-preserved c = let a = c.args in (all_more (slot_afloat a.b.now a.u a.t) c.loop-s.s c.loop-s.invariant.0 (sym c.is_afloat.ensures ∙ not-false c.is_afloat.result c.if-not-is_afloat.false), omega arith)
 
 
 pub returns : goal.returns

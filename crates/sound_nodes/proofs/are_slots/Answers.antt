@@ -4,7 +4,7 @@ use borrow.Author.Rules.{rules}
 use Prim.Native.Nat.{◌-◌, ◌≤◌}
 use mathlib.Core.Path.{◌≡◌, sym, ◌∙◌}
 use mathlib.Core.Bool.{true, false}
-use borrow.Author.Tests.{not_true, not_false}
+use borrow.Author.Tests.{not-true, not-false}
 use Rattle.sound_trees.specs.Below.{all_to}
 use Rattle.sound_trees.proofs.Belows.{all_none, all_more, all_not, all_done}
 use Rattle.sound_nodes.specs.Nodes.{slot_test}
@@ -22,12 +22,12 @@ returns-then-not-is_slot c =
     let f = c.load_interface-f in
     let m = c.load_map-map in
     slots_of a.b.now a.u f.result m.result f.ensures m.ensures m.type-inv false
-    (all_not (slot_test a.b.now f.result.used m.result a.u) 64 c.loop-s.s c.loop-s-test.true (sym c.is_slot.ensures ∙ not_true c.is_slot.result c.if-not-is_slot.true))
+    (all_not (slot_test a.b.now f.result.used m.result a.u) 64 c.loop-s.s c.loop-s-test.true (sym c.is_slot.ensures ∙ not-true c.is_slot.result c.if-not-is_slot.true))
 
 
 pub loop-s-preserved : goal.loop-s-preserved
 loop-s-preserved c =
-    (all_more (slot_test c.args.b.now c.load_interface-f.result.used c.load_map-map.result c.args.u) c.loop-s.s c.loop-s.invariant.0 (sym c.is_slot.ensures ∙ not_false c.is_slot.result c.if-not-is_slot.false), omega arith)
+    (all_more (slot_test c.args.b.now c.load_interface-f.result.used c.load_map-map.result c.args.u) c.loop-s.s c.loop-s.invariant.0 (sym c.is_slot.ensures ∙ not-false c.is_slot.result c.if-not-is_slot.false), omega arith)
 
 
 pub returns : goal.returns

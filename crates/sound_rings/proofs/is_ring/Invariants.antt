@@ -2,7 +2,7 @@
 use native.Mathlib.Omega.{arith}
 use borrow.Author.Rules.{rules}
 use Prim.Native.Nat.{◌-◌}
-use borrow.Author.Tests.{not_true, not_false}
+use borrow.Author.Tests.{not-true, not-false}
 use Rattle.bench_words.specs.Store.{node_at}
 use Rattle.sound_rings.proofs.Walking.{Going, ring_none, ring_many, going_starts, going_out, going_fails, little, going_on, going_ends}
 use Rattle.sound_rings.proofs.is_ring.Given as goal

@@ -1,7 +1,7 @@
 -- The remainders of the slots before k are marked; where two meet, all are compared. Assumes nothing.
 use borrow.Author.Rules.{rules}
 use Prim.Native.Nat.{◌-◌}
-use borrow.Author.Tests.{not_false}
+use borrow.Author.Tests.{not-false}
 use Rattle.sound_serials.proofs.Marking.{Going, going_none, going_more, going_ends}
 use Rattle.sound_serials.proofs.are_different.Goals as goal
 
@@ -20,7 +20,7 @@ returns-then-not-mark c = c.are_compared.ensures
 
 pub loop-k-preserved : goal.loop-k-preserved
 loop-k-preserved c =
-    going_more c.args.b.now c.loop-k.t c.type_inv.t.new.0 c.loop-k.k c.serial_at-serial.result c.type_inv.t.result c.loop-k.invariant c.loop-k-test.true c.serial_at-serial.ensures c.type_inv.t.ensures (not_false c.type_inv.t.result c.if-not-mark.false)
+    going_more c.args.b.now c.loop-k.t c.type_inv.t.new.0 c.loop-k.k c.serial_at-serial.result c.type_inv.t.result c.loop-k.invariant c.loop-k-test.true c.serial_at-serial.ensures c.type_inv.t.ensures (not-false c.type_inv.t.result c.if-not-mark.false)
 
 
 pub returns : goal.returns

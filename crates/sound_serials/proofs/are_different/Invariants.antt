@@ -1,7 +1,7 @@
 -- The remainders of the slots before k are marked; where two meet, all are compared. Assumes nothing.
 use borrow.Author.Rules.{rules}
 use Prim.Native.Nat.{◌-◌}
-use borrow.Author.Tests.{not_false}
+use borrow.Author.Tests.{not-false}
 use Rattle.sound_serials.proofs.Marking.{Going, going_none, going_more, going_ends}
 use Rattle.sound_serials.proofs.are_different.Given as goal
 

@@ -4,7 +4,7 @@ use borrow.Author.Rules.{rules}
 use Prim.Native.Nat.{◌-◌, ◌≤◌}
 use mathlib.Core.Path.{◌≡◌, sym, ◌∙◌}
 use mathlib.Core.Bool.{true}
-use borrow.Author.Tests.{not_true, not_false}
+use borrow.Author.Tests.{not-true, not-false}
 use Rattle.sound_trees.specs.Below.{all_to}
 use Rattle.sound_trees.proofs.Belows.{all_none, all_more, all_not, all_done}
 use Rattle.sound_tops.specs.Tops.{top_test}

@@ -40,6 +40,6 @@ returns-in-75 c = let a = c.args in rest-K a.letter a.unit (from a.s.now a.place
 pub returns-in_default : goal.returns-in_default
 returns-in_default c =
     let a = c.args in
-    let m = c.in_default.rest in
+    let m = c.in_default.in_default-own.rest in
     rest_else a.letter a.unit (from a.s.now a.place) a.serials.now
     m.0.0.0.0.0.0.0.1 m.0.0.0.0.0.0.1 m.0.0.0.0.0.1 m.0.0.0.0.1 m.0.0.0.1 m.0.0.1 m.0.1 m.1

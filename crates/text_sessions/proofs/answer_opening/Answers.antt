@@ -1,7 +1,7 @@
 -- The first line ends in the chunk, or does not. Assumes nothing.
 use mathlib.Core.Path.{sym}
 use native.Mathlib.Omega.{arith}
-use borrow.Author.Tests.{not_false}
+use borrow.Author.Tests.{not-false}
 use lib.ListN.{take}
 use lib.Seq.{length-take-le}
 use Rattle.text_sessions.proofs.Opening.{opening_part, opening_room, opening_line}
@@ -21,7 +21,7 @@ slice_bounds-answer_first-end-2 c =
 
 pub answer_first-first-requires : goal.answer_first-first-requires
 answer_first-first-requires c =
-    (c.start.ensures, c.requires.0, omega (arith, c.requires.3, c.feed-f.ensures.in_chunk, c.feed-f.ensures.on (not_false c.feed-f.result.ended c.if-not-f.false)))
+    (c.start.ensures, c.requires.0, omega (arith, c.requires.3, c.feed-f.ensures.in_chunk, c.feed-f.ensures.on (not-false c.feed-f.result.ended c.if-not-f.false)))
 
 
 pub answer_rest-requires : goal.answer_rest-requires

@@ -23,4 +23,4 @@ returns-in-255 c = (rw c.in-255.is, omega arith)
 
 
 pub returns-in_default : goal.returns-in_default
-returns-in_default c = let m = c.in_default.rest in (no_state c.args.n m.0.0.1 m.0.1 m.1, omega arith)
+returns-in_default c = let m = c.in_default.in_default-own.rest in (no_state c.args.n m.0.0.1 m.0.1 m.1, omega arith)
