@@ -83,6 +83,7 @@ def main(file, name, k, j):
         open(file, "w", encoding="utf-8").write(text[: m.end()] + sig + text[groups[-1][3] :])
         return
     k, j = (int(it) if it.isdigit() else named.index(it) for it in (k, j))
+    at_k, at_j = k, j
     moved = flat.pop(explicit[k])
     at = explicit[j]
     flat.insert(at, moved)
@@ -99,7 +100,17 @@ def main(file, name, k, j):
     before, signature = text[: head], sig
     module = re.sub(r"^crates/(\w+)/(proofs|specs)/(.*)\.antt$", lambda g: f"Rattle.{g[1]}.{g[2]}." + g[3].replace("/", "."), file)
 
-    def cites(body):
+    # the explicit parameters of the sections that the lemma stands in, which it takes first from outside
+    start, indent, sections, pos = text.rfind("\n", 0, m.start() + 1) + 1, len(text[text.rfind("\n", 0, m.end()) + 1 :]) - len(text[text.rfind("\n", 0, m.end()) + 1 :].lstrip()), [], 0
+    for s in re.finditer(r"^( *)module _ (.*) where$", text[: m.start() + 1], re.M):
+        end = re.search(r"^ {0," + str(len(s[1])) + r"}[^\s]", text[s.end() + 1 :], re.M)
+        stop = s.end() + 1 + end.start() if end else len(text)
+        if stop > m.start() + 1:
+            count = sum(len(names) for names, _, e, _ in binders(s[2], 0) if e)
+            sections.append((s.end(), stop, count))
+
+    def cites(body, off=0):
+        k, j = at_k + off, at_j + off
         res, pos = "", 0
         pat = re.compile(r"(?<![^\s(){}\[\];,])" + re.escape(name) + r"(?![^\s(){}\[\];,])")
         while True:
@@ -118,7 +129,7 @@ def main(file, name, k, j):
                 if e is None:
                     ok = False
                     break
-                args.append((body[at:here], cites(body[here:e])))
+                args.append((body[at:here], cites(body[here:e], off)))
                 at = e
             if ok:
                 vals = [v for _, v in args]
@@ -136,9 +147,16 @@ def main(file, name, k, j):
             continue
         t = open(path, encoding="utf-8").read()
         if path == file:
-            new = cites(before) + signature + cites(tail)
+            if sections:
+                shift = len(before) + len(text) - len(tail) - len(before)
+                inner = sections[-1]
+                cut = inner[1] - (len(text) - len(tail))
+                off = sum(c for _, _, c in sections)
+                new = cites(before[: inner[0]], off) + cites(before[inner[0] :]) + signature + cites(tail[:cut]) + cites(tail[cut:], off)
+            else:
+                new = cites(before) + signature + cites(tail)
         elif re.search(r"use " + re.escape(module) + r"\.\{[^}]*(?<![\w'-])" + re.escape(name) + r"(?![\w'-])", t):
-            new = cites(t)
+            new = cites(t, sum(c for _, _, c in sections))
         else:
             continue
         if new != t:

@@ -90,4 +90,4 @@ module _ (b : Bench) (k : ℕ) where
       go (inl h) =
           let w = K.one h.entry.0 h.entry.1 u s h.node n (sym (in_gather b units h.entry h.among).holds ∙ h.holds) e (h.serial ∙ sym q) in
           h.found ∙ (λ i. record { unit = w.0 i; slot = w.1 i; serial = k })
-      go (inr m) = absurd (m.lacks (u, s, slot_of b u s) n (gather_in units b u s (in_units u (held_unit b F u s n e)) (held_slot b F u s n e)) e q)
+      go (inr m) = absurd (m.lacks (u, s, slot_of b u s) n (gather_in b u units s (in_units u (held_unit b F u s n e)) (held_slot b F u s n e)) e q)

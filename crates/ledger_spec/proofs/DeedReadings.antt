@@ -94,7 +94,7 @@ module _ (b : Bench) (u : ℕ) (hs : List Handle) (ts : List (Handle × Handle))
   pub blossom_member : u < length b.interfaces → (h : Handle) → In h hs → (h.unit ≡ u → h.slot ≡ free_slot b u → ⊥)
       → slot_of (add_blossom b u hs ts) h.unit h.slot ≡ restate (slot_of b h.unit h.slot) stays (some (new_handle b u))
   unfolding add_blossom
-  blossom_member low h i off = push_off marked u (free_slot b u) (blossom_node b hs ts) (marked<n low) marked_low h.unit h.slot off ∙ mark_all_at b stays (some (new_handle b u)) hs h i
+  blossom_member low h i off = push_off marked u (free_slot b u) (blossom_node b hs ts) (marked<n low) marked_low h.unit h.slot off ∙ mark_all_at stays (some (new_handle b u)) h b hs i
 
   pub blossom_off : u < length b.interfaces → (w t : ℕ) → ((h : Handle) → In h hs → h.unit ≡ w → h.slot ≡ t → ⊥) → (w ≡ u → t ≡ free_slot b u → ⊥)
       → slot_of (add_blossom b u hs ts) w t ≡ slot_of b w t
@@ -139,7 +139,7 @@ module _ (b : Bench) (h : Handle) where
   pub expand_member : (g : Handle) → In g (members (node_named b h)) → (h.unit ≡ g.unit → h.slot ≡ g.slot → ⊥)
       → slot_of (remove_blossom b h) g.unit g.slot ≡ restate (slot_of b g.unit g.slot) grows none
   unfolding remove_blossom
-  expand_member g i off = mark_all_at emptied grows none (members (node_named b h)) g i ∙ ap (λ (o : Option Node). restate o grows none) (place_off b h.unit h.slot none g.unit g.slot off)
+  expand_member g i off = mark_all_at grows none g emptied (members (node_named b h)) i ∙ ap (λ (o : Option Node). restate o grows none) (place_off b h.unit h.slot none g.unit g.slot off)
 
   pub expand_off : (w t : ℕ) → ((g : Handle) → In g (members (node_named b h)) → g.unit ≡ w → g.slot ≡ t → ⊥) → (h.unit ≡ w → h.slot ≡ t → ⊥) → slot_of (remove_blossom b h) w t ≡ slot_of b w t
   unfolding remove_blossom

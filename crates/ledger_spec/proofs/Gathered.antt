@@ -177,4 +177,4 @@ module _ (b : Bench) (F : Frame b) (u s : ℕ) (n : Node) (e : slot_of b u s ≡
       go (no h) = absurd (none_some (get_or-eq_default (interface b u).slots none (omega arith)) e)
 
   pub held_in : In (u, s, some n) (slots_of b (top b u))
-  held_in = subst (λ (o : Option Node). In (u, s, o) (slots_of b (top b u))) e (gather_in (tree 8 b (top b u)) b u s (tree_in b F u held_unit) held_slot)
+  held_in = subst (λ (o : Option Node). In (u, s, o) (slots_of b (top b u))) e (gather_in b u (tree 8 b (top b u)) s (tree_in b F u held_unit) held_slot)

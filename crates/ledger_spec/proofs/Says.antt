@@ -179,7 +179,7 @@ module _ (b : Bench) (P : Parts b) where
   single_of u s n v e r = eqb-true n.size 1 (ap (λ (c : Class). sound_class b (mk u s n) c n.size) (sym r) ∙ (placed u s n e).class)
 
   entry : (u s : ℕ) (n : Node) → slot_of b u s ≡ some n → In (u, s, some n) (gather b units)
-  entry u s n e = subst (λ (o : Option Node). In (u, s, o) (gather b units)) e (gather_in units b u s (in_units u (held_unit b F u s n e)) (held_slot b F u s n e))
+  entry u s n e = subst (λ (o : Option Node). In (u, s, o) (gather b units)) e (gather_in b u units s (in_units u (held_unit b F u s n e)) (held_slot b F u s n e))
 
   floors_of : Floors b
   floors_of = record {
