@@ -94,6 +94,23 @@ def last_let(body):
         at = here + 3
 
 
+def field_of(fields, rest, at):
+    """Where a path into nested pairs leads among the clauses that were those pairs."""
+    n = 0
+    while n < len(fields) - 1 and rest and rest[0] == "1":
+        n, rest = n + 1, rest[1:]
+    if n == len(fields) - 1:
+        return ".".join([at, fields[n], *rest])
+    if rest and rest[0] == "0":
+        return ".".join([at, fields[n], *rest[1:]])
+    if rest:
+        said.append(f"no clause at {at}.{'.'.join(rest)} of {fields}")
+    whole = f"{at}.{fields[-1]}"
+    for it in reversed(fields[n:-1]):
+        whole = f"({at}.{it}, {whole})"
+    return whole
+
+
 class Names:
     def __init__(self, of):
         self.of = of
@@ -153,10 +170,8 @@ class Turn:
             return "path", ".".join(["c", plain(step), *rest])
         if step == "requires":
             pre = names.of["pre"]
-            if pre and rest and rest[0].isdigit():
-                return "path", ".".join(["c", "requires", pre["fields"][int(rest[0])], *rest[1:]])
-            if pre and not rest:
-                return "path", "(" + ", ".join("c.requires." + it for it in pre["fields"]) + ")"
+            if pre and (not rest or rest[0].isdigit()):
+                return "path", field_of(pre["fields"], rest, "c.requires")
             return "path", ".".join(["c", "requires", *rest])
         new, at_place = names.step(here, step)
         if new and plain(step) == "match":
@@ -180,11 +195,9 @@ class Turn:
             for up in names.of["places"]:
                 if up[2][0] and plain(up[2][0]) == plain(step) and names.of["clauses"][names.place[up[0]]]:
                     clauses = names.of["clauses"][names.place[up[0]]]
-        if rest and rest[0] == "ensures" and clauses:
-            if len(rest) > 1 and rest[1].isdigit() and int(rest[1]) < len(clauses["fields"]):
-                rest = ["ensures", clauses["fields"][int(rest[1])], *rest[2:]]
-            elif len(rest) == 1:
-                return "path", "(" + ", ".join(f"c.{new}.ensures.{it}" for it in clauses["fields"]) + ")"
+        rest = [{"type-inv": "type_inv", "well-formed": "well_formed"}.get(it, it) for it in rest]
+        if rest and rest[0] == "ensures" and clauses and (len(rest) == 1 or rest[1].isdigit()):
+            return "path", field_of(clauses["fields"], rest[1:], f"c.{new}.ensures")
         return "path", ".".join(["c", new, *rest])
 
     def body(self, text, here, base="c"):
@@ -231,10 +244,12 @@ def labelled(term, labels):
     at = last_let(term)
     lets, last = term[:at], term[at:]
     cut = parts(last)
+    while cut and len(cut) < len(labels) and parts(cut[-1]):
+        cut = cut[:-1] + parts(cut[-1])
     pad = " " if not lets or lets.endswith((" ", "\n")) else " "
     if cut and len(cut) == len(labels):
         return lets + pad + "record { " + "; ".join(f"{l} = {v}" for l, v in zip(labels, cut)) + " }"
-    return lets + pad + "let whole = " + last.strip() + " in record { " + "; ".join(f"{l} = whole.{n}" for n, l in enumerate(labels)) + " }"
+    return lets + pad + "let whole = " + last.strip() + " in record { " + "; ".join(f"{l} = whole" + ".1" * n + (".0" if n < len(labels) - 1 else "") for n, l in enumerate(labels)) + " }"
 
 
 def ensures_of(crate, path):
@@ -332,6 +347,8 @@ def turn(crate, folder, names):
             args = args[: args.index("c") + 1] if "c" in args else args
             t = Turn(n, file, labels)
             term = t.body(term, here)
+            # a test of `!x` says `x ≡ false` and `x ≡ true` itself
+            term = re.sub(r"not[-_](?:true|false) (?:_|[A-Za-z][\w'.-]*|\([^()]*\)) (c\.if-not-[\w'-]+\.(?:true|false))", r"\1", term)
             wanted = None
             if new.startswith("returns"):
                 wanted = labels

@@ -21,6 +21,6 @@ lowered-requires c =
 
 pub returns : goal.returns
 returns c =
-    to_z-of_z (record { sfits = c.lowered.type-inv }) ∙ c.lowered.ensures
+    to_z-of_z (record { sfits = c.lowered.type_inv }) ∙ c.lowered.ensures
     ∙ ap (off 1152921504606846976) c.valued.ensures
     ∙ value_seen c.args.b.now (handle_named c.args.h) c.requires.stands c.load_node-n.result c.load_node-n.ensures c.climb-c.result.total c.climb-c.ensures.total

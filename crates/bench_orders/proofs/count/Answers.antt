@@ -20,14 +20,14 @@ pub load_interface-f-requires : goal.load_interface-f-requires
 load_interface-f-requires c =
     let o = c.order_of-o in
     let i = c.loop-i.i in
-    unit_low c.args.b.now c.requires.fit c.args.unit c.requires.unit_bound.0 o.result o.ensures i (get_or o.result.units i 0) c.loop-i-test.true refl
+    unit_low c.args.b.now c.requires.fit c.args.unit c.requires.unit_bound o.result o.ensures i (get_or o.result.units i 0) c.loop-i-test.true refl
 
 
 pub overflow_add-total : goal.overflow_add-total
 overflow_add-total c =
     let o = c.order_of-o in
     let i = c.loop-i.i in
-    let u = used_small c.args.b.now c.requires.fit c.args.unit c.requires.unit_bound.0 o.result o.ensures i (get_or o.result.units i 0) c.loop-i-test.true refl c.load_interface-f.result c.load_interface-f.ensures in
+    let u = used_small c.args.b.now c.requires.fit c.args.unit c.requires.unit_bound o.result o.ensures i (get_or o.result.units i 0) c.loop-i-test.true refl c.load_interface-f.result c.load_interface-f.ensures in
     omega (arith, u, c.loop-i.invariant.small, c.loop-i-test.true, o.ensures.few)
 
 
@@ -43,10 +43,10 @@ pub loop-i-preserved : goal.loop-i-preserved
 loop-i-preserved c =
     let o = c.order_of-o in
     let i = c.loop-i.i in
-    count_on c.args.b.now c.requires.fit c.args.unit c.requires.unit_bound.0 o.result o.ensures i (get_or o.result.units i 0) c.loop-i-test.true refl c.load_interface-f.result c.load_interface-f.ensures c.loop-i.total c.loop-i.invariant
+    count_on c.args.b.now c.requires.fit c.args.unit c.requires.unit_bound o.result o.ensures i (get_or o.result.units i 0) c.loop-i-test.true refl c.load_interface-f.result c.load_interface-f.ensures c.loop-i.total c.loop-i.invariant
 
 
 pub returns : goal.returns
 returns c =
     let o = c.order_of-o in
-    count_ends c.args.b.now c.requires.fit c.args.unit c.requires.unit_bound.0 o.result o.ensures c.loop-i.i c.loop-i.total c.loop-i-test.false c.loop-i.invariant
+    count_ends c.args.b.now c.requires.fit c.args.unit c.requires.unit_bound o.result o.ensures c.loop-i.i c.loop-i.total c.loop-i-test.false c.loop-i.invariant

@@ -20,14 +20,14 @@ pub load_interface-f-requires : goal.load_interface-f-requires
 load_interface-f-requires c =
     let o = c.order_of-o in
     let i = c.loop-i.i in
-    unit_low c.args.b.now c.requires.fit c.args.unit c.requires.unit_bound.0 o.result o.ensures i (get_or o.result.units i 0) c.loop-i-test.true refl
+    unit_low c.args.b.now c.requires.fit c.args.unit c.requires.unit_bound o.result o.ensures i (get_or o.result.units i 0) c.loop-i-test.true refl
 
 
 pub overflow_mul-result : goal.overflow_mul-result
 overflow_mul-result c =
     let o = c.order_of-o in
     let i = c.loop-i.i in
-    let u = unit_low c.args.b.now c.requires.fit c.args.unit c.requires.unit_bound.0 o.result o.ensures i (get_or o.result.units i 0) c.loop-i-test.true refl in
+    let u = unit_low c.args.b.now c.requires.fit c.args.unit c.requires.unit_bound o.result o.ensures i (get_or o.result.units i 0) c.loop-i-test.true refl in
     omega (arith, u)
 
 
@@ -35,8 +35,8 @@ pub overflow_add-result : goal.overflow_add-result
 overflow_add-result c =
     let o = c.order_of-o in
     let i = c.loop-i.i in
-    let u = unit_low c.args.b.now c.requires.fit c.args.unit c.requires.unit_bound.0 o.result o.ensures i (get_or o.result.units i 0) c.loop-i-test.true refl in
-    let n = used_small c.args.b.now c.requires.fit c.args.unit c.requires.unit_bound.0 o.result o.ensures i (get_or o.result.units i 0) c.loop-i-test.true refl c.load_interface-f.result c.load_interface-f.ensures in
+    let u = unit_low c.args.b.now c.requires.fit c.args.unit c.requires.unit_bound o.result o.ensures i (get_or o.result.units i 0) c.loop-i-test.true refl in
+    let n = used_small c.args.b.now c.requires.fit c.args.unit c.requires.unit_bound o.result o.ensures i (get_or o.result.units i 0) c.loop-i-test.true refl c.load_interface-f.result c.load_interface-f.ensures in
     omega (arith, u, n, c.if-rest-f.true)
 
 
@@ -44,7 +44,7 @@ pub returns-then-rest-f : goal.returns-then-rest-f
 returns-then-rest-f c =
     let o = c.order_of-o in
     let i = c.loop-i.i in
-    seek_ends c.args.b.now c.requires.fit c.args.unit c.requires.unit_bound.0 o.result o.ensures i (get_or o.result.units i 0) c.loop-i-test.true refl c.load_interface-f.result c.load_interface-f.ensures
+    seek_ends c.args.b.now c.requires.fit c.args.unit c.requires.unit_bound o.result o.ensures i (get_or o.result.units i 0) c.loop-i-test.true refl c.load_interface-f.result c.load_interface-f.ensures
     c.args.index c.loop-i.rest (get_or o.result.units i 0 * 64 + c.loop-i.rest) c.loop-i.invariant c.if-rest-f.true refl
 
 
@@ -60,10 +60,10 @@ loop-i-smaller c = omega (arith, c.loop-i-test.true)
 pub loop-i-preserved : goal.loop-i-preserved
 loop-i-preserved c =
     let i = c.loop-i.i in
-    seek_on c.args.b.now c.requires.fit c.args.unit c.requires.unit_bound.0 c.order_of-o.result c.order_of-o.ensures i (get_or c.order_of-o.result.units i 0) c.loop-i-test.true refl c.load_interface-f.result c.load_interface-f.ensures c.args.index c.loop-i.rest c.loop-i.invariant c.if-rest-f.false
+    seek_on c.args.b.now c.requires.fit c.args.unit c.requires.unit_bound c.order_of-o.result c.order_of-o.ensures i (get_or c.order_of-o.result.units i 0) c.loop-i-test.true refl c.load_interface-f.result c.load_interface-f.ensures c.args.index c.loop-i.rest c.loop-i.invariant c.if-rest-f.false
 
 
 pub returns : goal.returns
 returns c =
     let o = c.order_of-o in
-    seek_past c.args.b.now c.requires.fit c.args.unit c.requires.unit_bound.0 o.result o.ensures c.args.index c.loop-i.rest c.loop-i.i c.loop-i-test.false c.loop-i.invariant
+    seek_past c.args.b.now c.requires.fit c.args.unit c.requires.unit_bound o.result o.ensures c.args.index c.loop-i.rest c.loop-i.i c.loop-i-test.false c.loop-i.invariant

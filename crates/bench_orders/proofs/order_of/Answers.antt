@@ -7,8 +7,8 @@ use Rattle.bench_orders.proofs.order_of.Goals as goal
 
 
 pub list-requires : goal.list-requires
-list-requires c = let whole = (c.requires.fit, (c.requires.unit_bound.0, omega (arith, listable c.args.b.now c.args.unit c.requires.fit c.requires.unit_bound.0 c.requires.unit_bound.1))) in record { fit = whole.0; unit_bound = whole.1; unit_bound_2 = whole.2 }
+list-requires c = record { fit = c.requires.fit; unit_bound = c.requires.unit_bound; unit_bound_2 = omega (arith, listable c.args.b.now c.args.unit c.requires.fit c.requires.unit_bound c.requires.unit_value) }
 
 
 pub returns : goal.returns
-returns c = list_whole c.args.b.now c.args.unit (record { units = replicate 8 0; count = 0 }) c.list.result (listable c.args.b.now c.args.unit c.requires.fit c.requires.unit_bound.0 c.requires.unit_bound.1) refl refl c.list.ensures
+returns c = list_whole c.args.b.now c.args.unit (record { units = replicate 8 0; count = 0 }) c.list.result (listable c.args.b.now c.args.unit c.requires.fit c.requires.unit_bound c.requires.unit_value) refl refl c.list.ensures

@@ -9,11 +9,11 @@ use Rattle.check_circles.proofs.circle_verdict.Goals as goal
 
 
 pub load_node-n-requires : goal.load_node-n-requires
-load_node-n-requires c = c.requires.nests.1.0.low
+load_node-n-requires c = c.requires.placed.low
 
 
 pub outer-outer-requires : goal.outer-outer-requires
-outer-outer-requires c = let whole = (c.requires.fit, (c.requires.nests.1.0, c.requires.nests.0)) in record { fit = whole.0; placed = whole.1; nests = whole.2 }
+outer-outer-requires c = record { fit = c.requires.fit; placed = c.requires.placed; nests = c.requires.nests }
 
 
 pub loop-m-init : goal.loop-m-init
@@ -25,14 +25,14 @@ pub member_verdict-verdict-requires : goal.member_verdict-verdict-requires
 member_verdict-verdict-requires c =
     let b = c.args.b.now in
     let l = c.loop-m in
-    let o = c.outer-outer in let whole = (c.requires.fit, (c.requires.nests.0, (next_placed b c.requires.fit c.args.k c.requires.nests.1.0 c.requires.nests.1.1 c.args.strict l.p l.m l.invariant c.loop-m-test.true, next_outer b c.requires.fit c.args.k c.requires.nests.1.0 c.requires.nests.1.1 c.args.strict l.p l.m l.invariant c.loop-m-test.true (handle_named o.result) o.ensures.0))) in record { fit = whole.0; nests = whole.1; placed = whole.2; outer_value = whole.3 }
+    let o = c.outer-outer in record { fit = c.requires.fit; nests = c.requires.nests; placed = next_placed b c.requires.fit c.args.k c.requires.placed c.requires.k_value c.args.strict l.p l.m l.invariant c.loop-m-test.true; outer_value = next_outer b c.requires.fit c.args.k c.requires.placed c.requires.k_value c.args.strict l.p l.m l.invariant c.loop-m-test.true (handle_named o.result) o.ensures.0 }
 
 
 pub handle_at-node-requires : goal.handle_at-node-requires
 handle_at-node-requires c =
     let b = c.args.b.now in
     let l = c.loop-m in
-    (next_placed b c.requires.fit c.args.k c.requires.nests.1.0 c.requires.nests.1.1 c.args.strict l.p l.m l.invariant c.loop-m-test.true).low
+    (next_placed b c.requires.fit c.args.k c.requires.placed c.requires.k_value c.args.strict l.p l.m l.invariant c.loop-m-test.true).low
 
 
 pub returns-then-verdict-ne0 : goal.returns-then-verdict-ne0
@@ -40,14 +40,14 @@ returns-then-verdict-ne0 c =
     let b = c.args.b.now in
     let l = c.loop-m in
     let v = c.member_verdict-verdict in
-    going_found b c.requires.fit c.args.k c.requires.nests.1.0 c.requires.nests.1.1 c.args.strict l.p l.m l.invariant c.loop-m-test.true (record { verdict = v.result; node = c.handle_at-node.result }) v.ensures c.if-verdict-ne0.true c.handle_at-node.ensures
+    going_found b c.requires.fit c.args.k c.requires.placed c.requires.k_value c.args.strict l.p l.m l.invariant c.loop-m-test.true (record { verdict = v.result; node = c.handle_at-node.result }) v.ensures c.if-verdict-ne0.true c.handle_at-node.ensures
 
 
 pub load_node-x-requires : goal.load_node-x-requires
 load_node-x-requires c =
     let b = c.args.b.now in
     let l = c.loop-m in
-    (next_placed b c.requires.fit c.args.k c.requires.nests.1.0 c.requires.nests.1.1 c.args.strict l.p l.m l.invariant c.loop-m-test.true).low
+    (next_placed b c.requires.fit c.args.k c.requires.placed c.requires.k_value c.args.strict l.p l.m l.invariant c.loop-m-test.true).low
 
 
 pub loop-m-preserved : goal.loop-m-preserved
@@ -55,11 +55,11 @@ loop-m-preserved c =
     let b = c.args.b.now in
     let l = c.loop-m in
     let v = c.member_verdict-verdict in
-    going_on b c.requires.fit c.args.k c.requires.nests.1.0 c.requires.nests.1.1 c.args.strict l.p l.m l.invariant c.loop-m-test.true v.result c.load_node-x.result.next v.ensures c.if-verdict-ne0.false (ap (λ (x : Node). x.next) c.load_node-x.ensures)
+    going_on b c.requires.fit c.args.k c.requires.placed c.requires.k_value c.args.strict l.p l.m l.invariant c.loop-m-test.true v.result c.load_node-x.result.next v.ensures c.if-verdict-ne0.false (ap (λ (x : Node). x.next) c.load_node-x.ensures)
 
 
 pub returns : goal.returns
 returns c =
     let b = c.args.b.now in
     let l = c.loop-m in
-    going_ends b c.requires.fit c.args.k c.requires.nests.1.0 c.requires.nests.1.1 c.args.strict l.p l.m l.invariant (omega (arith, c.loop-m-test.false)) (record { verdict = 0; node = c.nobody.result }) refl c.nobody.ensures
+    going_ends b c.requires.fit c.args.k c.requires.placed c.requires.k_value c.args.strict l.p l.m l.invariant (omega (arith, c.loop-m-test.false)) (record { verdict = 0; node = c.nobody.result }) refl c.nobody.ensures

@@ -13,7 +13,7 @@ pub returns-in-Absent : goal.returns-in-Absent
 returns-in-Absent c =
     let n = c.load_node-n in
     let q : n.result.class ≡ Absent = cc in
-    absurd (never c.args.b.now c.requires.fit c.args.k c.requires.nests.1.0 n.result n.ensures q)
+    absurd (never c.args.b.now c.requires.fit c.args.k c.requires.placed n.result n.ensures q)
 
 
 pub returns-in-Defect : goal.returns-in-Defect
@@ -21,7 +21,7 @@ returns-in-Defect c =
     let n = c.load_node-n in
     let v = c.in-Defect.field-0 in
     let q : n.result.class ≡ Defect v = cc in
-    c.own_verdict.ensures ∙ stands_defect c.args.b.now c.requires.fit c.args.k c.requires.nests.1.0 n.result n.ensures c.args.strict v q
+    c.own_verdict.ensures ∙ stands_defect c.args.b.now c.requires.fit c.args.k c.requires.placed n.result n.ensures c.args.strict v q
 
 
 pub returns-in-Blossom : goal.returns-in-Blossom
@@ -29,4 +29,4 @@ returns-in-Blossom c =
     let n = c.load_node-n in
     let q : n.result.class ≡ Blossom = cc in
     c.larger_of.ensures ∙ ap₂ larger c.touch-x.ensures c.touch-y.ensures
-    ∙ stands_ring c.args.b.now c.requires.fit c.args.k c.requires.nests.1.0 n.result n.ensures c.args.strict q (handle_named c.args.outer) c.requires.nests.1.1
+    ∙ stands_ring c.args.b.now c.requires.fit c.args.k c.requires.placed n.result n.ensures c.args.strict q (handle_named c.args.outer) c.requires.outer_value

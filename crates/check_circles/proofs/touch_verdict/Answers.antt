@@ -21,7 +21,7 @@ outer-node-requires c =
     let h = handle_named c.args.h in
     let k = c.in-At.k in
     let q : c.find-found.result ≡ At k = cc in
-    let H = found_at b h c.find-found.ensures k q in let whole = (c.requires.fit, (held_placed b h k H, c.requires.nests)) in record { fit = whole.0; placed = whole.1; nests = whole.2 }
+    let H = found_at b h c.find-found.ensures k q in record { fit = c.requires.fit; placed = held_placed b h k H; nests = c.requires.nests }
 
 
 pub returns-then-same : goal.returns-then-same

@@ -34,7 +34,7 @@ is_within-requires c =
     let m = handle_at (node_at b) c.args.k in
     let k = c.in-At.p in
     let q : c.find-found.result ≡ At k = cc in
-    let H = found_at b h c.find-found.ensures k q in let whole = (c.requires.fit, (c.requires.nests.1, (held_placed b h k H, c.requires.nests.0))) in record { fit = whole.0; placed = whole.1; placed_2 = whole.2; nests = whole.3 }
+    let H = found_at b h c.find-found.ensures k q in record { fit = c.requires.fit; placed = c.requires.placed; placed_2 = held_placed b h k H; nests = c.requires.nests }
 
 
 pub returns-then-is_within : goal.returns-then-is_within

@@ -9,12 +9,12 @@ use Rattle.check_nests.proofs.fill.Goals as goal
 
 
 pub returns-then-w-eq0 : goal.returns-then-w-eq0
-returns-then-w-eq0 c = c.requires.k_bound.1
+returns-then-w-eq0 c = c.requires.nests
 
 
 pub loop-m-init : goal.loop-m-init
 loop-m-init c =
-    going_starts c.args.b.now c.args.k (get_or c.args.t.now c.args.k 0) c.args.t.now c.requires.fit c.requires.k_bound.0 c.requires.k_bound.1 refl (omega (arith, c.if-w-eq0.false)) c.load_node-n.result c.load_node-n.ensures
+    going_starts c.args.b.now c.args.k (get_or c.args.t.now c.args.k 0) c.args.t.now c.requires.fit c.requires.k_bound c.requires.nests refl (omega (arith, c.if-w-eq0.false)) c.load_node-n.result c.load_node-n.ensures
 
 
 pub load_node-y-requires : goal.load_node-y-requires

@@ -24,7 +24,7 @@ returns-then-w-v-2 c = λ e. absurd (true≢false (sym e))
 pub returns-then-w-v-3 : goal.returns-then-w-v-3
 returns-then-w-v-3 c =
     λ e.
-    within c.args.b.now c.requires.fit c.args.t.now c.requires.placed.1.1 c.args.m c.args.k c.requires.placed.0.low c.requires.placed.1.0.low
+    within c.args.b.now c.requires.fit c.args.t.now c.requires.nests c.args.m c.args.k c.requires.placed.low c.requires.placed_2.low
     (omega (arith, c.if-v-eq0.false))
     (omega (arith, c.if-w-v.false))
     (omega (arith, c.if-w-v-2.false))

@@ -11,7 +11,7 @@ use Rattle.check_nests.proofs.note.Goals as goal
 
 
 pub outermost-o-requires : goal.outermost-o-requires
-outermost-o-requires c = record { fit = c.requires.fit; stands = rw c.handle_at-h.ensures (standing c.args.b.now c.requires.fit c.args.k c.requires.placed.0) }
+outermost-o-requires c = record { fit = c.requires.fit; stands = rw c.handle_at-h.ensures (standing c.args.b.now c.requires.fit c.args.k c.requires.placed) }
 
 
 pub spread-requires : goal.spread-requires
@@ -19,4 +19,4 @@ spread-requires c =
     let b = c.args.b.now in
     let o = c.outermost-o in
     let h = c.handle_at-h in
-    let r = root_of b c.requires.fit (handle_at (node_at b) c.args.k) (handle_named o.result.node) (standing b c.requires.fit c.args.k c.requires.placed.0) o.ensures.stands (o.ensures.node ∙ ap (outermost (view b)) h.ensures) in let whole = (c.requires.fit, (r.placed, (r.free, c.requires.placed.1))) in record { fit = whole.0; placed = whole.1; k_value = whole.2; nests = whole.3 }
+    let r = root_of b c.requires.fit (handle_at (node_at b) c.args.k) (handle_named o.result.node) (standing b c.requires.fit c.args.k c.requires.placed) o.ensures.stands (o.ensures.node ∙ ap (outermost (view b)) h.ensures) in record { fit = c.requires.fit; placed = r.placed; k_value = r.free; nests = c.requires.nests }

@@ -11,7 +11,7 @@ use Rattle.check_nests.proofs.outer.Goals as goal
 
 
 pub outermost-o-requires : goal.outermost-o-requires
-outermost-o-requires c = record { fit = c.requires.fit; stands = rw c.handle_at.ensures (standing c.args.b.now c.requires.fit c.args.k c.requires.placed.0) }
+outermost-o-requires c = record { fit = c.requires.fit; stands = rw c.handle_at.ensures (standing c.args.b.now c.requires.fit c.args.k c.requires.placed) }
 
 
 pub returns-then-w-eq0 : goal.returns-then-w-eq0
@@ -22,4 +22,4 @@ returns-then-w-eq0 c =
 
 pub returns : goal.returns
 returns c =
-    outer_read c.args.b.now c.requires.fit c.args.t.now c.requires.placed.1 c.args.k c.requires.placed.0.low (omega (arith, c.if-w-eq0.false)) (handle_named c.handle_at-2.result) c.handle_at-2.ensures
+    outer_read c.args.b.now c.requires.fit c.args.t.now c.requires.nests c.args.k c.requires.placed.low (omega (arith, c.if-w-eq0.false)) (handle_named c.handle_at-2.result) c.handle_at-2.ensures

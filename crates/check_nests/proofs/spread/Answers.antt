@@ -9,15 +9,15 @@ use Rattle.check_nests.proofs.spread.Goals as goal
 
 
 pub bounds-t-k : goal.bounds-t-k
-bounds-t-k c = c.requires.placed.0.low
+bounds-t-k c = c.requires.placed.low
 
 
 pub loop-turns-init : goal.loop-turns-init
-loop-turns-init c = (c.requires.placed.0.low, nests_set c.args.b.now c.args.t.now c.args.k _ c.requires.placed.0.low c.requires.placed.1.1 (root_noted c.args.b.now c.requires.fit c.args.k c.requires.placed.0 c.requires.placed.1.0))
+loop-turns-init c = (c.requires.placed.low, nests_set c.args.b.now c.args.t.now c.args.k _ c.requires.placed.low c.requires.nests (root_noted c.args.b.now c.requires.fit c.args.k c.requires.placed c.requires.k_value))
 
 
 pub fill-requires : goal.fill-requires
-fill-requires c = let whole = (c.requires.fit, c.loop-turns.invariant) in record { fit = whole.0; k_bound = whole.1; nests = whole.2 }
+fill-requires c = let whole = (c.requires.fit, c.loop-turns.invariant) in record { fit = whole.0; k_bound = whole.1.0; nests = whole.1.1 }
 
 
 pub after-at-requires : goal.after-at-requires

@@ -13,12 +13,12 @@ loop-j-init c = (omega arith, filled_none c.args.out.now c.args.n c.args.from c.
 
 
 pub bounds-out-n : goal.bounds-out-n
-bounds-out-n c = omega (arith, c.requires.many_bound.0, c.loop-j-test.true)
+bounds-out-n c = omega (arith, c.requires.many_bound, c.loop-j-test.true)
 
 
 pub loop-j-preserved : goal.loop-j-preserved
 loop-j-preserved c =
-    (omega (arith, c.loop-j-test.true), filled_more c.args.out.now c.args.n c.args.from c.loop-j.j c.loop-j.out (omega (arith, c.requires.many_bound.0, c.loop-j-test.true)) c.loop-j.invariant.1)
+    (omega (arith, c.loop-j-test.true), filled_more c.args.out.now c.args.n c.args.from c.loop-j.j c.loop-j.out (omega (arith, c.requires.many_bound, c.loop-j-test.true)) c.loop-j.invariant.1)
 
 
 pub returns : goal.returns

@@ -8,7 +8,7 @@ use Rattle.check_sound.proofs.judge.Goals as goal
 
 
 pub walk-w-requires : goal.walk-w-requires
-walk-w-requires c = let whole = (c.requires.fit, (c.requires.unit_bound.0, (c.requires.unit_bound.1, (c.list-count.ensures, nests_fresh c.args.b.now)))) in record { fit = whole.0; unit_bound = whole.1; unit_value = whole.2; places = whole.3; nests = whole.4 }
+walk-w-requires c = record { fit = c.requires.fit; unit_bound = c.requires.unit_bound; unit_value = c.requires.unit_value; places = c.list-count.ensures; nests = nests_fresh c.args.b.now }
 
 
 pub returns-then-w-ne0 : goal.returns-then-w-ne0
@@ -24,18 +24,18 @@ returns-then-total-f c =
     let w = c.walk-w in
     let f = c.load_interface-f in
     let t = c.total-total in
-    let x = sum_seen b c.requires.fit c.args.unit c.requires.unit_bound.0 c.requires.unit_bound.1 f.result f.ensures in
+    let x = sum_seen b c.requires.fit c.args.unit c.requires.unit_bound c.requires.unit_value f.result f.ensures in
     judge_five (view b) c.args.unit c.args.strict w.result.verdict w.result.index.0 w.ensures.0 c.if-w-ne0.false (sum_differs b c.args.unit t.result f.result x t.ensures c.if-total-f.true)
 
 
 pub walk-requires : goal.walk-requires
-walk-requires c = let whole = (c.requires.fit, (c.requires.unit_bound.0, (c.requires.unit_bound.1, (c.list-count.ensures, c.walk-w.ensures.1)))) in record { fit = whole.0; unit_bound = whole.1; unit_value = whole.2; places = whole.3; nests = whole.4 }
+walk-requires c = record { fit = c.requires.fit; unit_bound = c.requires.unit_bound; unit_value = c.requires.unit_value; places = c.list-count.ensures; nests = c.walk-w.ensures.1 }
 
 
 pub returns-then-strict : goal.returns-then-strict
 returns-then-strict c =
     let b = c.args.b.now in
-    let x = sum_seen b c.requires.fit c.args.unit c.requires.unit_bound.0 c.requires.unit_bound.1 c.load_interface-f.result c.load_interface-f.ensures in
+    let x = sum_seen b c.requires.fit c.args.unit c.requires.unit_bound c.requires.unit_value c.load_interface-f.result c.load_interface-f.ensures in
     judge_strict (view b) c.args.unit c.args.strict c.walk-w.result.verdict c.walk-w.result.index.0 c.walk-w.ensures.0 c.if-w-ne0.false (sum_agrees b c.args.unit c.total-total.result c.load_interface-f.result x c.total-total.ensures c.if-total-f.false) c.if-strict.true (c.walk.result.verdict, c.walk.result.index.0) c.walk.ensures.0
 
 
@@ -43,5 +43,5 @@ pub returns : goal.returns
 returns c =
     let b = c.args.b.now in
     let f = c.load_interface-f in
-    let x = sum_seen b c.requires.fit c.args.unit c.requires.unit_bound.0 c.requires.unit_bound.1 f.result f.ensures in
+    let x = sum_seen b c.requires.fit c.args.unit c.requires.unit_bound c.requires.unit_value f.result f.ensures in
     judge_zero (view b) c.args.unit c.args.strict c.walk-w.result.verdict c.walk-w.result.index.0 c.walk-w.ensures.0 c.if-w-ne0.false (sum_agrees b c.args.unit c.total-total.result f.result x c.total-total.ensures c.if-total-f.false) c.if-strict.false

@@ -9,7 +9,7 @@ use Rattle.check_totals.proofs.progress.Goals as goal
 
 pub returns-then-u-last : goal.returns-then-u-last
 returns-then-u-last c =
-    c.requires.u_bound.1 ∙ sym (ap (λ (u : ℕ). sum_up 8 (interface_at c.args.b.now) u) c.if-u-last.true)
+    c.requires.t_value ∙ sym (ap (λ (u : ℕ). sum_up 8 (interface_at c.args.b.now) u) c.if-u-last.true)
 
 
 pub returns : goal.returns

@@ -7,7 +7,7 @@ use Rattle.check_totals.proofs.total.Goals as goal
 
 
 pub climb-top-requires : goal.climb-top-requires
-climb-top-requires c = record { unit_bound = c.requires.unit_bound.0; steady = c.requires.fit.canon.steady }
+climb-top-requires c = record { unit_bound = c.requires.unit_bound; steady = c.requires.fit.canon.steady }
 
 
 pub loop-i-init : goal.loop-i-init
@@ -15,27 +15,27 @@ loop-i-init c = (omega arith, adding_starts c.args.b.now c.args.unit c.args.unit
 
 
 pub bounds-places-i : goal.bounds-places-i
-bounds-places-i c = omega (arith, c.loop-i-test.true, c.requires.unit_bound.1.few)
+bounds-places-i c = omega (arith, c.loop-i-test.true, c.requires.places.few)
 
 
 pub progress-t-requires : goal.progress-t-requires
 progress-t-requires c =
     let l = c.loop-i in
-    let P = place_at c.args.b.now c.args.unit c.args.places.now c.args.count c.requires.unit_bound.1 l.i l.last l.t l.sum l.invariant.1 c.loop-i-test.true in let whole = (c.requires.fit.canon.steady, (P.low, l.invariant.1.progress)) in record { steady = whole.0; u_bound = whole.1; t_value = whole.2 }
+    let P = place_at c.args.b.now c.args.unit c.args.places.now c.args.count c.requires.places l.i l.last l.t l.sum l.invariant.1 c.loop-i-test.true in record { steady = c.requires.fit.canon.steady; u_bound = P.low; t_value = l.invariant.1.progress }
 
 
 pub add-sum-requires : goal.add-sum-requires
 add-sum-requires c =
     let l = c.loop-i in
-    let P = place_at c.args.b.now c.args.unit c.args.places.now c.args.count c.requires.unit_bound.1 l.i l.last l.t l.sum l.invariant.1 c.loop-i-test.true in
-    let f = c.requires.unit_bound.1.few in
+    let P = place_at c.args.b.now c.args.unit c.args.places.now c.args.count c.requires.places l.i l.last l.t l.sum l.invariant.1 c.loop-i-test.true in
+    let f = c.requires.places.few in
     let A = l.invariant.1 in
-    let i = c.loop-i-test.true in let whole = (c.requires.fit, (P.low, (P.used, (c.progress-t.ensures, (omega (arith, A.least, i, f), omega (arith, A.most, i, f)))))) in record { fit = whole.0; k_bound = whole.1; k_bound_2 = whole.2; t_value = whole.3; le_sum = whole.4; sum_bound = whole.5 }
+    let i = c.loop-i-test.true in record { fit = c.requires.fit; k_bound = P.low; k_bound_2 = P.used; t_value = c.progress-t.ensures; le_sum = omega (arith, A.least, i, f); sum_bound = omega (arith, A.most, i, f) }
 
 
 pub overflow_add-i : goal.overflow_add-i
 overflow_add-i c =
-    omega (arith, c.loop-i-test.true, c.requires.unit_bound.1.few)
+    omega (arith, c.loop-i-test.true, c.requires.places.few)
 
 
 pub loop-i-smaller : goal.loop-i-smaller
@@ -46,7 +46,7 @@ pub loop-i-preserved : goal.loop-i-preserved
 loop-i-preserved c =
     let l = c.loop-i in (
       omega (arith, c.loop-i-test.true),
-      adding_on c.args.b.now c.args.unit c.args.places.now c.args.count c.requires.unit_bound.1 l.i l.last l.t l.sum l.invariant.1 c.loop-i-test.true
+      adding_on c.args.b.now c.args.unit c.args.places.now c.args.count c.requires.places l.i l.last l.t l.sum l.invariant.1 c.loop-i-test.true
           c.progress-t.result c.add-sum.result c.progress-t.ensures c.add-sum.ensures,
     )
 
@@ -54,4 +54,4 @@ loop-i-preserved c =
 pub returns : goal.returns
 returns c =
     let l = c.loop-i in
-    adding_ends c.args.b.now c.args.unit c.args.places.now c.args.count c.requires.unit_bound.1 l.i l.last l.t l.sum l.invariant.1 (omega (arith, l.invariant.0, c.loop-i-test.false))
+    adding_ends c.args.b.now c.args.unit c.args.places.now c.args.count c.requires.places l.i l.last l.t l.sum l.invariant.1 (omega (arith, l.invariant.0, c.loop-i-test.false))

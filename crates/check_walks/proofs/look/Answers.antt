@@ -21,7 +21,7 @@ returns-then-strict c =
     let x = c.load_node-x in
     let v = c.in-Defect.v in
     let q : x.result.class ≡ Defect v = cc in
-    (rw c.told-then-strict.ensures (look_strict c.args.b.now c.args.unit c.args.k c.args.p c.requires.unit_bound.1.1.0 x.result x.ensures c.args.strict c.args.met.now c.args.n c.requires.unit_bound.1.1.1.1.0 v q c.if-strict.true), c.requires.unit_bound.1.1.1.1.1)
+    (rw c.told-then-strict.ensures (look_strict c.args.b.now c.args.unit c.args.k c.args.p c.requires.at_index x.result x.ensures c.args.strict c.args.met.now c.args.n c.requires.keeps v q c.if-strict.true), c.requires.nests)
 
 
 pub returns-then-meet : goal.returns-then-meet
@@ -29,20 +29,20 @@ returns-then-meet c =
     let v = c.in-Defect.v in
     let q : c.load_node-x.result.class ≡ Defect v = vertex-there c in
     let m = c.meet in
-    (rw c.told-then-meet.ensures (look_again c.args.b.now c.args.unit c.args.k c.args.p c.requires.unit_bound.1.1.0 c.load_node-x.result c.load_node-x.ensures c.args.strict c.args.met.now c.args.n c.requires.unit_bound.1.1.1.1.0 v q c.if-strict.false m.new.0 m.result m.ensures c.if-meet.true), c.requires.unit_bound.1.1.1.1.1)
+    (rw c.told-then-meet.ensures (look_again c.args.b.now c.args.unit c.args.k c.args.p c.requires.at_index c.load_node-x.result c.load_node-x.ensures c.args.strict c.args.met.now c.args.n c.requires.keeps v q c.if-strict.false m.new.0 m.result m.ensures c.if-meet.true), c.requires.nests)
 
 
 pub look_circle-j-requires : goal.look_circle-j-requires
 look_circle-j-requires c =
     let x = c.load_node-x in
-    let q : x.result.class ≡ Blossom = cc in let whole = (c.requires.fit, (c.requires.unit_bound.0, (c.requires.unit_bound.1.0, (ring_placed c.args.b.now c.args.unit c.args.k c.args.p c.requires.unit_bound.1.1.0 x.result x.ensures c.args.strict c.args.met.now c.args.n c.requires.unit_bound.1.1.1.1.0 q, (ring_is c.args.b.now c.args.unit c.args.k c.args.p c.requires.unit_bound.1.1.0 x.result x.ensures c.args.strict c.args.met.now c.args.n c.requires.unit_bound.1.1.1.1.0 q, c.requires.unit_bound.1.1.1.1.1))))) in record { fit = whole.0; unit_bound = whole.1; unit_value = whole.2; placed = whole.3; p_value = whole.4; nests = whole.5 }
+    let q : x.result.class ≡ Blossom = cc in record { fit = c.requires.fit; unit_bound = c.requires.unit_bound; unit_value = c.requires.unit_value; placed = ring_placed c.args.b.now c.args.unit c.args.k c.args.p c.requires.at_index x.result x.ensures c.args.strict c.args.met.now c.args.n c.requires.keeps q; p_value = ring_is c.args.b.now c.args.unit c.args.k c.args.p c.requires.at_index x.result x.ensures c.args.strict c.args.met.now c.args.n c.requires.keeps q; nests = c.requires.nests }
 
 
 pub returns-in-Absent : goal.returns-in-Absent
 returns-in-Absent c =
     let x = c.load_node-x in
     let q : x.result.class ≡ Absent = cc in
-    (rw c.told.ensures (look_absent c.args.b.now c.args.unit c.args.k c.args.p c.requires.unit_bound.1.1.0 x.result x.ensures c.args.strict c.args.met.now c.args.n c.requires.unit_bound.1.1.1.1.0 q), c.requires.unit_bound.1.1.1.1.1)
+    (rw c.told.ensures (look_absent c.args.b.now c.args.unit c.args.k c.args.p c.requires.at_index x.result x.ensures c.args.strict c.args.met.now c.args.n c.requires.keeps q), c.requires.nests)
 
 
 pub returns-else-meet : goal.returns-else-meet
@@ -50,7 +50,7 @@ returns-else-meet c =
     let v = c.in-Defect.v in
     let q : c.load_node-x.result.class ≡ Defect v = vertex-there c in
     let m = c.meet in
-    (rw c.told-in-Defect.ensures (look_new c.args.b.now c.args.unit c.args.k c.args.p c.requires.unit_bound.1.1.0 c.load_node-x.result c.load_node-x.ensures c.args.strict c.args.met.now c.args.n c.requires.unit_bound.1.1.1.1.0 v q c.if-strict.false m.new.0 m.result m.ensures c.if-meet.false), c.requires.unit_bound.1.1.1.1.1)
+    (rw c.told-in-Defect.ensures (look_new c.args.b.now c.args.unit c.args.k c.args.p c.requires.at_index c.load_node-x.result c.load_node-x.ensures c.args.strict c.args.met.now c.args.n c.requires.keeps v q c.if-strict.false m.new.0 m.result m.ensures c.if-meet.false), c.requires.nests)
 
 
 pub returns-in-Blossom : goal.returns-in-Blossom
@@ -58,4 +58,4 @@ returns-in-Blossom c =
     let x = c.load_node-x in
     let q : x.result.class ≡ Blossom = cc in
     let j = c.look_circle-j in
-    (rw c.told-in-Blossom.ensures (look_ring c.args.b.now c.args.unit c.args.k c.args.p c.requires.unit_bound.1.1.0 x.result x.ensures c.args.strict c.args.met.now c.args.n c.requires.unit_bound.1.1.1.1.0 q j.result j.ensures.0), j.ensures.1)
+    (rw c.told-in-Blossom.ensures (look_ring c.args.b.now c.args.unit c.args.k c.args.p c.requires.at_index x.result x.ensures c.args.strict c.args.met.now c.args.n c.requires.keeps q j.result j.ensures.0), j.ensures.1)

@@ -11,7 +11,7 @@ returns-then-f-eq0 c =
 
 
 pub index_of-index-requires : goal.index_of-index-requires
-index_of-index-requires c = let whole = (c.requires.fit, (c.requires.unit_bound.0, (c.requires.unit_bound.1.0, c.circle_verdict-f.ensures.stands c.if-f-eq0.false))) in record { fit = whole.0; unit_bound = whole.1; unit_value = whole.2; stands = whole.3 }
+index_of-index-requires c = record { fit = c.requires.fit; unit_bound = c.requires.unit_bound; unit_value = c.requires.unit_value; stands = c.circle_verdict-f.ensures.stands c.if-f-eq0.false }
 
 
 pub returns : goal.returns

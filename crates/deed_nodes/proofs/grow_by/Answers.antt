@@ -22,7 +22,7 @@ load_interface-f-requires c = let a = c.args in growth_low a.b.now a.unit a.leng
 pub raise_tree-requires : goal.raise_tree-requires
 raise_tree-requires c =
     let a = c.args in
-    let C = c.requires.0.canon in let whole = (C.steady, (C.coded, (C.past, held_movable a.b.now a.unit a.length c.requires.0 c.requires.1))) in record { steady = whole.0; coded = whole.1; bare = whole.2; tree_movable = whole.3 }
+    let C = c.requires.0.canon in record { steady = C.steady; coded = C.coded; bare = C.past; tree_movable = held_movable a.b.now a.unit a.length c.requires.0 c.requires.1 }
 
 
 pub note_growth-requires : goal.note_growth-requires

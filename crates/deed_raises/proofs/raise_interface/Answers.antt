@@ -16,7 +16,7 @@ load_interface-f-requires c = c.requires.unit_bound
 
 pub loop-s-init : goal.loop-s-init
 loop-s-init c =
-    (raised_none c.args.b.now c.args.unit c.args.length c.requires.steady.0 c.requires.steady.1.0, omega arith, ap (λ (f : Interface). f.used) c.load_interface-f.ensures)
+    (raised_none c.args.b.now c.args.unit c.args.length c.requires.steady c.requires.coded, omega arith, ap (λ (f : Interface). f.used) c.load_interface-f.ensures)
 
 
 pub overflow_mul-unit : goal.overflow_mul-unit
@@ -26,19 +26,19 @@ overflow_mul-unit c = omega (arith, c.requires.unit_bound)
 pub overflow_add-unit : goal.overflow_add-unit
 overflow_add-unit c =
     let l = c.loop-s in
-    omega (arith, c.requires.unit_bound, c.requires.steady.0.slots c.args.unit c.requires.unit_bound, l.invariant.2, c.loop-s-test.true)
+    omega (arith, c.requires.unit_bound, c.requires.steady.slots c.args.unit c.requires.unit_bound, l.invariant.2, c.loop-s-test.true)
 
 
 pub raise_slot-requires : goal.raise_slot-requires
 raise_slot-requires c =
     let l = c.loop-s in
-    let h = c.requires.steady.0.slots c.args.unit c.requires.unit_bound in record { k_bound = omega (arith, c.requires.unit_bound, h, l.invariant.2, c.loop-s-test.true); movable = movable_now c.args.b.now c.args.unit c.args.length c.requires.unit_bound l.b l.s l.invariant.0 (omega (arith, h, l.invariant.2, c.loop-s-test.true)) (c.requires.steady.1.1 l.s (omega (arith, l.invariant.2, c.loop-s-test.true))) }
+    let h = c.requires.steady.slots c.args.unit c.requires.unit_bound in record { k_bound = omega (arith, c.requires.unit_bound, h, l.invariant.2, c.loop-s-test.true); movable = movable_now c.args.b.now c.args.unit c.args.length c.requires.unit_bound l.b l.s l.invariant.0 (omega (arith, h, l.invariant.2, c.loop-s-test.true)) (c.requires.all_movable l.s (omega (arith, l.invariant.2, c.loop-s-test.true))) }
 
 
 pub loop-s-preserved : goal.loop-s-preserved
 loop-s-preserved c =
     let l = c.loop-s in
-    let h = c.requires.steady.0.slots c.args.unit c.requires.unit_bound in
+    let h = c.requires.steady.slots c.args.unit c.requires.unit_bound in
     (raised_more c.args.b.now c.args.unit c.args.length c.requires.unit_bound l.b l.s l.invariant.0 (omega (arith, h, l.invariant.2, c.loop-s-test.true)) c.raise_slot.ensures, omega (arith, c.loop-s-test.true), l.invariant.2)
 
 

@@ -8,21 +8,21 @@ use Rattle.deed_raises.proofs.raise_tree.Goals as goal
 
 
 pub loop-v-init : goal.loop-v-init
-loop-v-init c = (begun c.args.b.now c.args.top c.args.length c.requires.steady c.requires.coded.0, omega arith)
+loop-v-init c = (begun c.args.b.now c.args.top c.args.length c.requires.steady c.requires.coded, omega arith)
 
 
 pub raise_under-requires : goal.raise_under-requires
 raise_under-requires c =
     let a = c.args in
     let l = c.loop-v in
-    let lv = c.loop-v-test.true in let whole = (lv, (l.invariant.0.steady, (l.invariant.0.coded, still_movable a.b.now a.top a.length c.requires.coded.1.0 l.b l.v l.invariant.0 lv (c.requires.coded.1.1 l.v lv)))) in record { unit_bound = whole.0; steady = whole.1; coded = whole.2; all_movable = whole.3 }
+    let lv = c.loop-v-test.true in record { unit_bound = lv; steady = l.invariant.0.steady; coded = l.invariant.0.coded; all_movable = still_movable a.b.now a.top a.length c.requires.bare l.b l.v l.invariant.0 lv (c.requires.tree_movable l.v lv) }
 
 
 pub loop-v-preserved : goal.loop-v-preserved
 loop-v-preserved c =
     let a = c.args in
     let l = c.loop-v in
-    (one_more a.b.now a.top a.length c.requires.coded.1.0 l.b l.v l.invariant.0 c.loop-v-test.true c.raise_under.ensures, omega arith)
+    (one_more a.b.now a.top a.length c.requires.bare l.b l.v l.invariant.0 c.loop-v-test.true c.raise_under.ensures, omega arith)
 
 
 pub returns : goal.returns

@@ -5,7 +5,7 @@ use Rattle.deed_raises.proofs.raise_under.Goals as goal
 
 
 pub climb-up-requires : goal.climb-up-requires
-climb-up-requires c = record { unit_bound = c.requires.unit_bound; steady = c.requires.steady.0 }
+climb-up-requires c = record { unit_bound = c.requires.unit_bound; steady = c.requires.steady }
 
 
 pub returns-then-up-top : goal.returns-then-up-top

@@ -11,7 +11,7 @@ use Rattle.group_calls.proofs.is_ready.Goals as goal
 pub returns-then-not-is_bench : goal.returns-then-not-is_bench
 returns-then-not-is_bench c =
     let g = c.args.g in
-    record { bench = c.is_bench.result; verdict = c.is_bench.ensures; both = sym (ap (λ (s : Bool). s && sound_group (group_of g)) (not-true c.is_bench.result c.if-not-is_bench.true)) }
+    record { bench = c.is_bench.result; verdict = c.is_bench.ensures; both = sym (ap (λ (s : Bool). s && sound_group (group_of g)) (c.if-not-is_bench.true)) }
 
 
 pub returns : goal.returns
@@ -20,5 +20,5 @@ returns c =
     record {
       bench = c.is_bench.result;
       verdict = c.is_bench.ensures;
-      both = c.group_is_sound.ensures ∙ sym (ap (λ (s : Bool). s && sound_group (group_of g)) (not-false c.is_bench.result c.if-not-is_bench.false));
+      both = c.group_is_sound.ensures ∙ sym (ap (λ (s : Bool). s && sound_group (group_of g)) (c.if-not-is_bench.false));
     }

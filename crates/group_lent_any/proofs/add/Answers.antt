@@ -17,15 +17,15 @@ pub returns-then-not-is_form : goal.returns-then-not-is_form
 returns-then-not-is_form c =
     let a = c.args in
     not_fit a.b.now a.w.now _ c.is_ready.ensures (is_form (five_at a.o.now 0)) _ _ c.if-not-is_ready.false
-    (sym (rw c.five_in-f.ensures at c.is_form.ensures) ∙ not-true _ c.if-not-is_form.true) (refl, refl)
+    (sym (rw c.five_in-f.ensures at c.is_form.ensures) ∙ c.if-not-is_form.true) (refl, refl)
 
 
 pub add-requires : goal.add-requires
-add-requires c = record { sound_words = c.is_ready.ensures.says (not-false _ c.if-not-is_ready.false); o_value = sym (rw c.five_in-f.ensures at c.is_form.ensures) ∙ not-false _ c.if-not-is_form.false }
+add-requires c = record { sound_words = c.is_ready.ensures.says (c.if-not-is_ready.false); o_value = sym (rw c.five_in-f.ensures at c.is_form.ensures) ∙ c.if-not-is_form.false }
 
 
 pub returns : goal.returns
 returns c =
     let a = c.args in
     all_fit a.b.now a.w.now _ c.is_ready.ensures (is_form (five_at a.o.now 0)) _ _ c.if-not-is_ready.false
-    (sym (rw c.five_in-f.ensures at c.is_form.ensures) ∙ not-false _ c.if-not-is_form.false) c.add.ensures
+    (sym (rw c.five_in-f.ensures at c.is_form.ensures) ∙ c.if-not-is_form.false) c.add.ensures

@@ -22,7 +22,7 @@ returns-then-not-is_group c =
 
 pub extend-requires : goal.extend-requires
 extend-requires c =
-    let sound = c.is_ready.ensures.says (not-false _ c.if-not-is_ready.false) in
+    let sound = c.is_ready.ensures.says (c.if-not-is_ready.false) in
     (sound.0, (sound.1, says_sound c.args.other.now _ c.is_group.ensures c.if-not-is_group.false))
 
 

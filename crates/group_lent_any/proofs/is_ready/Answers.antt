@@ -11,12 +11,12 @@ pub returns-then-not-is_bench : goal.returns-then-not-is_bench
 returns-then-not-is_bench c =
     let ws = c.args.w.now in
     let v = c.is_bench.ensures in
-    record { is = sym (ap (λ (s : Bool). s && sound_in ws) (sym v.is ∙ not-true c.is_bench.result c.if-not-is_bench.true)); says = λ e. absurd (false≢true e) }
+    record { is = sym (ap (λ (s : Bool). s && sound_in ws) (sym v.is ∙ c.if-not-is_bench.true)); says = λ e. absurd (false≢true e) }
 
 
 pub returns : goal.returns
 returns c =
     let ws = c.args.w.now in
     let v = c.is_bench.ensures in
-    let yes = not-false c.is_bench.result c.if-not-is_bench.false in
+    let yes = c.if-not-is_bench.false in
     record { is = c.is_group.ensures.is ∙ sym (ap (λ (s : Bool). s && sound_in ws) (sym v.is ∙ yes)); says = λ e. (v.says yes, c.is_group.ensures.says e) }

@@ -27,17 +27,17 @@ has_room-requires c = record { listing = is_listing c.args.w.now c.requires.soun
 
 
 pub returns-then-not-has_room : goal.returns-then-not-has_room
-returns-then-not-has_room c = by_room c.args.w.now c.args.other.now c.requires.sound_group c.requires.sound_group_2 c.if-other-eq1.false c.if-w-eq1-2.false _ c.has_room.ensures (not-true _ c.if-not-has_room.true)
+returns-then-not-has_room c = by_room c.args.w.now c.args.other.now c.requires.sound_group c.requires.sound_group_2 c.if-other-eq1.false c.if-w-eq1-2.false _ c.has_room.ensures (c.if-not-has_room.true)
 
 
 pub append-requires : goal.append-requires
-append-requires c = record { w_len = (c.requires.sound_group.long, c.requires.sound_group_2.long); other_bound = fits c.args.w.now c.args.other.now c.requires.sound_group c.requires.sound_group_2 c.if-other-eq1.false c.if-w-eq1-2.false _ c.has_room.ensures (not-false _ c.if-not-has_room.false) }
+append-requires c = record { w_len = (c.requires.sound_group.long, c.requires.sound_group_2.long); other_bound = fits c.args.w.now c.args.other.now c.requires.sound_group c.requires.sound_group_2 c.if-other-eq1.false c.if-w-eq1-2.false _ c.has_room.ensures (c.if-not-has_room.false) }
 
 
 pub add_stops-requires : goal.add_stops-requires
-add_stops-requires c = record { roomy = by_roomy c.args.w.now c.args.other.now c.requires.sound_group c.requires.sound_group_2 c.if-other-eq1.false c.if-w-eq1-2.false _ c.has_room.ensures (not-false _ c.if-not-has_room.false) _ c.append.ensures; listing = is_listing c.args.other.now c.requires.sound_group_2 c.if-other-eq1.false }
+add_stops-requires c = record { roomy = by_roomy c.args.w.now c.args.other.now c.requires.sound_group c.requires.sound_group_2 c.if-other-eq1.false c.if-w-eq1-2.false _ c.has_room.ensures (c.if-not-has_room.false) _ c.append.ensures; listing = is_listing c.args.other.now c.requires.sound_group_2 c.if-other-eq1.false }
 
 
 pub returns : goal.returns
 returns c =
-    by_adding c.args.w.now c.args.other.now c.requires.sound_group c.requires.sound_group_2 c.if-other-eq1.false c.if-w-eq1-2.false _ c.has_room.ensures (not-false _ c.if-not-has_room.false) _ _ c.append.ensures c.add_stops.ensures
+    by_adding c.args.w.now c.args.other.now c.requires.sound_group c.requires.sound_group_2 c.if-other-eq1.false c.if-w-eq1-2.false _ c.has_room.ensures (c.if-not-has_room.false) _ _ c.append.ensures c.add_stops.ensures

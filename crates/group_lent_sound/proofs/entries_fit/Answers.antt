@@ -17,7 +17,7 @@ entry_fits-requires c = omega arith
 
 
 pub returns-then-not-entry_fits : goal.returns-then-not-entry_fits
-returns-then-not-entry_fits c = entries_no c.args.w.now c.args.n c.loop-i.i _ _ c.loop-i-test.true c.loop-i.invariant.1 c.entry_fits.ensures (not-true _ c.if-not-entry_fits.true)
+returns-then-not-entry_fits c = entries_no c.args.w.now c.args.n c.loop-i.i _ _ c.loop-i-test.true c.loop-i.invariant.1 c.entry_fits.ensures (c.if-not-entry_fits.true)
 
 
 pub overflow_add-i : goal.overflow_add-i
@@ -29,7 +29,7 @@ loop-i-smaller c = omega arith
 
 
 pub loop-i-preserved : goal.loop-i-preserved
-loop-i-preserved c = (omega arith, entries_on c.args.w.now c.args.n c.loop-i.i _ _ c.loop-i-test.true c.loop-i.invariant.1 c.entry_fits.ensures (not-false _ c.if-not-entry_fits.false))
+loop-i-preserved c = (omega arith, entries_on c.args.w.now c.args.n c.loop-i.i _ _ c.loop-i-test.true c.loop-i.invariant.1 c.entry_fits.ensures (c.if-not-entry_fits.false))
 
 
 pub returns : goal.returns

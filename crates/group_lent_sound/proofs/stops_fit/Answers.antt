@@ -17,7 +17,7 @@ stop_fits-requires c = omega arith
 
 
 pub returns-then-not-stop_fits : goal.returns-then-not-stop_fits
-returns-then-not-stop_fits c = stops_no c.args.w.now c.args.m c.loop-i.i _ _ c.loop-i-test.true c.loop-i.least c.loop-i.invariant.1 c.stop_fits.ensures (not-true _ c.if-not-stop_fits.true)
+returns-then-not-stop_fits c = stops_no c.args.w.now c.args.m c.loop-i.i _ _ c.loop-i-test.true c.loop-i.least c.loop-i.invariant.1 c.stop_fits.ensures (c.if-not-stop_fits.true)
 
 
 pub overflow_mul-least : goal.overflow_mul-least
@@ -49,7 +49,7 @@ loop-i-smaller c = omega arith
 
 
 pub loop-i-preserved : goal.loop-i-preserved
-loop-i-preserved c = (omega arith, stops_on c.args.w.now c.args.m c.loop-i.i _ _ c.loop-i-test.true c.loop-i.least c.loop-i.invariant.1 c.stop_fits.ensures (not-false _ c.if-not-stop_fits.false))
+loop-i-preserved c = (omega arith, stops_on c.args.w.now c.args.m c.loop-i.i _ _ c.loop-i-test.true c.loop-i.least c.loop-i.invariant.1 c.stop_fits.ensures (c.if-not-stop_fits.false))
 
 
 pub returns : goal.returns

@@ -17,4 +17,4 @@ returns-then-l-eq-LARGEST c = growth_nothing c.args.w.now c.requires c.if-w-ne1.
 pub returns : goal.returns
 returns c =
     growth_some c.args.w.now c.requires c.if-w-ne1.false c.if-l-eq-LARGEST.false _
-    (to_z-of_z (record { sfits = c.length_of-length.type-inv }) ∙ c.length_of-length.ensures)
+    (to_z-of_z (record { sfits = c.length_of-length.type_inv }) ∙ c.length_of-length.ensures)

@@ -8,9 +8,9 @@ use Rattle.group_lent_takes.proofs.least.Goals as goal
 
 pub returns-then-y-x : goal.returns-then-y-x
 returns-then-y-x c =
-    least_other c.args.a c.args.b _ _ (to_z-of_z (record { sfits = c.length_of-x.type-inv }) ∙ c.length_of-x.ensures) (to_z-of_z (record { sfits = c.length_of-y.type-inv }) ∙ c.length_of-y.ensures) c.if-y-x.true
+    least_other c.args.a c.args.b _ _ (to_z-of_z (record { sfits = c.length_of-x.type_inv }) ∙ c.length_of-x.ensures) (to_z-of_z (record { sfits = c.length_of-y.type_inv }) ∙ c.length_of-y.ensures) c.if-y-x.true
 
 
 pub returns : goal.returns
 returns c =
-    least_own c.args.a c.args.b _ _ (to_z-of_z (record { sfits = c.length_of-x.type-inv }) ∙ c.length_of-x.ensures) (to_z-of_z (record { sfits = c.length_of-y.type-inv }) ∙ c.length_of-y.ensures) c.if-y-x.false
+    least_own c.args.a c.args.b _ _ (to_z-of_z (record { sfits = c.length_of-x.type_inv }) ∙ c.length_of-x.ensures) (to_z-of_z (record { sfits = c.length_of-y.type_inv }) ∙ c.length_of-y.ensures) c.if-y-x.false

@@ -29,7 +29,7 @@ is_listable-requires c = tt
 pub returns-then-not-is_listable : goal.returns-then-not-is_listable
 returns-then-not-is_listable c =
     let l = (c.well_formed.0.1.0.1) in
-    sym (c.loop-i.invariant.1 ∙ list_ends _ _ c.loop-i.i _ c.loop-i-test.true (omega arith) (sym c.is_listable.ensures ∙ not-true _ c.if-not-is_listable.true))
+    sym (c.loop-i.invariant.1 ∙ list_ends _ _ c.loop-i.i _ c.loop-i-test.true (omega arith) (sym c.is_listable.ensures ∙ c.if-not-is_listable.true))
 
 
 pub overflow_add-i : goal.overflow_add-i
@@ -43,7 +43,7 @@ loop-i-smaller c = omega arith
 pub loop-i-preserved : goal.loop-i-preserved
 loop-i-preserved c =
     let l = (c.well_formed.0.1.0.1) in
-    (omega arith, c.loop-i.invariant.1 ∙ list_goes _ _ c.loop-i.i _ c.loop-i-test.true (omega arith) (sym c.is_listable.ensures ∙ not-false _ c.if-not-is_listable.false))
+    (omega arith, c.loop-i.invariant.1 ∙ list_goes _ _ c.loop-i.i _ c.loop-i-test.true (omega arith) (sym c.is_listable.ensures ∙ c.if-not-is_listable.false))
 
 
 pub returns : goal.returns

@@ -29,13 +29,13 @@ is_stop-requires c = tt
 pub returns-then-not-is_stop : goal.returns-then-not-is_stop
 returns-then-not-is_stop c =
     let l = (c.well_formed.0.1.0.1) in
-    sym (c.loop-i.invariant.1 ∙ rise_ends _ _ c.loop-i.i _ _ c.loop-i-test.true (omega arith) (sym c.is_stop.ensures ∙ not-true _ c.if-not-is_stop.true))
+    sym (c.loop-i.invariant.1 ∙ rise_ends _ _ c.loop-i.i _ _ c.loop-i-test.true (omega arith) (sym c.is_stop.ensures ∙ c.if-not-is_stop.true))
 
 
 pub returns-then-v-least : goal.returns-then-v-least
 returns-then-v-least c =
     let l = (c.well_formed.0.1.0.1) in
-    sym (c.loop-i.invariant.1 ∙ rise_low _ _ c.loop-i.i _ _ c.loop-i-test.true (omega arith) (sym c.is_stop.ensures ∙ not-false _ c.if-not-is_stop.false) c.if-v-least.true)
+    sym (c.loop-i.invariant.1 ∙ rise_low _ _ c.loop-i.i _ _ c.loop-i-test.true (omega arith) (sym c.is_stop.ensures ∙ c.if-not-is_stop.false) c.if-v-least.true)
 
 
 pub overflow_add-i : goal.overflow_add-i
@@ -50,7 +50,7 @@ loop-i-smaller c = omega arith
 pub loop-i-preserved : goal.loop-i-preserved
 loop-i-preserved c =
     let l = (c.well_formed.0.1.0.1) in
-    (omega arith, c.loop-i.invariant.1 ∙ rise_goes _ _ c.loop-i.i _ _ c.loop-i-test.true (omega arith) (sym c.is_stop.ensures ∙ not-false _ c.if-not-is_stop.false) c.if-v-least.false)
+    (omega arith, c.loop-i.invariant.1 ∙ rise_goes _ _ c.loop-i.i _ _ c.loop-i-test.true (omega arith) (sym c.is_stop.ensures ∙ c.if-not-is_stop.false) c.if-v-least.false)
 
 
 pub returns : goal.returns

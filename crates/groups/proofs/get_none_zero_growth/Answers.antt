@@ -14,7 +14,7 @@ use Rattle.groups.proofs.get_none_zero_growth.Goals as goal
 
 
 pub returns-then-not-group_is_sound : goal.returns-then-not-group_is_sound
-returns-then-not-group_is_sound c = growth_broken (group_of c.args.g) (sym c.group_is_sound.ensures ∙ not-true _ c.if-not-group_is_sound.true)
+returns-then-not-group_is_sound c = growth_broken (group_of c.args.g) (sym c.group_is_sound.ensures ∙ c.if-not-group_is_sound.true)
 
 
 pub returns-then-length-eq-LARGEST : goal.returns-then-length-eq-LARGEST
@@ -23,7 +23,7 @@ returns-then-length-eq-LARGEST c =
     let l = c.in-Growth.length in
     let f = c.in-Growth.field-1 in
     let fits : SFits w64 l = search rules in
-    growth_largest (group_of g) (growth l f) (sym c.group_is_sound.ensures ∙ not-false _ c.if-not-group_is_sound.false) (view_growth g l f c.in-Growth.is) (same_bits l fits ∙ eq-eqb _ _ c.if-length-eq-LARGEST.true)
+    growth_largest (group_of g) (growth l f) (sym c.group_is_sound.ensures ∙ c.if-not-group_is_sound.false) (view_growth g l f c.in-Growth.is) (same_bits l fits ∙ eq-eqb _ _ c.if-length-eq-LARGEST.true)
 
 
 pub returns-else-length-eq-LARGEST : goal.returns-else-length-eq-LARGEST
@@ -32,10 +32,10 @@ returns-else-length-eq-LARGEST c =
     let l = c.in-Growth.length in
     let f = c.in-Growth.field-1 in
     let fits : SFits w64 l = search rules in
-    growth_is (group_of g) (growth l f) (sym c.group_is_sound.ensures ∙ not-false _ c.if-not-group_is_sound.false) (view_growth g l f c.in-Growth.is) (same_bits l fits ∙ ne_eqb _ _ c.if-length-eq-LARGEST.false) _ (ap some (to_z-of_z fits))
+    growth_is (group_of g) (growth l f) (sym c.group_is_sound.ensures ∙ c.if-not-group_is_sound.false) (view_growth g l f c.in-Growth.is) (same_bits l fits ∙ ne_eqb _ _ c.if-length-eq-LARGEST.false) _ (ap some (to_z-of_z fits))
 
 
 pub returns-in-Conflicts : goal.returns-in-Conflicts
 returns-in-Conflicts c =
     let g = c.args.g in
-    growth_is (group_of g) (conflicts (list_of g) (stops_of g)) (sym c.group_is_sound.ensures ∙ not-false _ c.if-not-group_is_sound.false) (view_conflicts g c.in-Conflicts.is) refl _ refl
+    growth_is (group_of g) (conflicts (list_of g) (stops_of g)) (sym c.group_is_sound.ensures ∙ c.if-not-group_is_sound.false) (view_conflicts g c.in-Conflicts.is) refl _ refl

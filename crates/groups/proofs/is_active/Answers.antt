@@ -15,7 +15,7 @@ use Rattle.groups.proofs.is_active.Goals as goal
 
 pub returns-then-not-group_is_sound : goal.returns-then-not-group_is_sound
 returns-then-not-group_is_sound c =
-    ap shown_told c.no.ensures ∙ active_broken (group_of c.args.g) (sym c.group_is_sound.ensures ∙ not-true _ c.if-not-group_is_sound.true)
+    ap shown_told c.no.ensures ∙ active_broken (group_of c.args.g) (sym c.group_is_sound.ensures ∙ c.if-not-group_is_sound.true)
 
 
 pub returns-then-length-eq-LARGEST : goal.returns-then-length-eq-LARGEST
@@ -24,7 +24,7 @@ returns-then-length-eq-LARGEST c =
     let l = c.in-Growth.length in
     let f = c.in-Growth.flag in
     let fits : SFits w64 l = search rules in
-    active_is (group_of g) (growth l f) (sym c.group_is_sound.ensures ∙ not-false _ c.if-not-group_is_sound.false) (view_growth g l f c.in-Growth.is) _
+    active_is (group_of g) (growth l f) (sym c.group_is_sound.ensures ∙ c.if-not-group_is_sound.false) (view_growth g l f c.in-Growth.is) _
     (sym (ap (λ (b : Bool). cond b f true) (same_bits l fits ∙ eq-eqb _ _ c.if-length-eq-LARGEST.true)))
 
 
@@ -34,11 +34,11 @@ returns-else-length-eq-LARGEST c =
     let l = c.in-Growth.length in
     let f = c.in-Growth.flag in
     let fits : SFits w64 l = search rules in
-    active_is (group_of g) (growth l f) (sym c.group_is_sound.ensures ∙ not-false _ c.if-not-group_is_sound.false) (view_growth g l f c.in-Growth.is) _
+    active_is (group_of g) (growth l f) (sym c.group_is_sound.ensures ∙ c.if-not-group_is_sound.false) (view_growth g l f c.in-Growth.is) _
     (sym (ap (λ (b : Bool). cond b f true) (same_bits l fits ∙ ne_eqb _ _ c.if-length-eq-LARGEST.false)))
 
 
 pub returns-in-Conflicts : goal.returns-in-Conflicts
 returns-in-Conflicts c =
     let g = c.args.g in
-    active_is (group_of g) (conflicts (list_of g) (stops_of g)) (sym c.group_is_sound.ensures ∙ not-false _ c.if-not-group_is_sound.false) (view_conflicts g c.in-Conflicts.is) _ refl
+    active_is (group_of g) (conflicts (list_of g) (stops_of g)) (sym c.group_is_sound.ensures ∙ c.if-not-group_is_sound.false) (view_conflicts g c.in-Conflicts.is) _ refl

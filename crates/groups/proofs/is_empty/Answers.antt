@@ -14,7 +14,7 @@ use Rattle.groups.proofs.is_empty.Goals as goal
 
 pub returns-then-not-group_is_sound : goal.returns-then-not-group_is_sound
 returns-then-not-group_is_sound c =
-    ap shown_told c.no.ensures ∙ empty_broken (group_of c.args.g) (sym c.group_is_sound.ensures ∙ not-true _ c.if-not-group_is_sound.true)
+    ap shown_told c.no.ensures ∙ empty_broken (group_of c.args.g) (sym c.group_is_sound.ensures ∙ c.if-not-group_is_sound.true)
 
 
 pub returns-in-Growth : goal.returns-in-Growth
@@ -23,10 +23,10 @@ returns-in-Growth c =
     let l = c.in-Growth.length in
     let f = c.in-Growth.field-1 in
     let fits : SFits w64 l = search rules in
-    empty_is (group_of g) (growth l f) (sym c.group_is_sound.ensures ∙ not-false _ c.if-not-group_is_sound.false) (view_growth g l f c.in-Growth.is) _ (sym (same_bits l fits))
+    empty_is (group_of g) (growth l f) (sym c.group_is_sound.ensures ∙ c.if-not-group_is_sound.false) (view_growth g l f c.in-Growth.is) _ (sym (same_bits l fits))
 
 
 pub returns-in-Conflicts : goal.returns-in-Conflicts
 returns-in-Conflicts c =
     let g = c.args.g in
-    ap shown_told c.no-in-Conflicts.ensures ∙ empty_is (group_of g) (conflicts (list_of g) (stops_of g)) (sym c.group_is_sound.ensures ∙ not-false _ c.if-not-group_is_sound.false) (view_conflicts g c.in-Conflicts.is) _ refl
+    ap shown_told c.no-in-Conflicts.ensures ∙ empty_is (group_of g) (conflicts (list_of g) (stops_of g)) (sym c.group_is_sound.ensures ∙ c.if-not-group_is_sound.false) (view_conflicts g c.in-Conflicts.is) _ refl

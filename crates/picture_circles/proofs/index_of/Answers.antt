@@ -5,4 +5,4 @@ use Rattle.picture_circles.proofs.index_of.Goals as goal
 
 
 pub returns : goal.returns
-returns c = c.requires.indices.at (handle_named c.args.h) c.requires.unit_bound.0 c.requires.unit_bound.1
+returns c = c.requires.indices.at (handle_named c.args.h) c.requires.unit_bound c.requires.slot_bound

@@ -8,7 +8,7 @@ use Rattle.picture_circles.proofs.put_circle.Goals as goal
 
 
 pub load_node-n-requires : goal.load_node-n-requires
-load_node-n-requires c = c.requires.indices.1.0.low
+load_node-n-requires c = c.requires.placed.low
 
 
 pub loop-m-init : goal.loop-m-init
@@ -16,12 +16,12 @@ loop-m-init c = going_starts c.args.b.now c.args.unit c.args.k c.args.touching c
 
 
 pub put_member-r-requires : goal.put_member-r-requires
-put_member-r-requires c = record { indices = c.requires.indices.0; q_bound = (next_placed c.args.b.now c.args.unit c.args.k c.args.touching c.put-r.new.0 c.put-r.result c.loop-m.out c.loop-m.r c.loop-m.p c.loop-m.m c.loop-m.i c.loop-m.invariant c.requires.fit c.requires.indices.1.0 c.requires.indices.1.1 c.loop-m-test.true).low }
+put_member-r-requires c = record { indices = c.requires.indices; q_bound = (next_placed c.args.b.now c.args.unit c.args.k c.args.touching c.put-r.new.0 c.put-r.result c.loop-m.out c.loop-m.r c.loop-m.p c.loop-m.m c.loop-m.i c.loop-m.invariant c.requires.fit c.requires.placed c.requires.k_value c.loop-m-test.true).low }
 
 
 pub load_node-x-requires : goal.load_node-x-requires
 load_node-x-requires c =
-    (next_placed c.args.b.now c.args.unit c.args.k c.args.touching c.put-r.new.0 c.put-r.result c.loop-m.out c.loop-m.r c.loop-m.p c.loop-m.m c.loop-m.i c.loop-m.invariant c.requires.fit c.requires.indices.1.0 c.requires.indices.1.1 c.loop-m-test.true).low
+    (next_placed c.args.b.now c.args.unit c.args.k c.args.touching c.put-r.new.0 c.put-r.result c.loop-m.out c.loop-m.r c.loop-m.p c.loop-m.m c.loop-m.i c.loop-m.invariant c.requires.fit c.requires.placed c.requires.k_value c.loop-m-test.true).low
 
 
 pub overflow_sub-m : goal.overflow_sub-m

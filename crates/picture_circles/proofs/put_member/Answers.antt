@@ -8,18 +8,18 @@ use Rattle.picture_circles.proofs.put_member.Goals as goal
 
 pub returns-then-not-touching : goal.returns-then-not-touching
 returns-then-not-touching c =
-    same_text (own_item c.args.b.now c.args.unit c.args.index.now c.requires.indices c.args.q c.requires.q_bound c.args.touching (not-true c.args.touching c.if-not-touching.true)) c.put_number.ensures
+    same_text (own_item c.args.b.now c.args.unit c.args.index.now c.requires.indices c.args.q c.requires.q_bound c.args.touching (c.if-not-touching.true)) c.put_number.ensures
 
 
 pub index_of-i-requires : goal.index_of-i-requires
-index_of-i-requires c = let whole = (c.requires.indices, left_low c.args.b.now c.args.q c.load_node-n.result c.load_node-n.ensures) in record { indices = whole.0; unit_bound = whole.1; slot_bound = whole.2 }
+index_of-i-requires c = let whole = (c.requires.indices, left_low c.args.b.now c.args.q c.load_node-n.result c.load_node-n.ensures) in record { indices = whole.0; unit_bound = whole.1.0; slot_bound = whole.1.1 }
 
 
 pub index_of-j-requires : goal.index_of-j-requires
-index_of-j-requires c = let whole = (c.requires.indices, right_low c.args.b.now c.args.q c.load_node-n.result c.load_node-n.ensures) in record { indices = whole.0; unit_bound = whole.1; slot_bound = whole.2 }
+index_of-j-requires c = let whole = (c.requires.indices, right_low c.args.b.now c.args.q c.load_node-n.result c.load_node-n.ensures) in record { indices = whole.0; unit_bound = whole.1.0; slot_bound = whole.1.1 }
 
 
 pub returns : goal.returns
 returns c =
-    same_text (touch_item c.args.b.now c.args.unit c.args.index.now c.requires.indices c.args.q c.requires.q_bound c.args.touching (not-false c.args.touching c.if-not-touching.false) c.load_node-n.result c.load_node-n.ensures c.index_of-i.result c.index_of-j.result c.index_of-i.ensures c.index_of-j.ensures)
+    same_text (touch_item c.args.b.now c.args.unit c.args.index.now c.requires.indices c.args.q c.requires.q_bound c.args.touching (c.if-not-touching.false) c.load_node-n.result c.load_node-n.ensures c.index_of-i.result c.index_of-j.result c.index_of-i.ensures c.index_of-j.ensures)
     (chain c.put-p.ensures (chain c.put_number-x.ensures (chain c.put-y.ensures (chain c.put_number-z.ensures c.put.ensures))))

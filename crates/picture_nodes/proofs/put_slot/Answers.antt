@@ -15,26 +15,26 @@ use Rattle.picture_nodes.proofs.put_slot.Goals as goal
 
 
 pub load_node-x-requires : goal.load_node-x-requires
-load_node-x-requires c = low_place c.args.b.now c.args.unit c.args.k c.args.p c.requires.indices.1 (node_at c.args.b.now c.args.p) refl
+load_node-x-requires c = low_place c.args.b.now c.args.unit c.args.k c.args.p c.requires.at_index (node_at c.args.b.now c.args.p) refl
 
 
 pub put_rest-requires : goal.put_rest-requires
-put_rest-requires c = record { indices = c.requires.indices.0; lowly = parent_low c.args.b.now c.args.p c.load_node-x.result c.load_node-x.ensures }
+put_rest-requires c = record { indices = c.requires.indices; lowly = parent_low c.args.b.now c.args.p c.load_node-x.result c.load_node-x.ensures }
 
 
 pub put_ring-q-requires : goal.put_ring-q-requires
 put_ring-q-requires c =
-    let e : c.load_node-x.result.class ≡ Blossom = cc in let whole = (c.requires.fit, (c.requires.indices.0, (ring_placed c.args.b.now c.args.unit c.args.k c.args.p c.requires.indices.1 c.load_node-x.result c.load_node-x.ensures e, ring_is c.args.b.now c.args.unit c.args.k c.args.p c.requires.indices.1 c.load_node-x.result c.load_node-x.ensures e))) in record { fit = whole.0; indices = whole.1; placed = whole.2; p_value = whole.3 }
+    let e : c.load_node-x.result.class ≡ Blossom = cc in record { fit = c.requires.fit; indices = c.requires.indices; placed = ring_placed c.args.b.now c.args.unit c.args.k c.args.p c.requires.at_index c.load_node-x.result c.load_node-x.ensures e; p_value = ring_is c.args.b.now c.args.unit c.args.k c.args.p c.requires.at_index c.load_node-x.result c.load_node-x.ensures e }
 
 
 pub put_rest-requires-in-Blossom : goal.put_rest-requires-in-Blossom
-put_rest-requires-in-Blossom c = record { indices = c.requires.indices.0; lowly = parent_low c.args.b.now c.args.p c.load_node-x.result c.load_node-x.ensures }
+put_rest-requires-in-Blossom c = record { indices = c.requires.indices; lowly = parent_low c.args.b.now c.args.p c.load_node-x.result c.load_node-x.ensures }
 
 
 pub returns-in-Absent : goal.returns-in-Absent
 returns-in-Absent c =
     let e : c.load_node-x.result.class ≡ Absent = cc in
-    same_text (null_text c.args.short ∙ ap (slot_text (names_by c.args.short)) (seen_absent c.args.b.now c.args.unit c.args.k c.args.p c.requires.indices.1 c.load_node-x.result c.load_node-x.ensures e)) c.put.ensures
+    same_text (null_text c.args.short ∙ ap (slot_text (names_by c.args.short)) (seen_absent c.args.b.now c.args.unit c.args.k c.args.p c.requires.at_index c.load_node-x.result c.load_node-x.ensures e)) c.put.ensures
 
 
 pub returns-in-Defect : goal.returns-in-Defect
@@ -42,7 +42,7 @@ returns-in-Defect c =
     let w = c.in-Defect.v in
     let e : c.load_node-x.result.class ≡ Defect w = cc in
     same_text (defect_text (state_named c.load_node-x.result.state) (indexed (index_of (view c.args.b.now) c.args.unit) (parent_named c.load_node-x.result.parent)) w.0 c.args.short
-    ∙ ap (slot_text (names_by c.args.short)) (seen_defect c.args.b.now c.args.unit c.args.k c.args.p c.requires.indices.1 c.load_node-x.result c.load_node-x.ensures w e))
+    ∙ ap (slot_text (names_by c.args.short)) (seen_defect c.args.b.now c.args.unit c.args.k c.args.p c.requires.at_index c.load_node-x.result c.load_node-x.ensures w e))
     (chain c.put_either-q.ensures (chain c.put_number-r.ensures c.put_rest.ensures))
 
 
@@ -50,5 +50,5 @@ pub returns-in-Blossom : goal.returns-in-Blossom
 returns-in-Blossom c =
     let e : c.load_node-x.result.class ≡ Blossom = cc in
     same_text (blossom_text (state_named c.load_node-x.result.state) (indexed (index_of (view c.args.b.now) c.args.unit) (parent_named c.load_node-x.result.parent)) (map (linked (index_of (view c.args.b.now) c.args.unit)) (circle_of (node_at c.args.b.now) c.args.p)) c.args.short
-    ∙ ap (slot_text (names_by c.args.short)) (seen_ring c.args.b.now c.args.unit c.args.k c.args.p c.requires.indices.1 c.load_node-x.result c.load_node-x.ensures e))
+    ∙ ap (slot_text (names_by c.args.short)) (seen_ring c.args.b.now c.args.unit c.args.k c.args.p c.requires.at_index c.load_node-x.result c.load_node-x.ensures e))
     (chain c.put_ring-q.ensures c.put_rest-in-Blossom.ensures)

@@ -13,16 +13,16 @@ loop-k-init c = (omega arith, along_starts c.args.b.now c.args.unit c.args.short
 
 pub bounds-places-k : goal.bounds-places-k
 bounds-places-k c =
-    omega (arith, c.loop-k-test.true, c.requires.places.0.few)
+    omega (arith, c.loop-k-test.true, c.requires.places.few)
 
 
 pub put_slot-r-requires : goal.put_slot-r-requires
-put_slot-r-requires c = let whole = (c.requires.fit, (c.requires.places.1, c.requires.places.0.at c.loop-k.k c.loop-k-test.true)) in record { fit = whole.0; indices = whole.1; at_index = whole.2 }
+put_slot-r-requires c = record { fit = c.requires.fit; indices = c.requires.indices; at_index = c.requires.places.at c.loop-k.k c.loop-k-test.true }
 
 
 pub overflow_add-k : goal.overflow_add-k
 overflow_add-k c =
-    record { fits = omega (arith, c.loop-k-test.true, c.requires.places.0.few) }
+    record { fits = omega (arith, c.loop-k-test.true, c.requires.places.few) }
 
 
 pub loop-k-smaller : goal.loop-k-smaller
@@ -32,7 +32,7 @@ loop-k-smaller c =
 
 pub loop-k-preserved : goal.loop-k-preserved
 loop-k-preserved c =
-    (omega (arith, c.loop-k-test.true), along_on c.args.b.now c.args.unit c.args.places.now c.args.count c.requires.places.0 c.args.short c.put-r.new.0 c.put-r.result c.loop-k.out c.loop-k.r c.loop-k.k c.loop-k.i c.loop-k.invariant.1 c.loop-k-test.true c.put_comma-s.new.0 c.put_comma-s.result c.put_slot-r.new.1.1.1.0 c.put_slot-r.result c.put_comma-s.ensures c.put_slot-r.ensures)
+    (omega (arith, c.loop-k-test.true), along_on c.args.b.now c.args.unit c.args.places.now c.args.count c.requires.places c.args.short c.put-r.new.0 c.put-r.result c.loop-k.out c.loop-k.r c.loop-k.k c.loop-k.i c.loop-k.invariant.1 c.loop-k-test.true c.put_comma-s.new.0 c.put_comma-s.result c.put_slot-r.new.1.1.1.0 c.put_slot-r.result c.put_comma-s.ensures c.put_slot-r.ensures)
 
 
 pub shape_of-out : goal.shape_of-out
@@ -42,4 +42,4 @@ shape_of-out c =
 
 pub returns : goal.returns
 returns c =
-    along_ends c.args.b.now c.args.unit c.args.places.now c.args.count c.requires.places.0 c.args.short c.put-r.new.0 c.put-r.result c.loop-k.out c.loop-k.r c.loop-k.k c.loop-k.i c.loop-k.invariant.1 c.loop-k-test.false c.args.out.now c.args.at c.put-r.ensures c.put.new.0 c.put.result c.put.ensures
+    along_ends c.args.b.now c.args.unit c.args.places.now c.args.count c.requires.places c.args.short c.put-r.new.0 c.put-r.result c.loop-k.out c.loop-k.r c.loop-k.k c.loop-k.i c.loop-k.invariant.1 c.loop-k-test.false c.args.out.now c.args.at c.put-r.ensures c.put.new.0 c.put.result c.put.ensures

@@ -10,7 +10,7 @@ use Rattle.picture_sound.proofs.draw.Goals as goal
 
 
 pub put_slots-u-requires : goal.put_slots-u-requires
-put_slots-u-requires c = let whole = (c.requires.fit, c.requires.unit_bound.1.1) in record { fit = whole.0; places = whole.1; indices = whole.2 }
+put_slots-u-requires c = record { fit = c.requires.fit; places = c.requires.places; indices = c.requires.indices }
 
 
 pub shape_of-out : goal.shape_of-out
@@ -20,5 +20,5 @@ shape_of-out c =
 
 pub returns : goal.returns
 returns c =
-    same_text (picture_text (view c.args.b.now) c.args.unit c.args.short (again c.speed-speed.result) (again c.sum-sum.result) (to_z-of_z (record { sfits = c.speed-speed.type-inv }) ∙ c.speed-speed.ensures) (to_z-of_z (record { sfits = c.sum-sum.type-inv }) ∙ c.sum-sum.ensures))
+    same_text (picture_text (view c.args.b.now) c.args.unit c.args.short (again c.speed-speed.result) (again c.sum-sum.result) (to_z-of_z (record { sfits = c.speed-speed.type_inv }) ∙ c.speed-speed.ensures) (to_z-of_z (record { sfits = c.sum-sum.type_inv }) ∙ c.sum-sum.ensures))
     (chain c.put_either-p.ensures (chain c.put_signed-q.ensures (chain c.put_either-r.ensures (chain c.put_signed-s.ensures (chain c.put-t.ensures (chain c.put_slots-u.ensures c.put.ensures))))))

@@ -20,7 +20,7 @@ returns-then-c-ne0 c =
 
 pub write-requires : goal.write-requires
 write-requires c =
-    let o = clear_passed (view c.args.b.now) c.args.unit (sym c.unit_number-number.ensures ∙ c.if-number-ne0.false) in let whole = (c.requires, (o.low, o.free)) in record { fit = whole.0; unit_bound = whole.1; unit_value = whole.2 }
+    let o = clear_passed (view c.args.b.now) c.args.unit (sym c.unit_number-number.ensures ∙ c.if-number-ne0.false) in record { fit = c.requires; unit_bound = o.low; unit_value = o.free }
 
 
 pub returns : goal.returns

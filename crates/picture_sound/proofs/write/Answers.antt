@@ -8,7 +8,7 @@ use Rattle.picture_sound.proofs.write.Goals as goal
 
 
 pub draw-n-requires : goal.draw-n-requires
-draw-n-requires c = let whole = (c.requires.fit, (c.requires.unit_bound.0, (c.requires.unit_bound.1, (c.list-count.ensures, c.indices-index.ensures)))) in record { fit = whole.0; unit_bound = whole.1; unit_value = whole.2; places = whole.3; indices = whole.4 }
+draw-n-requires c = record { fit = c.requires.fit; unit_bound = c.requires.unit_bound; unit_value = c.requires.unit_value; places = c.list-count.ensures; indices = c.indices-index.ensures }
 
 
 pub returns-then-out-n : goal.returns-then-out-n
@@ -16,7 +16,7 @@ returns-then-out-n c = measured_small (picture (view c.args.b.now) c.args.unit c
 
 
 pub draw-m-requires : goal.draw-m-requires
-draw-m-requires c = let whole = (c.requires.fit, (c.requires.unit_bound.0, (c.requires.unit_bound.1, (c.list-count.ensures, c.indices-index.ensures)))) in record { fit = whole.0; unit_bound = whole.1; unit_value = whole.2; places = whole.3; indices = whole.4 }
+draw-m-requires c = record { fit = c.requires.fit; unit_bound = c.requires.unit_bound; unit_value = c.requires.unit_value; places = c.list-count.ensures; indices = c.indices-index.ensures }
 
 
 pub returns : goal.returns

@@ -13,7 +13,7 @@ returns-then-number-ne0 c = present_no (view c.args.b.now) c.args.unit c.unit_nu
 
 pub total-count-requires : goal.total-count-requires
 total-count-requires c =
-    let o = clear_passed (view c.args.b.now) c.args.unit (sym c.unit_number-number.ensures ∙ c.if-number-ne0.false) in let whole = (c.requires, (o.low, o.free)) in record { fit = whole.0; unit_bound = whole.1; unit_value = whole.2 }
+    let o = clear_passed (view c.args.b.now) c.args.unit (sym c.unit_number-number.ensures ∙ c.if-number-ne0.false) in record { fit = c.requires; unit_bound = o.low; unit_value = o.free }
 
 
 pub returns : goal.returns

@@ -20,7 +20,7 @@ bounds-o-i c = let k = c.order_of-o.ensures.long in omega (arith, c.loop-i-test.
 pub marked-sum-requires : goal.marked-sum-requires
 marked-sum-requires c =
     let o = c.order_of-o in
-    let i = c.loop-i.i in record { fit = c.requires.fit; u_bound = unit_low c.args.b.now c.requires.fit c.args.unit c.requires.unit_bound.0 o.result o.ensures i (get_or o.result.units i 0) c.loop-i-test.true refl }
+    let i = c.loop-i.i in record { fit = c.requires.fit; u_bound = unit_low c.args.b.now c.requires.fit c.args.unit c.requires.unit_bound o.result o.ensures i (get_or o.result.units i 0) c.loop-i-test.true refl }
 
 
 pub overflow_add-sum : goal.overflow_add-sum
@@ -39,10 +39,10 @@ pub loop-i-preserved : goal.loop-i-preserved
 loop-i-preserved c =
     let o = c.order_of-o in
     let l = c.loop-i in
-    sum_on c.args.b.now c.requires.fit c.args.unit c.requires.unit_bound.0 o.result o.ensures l.i (get_or o.result.units l.i 0) c.loop-i-test.true refl l.sum c.marked-sum.result c.marked-sum.ensures l.invariant
+    sum_on c.args.b.now c.requires.fit c.args.unit c.requires.unit_bound o.result o.ensures l.i (get_or o.result.units l.i 0) c.loop-i-test.true refl l.sum c.marked-sum.result c.marked-sum.ensures l.invariant
 
 
 pub returns : goal.returns
 returns c =
     let o = c.order_of-o in
-    sum_ends c.args.b.now c.requires.fit c.args.unit c.requires.unit_bound.0 o.result o.ensures c.loop-i.i c.loop-i.sum c.loop-i-test.false c.loop-i.invariant
+    sum_ends c.args.b.now c.requires.fit c.args.unit c.requires.unit_bound o.result o.ensures c.loop-i.i c.loop-i.sum c.loop-i-test.false c.loop-i.invariant

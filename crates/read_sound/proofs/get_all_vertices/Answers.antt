@@ -39,7 +39,7 @@ all_vertices-count-requires c =
     let h = handle_named c.args.h in
     let k = c.in-At.k in
     let q : c.find-found.result ≡ At k = cc in
-    let f = found_at b h c.find-found.ensures k q in let whole = (c.requires, (held_placed b h k f, omega (arith, c.if-out-n.false, held_many b h k f c.requires, ap length (held_under b h k f), ap (λ (x : Node). x.size) c.load_node-n.ensures))) in record { fit = whole.0; placed = whole.1; k_in_bounds = whole.2 }
+    let f = found_at b h c.find-found.ensures k q in record { fit = c.requires; placed = held_placed b h k f; k_in_bounds = omega (arith, c.if-out-n.false, held_many b h k f c.requires, ap length (held_under b h k f), ap (λ (x : Node). x.size) c.load_node-n.ensures) }
 
 
 pub returns-in-Stale : goal.returns-in-Stale

@@ -16,8 +16,8 @@ returns-then-number-ne0 c = sum_no (view c.args.b.now) c.args.unit c.unit_number
 
 pub sum-weight-requires : goal.sum-weight-requires
 sum-weight-requires c =
-    let o = clear_passed (view c.args.b.now) c.args.unit (sym c.unit_number-number.ensures ∙ c.if-number-ne0.false) in let whole = (c.requires, (o.low, o.free)) in record { fit = whole.0; unit_bound = whole.1; unit_value = whole.2 }
+    let o = clear_passed (view c.args.b.now) c.args.unit (sym c.unit_number-number.ensures ∙ c.if-number-ne0.false) in record { fit = c.requires; unit_bound = o.low; unit_value = o.free }
 
 
 pub returns : goal.returns
-returns c = sum_yes (view c.args.b.now) c.args.unit c.unit_number-number.result c.unit_number-number.ensures c.if-number-ne0.false (to_z w64 (of_z w64 c.sum-weight.result)) (to_z-of_z (record { sfits = c.sum-weight.type-inv }) ∙ c.sum-weight.ensures)
+returns c = sum_yes (view c.args.b.now) c.args.unit c.unit_number-number.result c.unit_number-number.ensures c.if-number-ne0.false (to_z w64 (of_z w64 c.sum-weight.result)) (to_z-of_z (record { sfits = c.sum-weight.type_inv }) ∙ c.sum-weight.ensures)

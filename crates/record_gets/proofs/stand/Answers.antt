@@ -19,7 +19,7 @@ returns-then-not-begins c =
     let s = a.s.now in
     let m = c.measure-m in
     let h = bytes_all s c.type_inv.s.given in
-    astray s a.list a.count a.k h c.requires.0 c.requires.1 c.four_at-from.result c.end_of-to.result c.four_at-from.ensures.0 c.end_of-to.ensures m.result m.ensures (sym c.begins.ensures ∙ not-true _ c.if-not-begins.true)
+    astray s a.list a.count a.k h c.requires.0 c.requires.1 c.four_at-from.result c.end_of-to.result c.four_at-from.ensures.0 c.end_of-to.ensures m.result m.ensures (sym c.begins.ensures ∙ c.if-not-begins.true)
 
 
 pub returns-then-size-eq0 : goal.returns-then-size-eq0
@@ -28,7 +28,7 @@ returns-then-size-eq0 c =
     let s = a.s.now in
     let m = c.measure-m in
     let h = bytes_all s c.type_inv.s.given in
-    nothing_there s a.list a.count a.k h c.requires.0 c.requires.1 c.four_at-from.result c.end_of-to.result c.four_at-from.ensures.0 c.end_of-to.ensures m.result m.ensures (sym c.begins.ensures ∙ not-false _ c.if-not-begins.false) c.if-size-eq0.true
+    nothing_there s a.list a.count a.k h c.requires.0 c.requires.1 c.four_at-from.result c.end_of-to.result c.four_at-from.ensures.0 c.end_of-to.ensures m.result m.ensures (sym c.begins.ensures ∙ c.if-not-begins.false) c.if-size-eq0.true
 
 
 pub overflow_add-from : goal.overflow_add-from
@@ -37,7 +37,7 @@ overflow_add-from c =
     let s = a.s.now in
     let m = c.measure-m in
     let h = bytes_all s c.type_inv.s.given in
-    omega (arith, c.requires.0, c.well_formed, inside_list s a.list a.count a.k h c.requires.0 c.requires.1 c.four_at-from.result c.end_of-to.result c.four_at-from.ensures.0 c.end_of-to.ensures m.result m.ensures (sym c.begins.ensures ∙ not-false _ c.if-not-begins.false) c.if-size-eq0.false)
+    omega (arith, c.requires.0, c.well_formed, inside_list s a.list a.count a.k h c.requires.0 c.requires.1 c.four_at-from.result c.end_of-to.result c.four_at-from.ensures.0 c.end_of-to.ensures m.result m.ensures (sym c.begins.ensures ∙ c.if-not-begins.false) c.if-size-eq0.false)
 
 
 pub returns-then-from-size : goal.returns-then-from-size
@@ -45,7 +45,7 @@ returns-then-from-size c =
     let a = c.args in
     let s = a.s.now in
     let h = bytes_all s c.type_inv.s.given in
-    ends_elsewhere s a.list a.count a.k h c.requires.0 c.requires.1 c.four_at-from.result c.end_of-to.result c.four_at-from.ensures.0 c.end_of-to.ensures c.measure-m.result c.measure-m.ensures (sym c.begins.ensures ∙ not-false _ c.if-not-begins.false) c.if-size-eq0.false c.if-from-size.true
+    ends_elsewhere s a.list a.count a.k h c.requires.0 c.requires.1 c.four_at-from.result c.end_of-to.result c.four_at-from.ensures.0 c.end_of-to.ensures c.measure-m.result c.measure-m.ensures (sym c.begins.ensures ∙ c.if-not-begins.false) c.if-size-eq0.false c.if-from-size.true
 
 
 pub returns : goal.returns
@@ -53,4 +53,4 @@ returns c =
     let a = c.args in
     let s = a.s.now in
     let h = bytes_all s c.type_inv.s.given in
-    stands_there s a.list a.count a.k h c.requires.0 c.requires.1 c.four_at-from.result c.end_of-to.result c.four_at-from.ensures.0 c.end_of-to.ensures c.measure-m.result c.measure-m.ensures (sym c.begins.ensures ∙ not-false _ c.if-not-begins.false) c.if-size-eq0.false c.if-from-size.false
+    stands_there s a.list a.count a.k h c.requires.0 c.requires.1 c.four_at-from.result c.end_of-to.result c.four_at-from.ensures.0 c.end_of-to.ensures c.measure-m.result c.measure-m.ensures (sym c.begins.ensures ∙ c.if-not-begins.false) c.if-size-eq0.false c.if-from-size.false

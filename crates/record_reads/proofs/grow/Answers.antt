@@ -11,4 +11,4 @@ use Rattle.record_reads.proofs.grow.Goals as goal
 pub returns : goal.returns
 returns c =
     let a = c.args in
-    ap (Grow a.unit) (to_z-of_z (record { sfits = c.length_of-length.type-inv }) ∙ c.length_of-length.ensures ∙ same_length c.eight_at.result ∙ ap length_in c.eight_at.ensures.0)
+    ap (Grow a.unit) (to_z-of_z (record { sfits = c.length_of-length.type_inv }) ∙ c.length_of-length.ensures ∙ same_length c.eight_at.result ∙ ap length_in c.eight_at.ensures.0)

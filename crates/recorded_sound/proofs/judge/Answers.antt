@@ -25,7 +25,7 @@ overflow_sub-reach c = let a = c.args in omega (arith, ap (λ (x : Interface). x
 
 
 pub least_shrinking-floor-requires : goal.least_shrinking-floor-requires
-least_shrinking-floor-requires c = let a = c.args in let whole = (c.requires, ((here a.b.now c.requires a.unit a.length a.groups.now a.room c.unit_number-number.result c.unit_number-number.ensures c.if-number-ne0.false).low, (here a.b.now c.requires a.unit a.length a.groups.now a.room c.unit_number-number.result c.unit_number-number.ensures c.if-number-ne0.false).free)) in record { fit = whole.0; unit_bound = whole.1; unit_value = whole.2 }
+least_shrinking-floor-requires c = let a = c.args in record { fit = c.requires; unit_bound = (here a.b.now c.requires a.unit a.length a.groups.now a.room c.unit_number-number.result c.unit_number-number.ensures c.if-number-ne0.false).low; unit_value = (here a.b.now c.requires a.unit a.length a.groups.now a.room c.unit_number-number.result c.unit_number-number.ensures c.if-number-ne0.false).free }
 
 
 pub overflow_cast-length : goal.overflow_cast-length

@@ -18,17 +18,17 @@ load_node-n-requires c = named_low c.args.b.now c.requires c.args.unit c.named_n
 
 pub returns-then-not-is_blossom : goal.returns-then-not-is_blossom
 returns-then-not-is_blossom c =
-    expand_defect c.args.b.now c.requires c.args.unit c.named_number-number.result (handle_named c.args.h) c.named_number-number.ensures c.if-number-ne0.false c.load_node-n.result c.load_node-n.ensures c.is_blossom.result c.is_blossom.ensures (not-true c.is_blossom.result c.if-not-is_blossom.true)
+    expand_defect c.args.b.now c.requires c.args.unit c.named_number-number.result (handle_named c.args.h) c.named_number-number.ensures c.if-number-ne0.false c.load_node-n.result c.load_node-n.ensures c.is_blossom.result c.is_blossom.ensures (c.if-not-is_blossom.true)
 
 
 pub returns-in-Outermost : goal.returns-in-Outermost
 returns-in-Outermost c =
     let q : c.load_node-n.result.parent ≡ Outermost = cc in
-    expand_fine c.args.b.now c.requires c.args.unit c.named_number-number.result (handle_named c.args.h) c.named_number-number.ensures c.if-number-ne0.false c.load_node-n.result c.load_node-n.ensures c.is_blossom.result c.is_blossom.ensures (not-false c.is_blossom.result c.if-not-is_blossom.false) q
+    expand_fine c.args.b.now c.requires c.args.unit c.named_number-number.result (handle_named c.args.h) c.named_number-number.ensures c.if-number-ne0.false c.load_node-n.result c.load_node-n.ensures c.is_blossom.result c.is_blossom.ensures (c.if-not-is_blossom.false) q
 
 
 pub returns-in-Inside : goal.returns-in-Inside
 returns-in-Inside c =
     let h = c.in-Inside.field-0 in
     let q : c.load_node-n.result.parent ≡ Inside h = cc in
-    expand_member c.args.b.now c.requires c.args.unit c.named_number-number.result (handle_named c.args.h) c.named_number-number.ensures c.if-number-ne0.false c.load_node-n.result c.load_node-n.ensures c.is_blossom.result c.is_blossom.ensures (not-false c.is_blossom.result c.if-not-is_blossom.false) h q
+    expand_member c.args.b.now c.requires c.args.unit c.named_number-number.result (handle_named c.args.h) c.named_number-number.ensures c.if-number-ne0.false c.load_node-n.result c.load_node-n.ensures c.is_blossom.result c.is_blossom.ensures (c.if-not-is_blossom.false) h q

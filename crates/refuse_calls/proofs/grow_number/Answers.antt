@@ -13,7 +13,7 @@ returns-then-number-ne0 c = grow_early c.args.b.now c.args.unit c.args.length c.
 
 
 pub least_shrinking-low-requires : goal.least_shrinking-low-requires
-least_shrinking-low-requires c = let o = here c.args.b.now c.args.unit c.args.length c.length_number-number.result (length_said c.args.b.now c.args.unit c.ranges.length c.length_number-number.ensures) c.if-number-ne0.false in let whole = (c.requires, (o.low, o.free)) in record { fit = whole.0; unit_bound = whole.1; unit_value = whole.2 }
+least_shrinking-low-requires c = let o = here c.args.b.now c.args.unit c.args.length c.length_number-number.result (length_said c.args.b.now c.args.unit c.ranges.length c.length_number-number.ensures) c.if-number-ne0.false in record { fit = c.requires; unit_bound = o.low; unit_value = o.free }
 
 
 pub overflow_cast-length : goal.overflow_cast-length

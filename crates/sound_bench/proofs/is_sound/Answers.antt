@@ -16,39 +16,39 @@ returns-then-next-gt-PAST c = next_worn c.args.b.now c.load_next-next.result c.l
 
 pub returns-then-not-are_trees : goal.returns-then-not-are_trees
 returns-then-not-are_trees c =
-    no_trees c.args.b.now c.load_next-next.result c.load_next-next.ensures c.if-next-eq0.false c.if-next-gt-PAST.false c.are_trees.result c.are_trees.ensures (not-true c.are_trees.result c.if-not-are_trees.true)
+    no_trees c.args.b.now c.load_next-next.result c.load_next-next.ensures c.if-next-eq0.false c.if-next-gt-PAST.false c.are_trees.result c.are_trees.ensures (c.if-not-are_trees.true)
 
 
 pub are_nodes-requires : goal.are_nodes-requires
 are_nodes-requires c =
-    steady_tested c.args.b.now c.full.ensures (sym c.are_trees.ensures ∙ (not-false c.are_trees.result c.if-not-are_trees.false))
+    steady_tested c.args.b.now c.full.ensures (sym c.are_trees.ensures ∙ (c.if-not-are_trees.false))
 
 
 pub returns-then-not-are_nodes : goal.returns-then-not-are_nodes
 returns-then-not-are_nodes c =
-    no_nodes c.args.b.now c.load_next-next.result c.load_next-next.ensures c.if-next-eq0.false c.if-next-gt-PAST.false c.are_trees.result c.are_trees.ensures (not-false c.are_trees.result c.if-not-are_trees.false) c.are_nodes.result c.are_nodes.ensures (not-true c.are_nodes.result c.if-not-are_nodes.true)
+    no_nodes c.args.b.now c.load_next-next.result c.load_next-next.ensures c.if-next-eq0.false c.if-next-gt-PAST.false c.are_trees.result c.are_trees.ensures (c.if-not-are_trees.false) c.are_nodes.result c.are_nodes.ensures (c.if-not-are_nodes.true)
 
 
 pub are_tops-requires : goal.are_tops-requires
 are_tops-requires c =
-    steady_tested c.args.b.now c.full.ensures (sym c.are_trees.ensures ∙ (not-false c.are_trees.result c.if-not-are_trees.false))
+    steady_tested c.args.b.now c.full.ensures (sym c.are_trees.ensures ∙ (c.if-not-are_trees.false))
 
 
 pub returns-then-not-are_tops : goal.returns-then-not-are_tops
 returns-then-not-are_tops c =
-    no_tops c.args.b.now c.load_next-next.result c.load_next-next.ensures c.if-next-eq0.false c.if-next-gt-PAST.false c.are_trees.result c.are_trees.ensures (not-false c.are_trees.result c.if-not-are_trees.false) c.are_nodes.result c.are_nodes.ensures (not-false c.are_nodes.result c.if-not-are_nodes.false) c.are_tops.result c.are_tops.ensures (not-true c.are_tops.result c.if-not-are_tops.true)
+    no_tops c.args.b.now c.load_next-next.result c.load_next-next.ensures c.if-next-eq0.false c.if-next-gt-PAST.false c.are_trees.result c.are_trees.ensures (c.if-not-are_trees.false) c.are_nodes.result c.are_nodes.ensures (c.if-not-are_nodes.false) c.are_tops.result c.are_tops.ensures (c.if-not-are_tops.true)
 
 
 pub returns-then-not-are_different : goal.returns-then-not-are_different
 returns-then-not-are_different c =
-    not_once c.args.b.now c.load_next-next.result c.load_next-next.ensures c.if-next-eq0.false c.if-next-gt-PAST.false c.are_trees.result c.are_trees.ensures (not-false c.are_trees.result c.if-not-are_trees.false) c.are_nodes.result c.are_nodes.ensures (not-false c.are_nodes.result c.if-not-are_nodes.false) c.are_tops.result c.are_tops.ensures (not-false c.are_tops.result c.if-not-are_tops.false) c.are_different.result c.are_different.ensures (not-true c.are_different.result c.if-not-are_different.true)
+    not_once c.args.b.now c.load_next-next.result c.load_next-next.ensures c.if-next-eq0.false c.if-next-gt-PAST.false c.are_trees.result c.are_trees.ensures (c.if-not-are_trees.false) c.are_nodes.result c.are_nodes.ensures (c.if-not-are_nodes.false) c.are_tops.result c.are_tops.ensures (c.if-not-are_tops.false) c.are_different.result c.are_different.ensures (c.if-not-are_different.true)
 
 
 pub are_floors-requires : goal.are_floors-requires
 are_floors-requires c =
-    steady_tested c.args.b.now c.full.ensures (sym c.are_trees.ensures ∙ (not-false c.are_trees.result c.if-not-are_trees.false))
+    steady_tested c.args.b.now c.full.ensures (sym c.are_trees.ensures ∙ (c.if-not-are_trees.false))
 
 
 pub returns : goal.returns
 returns c =
-    all_there c.args.b.now c.load_next-next.result c.load_next-next.ensures c.if-next-eq0.false c.if-next-gt-PAST.false c.are_trees.result c.are_trees.ensures (not-false c.are_trees.result c.if-not-are_trees.false) c.are_nodes.result c.are_nodes.ensures (not-false c.are_nodes.result c.if-not-are_nodes.false) c.are_tops.result c.are_tops.ensures (not-false c.are_tops.result c.if-not-are_tops.false) c.are_different.result c.are_different.ensures (not-false c.are_different.result c.if-not-are_different.false) c.are_floors.result c.are_floors.ensures
+    all_there c.args.b.now c.load_next-next.result c.load_next-next.ensures c.if-next-eq0.false c.if-next-gt-PAST.false c.are_trees.result c.are_trees.ensures (c.if-not-are_trees.false) c.are_nodes.result c.are_nodes.ensures (c.if-not-are_nodes.false) c.are_tops.result c.are_tops.ensures (c.if-not-are_tops.false) c.are_different.result c.are_different.ensures (c.if-not-are_different.false) c.are_floors.result c.are_floors.ensures

@@ -16,15 +16,15 @@ loop-s-init c = (sym (all_none (slot_afloat c.args.b.now c.args.u c.args.t)), om
 
 
 pub is_afloat-requires : goal.is_afloat-requires
-is_afloat-requires c = record { k_bound = omega (arith, c.requires.u_bound, c.requires.used_bound.0, c.loop-s-test.true); t_bound = c.requires.used_bound.1 }
+is_afloat-requires c = record { k_bound = omega (arith, c.requires.u_bound, c.requires.used_bound, c.loop-s-test.true); t_bound = c.requires.t_bound }
 
 
 pub returns-then-not-is_afloat : goal.returns-then-not-is_afloat
-returns-then-not-is_afloat c = let a = c.args in all_not (slot_afloat a.b.now a.u a.t) a.used c.loop-s.s c.loop-s-test.true (sym c.is_afloat.ensures ∙ not-true c.is_afloat.result c.if-not-is_afloat.true)
+returns-then-not-is_afloat c = let a = c.args in all_not (slot_afloat a.b.now a.u a.t) a.used c.loop-s.s c.loop-s-test.true (sym c.is_afloat.ensures ∙ c.if-not-is_afloat.true)
 
 
 pub loop-s-preserved : goal.loop-s-preserved
-loop-s-preserved c = let a = c.args in (all_more (slot_afloat a.b.now a.u a.t) c.loop-s.s c.loop-s.invariant.0 (sym c.is_afloat.ensures ∙ not-false c.is_afloat.result c.if-not-is_afloat.false), omega arith)
+loop-s-preserved c = let a = c.args in (all_more (slot_afloat a.b.now a.u a.t) c.loop-s.s c.loop-s.invariant.0 (sym c.is_afloat.ensures ∙ c.if-not-is_afloat.false), omega arith)
 
 
 pub returns : goal.returns

@@ -28,7 +28,7 @@ climb-c-requires c = record { unit_bound = c.requires.u_bound; steady = c.requir
 
 pub are_afloat-requires : goal.are_afloat-requires
 are_afloat-requires c =
-    let f = c.load_interface-f in let whole = (c.requires.u_bound, (used_small c.args.b.now c.args.u f.result f.ensures c.requires.steady c.requires.u_bound, c.climb-c.ensures.small)) in record { u_bound = whole.0; used_bound = whole.1; t_bound = whole.2 }
+    let f = c.load_interface-f in record { u_bound = c.requires.u_bound; used_bound = used_small c.args.b.now c.args.u f.result f.ensures c.requires.steady c.requires.u_bound; t_bound = c.climb-c.ensures.small }
 
 
 pub returns : goal.returns

@@ -16,11 +16,11 @@ loop-u-init c = (sym (all_none (slots_test c.args.b.now)), omega arith)
 
 
 pub returns-then-not-are_slots : goal.returns-then-not-are_slots
-returns-then-not-are_slots c = all_not (slots_test c.args.b.now) 8 c.loop-u.u c.loop-u-test.true (sym c.are_slots.ensures ∙ not-true c.are_slots.result c.if-not-are_slots.true)
+returns-then-not-are_slots c = all_not (slots_test c.args.b.now) 8 c.loop-u.u c.loop-u-test.true (sym c.are_slots.ensures ∙ c.if-not-are_slots.true)
 
 
 pub loop-u-preserved : goal.loop-u-preserved
-loop-u-preserved c = (all_more (slots_test c.args.b.now) c.loop-u.u c.loop-u.invariant.0 (sym c.are_slots.ensures ∙ not-false c.are_slots.result c.if-not-are_slots.false), omega arith)
+loop-u-preserved c = (all_more (slots_test c.args.b.now) c.loop-u.u c.loop-u.invariant.0 (sym c.are_slots.ensures ∙ c.if-not-are_slots.false), omega arith)
 
 
 pub returns : goal.returns

@@ -22,12 +22,12 @@ returns-then-not-is_slot c =
     let f = c.load_interface-f in
     let m = c.load_map-map in
     slots_of a.b.now a.u f.result m.result f.ensures m.ensures m.type-inv false
-    (all_not (slot_test a.b.now f.result.used m.result a.u) 64 c.loop-s.s c.loop-s-test.true (sym c.is_slot.ensures ∙ not-true c.is_slot.result c.if-not-is_slot.true))
+    (all_not (slot_test a.b.now f.result.used m.result a.u) 64 c.loop-s.s c.loop-s-test.true (sym c.is_slot.ensures ∙ c.if-not-is_slot.true))
 
 
 pub loop-s-preserved : goal.loop-s-preserved
 loop-s-preserved c =
-    (all_more (slot_test c.args.b.now c.load_interface-f.result.used c.load_map-map.result c.args.u) c.loop-s.s c.loop-s.invariant.0 (sym c.is_slot.ensures ∙ not-false c.is_slot.result c.if-not-is_slot.false), omega arith)
+    (all_more (slot_test c.args.b.now c.load_interface-f.result.used c.load_map-map.result c.args.u) c.loop-s.s c.loop-s.invariant.0 (sym c.is_slot.ensures ∙ c.if-not-is_slot.false), omega arith)
 
 
 pub returns : goal.returns

@@ -7,7 +7,7 @@ use Rattle.sound_nodes.proofs.is_node.Goals as goal
 
 
 pub returns-then-not-is_coded : goal.returns-then-not-is_coded
-returns-then-not-is_coded c = node_uncoded c.args.b.now c.args.u c.args.s c.is_coded.result c.is_coded.ensures (not-true c.is_coded.result c.if-not-is_coded.true)
+returns-then-not-is_coded c = node_uncoded c.args.b.now c.args.u c.args.s c.is_coded.result c.is_coded.ensures (c.if-not-is_coded.true)
 
 
 pub is_parent-seat-requires : goal.is_parent-seat-requires
@@ -16,4 +16,4 @@ is_parent-seat-requires c = record { steady = c.requires.steady; good_parent = g
 
 pub returns : goal.returns
 returns c =
-    node_row c.args.b.now c.args.u c.args.s c.is_coded.result c.is_coded.ensures (not-false c.is_coded.result c.if-not-is_coded.false) c.args.g c.requires.u_bound.1.1 c.load_next-next.result c.load_next-next.ensures c.load_node-n.result c.load_node-n.ensures c.is_near-near.result c.is_class-class.result c.is_parent-seat.result c.is_near-near.ensures c.is_class-class.ensures c.is_parent-seat.ensures
+    node_row c.args.b.now c.args.u c.args.s c.is_coded.result c.is_coded.ensures (c.if-not-is_coded.false) c.args.g c.requires.grounds c.load_next-next.result c.load_next-next.ensures c.load_node-n.result c.load_node-n.ensures c.is_near-near.result c.is_class-class.result c.is_parent-seat.result c.is_near-near.ensures c.is_class-class.ensures c.is_parent-seat.ensures

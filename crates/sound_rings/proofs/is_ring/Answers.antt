@@ -27,12 +27,12 @@ returns-then-p-ge512 c =
 
 pub returns-then-not-is_member : goal.returns-then-not-is_member
 returns-then-not-is_member c =
-    going_fails (node_at c.args.b.now) c.args.next c.args.h c.args.n c.loop-i.p c.loop-i.total c.loop-i.i c.loop-i.invariant c.loop-i-test.true c.if-p-ge512.false c.load_node-m.result c.load_node-m.ensures c.is_member.result c.is_member.ensures (not-true c.is_member.result c.if-not-is_member.true)
+    going_fails (node_at c.args.b.now) c.args.next c.args.h c.args.n c.loop-i.p c.loop-i.total c.loop-i.i c.loop-i.invariant c.loop-i-test.true c.if-p-ge512.false c.load_node-m.result c.load_node-m.ensures c.is_member.result c.is_member.ensures (c.if-not-is_member.true)
 
 
 pub overflow_add-total : goal.overflow_add-total
 overflow_add-total c =
-    let m = little (node_at c.args.b.now) c.args.next c.args.h c.args.n c.loop-i.p c.loop-i.total c.loop-i.i c.loop-i.invariant c.loop-i-test.true c.if-p-ge512.false c.load_node-m.result c.load_node-m.ensures c.is_member.result c.is_member.ensures (not-false c.is_member.result c.if-not-is_member.false) in record { fits = omega (arith, c.loop-i.invariant.small, c.loop-i.invariant.low, c.loop-i.invariant.few) }
+    let m = little (node_at c.args.b.now) c.args.next c.args.h c.args.n c.loop-i.p c.loop-i.total c.loop-i.i c.loop-i.invariant c.loop-i-test.true c.if-p-ge512.false c.load_node-m.result c.load_node-m.ensures c.is_member.result c.is_member.ensures (c.if-not-is_member.false) in record { fits = omega (arith, c.loop-i.invariant.small, c.loop-i.invariant.low, c.loop-i.invariant.few) }
 
 
 pub overflow_add-i : goal.overflow_add-i
@@ -46,7 +46,7 @@ loop-i-smaller c = omega (arith, c.loop-i-test.true)
 
 pub loop-i-preserved : goal.loop-i-preserved
 loop-i-preserved c =
-    going_on (node_at c.args.b.now) c.args.next c.args.h c.args.n c.loop-i.p c.loop-i.total c.loop-i.i c.loop-i.invariant c.loop-i-test.true c.if-p-ge512.false c.load_node-m.result c.load_node-m.ensures c.is_member.result c.is_member.ensures (not-false c.is_member.result c.if-not-is_member.false)
+    going_on (node_at c.args.b.now) c.args.next c.args.h c.args.n c.loop-i.p c.loop-i.total c.loop-i.i c.loop-i.invariant c.loop-i-test.true c.if-p-ge512.false c.load_node-m.result c.load_node-m.ensures c.is_member.result c.is_member.ensures (c.if-not-is_member.false)
 
 
 pub returns : goal.returns

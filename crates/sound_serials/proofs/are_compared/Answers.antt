@@ -16,11 +16,11 @@ loop-k-init c = (sym (all_none (once_test c.args.b.now)), omega arith)
 
 
 pub returns-then-not-is_once : goal.returns-then-not-is_once
-returns-then-not-is_once c = all_not (once_test c.args.b.now) 512 c.loop-k.k c.loop-k-test.true (sym c.is_once.ensures ∙ not-true c.is_once.result c.if-not-is_once.true)
+returns-then-not-is_once c = all_not (once_test c.args.b.now) 512 c.loop-k.k c.loop-k-test.true (sym c.is_once.ensures ∙ c.if-not-is_once.true)
 
 
 pub loop-k-preserved : goal.loop-k-preserved
-loop-k-preserved c = (all_more (once_test c.args.b.now) c.loop-k.k c.loop-k.invariant.0 (sym c.is_once.ensures ∙ not-false c.is_once.result c.if-not-is_once.false), omega arith)
+loop-k-preserved c = (all_more (once_test c.args.b.now) c.loop-k.k c.loop-k.invariant.0 (sym c.is_once.ensures ∙ c.if-not-is_once.false), omega arith)
 
 
 pub returns : goal.returns

@@ -16,11 +16,11 @@ loop-u-init c = (sym (all_none (top_test c.args.b.now)), omega arith)
 
 
 pub returns-then-not-is_top : goal.returns-then-not-is_top
-returns-then-not-is_top c = all_not (top_test c.args.b.now) 8 c.loop-u.u c.loop-u-test.true (sym c.is_top.ensures ∙ not-true c.is_top.result c.if-not-is_top.true)
+returns-then-not-is_top c = all_not (top_test c.args.b.now) 8 c.loop-u.u c.loop-u-test.true (sym c.is_top.ensures ∙ c.if-not-is_top.true)
 
 
 pub loop-u-preserved : goal.loop-u-preserved
-loop-u-preserved c = (all_more (top_test c.args.b.now) c.loop-u.u c.loop-u.invariant.0 (sym c.is_top.ensures ∙ not-false c.is_top.result c.if-not-is_top.false), omega arith)
+loop-u-preserved c = (all_more (top_test c.args.b.now) c.loop-u.u c.loop-u.invariant.0 (sym c.is_top.ensures ∙ c.if-not-is_top.false), omega arith)
 
 
 pub returns : goal.returns

@@ -17,11 +17,11 @@ loop-u-init c = (sym (all_none (interface_test c.args.b.now)), omega arith)
 
 
 pub returns-then-not-is_interface : goal.returns-then-not-is_interface
-returns-then-not-is_interface c = all_not (interface_test c.args.b.now) 8 c.loop-u.u c.loop-u-test.true (sym c.is_interface.ensures ∙ not-true c.is_interface.result c.if-not-is_interface.true)
+returns-then-not-is_interface c = all_not (interface_test c.args.b.now) 8 c.loop-u.u c.loop-u-test.true (sym c.is_interface.ensures ∙ c.if-not-is_interface.true)
 
 
 pub loop-u-preserved : goal.loop-u-preserved
-loop-u-preserved c = (all_more (interface_test c.args.b.now) c.loop-u.u c.loop-u.invariant.0 (sym c.is_interface.ensures ∙ not-false c.is_interface.result c.if-not-is_interface.false), omega arith)
+loop-u-preserved c = (all_more (interface_test c.args.b.now) c.loop-u.u c.loop-u.invariant.0 (sym c.is_interface.ensures ∙ c.if-not-is_interface.false), omega arith)
 
 
 pub returns : goal.returns

@@ -26,12 +26,12 @@ returns-then-closed-ne0 c =
 
 pub speed-speed-requires : goal.speed-speed-requires
 speed-speed-requires c =
-    let o = clear_passed (view c.args.b.now) c.args.unit (sym c.unit_number-closed.ensures ∙ c.if-closed-ne0.false) in let whole = (fit_of c.args.b.now c.requires, (o.low, o.free)) in record { fit = whole.0; unit_bound = whole.1; unit_value = whole.2 }
+    let o = clear_passed (view c.args.b.now) c.args.unit (sym c.unit_number-closed.ensures ∙ c.if-closed-ne0.false) in record { fit = fit_of c.args.b.now c.requires; unit_bound = o.low; unit_value = o.free }
 
 
 pub sum-sum-requires : goal.sum-sum-requires
 sum-sum-requires c =
-    let o = clear_passed (view c.args.b.now) c.args.unit (sym c.unit_number-closed.ensures ∙ c.if-closed-ne0.false) in let whole = (fit_of c.args.b.now c.requires, (o.low, o.free)) in record { fit = whole.0; unit_bound = whole.1; unit_value = whole.2 }
+    let o = clear_passed (view c.args.b.now) c.args.unit (sym c.unit_number-closed.ensures ∙ c.if-closed-ne0.false) in record { fit = fit_of c.args.b.now c.requires; unit_bound = o.low; unit_value = o.free }
 
 
 pub returns : goal.returns
@@ -39,4 +39,4 @@ returns c =
     let a = c.args in
     shown_open a.number a.serial (view a.b.now) a.unit c.if-number-eq3.false (sym c.unit_number-closed.ensures ∙ c.if-closed-ne0.false)
     (to_z w64 (of_z w64 c.speed-speed.result)) (to_z w64 (of_z w64 c.sum-sum.result))
-    (to_z-of_z (record { sfits = c.speed-speed.type-inv }) ∙ c.speed-speed.ensures) (to_z-of_z (record { sfits = c.sum-sum.type-inv }) ∙ c.sum-sum.ensures)
+    (to_z-of_z (record { sfits = c.speed-speed.type_inv }) ∙ c.speed-speed.ensures) (to_z-of_z (record { sfits = c.sum-sum.type_inv }) ∙ c.sum-sum.ensures)

@@ -21,7 +21,7 @@ slice_bounds-answer_first-end-2 c =
 
 pub answer_first-first-requires : goal.answer_first-first-requires
 answer_first-first-requires c =
-    (c.start.ensures, c.requires.0, omega (arith, c.requires.3, c.feed-f.ensures.in_chunk, c.feed-f.ensures.on (not-false c.feed-f.result.ended c.if-not-f.false)))
+    (c.start.ensures, c.requires.0, omega (arith, c.requires.3, c.feed-f.ensures.in_chunk, c.feed-f.ensures.on (c.if-not-f.false)))
 
 
 pub answer_rest-requires : goal.answer_rest-requires
