@@ -111,6 +111,25 @@ def field_of(fields, rest, at):
     return whole
 
 
+LENT = {}
+
+
+def lent_of(callee):
+    """The parameters of a function that are no plain numbers: what a call's `.new` has by name."""
+    if callee not in LENT:
+        crate, *path = callee.split("::")
+        for top, _, files in os.walk(f"crates/{crate}/src"):
+            for file in files:
+                text = open(os.path.join(top, file), encoding="utf-8").read()
+                for m in re.finditer(r"\bfn (\w+)\(([^{]*?)\)(?: ->|\s*\n|\s*\{)", text):
+                    name = m[1]
+                    found = re.findall(r"(\w+): ([^,()]+(?:\([^)]*\))?)", m[2])
+                    if name == path[-1]:
+                        LENT[callee] = [n for n, ty in found if not re.fullmatch(r"\s*(u8|u16|u32|u64|usize|i8|i16|i32|i64|bool)\s*", ty)]
+        LENT.setdefault(callee, [])
+    return LENT[callee]
+
+
 class Names:
     def __init__(self, of):
         self.of = of
@@ -187,9 +206,14 @@ class Turn:
                     return "path", ".".join(["c", "type_inv", var, *rest])
             said.append(f"{self.where}: no step today for {'.'.join(fields)}")
             return "path", ".".join(["c", step, *rest])
-        for var, old in names.of["typed"][names.place[here]] if here in names.place else []:
+        callee = names.of["places"][names.place[at_place]][3]
+        for var, old in names.of["typed"][names.place[here]] if here in names.place and not callee else []:
             if plain(old) == plain(step):
                 return "path", ".".join(["c", "type_inv", var, *rest])
+        if rest and rest[0] == "new" and callee and len(rest) > 1 and rest[1].isdigit():
+            lent = lent_of(callee)
+            if lent:
+                return "path", field_of(lent, rest[1:], f"c.{new}.new") if len(lent) > 1 else ".".join(["c", new, "new", lent[0], *rest[2:]])
         clauses = names.of["clauses"][names.place[at_place]]
         if clauses is None:
             for up in names.of["places"]:
@@ -347,6 +371,9 @@ def turn(crate, folder, names):
             args = args[: args.index("c") + 1] if "c" in args else args
             t = Turn(n, file, labels)
             term = t.body(term, here)
+            term = term.replace(".type-inv", ".type_inv").replace(".well-formed", ".well_formed")
+            term = re.sub(r"simp length-map at (c\.well_formed[\w.]*)", r"\1", term)
+            term = re.sub(r"(?<![\w-])to_z-of_z (?!\{|w\d)", "to_z-of_z {w = w64} ", term) if "mir.Facts" in text else term
             # a test of `!x` says `x ≡ false` and `x ≡ true` itself
             term = re.sub(r"not[-_](?:true|false) (?:_|[A-Za-z][\w'.-]*|\([^()]*\)) (c\.if-not-[\w'-]+\.(?:true|false))", r"\1", term)
             wanted = None
@@ -369,6 +396,8 @@ def turn(crate, folder, names):
     uses = [l for l in head if l.startswith("use ") and not re.search(r"\.(Statement|Tie|Lts)(\.\{statement\})?( as \w+)?$", l)]
     heads = [l for l in head if l.startswith("--")]
     module = f"Rattle.{crate}.proofs.{path}"
+    if any("{w = w64}" in it for it in ans) and not any(re.search(r"\bw64\b", l) for l in uses):
+        uses.append("use mir.Syntax.{w64}")
     if inv:
         with open(f"{folder}/Invariants.antt", "w", encoding="utf-8") as it:
             it.write("\n".join([*heads, *uses, f"use {module}.Given as goal", "", *inv]).rstrip() + "\n")

@@ -14,4 +14,4 @@ overflow_sub-result c = rw (to_z_pos w64 {n = c.args.x} (omega arith), to_z_pos 
 
 pub returns : goal.returns
 unfolding off
-returns c = rw (to_z_pos w64 {n = c.args.x} (omega arith), to_z_pos w64 {n = c.args.c} (omega arith)) (to_z-of_z (lowered_fits c.args.x c.args.c c.requires.0 c.requires.1))
+returns c = rw (to_z_pos w64 {n = c.args.x} (omega arith), to_z_pos w64 {n = c.args.c} (omega arith)) (to_z-of_z {w = w64} (lowered_fits c.args.x c.args.c c.requires.0 c.requires.1))

@@ -6,6 +6,7 @@ use borrow.Author.Rules.{rules}
 use Rattle.ledger_spec.specs.Named.{handle_named}
 use Rattle.bench_views.specs.View.{off}
 use Rattle.bench_links.proofs.Weighing.{bias_room, value_small, value_seen}
+use mir.Syntax.{w64}
 use Rattle.bench_links.proofs.value.Goals as goal
 
 
@@ -21,6 +22,6 @@ lowered-requires c =
 
 pub returns : goal.returns
 returns c =
-    to_z-of_z (record { sfits = c.lowered.type_inv }) ∙ c.lowered.ensures
+    to_z-of_z {w = w64} (record { sfits = c.lowered.type_inv }) ∙ c.lowered.ensures
     ∙ ap (off 1152921504606846976) c.valued.ensures
     ∙ value_seen c.args.b.now (handle_named c.args.h) c.requires.stands c.load_node-n.result c.load_node-n.ensures c.climb-c.result.total c.climb-c.ensures.total

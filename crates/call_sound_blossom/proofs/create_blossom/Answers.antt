@@ -16,4 +16,4 @@ add_blossom-node-requires c = (fit_of c.args.b.now c.requires, sym c.blossom_num
 
 pub returns : goal.returns
 returns c = reply_done c.args.b.now c.requires c.args.unit c.args.members.now c.args.touching.now c.blossom_number-number.result c.blossom_number-number.ensures c.if-number-ne0.false
-    c.add_blossom-node.new.0 c.add_blossom-node.result c.add_blossom-node.ensures.0 c.add_blossom-node.ensures.1
+    c.add_blossom-node.new.b c.add_blossom-node.result c.add_blossom-node.ensures.0 c.add_blossom-node.ensures.1

@@ -54,7 +54,7 @@ loop-i-preserved c =
     let l = c.loop-i in (
       omega (arith, c.loop-i-test.true),
       listing_on c.args.b.now c.requires.fit c.args.unit c.requires.unit_bound o.result o.ensures l.i l.n l.out l.invariant.1 (get_or o.result.units l.i 0) c.loop-i-test.true refl c.load_interface-f.result c.load_interface-f.ensures
-          c.fill-n.new.0 c.fill-n.result c.fill-n.ensures,
+          c.fill-n.new.out c.fill-n.result c.fill-n.ensures,
     )
 
 

@@ -40,7 +40,7 @@ loop-k-smaller c =
 
 pub loop-k-preserved : goal.loop-k-preserved
 loop-k-preserved c =
-    let r = c.type_inv.met in
+    let r = c.look-s in
     let t = c.loop-k-test.true in
     (omega (arith, t), (walking_on c.args.b.now c.args.unit c.args.strict c.args.places.now c.args.count c.requires.places c.loop-k.k c.loop-k.n c.loop-k.met c.loop-k.invariant.1.0 t r.new.1.1.1.1.0 r.result r.ensures.0 c.if-s-ne0.false, r.ensures.1))
 

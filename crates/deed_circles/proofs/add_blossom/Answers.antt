@@ -65,7 +65,7 @@ overflow_sub-speed c =
 
 pub loop-i-preserved : goal.loop-i-preserved
 loop-i-preserved c =
-    loop_turns c.loop-i.invariant c.take_in-s.new.0 c.take_in-s.result.size c.take_in-s.result.rate c.loop-i-test.true c.seat.ensures c.take_in-s.ensures.0 c.take_in-s.ensures.1 c.take_in-s.ensures.2
+    loop_turns c.loop-i.invariant c.take_in-s.new.b c.take_in-s.result.size c.take_in-s.result.rate c.loop-i-test.true c.seat.ensures c.take_in-s.ensures.0 c.take_in-s.ensures.1 c.take_in-s.ensures.2
 
 
 pub bounds-members-0 : goal.bounds-members-0

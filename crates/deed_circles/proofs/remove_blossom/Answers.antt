@@ -38,7 +38,7 @@ overflow_add-i c =
 pub loop-i-preserved : goal.loop-i-preserved
 loop-i-preserved c =
     let a = c.args in
-    (expand_turns a.b.now a.unit a.h c.requires.0 c.requires.1 c.load_node-n.result c.load_node-n.ensures c.release-at.new.0 c.release-at.result c.loop-i.invariant.0 c.loop-i-test.true c.release-at.ensures.0 c.release-at.ensures.1, omega arith)
+    (expand_turns a.b.now a.unit a.h c.requires.0 c.requires.1 c.load_node-n.result c.load_node-n.ensures c.release-at.new.b c.release-at.result c.loop-i.invariant.0 c.loop-i-test.true c.release-at.ensures.0 c.release-at.ensures.1, omega arith)
 
 
 pub store_node-requires : goal.store_node-requires

@@ -15,7 +15,7 @@ pub loop-s-preserved : goal.loop-s-preserved
 loop-s-preserved c =
     let a = c.args in
     let l = c.loop-s in
-    (emptied_more a.b.now a.unit l.b c.store_node.new.0 l.s c.no_node.result l.invariant.0 c.requires.0 (omega arith) c.no_node.ensures c.store_node.ensures, omega arith)
+    (emptied_more a.b.now a.unit l.b c.store_node.new.b l.s c.no_node.result l.invariant.0 c.requires.0 (omega arith) c.no_node.ensures c.store_node.ensures, omega arith)
 
 
 pub returns : goal.returns

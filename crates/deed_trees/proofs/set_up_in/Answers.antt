@@ -7,13 +7,13 @@ use Rattle.deed_trees.proofs.set_up_in.Goals as goal
 
 
 pub loop-u-init : goal.loop-u-init
-loop-u-init c = filling_begins _ c.erase.new.0 c.erase.ensures
+loop-u-init c = filling_begins _ c.erase.new.b c.erase.ensures
 
 
 pub loop-u-preserved : goal.loop-u-preserved
-loop-u-preserved c = let l = c.loop-u in filling_more _ l.b c.store_interface.new.0 l.u l.invariant c.loop-u-test.true c.no_interface.ensures c.store_interface.ensures
+loop-u-preserved c = let l = c.loop-u in filling_more _ l.b c.store_interface.new.b l.u l.invariant c.loop-u-test.true c.no_interface.ensures c.store_interface.ensures
 
 
 pub returns : goal.returns
 returns c =
-    let l = c.loop-u in filled _ l.b c.store_next.new.0 l.u c.args.first l.invariant (omega arith) c.store_next.ensures
+    let l = c.loop-u in filled _ l.b c.store_next.new.b l.u c.args.first l.invariant (omega arith) c.store_next.ensures

@@ -59,5 +59,5 @@ returns c =
     let u = c.args.unit in
     let at : l.w ≡ u = omega (arith, l.invariant.1, c.loop-w-test.false) in
     let G : Wiping b₀ u l.b u = subst (Wiping b₀ u l.b) at l.invariant.0 in
-    let b₂ = c.reset-2.new.0 in
+    let b₂ = c.reset-2.new.b in
     wiped b₀ u c.requires.0 b₂ (u + 1) (wiping_reset b₀ u c.requires.0 c.requires.1 l.b u G (omega arith) b₂ (top_own b₀ u c.requires.0 c.requires.1) c.reset-2.ensures) (omega arith)

@@ -22,7 +22,7 @@ returns-in-Growth c =
     let f = c.in-Growth.flag in
     let fits : SFits w64 c.in-Growth.length = search rules in
     add_growth c.args.g c.args.o c.args.first.0 c.add_to_growth.result l f c.in-Growth.is
-    (c.add_to_growth.ensures ∙ ap (λ (z : ℤ). changed (add_to_growth z f c.args.o c.args.first.0) c.args.g) (to_z-of_z fits))
+    (c.add_to_growth.ensures ∙ ap (λ (z : ℤ). changed (add_to_growth z f c.args.o c.args.first.0) c.args.g) (to_z-of_z {w = w64} fits))
 
 
 pub returns-in-Conflicts : goal.returns-in-Conflicts

@@ -31,7 +31,7 @@ add_listed-requires-in-BlossomNeedExpand c = c.requires
 
 pub returns-in-NonZeroGrow : goal.returns-in-NonZeroGrow
 returns-in-NonZeroGrow c =
-    conflicts_grow c.args.o c.args.first.0 c.args.g _ _ ((let l = (simp length-map at c.well_formed.0.1.1.1.0.1.0.1) in let w = (simp length-map at c.well_formed.0.1.1.1.1.0.1.0.1) in record { kind = c.requires.0; few = c.requires.1.0; short = c.requires.1.1; list = omega (arith, l); stops = omega (arith, w) })) c.in-NonZeroGrow.is
+    conflicts_grow c.args.o c.args.first.0 c.args.g _ _ ((let l = (c.well_formed.0.1.1.1.0.1.0.1) in let w = (c.well_formed.0.1.1.1.1.0.1.0.1) in record { kind = c.requires.0; few = c.requires.1.0; short = c.requires.1.1; list = omega (arith, l); stops = omega (arith, w) })) c.in-NonZeroGrow.is
 
 
 pub returns-in-VertexShrinkStop : goal.returns-in-VertexShrinkStop

@@ -15,7 +15,7 @@ returns-in-NonZeroGrow c =
     let fa : SFits w64 c.args.length = search rules in
     let fb : SFits w64 c.in-NonZeroGrow.other = search rules in
     let fr : SFits w64 c.smaller_of-least.result = search rules in
-    growth_grow c.args.length c.args.flag c.args.o c.args.first.0 c.args.g c.grown-group.result c.in-NonZeroGrow.other c.in-NonZeroGrow.on _ _ c.in-NonZeroGrow.is (to_z-of_z fr ∙ c.smaller_of-least.ensures ∙ ap₂ smaller (to_z-of_z fa) (to_z-of_z fb)) c.either-joined.ensures c.grown-group.ensures
+    growth_grow c.args.length c.args.flag c.args.o c.args.first.0 c.args.g c.grown-group.result c.in-NonZeroGrow.other c.in-NonZeroGrow.on _ _ c.in-NonZeroGrow.is (to_z-of_z {w = w64} fr ∙ c.smaller_of-least.ensures ∙ ap₂ smaller (to_z-of_z {w = w64} fa) (to_z-of_z {w = w64} fb)) c.either-joined.ensures c.grown-group.ensures
 
 
 pub returns-in-VertexShrinkStop : goal.returns-in-VertexShrinkStop

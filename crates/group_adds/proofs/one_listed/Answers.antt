@@ -9,5 +9,5 @@ use Rattle.group_adds.proofs.one_listed.Goals as goal
 
 pub returns : goal.returns
 returns c =
-    let l = (simp length-map at c.well_formed.0.1.1.1.0.1.0.1) in
+    let l = (c.well_formed.0.1.1.1.0.1.0.1) in
     lone_entry c.args.e c.args.g (omega (arith, l))

@@ -9,5 +9,5 @@ use Rattle.group_adds.proofs.one_stop.Goals as goal
 
 pub returns : goal.returns
 returns c =
-    let w = (simp length-map at c.well_formed.0.1.1.1.1.0.1.0.1) in
+    let w = (c.well_formed.0.1.1.1.1.0.1.0.1) in
     lone_stop c.args.s c.args.g (omega (arith, w))

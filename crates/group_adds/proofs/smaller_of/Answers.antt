@@ -11,11 +11,11 @@ pub returns-then-b-a : goal.returns-then-b-a
 returns-then-b-a c =
     let fa : SFits w64 c.args.a = search rules in
     let fb : SFits w64 c.args.b = search rules in
-    smaller_other c.args.a c.args.b _ _ (to_z-of_z fa) (to_z-of_z fb) c.if-b-a.true
+    smaller_other c.args.a c.args.b _ _ (to_z-of_z {w = w64} fa) (to_z-of_z {w = w64} fb) c.if-b-a.true
 
 
 pub returns : goal.returns
 returns c =
     let fa : SFits w64 c.args.a = search rules in
     let fb : SFits w64 c.args.b = search rules in
-    smaller_own c.args.a c.args.b _ _ (to_z-of_z fa) (to_z-of_z fb) c.if-b-a.false
+    smaller_own c.args.a c.args.b _ _ (to_z-of_z {w = w64} fa) (to_z-of_z {w = w64} fb) c.if-b-a.false

@@ -31,21 +31,21 @@ returns-in-Growth-other c =
     let fb : SFits w64 c.in-Growth-other.b = search (rules, c.known_told-in-Growth-1.given) in
     let fr : SFits w64 c.smaller_pair-least.result.length = search (rules, c.struct_told-1.given) in
     two_growths c.args.g c.args.h a f b i c.in-Growth.is c.in-Growth-other.is _ p.result.flag c.grown-group.result
-    (ap (λ (z : ℤ). growth z p.result.flag) (to_z-of_z fr) ∙ p.ensures ∙ ap₂ (λ (x y : ℤ). least_of x f y i) (to_z-of_z fa) (to_z-of_z fb)) c.grown-group.ensures
+    (ap (λ (z : ℤ). growth z p.result.flag) (to_z-of_z {w = w64} fr) ∙ p.ensures ∙ ap₂ (λ (x y : ℤ). least_of x f y i) (to_z-of_z {w = w64} fa) (to_z-of_z {w = w64} fb)) c.grown-group.ensures
 
 
 pub returns-in-Conflicts-other : goal.returns-in-Conflicts-other
 returns-in-Conflicts-other c =
-    let l = (simp length-map at c.well_formed.1.0.1.1.1.0.1.0.1) in
-    let w = (simp length-map at c.well_formed.1.0.1.1.1.1.0.1.0.1) in
+    let l = (c.well_formed.1.0.1.1.1.0.1.0.1) in
+    let w = (c.well_formed.1.0.1.1.1.1.0.1.0.1) in
     let q = sound_counts c.args.h c.in-Conflicts-other.is c.requires.h_value in
     takes_whole c.args.g c.args.h c.in-Growth.a c.in-Growth.f c.in-Growth.is c.in-Conflicts-other.is (omega (arith, l, q.0)) (omega (arith, w, q.1))
 
 
 pub returns-in-Growth-other-2 : goal.returns-in-Growth-other-2
 returns-in-Growth-other-2 c =
-    let l = (simp length-map at c.well_formed.0.1.1.1.0.1.0.1) in
-    let w = (simp length-map at c.well_formed.0.1.1.1.1.0.1.0.1) in
+    let l = (c.well_formed.0.1.1.1.0.1.0.1) in
+    let w = (c.well_formed.0.1.1.1.1.0.1.0.1) in
     let q = sound_counts c.args.g c.in-Conflicts.is c.requires.g_value in
     unmoved c.args.g c.args.h _ _ c.in-Conflicts.is c.in-Growth-other-2.is (omega (arith, l, q.0)) (omega (arith, w, q.1))
 

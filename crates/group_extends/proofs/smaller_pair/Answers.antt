@@ -14,25 +14,25 @@ pub returns-then-b-eq-LARGEST : goal.returns-then-b-eq-LARGEST
 returns-then-b-eq-LARGEST c =
     let fa : SFits w64 c.args.a = search rules in
     let fb : SFits w64 c.args.b = search rules in
-    pair_largest c.args.a c.args.b _ _ c.args.f c.args.h (to_z-of_z fa) (to_z-of_z fb) (same_bits c.args.b fb ∙ eq-eqb _ _ c.if-b-eq-LARGEST.true)
+    pair_largest c.args.a c.args.b _ _ c.args.f c.args.h (to_z-of_z {w = w64} fa) (to_z-of_z {w = w64} fb) (same_bits c.args.b fb ∙ eq-eqb _ _ c.if-b-eq-LARGEST.true)
 
 
 pub returns-then-b-a : goal.returns-then-b-a
 returns-then-b-a c =
     let fa : SFits w64 c.args.a = search rules in
     let fb : SFits w64 c.args.b = search rules in
-    pair_other c.args.a c.args.b _ _ c.args.f c.args.h (to_z-of_z fa) (to_z-of_z fb) (same_bits c.args.b fb ∙ ne_eqb _ _ c.if-b-eq-LARGEST.false) c.if-b-a.true
+    pair_other c.args.a c.args.b _ _ c.args.f c.args.h (to_z-of_z {w = w64} fa) (to_z-of_z {w = w64} fb) (same_bits c.args.b fb ∙ ne_eqb _ _ c.if-b-eq-LARGEST.false) c.if-b-a.true
 
 
 pub returns-then-a-b : goal.returns-then-a-b
 returns-then-a-b c =
     let fa : SFits w64 c.args.a = search rules in
     let fb : SFits w64 c.args.b = search rules in
-    pair_own c.args.a c.args.b _ _ c.args.f c.args.h (to_z-of_z fa) (to_z-of_z fb) (same_bits c.args.b fb ∙ ne_eqb _ _ c.if-b-eq-LARGEST.false) c.if-b-a.false c.if-a-b.true
+    pair_own c.args.a c.args.b _ _ c.args.f c.args.h (to_z-of_z {w = w64} fa) (to_z-of_z {w = w64} fb) (same_bits c.args.b fb ∙ ne_eqb _ _ c.if-b-eq-LARGEST.false) c.if-b-a.false c.if-a-b.true
 
 
 pub returns : goal.returns
 returns c =
     let fa : SFits w64 c.args.a = search rules in
     let fb : SFits w64 c.args.b = search rules in
-    pair_both c.args.a c.args.b _ _ c.args.f c.args.h (to_z-of_z fa) (to_z-of_z fb) (same_bits c.args.b fb ∙ ne_eqb _ _ c.if-b-eq-LARGEST.false) c.both-flag.result c.both-flag.ensures c.if-b-a.false c.if-a-b.false
+    pair_both c.args.a c.args.b _ _ c.args.f c.args.h (to_z-of_z {w = w64} fa) (to_z-of_z {w = w64} fb) (same_bits c.args.b fb ∙ ne_eqb _ _ c.if-b-eq-LARGEST.false) c.both-flag.result c.both-flag.ensures c.if-b-a.false c.if-a-b.false

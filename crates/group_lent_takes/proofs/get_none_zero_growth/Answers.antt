@@ -3,6 +3,7 @@ use mathlib.Core.Path.{◌∙◌}
 use mir.Facts.{to_z-of_z}
 use Rattle.group_lent_takes.proofs.Asking.{growth_none, growth_nothing, growth_some}
 use borrow.Author.Rules.{rules}
+use mir.Syntax.{w64}
 use Rattle.group_lent_takes.proofs.get_none_zero_growth.Goals as goal
 
 
@@ -17,4 +18,4 @@ returns-then-l-eq-LARGEST c = growth_nothing c.args.w.now c.requires c.if-w-ne1.
 pub returns : goal.returns
 returns c =
     growth_some c.args.w.now c.requires c.if-w-ne1.false c.if-l-eq-LARGEST.false _
-    (to_z-of_z (record { sfits = c.length_of-length.type_inv }) ∙ c.length_of-length.ensures)
+    (to_z-of_z {w = w64} (record { sfits = c.length_of-length.type_inv }) ∙ c.length_of-length.ensures)

@@ -13,8 +13,8 @@ use Rattle.group_runs.proofs.stops_laid.Goals as goal
 
 pub loop-a-init : goal.loop-a-init
 loop-a-init start =
-    let l = (start.well-formed.0.1.0.1) in
-    let w = (start.well-formed.1.1.0.1.0.1) in
+    let l = (start.well_formed.0.1.0.1) in
+    let w = (start.well_formed.1.1.0.1.0.1) in
     (search rules, start.requires.0, omega arith, run_start start.args.stops start.args.t3 start.args.at start.args.from start.args.n start.requires.0 (omega (arith, w, start.requires.1.0)) (omega (arith, l, start.requires.1.1)) no_stop)
 
 

@@ -16,4 +16,4 @@ returns-then-number-ne0 c = let whole = spares_refused c.args.g c.peek-top.resul
 
 
 pub returns : goal.returns
-returns c = let whole = spares_list c.args.g c.peek-top.result.number c.peek-top.result.obstacle c.peek-top.ensures c.if-number-ne0.false (omega (arith, c.if-g-eq0.false)) (omega (arith, (simp length-map at c.well_formed.0.1.1.1.0.1.0.1))) (omega (arith, (simp length-map at c.well_formed.0.1.1.1.1.0.1.0.1))) _ refl in record { says = whole.0; leaves = whole.1 }
+returns c = let whole = spares_list c.args.g c.peek-top.result.number c.peek-top.result.obstacle c.peek-top.ensures c.if-number-ne0.false (omega (arith, c.if-g-eq0.false)) (omega (arith, (c.well_formed.0.1.1.1.0.1.0.1))) (omega (arith, (c.well_formed.0.1.1.1.1.0.1.0.1))) _ refl in record { says = whole.0; leaves = whole.1 }

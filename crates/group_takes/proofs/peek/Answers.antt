@@ -37,7 +37,7 @@ pub returns-in-Conflicts : goal.returns-in-Conflicts
 returns-in-Conflicts c =
     let n = sound_counts c.args.t1 c.in-Conflicts.is (sym c.group_is_sound.ensures ∙ c.if-not-group_is_sound.false) in
     let g = c.args.t1 in
-    let l = (simp length-map at c.well_formed.0.1.1.1.0.1.0.1) in
-    let w = (simp length-map at c.well_formed.0.1.1.1.1.0.1.0.1) in
+    let l = (c.well_formed.0.1.1.1.0.1.0.1) in
+    let w = (c.well_formed.0.1.1.1.1.0.1.0.1) in
     peek_conflicts g (sym c.group_is_sound.ensures ∙ c.if-not-group_is_sound.false) c.in-Conflicts.is (omega (arith, n.0)) (omega (arith, n.1)) no_entry no_stop c.top_of-obstacle.result
     (c.top_of-obstacle.ensures ∙ ap (λ (k : ℕ). top_by g.listed (get_or g.list k no_entry) g.stopped (get_or g.stops 0 no_stop)) c.less-n.ensures)

@@ -42,7 +42,7 @@ pub returns-in-Conflicts : goal.returns-in-Conflicts
 returns-in-Conflicts c =
     let n = sound_counts c.args.g c.in-Conflicts.is (sym c.group_is_sound.ensures ∙ c.if-not-group_is_sound.false) in
     let g = c.args.g in
-    let l = (simp length-map at c.well_formed.0.1.1.1.0.1.0.1) in
-    let w = (simp length-map at c.well_formed.0.1.1.1.1.0.1.0.1) in let whole = pops_conflicts g (sym c.group_is_sound.ensures ∙ c.if-not-group_is_sound.false) c.in-Conflicts.is (omega (arith, n.0)) (omega (arith, n.1)) no_entry no_stop c.top_of-obstacle.result c.moved_down.result c.less-n.result c.less-m.result
+    let l = (c.well_formed.0.1.1.1.0.1.0.1) in
+    let w = (c.well_formed.0.1.1.1.1.0.1.0.1) in let whole = pops_conflicts g (sym c.group_is_sound.ensures ∙ c.if-not-group_is_sound.false) c.in-Conflicts.is (omega (arith, n.0)) (omega (arith, n.1)) no_entry no_stop c.top_of-obstacle.result c.moved_down.result c.less-n.result c.less-m.result
     (c.top_of-obstacle.ensures ∙ ap (λ (k : ℕ). top_by g.listed (get_or g.list k no_entry) g.stopped (get_or g.stops 0 no_stop)) c.less-n.ensures)
     c.moved_down.ensures c.less-n.ensures c.less-m.ensures in record { says = whole.0; leaves = whole.1 }

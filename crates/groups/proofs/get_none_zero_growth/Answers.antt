@@ -32,7 +32,7 @@ returns-else-length-eq-LARGEST c =
     let l = c.in-Growth.length in
     let f = c.in-Growth.field-1 in
     let fits : SFits w64 l = search rules in
-    growth_is (group_of g) (growth l f) (sym c.group_is_sound.ensures ∙ c.if-not-group_is_sound.false) (view_growth g l f c.in-Growth.is) (same_bits l fits ∙ ne_eqb _ _ c.if-length-eq-LARGEST.false) _ (ap some (to_z-of_z fits))
+    growth_is (group_of g) (growth l f) (sym c.group_is_sound.ensures ∙ c.if-not-group_is_sound.false) (view_growth g l f c.in-Growth.is) (same_bits l fits ∙ ne_eqb _ _ c.if-length-eq-LARGEST.false) _ (ap some (to_z-of_z {w = w64} fits))
 
 
 pub returns-in-Conflicts : goal.returns-in-Conflicts

@@ -19,8 +19,8 @@ returns-then-g-gt-MOST-2 c =
 
 pub returns-then-not-are_listable : goal.returns-then-not-are_listable
 returns-then-not-are_listable c =
-    let l = (simp length-map at c.well_formed.0.1.1.1.0.1.0.1) in
-    let w = (simp length-map at c.well_formed.0.1.1.1.1.0.1.0.1) in
+    let l = (c.well_formed.0.1.1.1.0.1.0.1) in
+    let w = (c.well_formed.0.1.1.1.1.0.1.0.1) in
     bad_list c.args.g c.in-Conflicts.is c.if-g-gt-MOST.false c.if-g-gt-MOST-2.false (omega arith) (omega arith) (sym c.are_listable.ensures ∙ c.if-not-are_listable.true)
 
 
@@ -30,6 +30,6 @@ returns-in-Growth c = sound_growth c.args.g _ _ c.in-Growth.is
 
 pub returns-else-not-are_listable : goal.returns-else-not-are_listable
 returns-else-not-are_listable c =
-    let l = (simp length-map at c.well_formed.0.1.1.1.0.1.0.1) in
-    let w = (simp length-map at c.well_formed.0.1.1.1.1.0.1.0.1) in
+    let l = (c.well_formed.0.1.1.1.0.1.0.1) in
+    let w = (c.well_formed.0.1.1.1.1.0.1.0.1) in
     c.are_rising.ensures ∙ good_list c.args.g c.in-Conflicts.is c.if-g-gt-MOST.false c.if-g-gt-MOST-2.false (omega arith) (omega arith) (sym c.are_listable.ensures ∙ c.if-not-are_listable.false)

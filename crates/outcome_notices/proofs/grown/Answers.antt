@@ -15,4 +15,4 @@ unfolding laid circle_in
 returns c =
     let l = c.args.l in
     let fits : SFits w64 l = search rules in
-    c.one.ensures ∙ ap (λ (z : ℤ). only (record { notice = Grown z })) (to_z-of_z fits)
+    c.one.ensures ∙ ap (λ (z : ℤ). only (record { notice = Grown z })) (to_z-of_z {w = w64} fits)

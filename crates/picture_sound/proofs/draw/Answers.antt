@@ -6,6 +6,7 @@ use Rattle.bench_views.specs.View.{view}
 use Rattle.picture_pieces.proofs.Drawing.{chain, same_text}
 use Rattle.picture_sound.proofs.Texts.{picture_text}
 use borrow.Author.Rules.{rules}
+use mir.Syntax.{w64}
 use Rattle.picture_sound.proofs.draw.Goals as goal
 
 
@@ -20,5 +21,5 @@ shape_of-out c =
 
 pub returns : goal.returns
 returns c =
-    same_text (picture_text (view c.args.b.now) c.args.unit c.args.short (again c.speed-speed.result) (again c.sum-sum.result) (to_z-of_z (record { sfits = c.speed-speed.type_inv }) ∙ c.speed-speed.ensures) (to_z-of_z (record { sfits = c.sum-sum.type_inv }) ∙ c.sum-sum.ensures))
+    same_text (picture_text (view c.args.b.now) c.args.unit c.args.short (again c.speed-speed.result) (again c.sum-sum.result) (to_z-of_z {w = w64} (record { sfits = c.speed-speed.type_inv }) ∙ c.speed-speed.ensures) (to_z-of_z {w = w64} (record { sfits = c.sum-sum.type_inv }) ∙ c.sum-sum.ensures))
     (chain c.put_either-p.ensures (chain c.put_signed-q.ensures (chain c.put_either-r.ensures (chain c.put_signed-s.ensures (chain c.put-t.ensures (chain c.put_slots-u.ensures c.put.ensures))))))

@@ -32,4 +32,4 @@ returns-in-At c =
     let k = c.in-At.field-0 in
     let q : c.find-found.result ≡ At k = cc in
     let n = seen_some b h (found_at b h c.find-found.ensures k q).stands in
-    value_yes (view b) h n.0 n.1 (to_z w64 (of_z w64 c.value-weight.result)) (to_z-of_z (record { sfits = c.value-weight.type_inv }) ∙ c.value-weight.ensures)
+    value_yes (view b) h n.0 n.1 (to_z w64 (of_z w64 c.value-weight.result)) (to_z-of_z {w = w64} (record { sfits = c.value-weight.type_inv }) ∙ c.value-weight.ensures)

@@ -20,4 +20,4 @@ speed-weight-requires c =
 
 
 pub returns : goal.returns
-returns c = speed_yes (view c.args.b.now) c.args.unit c.unit_number-number.result c.unit_number-number.ensures c.if-number-ne0.false (to_z w64 (of_z w64 c.speed-weight.result)) (to_z-of_z (record { sfits = c.speed-weight.type_inv }) ∙ c.speed-weight.ensures)
+returns c = speed_yes (view c.args.b.now) c.args.unit c.unit_number-number.result c.unit_number-number.ensures c.if-number-ne0.false (to_z w64 (of_z w64 c.speed-weight.result)) (to_z-of_z {w = w64} (record { sfits = c.speed-weight.type_inv }) ∙ c.speed-weight.ensures)

@@ -8,6 +8,7 @@ use Rattle.record_puts.specs.Puts.{head_of}
 use Rattle.record_puts.proofs.Putting.{head_long}
 use mir.Facts.{to_z-of_z}
 use borrow.Author.Rules.{rules}
+use mir.Syntax.{w64}
 use Rattle.record_puts.proofs.put_length.Goals as goal
 
 
@@ -18,5 +19,5 @@ put_eight-requires c =
 
 pub returns : goal.returns
 returns c =
-    let n = rw (to_z-of_z c.ranges.length) at c.complement_of-n.ensures in
+    let n = rw (to_z-of_z {w = w64} c.ranges.length) at c.complement_of-n.ensures in
     chain c.args.out.now c.args.at (head_of 71 c.args.unit) _ _ (bytes 8 (complement c.args.length)) _ _ c.put_head-p.ensures (rw (sym n) c.put_eight.ensures)

@@ -2,6 +2,7 @@
 use mir.Facts.{to_z-of_z}
 use borrow.Author.Rules.{rules}
 use Rattle.recorded_any.proofs.Verdicts.{no_bench, a_bench, sounds}
+use mir.Syntax.{w64}
 use Rattle.recorded_any.proofs.grow_recorded.Goals as goal
 
 
@@ -15,4 +16,4 @@ grow_recorded-requires c = sounds c.is_bench.ensures c.if-not-is_bench.false
 
 pub returns : goal.returns
 returns c =
-    let a = c.args in a_bench a.b.now a.unit a.length a.groups.now a.out.now c.is_bench.ensures c.if-not-is_bench.false (rw (to_z-of_z c.ranges.length) at c.grow_recorded.ensures)
+    let a = c.args in a_bench a.b.now a.unit a.length a.groups.now a.out.now c.is_bench.ensures c.if-not-is_bench.false (rw (to_z-of_z {w = w64} c.ranges.length) at c.grow_recorded.ensures)

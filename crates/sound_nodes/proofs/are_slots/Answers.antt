@@ -21,7 +21,7 @@ returns-then-not-is_slot c =
     let a = c.args in
     let f = c.load_interface-f in
     let m = c.load_map-map in
-    slots_of a.b.now a.u f.result m.result f.ensures m.ensures m.type-inv false
+    slots_of a.b.now a.u f.result m.result f.ensures m.ensures m.type_inv false
     (all_not (slot_test a.b.now f.result.used m.result a.u) 64 c.loop-s.s c.loop-s-test.true (sym c.is_slot.ensures ∙ c.if-not-is_slot.true))
 
 
@@ -35,5 +35,5 @@ returns c =
     let a = c.args in
     let f = c.load_interface-f in
     let m = c.load_map-map in
-    slots_of a.b.now a.u f.result m.result f.ensures m.ensures m.type-inv true
+    slots_of a.b.now a.u f.result m.result f.ensures m.ensures m.type_inv true
     (all_done (slot_test a.b.now f.result.used m.result a.u) 64 c.loop-s.s c.loop-s.invariant.0 (omega arith))

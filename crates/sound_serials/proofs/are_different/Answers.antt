@@ -20,7 +20,7 @@ returns-then-not-mark c = c.are_compared.ensures
 
 pub loop-k-preserved : goal.loop-k-preserved
 loop-k-preserved c =
-    going_more c.args.b.now c.loop-k.t c.type_inv.t.new.0 c.loop-k.k c.serial_at-serial.result c.type_inv.t.result c.loop-k.invariant c.loop-k-test.true c.serial_at-serial.ensures c.type_inv.t.ensures (c.if-not-mark.false)
+    going_more c.args.b.now c.loop-k.t c.mark.new.t c.loop-k.k c.serial_at-serial.result c.mark.result c.loop-k.invariant c.loop-k-test.true c.serial_at-serial.ensures c.mark.ensures (c.if-not-mark.false)
 
 
 pub returns : goal.returns

@@ -14,4 +14,4 @@ overflow_sub-result-2 c = rw (to_z_pos w64 {n = c.args.n - 1} (omega arith), bel
 
 
 pub returns : goal.returns
-returns c = rw (to_z_pos w64 {n = c.args.n - 1} (omega arith), below) (to_z-of_z (fits_below _ (omega arith)) ∙ sym (negated c.args.n (omega arith)))
+returns c = rw (to_z_pos w64 {n = c.args.n - 1} (omega arith), below) (to_z-of_z {w = w64} (fits_below _ (omega arith)) ∙ sym (negated c.args.n (omega arith)))

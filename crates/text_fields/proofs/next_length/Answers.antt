@@ -27,7 +27,7 @@ returns-in-Integer c =
     let q : f.result ≡ At c.in-At.a c.in-At.e = cc in
     let v : m.result ≡ Integer c.in-Integer.z = cc in
     let ok : SFits w64 c.in-Integer.z = record { sfits = c.known_told-in-Integer-1.given.0.1 } in
-    rw (to_z-of_z ok) (took c.args.s.now c.args.place f.result f.ensures an_amount _ _ c.in-Integer.z q (sym m.ensures ∙ ap integer_of v))
+    rw (to_z-of_z {w = w64} ok) (took c.args.s.now c.args.place f.result f.ensures an_amount _ _ c.in-Integer.z q (sym m.ensures ∙ ap integer_of v))
 
 
 pub returns-in-NoInteger : goal.returns-in-NoInteger

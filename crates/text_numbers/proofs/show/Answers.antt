@@ -39,4 +39,4 @@ returns c =
     let a = c.args in
     shown_open a.number a.serial (view a.b.now) a.unit c.if-number-eq3.false (sym c.unit_number-closed.ensures ∙ c.if-closed-ne0.false)
     (to_z w64 (of_z w64 c.speed-speed.result)) (to_z w64 (of_z w64 c.sum-sum.result))
-    (to_z-of_z (record { sfits = c.speed-speed.type_inv }) ∙ c.speed-speed.ensures) (to_z-of_z (record { sfits = c.sum-sum.type_inv }) ∙ c.sum-sum.ensures)
+    (to_z-of_z {w = w64} (record { sfits = c.speed-speed.type_inv }) ∙ c.speed-speed.ensures) (to_z-of_z {w = w64} (record { sfits = c.sum-sum.type_inv }) ∙ c.sum-sum.ensures)

@@ -11,9 +11,9 @@ returns-in-Engine c =
     let a = c.args in
     let k = c.engine_chosen in
     let q : k.result ≡ Engine c.in-Engine.plain = cc in
-    first_chosen a.line.now k.result k.ensures c.in-Engine.plain q c.set_up_in.new.0 c.set_up_in.ensures a.out.now c.write_answer.new.0 c.write_answer.result c.write_answer.ensures
+    first_chosen a.line.now k.result k.ensures c.in-Engine.plain q c.set_up_in.new.b c.set_up_in.ensures a.out.now c.write_answer.new.out c.write_answer.result c.write_answer.ensures
 
 
 pub returns-in-NoEngine : goal.returns-in-NoEngine
 returns-in-NoEngine c =
-    first_any c.args.line.now c.engine_chosen.result c.engine_chosen.ensures c.in-NoEngine.is c.args.b.now c.requires.0 c.answer_line.new.0 c.args.out.now c.answer_line.new.1.1.1.1.0 c.answer_line.result c.answer_line.ensures
+    first_any c.args.line.now c.engine_chosen.result c.engine_chosen.ensures c.in-NoEngine.is c.args.b.now c.requires.0 c.answer_line.new.b c.args.out.now c.answer_line.new.out.0 c.answer_line.result c.answer_line.ensures

@@ -18,8 +18,8 @@ returns c =
     let w : SFits w64 r.sum = record { sfits = t.1.1.1.0.1 } in
     let n : r.number < 256 = t.0.1 in
     let k : r.serial < 4294967296 = t.1.0.1 in
-    line_done c.args.b.now c.args.line.now r c.turn-r.new.0
+    line_done c.args.b.now c.args.line.now r c.turn-r.new.b
     (c.turn-r.ensures (line_of c.args.line.now) c.args.serials.now (sym c.read_line-said.auto.1.0) c.read_line-said.ensures)
     n k v w
-    c.args.out.now c.args.at c.write_answer.new.0 c.write_answer.result
-    (rw (to_z-of_z v, to_z-of_z w) at c.write_answer.ensures)
+    c.args.out.now c.args.at c.write_answer.new.out c.write_answer.result
+    (rw (to_z-of_z {w = w64} v, to_z-of_z {w = w64} w) at c.write_answer.ensures)

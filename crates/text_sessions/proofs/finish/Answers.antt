@@ -9,4 +9,4 @@ returns-then-held-eq0 c = let a = c.args in finished_none a.held a.out.now a.at 
 
 
 pub returns : goal.returns
-returns c = let a = c.args in finished_some a.held a.out.now a.at c.if-held-eq0.false c.write_answer.new.0 c.write_answer.result c.write_answer.ensures
+returns c = let a = c.args in finished_some a.held a.out.now a.at c.if-held-eq0.false c.write_answer.new.out c.write_answer.result c.write_answer.ensures

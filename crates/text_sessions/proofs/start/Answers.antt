@@ -5,4 +5,4 @@ use Rattle.text_sessions.proofs.start.Goals as goal
 
 
 pub returns : goal.returns
-returns c = started c.set_up.new.0 c.set_up.ensures
+returns c = started c.set_up.new.b c.set_up.ensures

@@ -35,4 +35,4 @@ returns c =
     let n = c.next_length in
     let q : n.result ≡ Length c.in-Length.l c.in-Length.e = cc in
     let ok : SFits w64 c.in-Length.l = record { sfits = c.known_told-1.given.0.1 } in
-    rw (to_z-of_z ok) (sym (ap line_shown (length_got a.s.now a.place n.result n.ensures (λ x. no_more (some (G a.unit x))) _ _ q ∙ ended a.s.now _ _ c.if-e-s.false)))
+    rw (to_z-of_z {w = w64} ok) (sym (ap line_shown (length_got a.s.now a.place n.result n.ensures (λ x. no_more (some (G a.unit x))) _ _ q ∙ ended a.s.now _ _ c.if-e-s.false)))
