@@ -158,9 +158,25 @@ class Names:
         return None, None
 
 
+def named_parameter(function, n):
+    """The n-th parameter of a function, from 1."""
+    crate, name = function
+    for top, _, files in os.walk(f"crates/{crate}/src"):
+        for file in files:
+            text = open(os.path.join(top, file), encoding="utf-8").read()
+            m = re.search(r"\bfn " + re.escape(name) + r"\((.*?)\)\s*(?:->|$)", text, re.M | re.S)
+            if m:
+                found = re.findall(r"(?:^|[,(]\s*|\n\s*)(?:mut )?(\w+): ", "(" + m[1])
+                if "self" in m[1].split(",")[0]:
+                    found.insert(0, "self")
+                if n <= len(found):
+                    return found[n - 1]
+    return None
+
+
 class Turn:
-    def __init__(self, names, where, labels):
-        self.names, self.where, self.labels = names, where, labels
+    def __init__(self, names, where, labels, function):
+        self.names, self.where, self.labels, self.function = names, where, labels, function
         self.places = {}
 
     def value(self, place, fields, here):
@@ -185,6 +201,8 @@ class Turn:
                 for field, old, path in arm[2]:
                     if plain(old) == plain(step) and path and rest[: len(path)] == path:
                         return "path", ".".join(["c", arm[0], field, *rest[len(path) :]])
+        if plain(step) == "args" and rest and re.fullmatch(r"t\d+", rest[0]):
+            rest = [named_parameter(self.function, int(rest[0][1:])) or rest[0], *rest[1:]]
         if plain(step) in ("args", "ranges", "well_formed", "told", "facts", "lifetimes"):
             return "path", ".".join(["c", plain(step), *rest])
         if step == "requires":
@@ -283,11 +301,8 @@ def ensures_of(crate, path):
     for top, _, files in os.walk(f"crates/{crate}/src"):
         for file in files:
             text = open(os.path.join(top, file), encoding="utf-8").read()
-            for m in re.finditer(r"\bfn " + re.escape(name) + r"\b[^{;]*?(?=\n\s*(?:requires|ensures|ghost)|\{)", text):
-                tail = text[m.end() :]
-                stop = re.search(r"^\s*\{\s*$", tail, re.M)
-                head = tail[: stop.start()] if stop else tail[:2000]
-                found.append(re.findall(r"^\s*ensures (\w+) \{", head, re.M))
+            for m in re.finditer(r"\bfn " + re.escape(name) + r"\b.*?^ *\{$", text, re.M | re.S):
+                found.append(re.findall(r"^\s*ensures (\w+) \{", m[0], re.M))
     found = [it for it in found if it] or [[]]
     return found[0]
 
@@ -368,14 +383,17 @@ def turn(crate, folder, names):
                 continue
             new, here = got
             args = clause[1].split()
-            args = args[: args.index("c") + 1] if "c" in args else args
-            t = Turn(n, file, labels)
+            args = [a for a in args if not a.startswith("κ")]
+            t = Turn(n, file, labels, (crate, path.split('.')[-1].lstrip('+')))
             term = t.body(term, here)
             term = term.replace(".type-inv", ".type_inv").replace(".well-formed", ".well_formed")
             term = re.sub(r"simp length-map at (c\.well_formed[\w.]*)", r"\1", term)
             term = re.sub(r"(?<![\w-])to_z-of_z (?!\{|w\d)", "to_z-of_z {w = w64} ", term) if "mir.Facts" in text else term
             # a test of `!x` says `x ≡ false` and `x ≡ true` itself
-            term = re.sub(r"not[-_](?:true|false) (?:_|[A-Za-z][\w'.-]*|\([^()]*\)) (c\.if-not-[\w'-]+\.(?:true|false))", r"\1", term)
+            term = re.sub(r"not[-_](?:true|false) (?:_|[A-Za-z][\w'.-]*|\([^()]*\)) (c\.if-not-[\w'-]+\.(?:true|false))", r"§\1", term)
+            term = re.sub(r"(?<![\w'.§])(c\.if-not-[\w'-]+\.(?:true|false))(?![\w'.])", r"(ap not \1)", term)
+            # what was a tuple's own test stays it
+            term = term.replace("§", "")
             wanted = None
             if new.startswith("returns"):
                 wanted = labels
@@ -396,6 +414,10 @@ def turn(crate, folder, names):
     uses = [l for l in head if l.startswith("use ") and not re.search(r"\.(Statement|Tie|Lts)(\.\{statement\})?( as \w+)?$", l)]
     heads = [l for l in head if l.startswith("--")]
     module = f"Rattle.{crate}.proofs.{path}"
+    if any("(ap not " in it for it in ans):
+        for word, line in (("ap", "use mathlib.Core.Path.{ap}"), ("not", "use mathlib.Core.Bool.{not}")):
+            if not any(re.search(r"[{ ]" + word + r"[,}]", l) for l in uses):
+                uses.append(line)
     if any("{w = w64}" in it for it in ans) and not any(re.search(r"\bw64\b", l) for l in uses):
         uses.append("use mir.Syntax.{w64}")
     if inv:

@@ -18,11 +18,9 @@ overflow_cast-hints c =
 pub returns-in-At : goal.returns-in-At
 returns-in-At c =
     let k = c.in-At.p in
-    let q : c.look-found.result ≡ At k = cc in
-    (seek_at c.args.b.now c.args.serial.0 k c.look-found.ensures q, refl)
+    let q : c.look-found.result ≡ At k = cc in record { seeks = seek_at c.args.b.now c.args.serial.0 k c.look-found.ensures q; hints_after = refl }
 
 
 pub returns-in-Stale : goal.returns-in-Stale
 returns-in-Stale c =
-    let q : c.look-found.result ≡ Stale = cc in
-    (seek_none c.args.b.now c.args.serial.0 c.look-found.ensures q, refl)
+    let q : c.look-found.result ≡ Stale = cc in record { seeks = seek_none c.args.b.now c.args.serial.0 c.look-found.ensures q; hints_after = refl }

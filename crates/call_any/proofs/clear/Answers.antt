@@ -2,16 +2,18 @@
 use borrow.Author.Rules.{rules}
 use mathlib.Core.Path.{refl}
 use Rattle.call_any.proofs.Public.{no_bench, sound_bench, answers}
+use mathlib.Core.Path.{ap}
+use mathlib.Core.Bool.{not}
 use Rattle.call_any.proofs.clear.Goals as goal
 
 
 pub returns-then-not-is_bench : goal.returns-then-not-is_bench
-returns-then-not-is_bench c = no_bench c.is_bench.ensures c.if-not-is_bench.true c.refused.ensures refl
+returns-then-not-is_bench c = no_bench c.is_bench.ensures (ap not c.if-not-is_bench.true) c.refused.ensures refl
 
 
 pub clear-requires : goal.clear-requires
-clear-requires c = sound_bench c.is_bench.ensures c.if-not-is_bench.false
+clear-requires c = sound_bench c.is_bench.ensures (ap not c.if-not-is_bench.false)
 
 
 pub returns : goal.returns
-returns c = answers c.is_bench.ensures c.if-not-is_bench.false c.clear.ensures
+returns c = answers c.is_bench.ensures (ap not c.if-not-is_bench.false) c.clear.ensures

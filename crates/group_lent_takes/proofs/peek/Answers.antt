@@ -5,8 +5,8 @@ use Rattle.group_lent_takes.proofs.peek.Goals as goal
 
 
 pub returns-then-w-eq1 : goal.returns-then-w-eq1
-returns-then-w-eq1 c = (c.top_of-obstacle.ensures, peek_refused c.args.w.now c.requires _ c.top_of-obstacle.ensures c.if-w-eq1.true)
+returns-then-w-eq1 c = record { top = c.top_of-obstacle.ensures; seen = peek_refused c.args.w.now c.requires _ c.top_of-obstacle.ensures c.if-w-eq1.true }
 
 
 pub returns : goal.returns
-returns c = (c.top_of-obstacle.ensures, peek_made c.args.w.now c.requires _ c.top_of-obstacle.ensures c.if-w-eq1.false)
+returns c = record { top = c.top_of-obstacle.ensures; seen = peek_made c.args.w.now c.requires _ c.top_of-obstacle.ensures c.if-w-eq1.false }

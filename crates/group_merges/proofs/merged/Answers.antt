@@ -47,7 +47,7 @@ entered-fits c =
 
 pub loop-j-init : goal.loop-j-init
 loop-j-init c =
-    starts c.args.g.stops c.args.t4 c.args.g.list c.args.g.stopped c.args.m c.args.list c.args.listed c.requires.stopped_bound c.requires.listed_bound.0 (long s) (wide s) c.requires.listed_bound.1 c.requires.m_bound.1
+    starts c.args.g.stops c.args.other c.args.g.list c.args.g.stopped c.args.m c.args.list c.args.listed c.requires.stopped_bound c.requires.listed_bound.0 (long s) (wide s) c.requires.listed_bound.1 c.requires.m_bound.1
 
 
 pub offset_bounds-other-j : goal.offset_bounds-other-j

@@ -51,7 +51,7 @@ loop-a-preserved c =
     let l = (c.well_formed.0.1.0.1) in
     let w = (c.well_formed.1.1.0.1.0.1) in
     let i = c.loop-a.invariant in
-    (omega (arith, i.0), omega arith, omega (arith, i.0, i.2), run_step c.args.list c.args.t3 c.args.at c.args.from c.args.n c.requires.0 (omega (arith, w, c.requires.1.0)) (omega (arith, l, c.requires.1.1)) no_entry c.loop-a.r c.loop-a.a c.loop-a.q i.3 i.0 c.loop-a-test.true i.2)
+    (omega (arith, i.0), omega arith, omega (arith, i.0, i.2), run_step c.args.list c.args.more c.args.at c.args.from c.args.n c.requires.0 (omega (arith, w, c.requires.1.0)) (omega (arith, l, c.requires.1.1)) no_entry c.loop-a.r c.loop-a.a c.loop-a.q i.3 i.0 c.loop-a-test.true i.2)
 
 
 pub returns : goal.returns
@@ -59,4 +59,4 @@ returns c =
     let l = (c.well_formed.0.1.0.1) in
     let w = (c.well_formed.1.1.0.1.0.1) in
     let i = c.loop-a.invariant in
-    run_end c.args.list c.args.t3 c.args.at c.args.from c.args.n c.requires.0 (omega (arith, w, c.requires.1.0)) (omega (arith, l, c.requires.1.1)) no_entry c.loop-a.r c.loop-a.q i.3 (omega (arith, i.1, i.2, c.loop-a-test.false))
+    run_end c.args.list c.args.more c.args.at c.args.from c.args.n c.requires.0 (omega (arith, w, c.requires.1.0)) (omega (arith, l, c.requires.1.1)) no_entry c.loop-a.r c.loop-a.q i.3 (omega (arith, i.1, i.2, c.loop-a-test.false))

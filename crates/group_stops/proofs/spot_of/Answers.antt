@@ -25,13 +25,13 @@ bounds-stops-i c = omega arith
 pub returns-then-v-y : goal.returns-then-v-y
 returns-then-v-y c =
     let l = (c.well_formed.0.1.0.1) in
-    sym (c.loop-i.invariant.1 ∙ spot_free c.args.t1 c.args.n c.loop-i.i c.args.v.0 no_stop (omega arith) (omega arith) c.if-v-y.true)
+    sym (c.loop-i.invariant.1 ∙ spot_free c.args.stops c.args.n c.loop-i.i c.args.v.0 no_stop (omega arith) (omega arith) c.if-v-y.true)
 
 
 pub returns-then-v-y-2 : goal.returns-then-v-y-2
 returns-then-v-y-2 c =
     let l = (c.well_formed.0.1.0.1) in
-    sym (c.loop-i.invariant.1 ∙ spot_held c.args.t1 c.args.n c.loop-i.i c.args.v.0 no_stop (omega arith) (omega arith) c.if-v-y.false c.if-v-y-2.true)
+    sym (c.loop-i.invariant.1 ∙ spot_held c.args.stops c.args.n c.loop-i.i c.args.v.0 no_stop (omega arith) (omega arith) c.if-v-y.false c.if-v-y-2.true)
 
 
 pub overflow_add-i : goal.overflow_add-i
@@ -45,10 +45,10 @@ loop-i-smaller c = omega arith
 pub loop-i-preserved : goal.loop-i-preserved
 loop-i-preserved c =
     let l = (c.well_formed.0.1.0.1) in
-    (omega arith, c.loop-i.invariant.1 ∙ spot_goes c.args.t1 c.args.n c.loop-i.i c.args.v.0 no_stop (omega arith) (omega arith) c.if-v-y.false c.if-v-y-2.false)
+    (omega arith, c.loop-i.invariant.1 ∙ spot_goes c.args.stops c.args.n c.loop-i.i c.args.v.0 no_stop (omega arith) (omega arith) c.if-v-y.false c.if-v-y-2.false)
 
 
 pub returns : goal.returns
 returns c =
     let l = (c.well_formed.0.1.0.1) in
-    sym (c.loop-i.invariant.1 ∙ spot_end c.args.t1 c.args.n c.loop-i.i c.args.v.0 no_stop (omega arith) (omega arith))
+    sym (c.loop-i.invariant.1 ∙ spot_end c.args.stops c.args.n c.loop-i.i c.args.v.0 no_stop (omega arith) (omega arith))

@@ -2,16 +2,18 @@
 use mathlib.Core.Path.{◌∙◌}
 use borrow.Author.Rules.{rules}
 use Rattle.sound_lent.proofs.Asking.{no_bench, a_bench, fits}
+use mathlib.Core.Path.{ap}
+use mathlib.Core.Bool.{not}
 use Rattle.read_any.proofs.nodes_count.Goals as goal
 
 
 pub returns-then-not-is_bench : goal.returns-then-not-is_bench
-returns-then-not-is_bench c = c.no_count.ensures ∙ no_bench _ _ _ c.is_bench.ensures c.if-not-is_bench.true
+returns-then-not-is_bench c = c.no_count.ensures ∙ no_bench _ _ _ c.is_bench.ensures (ap not c.if-not-is_bench.true)
 
 
 pub nodes_count-requires : goal.nodes_count-requires
-nodes_count-requires c = fits c.is_bench.ensures c.if-not-is_bench.false
+nodes_count-requires c = fits c.is_bench.ensures (ap not c.if-not-is_bench.false)
 
 
 pub returns : goal.returns
-returns c = a_bench _ _ _ c.is_bench.ensures c.if-not-is_bench.false c.nodes_count.ensures
+returns c = a_bench _ _ _ c.is_bench.ensures (ap not c.if-not-is_bench.false) c.nodes_count.ensures

@@ -1,6 +1,8 @@
 -- Each way out is a part of the test. Assumes nothing.
 use borrow.Author.Rules.{rules}
 use Rattle.sound_floors.proofs.Rows.{good_loaded, used_small, not_level, unfloored, all_afloat}
+use mathlib.Core.Path.{ap}
+use mathlib.Core.Bool.{not}
 use Rattle.sound_floors.proofs.is_floor.Goals as goal
 
 
@@ -12,14 +14,14 @@ pub returns-then-not-is_level : goal.returns-then-not-is_level
 returns-then-not-is_level c =
     let a = c.args in
     let f = c.load_interface-f in
-    not_level a.b.now a.u f.result f.ensures c.is_level.result c.is_level.ensures c.if-not-is_level.true
+    not_level a.b.now a.u f.result f.ensures c.is_level.result c.is_level.ensures (ap not c.if-not-is_level.true)
 
 
 pub returns-then-not-marks : goal.returns-then-not-marks
 returns-then-not-marks c =
     let a = c.args in
     let f = c.load_interface-f in
-    unfloored a.b.now a.u f.result f.ensures c.is_level.result c.is_level.ensures c.if-not-is_level.false c.if-not-marks.true
+    unfloored a.b.now a.u f.result f.ensures c.is_level.result c.is_level.ensures (ap not c.if-not-is_level.false) (ap not c.if-not-marks.true)
 
 
 pub climb-c-requires : goal.climb-c-requires
@@ -35,4 +37,4 @@ pub returns : goal.returns
 returns c =
     let a = c.args in
     let f = c.load_interface-f in
-    all_afloat a.b.now a.u f.result f.ensures c.is_level.result c.is_level.ensures c.if-not-is_level.false c.if-not-marks.false c.climb-c.ensures c.are_afloat.result c.are_afloat.ensures
+    all_afloat a.b.now a.u f.result f.ensures c.is_level.result c.is_level.ensures (ap not c.if-not-is_level.false) (ap not c.if-not-marks.false) c.climb-c.ensures c.are_afloat.result c.are_afloat.ensures

@@ -3,17 +3,19 @@ use mathlib.Core.Path.{refl}
 use Rattle.dual_ledger.proofs.Settling.{same_state}
 use Rattle.dual_ledger.proofs.Telling.{sound_so, called_broken, called_sound, told_as}
 use borrow.Author.Rules.{rules}
+use mathlib.Core.Path.{ap}
+use mathlib.Core.Bool.{not}
 use Rattle.dual_ledger.proofs.open_calls.dual_ledger_set_grow_state.Goals as goal
 
 
 pub returns-then-not-is_bench : goal.returns-then-not-is_bench
-returns-then-not-is_bench c = called_broken c.is_bench.ensures c.if-not-is_bench.true _ c.refused.ensures refl
+returns-then-not-is_bench c = called_broken c.is_bench.ensures (ap not c.if-not-is_bench.true) _ c.refused.ensures refl
 
 
 pub dual_ledger_told_set_grow_state-requires : goal.dual_ledger_told_set_grow_state-requires
-dual_ledger_told_set_grow_state-requires c = sound_so c.is_bench.ensures c.if-not-is_bench.false
+dual_ledger_told_set_grow_state-requires c = sound_so c.is_bench.ensures (ap not c.if-not-is_bench.false)
 
 
 pub returns : goal.returns
 returns c =
-    called_sound c.is_bench.ensures c.if-not-is_bench.false _ (told_as _ (same_state _ refl c.ranges.state refl) c.dual_ledger_told_set_grow_state.ensures)
+    called_sound c.is_bench.ensures (ap not c.if-not-is_bench.false) _ (told_as _ (same_state _ refl c.ranges.state refl) c.dual_ledger_told_set_grow_state.ensures)

@@ -6,4 +6,4 @@ use Rattle.dual_ledger.proofs.trusted_calls.dual_ledger_trusted_create_defect_no
 
 
 pub returns : goal.returns
-returns c = let A = c.create_defect_node-made.ensures in (A.0, c.node_word.ensures ∙ ap node_word A.1)
+returns c = let A = c.create_defect_node-made.ensures in record { settled = A.0; node_after = c.node_word.ensures ∙ ap node_word A.1 }
