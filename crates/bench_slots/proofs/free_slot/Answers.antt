@@ -14,7 +14,7 @@ overflow_cast-result c = omega (arith, used_small c.args.b.now c.requires.canon 
 pub returns-then-not-marks : goal.returns-then-not-marks
 returns-then-not-marks c =
     let f = c.load_interface-f in
-    next_slot c.args.b.now c.requires.canon c.args.unit c.requires.unit_bound f.result f.ensures (ap not c.if-not-marks.true)
+    next_slot c.args.b.now c.requires.canon c.args.unit c.requires.unit_bound f.result f.ensures c.if-not-marks.true
 
 
 pub returns-in-At : goal.returns-in-At
@@ -22,7 +22,7 @@ returns-in-At c =
     let f = c.load_interface-f in
     let m = c.load_map-map in
     let r = c.lowest_clear-found in
-    lowest_slot c.args.b.now c.requires.canon c.args.unit c.requires.unit_bound f.result f.ensures (ap not c.if-not-marks.false) m.result m.ensures r.result r.ensures c.in-At.s c.in-At.is
+    lowest_slot c.args.b.now c.requires.canon c.args.unit c.requires.unit_bound f.result f.ensures c.if-not-marks.false m.result m.ensures r.result r.ensures c.in-At.s c.in-At.is
 
 
 pub returns-in-Nothing : goal.returns-in-Nothing
@@ -30,4 +30,4 @@ returns-in-Nothing c =
     let f = c.load_interface-f in
     let m = c.load_map-map in
     let r = c.lowest_clear-found in
-    no_slot c.args.b.now c.requires.canon c.args.unit c.requires.unit_bound f.result f.ensures (ap not c.if-not-marks.false) m.result m.ensures r.result r.ensures c.in-Nothing.is
+    no_slot c.args.b.now c.requires.canon c.args.unit c.requires.unit_bound f.result f.ensures c.if-not-marks.false m.result m.ensures r.result r.ensures c.in-Nothing.is

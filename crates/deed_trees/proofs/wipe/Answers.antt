@@ -7,6 +7,7 @@ use borrow.Author.Rules.{rules}
 use Rattle.deed_trees.proofs.Wiping.{Wiping, wipe_low, top_own, wiping_begins, wiping_past, of_tree, wiping_reset}
 use Rattle.deed_trees.proofs.Cleared.{wiped}
 use Rattle.deed_trees.proofs.wipe.Goals as goal
+use Rattle.deed_trees.proofs.wipe.Goals.{then-up-unit, else-up-unit}
 
 
 pub loop-w-init : goal.loop-w-init
@@ -37,10 +38,10 @@ loop-w-preserved c =
     let up = c.climb-up.ensures in
     let b₀ = c.args.b.now in
     let u = c.args.unit in (
-      ⊎_elim
-          (λ x. rw x.3 (wiping_reset b₀ u c.requires.0 c.requires.1 l.b l.w l.invariant.0 (omega (arith, t)) x.2.last.0 (of_tree b₀ u c.requires.0 c.requires.1 l.b l.w l.invariant.0 (omega (arith, t)) up x.0.taken) x.2.ensures))
-          (λ x. rw x.1 (wiping_past b₀ u c.requires.0 c.requires.1 l.b l.w l.invariant.0 (omega (arith, t)) up x.0.left))
-          c.if-up-unit.branch,
+      elim c.if-up-unit.branch [
+          then-up-unit x ↦ rw x.b-is (wiping_reset b₀ u c.requires.0 c.requires.1 l.b l.w l.invariant.0 (omega (arith, t)) x.reset.new.b (of_tree b₀ u c.requires.0 c.requires.1 l.b l.w l.invariant.0 (omega (arith, t)) up x.if-up-unit.true) x.reset.ensures)
+        | else-up-unit x ↦ rw x.b-is (wiping_past b₀ u c.requires.0 c.requires.1 l.b l.w l.invariant.0 (omega (arith, t)) up x.if-up-unit.false)
+      ],
       omega (arith, t),
     )
 

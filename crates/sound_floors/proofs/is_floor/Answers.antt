@@ -21,7 +21,7 @@ pub returns-then-not-marks : goal.returns-then-not-marks
 returns-then-not-marks c =
     let a = c.args in
     let f = c.load_interface-f in
-    unfloored a.b.now a.u f.result f.ensures c.is_level.result c.is_level.ensures (ap not c.if-not-is_level.false) (ap not c.if-not-marks.true)
+    unfloored a.b.now a.u f.result f.ensures c.is_level.result c.is_level.ensures (ap not c.if-not-is_level.false) c.if-not-marks.true
 
 
 pub climb-c-requires : goal.climb-c-requires
@@ -37,4 +37,4 @@ pub returns : goal.returns
 returns c =
     let a = c.args in
     let f = c.load_interface-f in
-    all_afloat a.b.now a.u f.result f.ensures c.is_level.result c.is_level.ensures (ap not c.if-not-is_level.false) (ap not c.if-not-marks.false) c.climb-c.ensures c.are_afloat.result c.are_afloat.ensures
+    all_afloat a.b.now a.u f.result f.ensures c.is_level.result c.is_level.ensures (ap not c.if-not-is_level.false) c.if-not-marks.false c.climb-c.ensures c.are_afloat.result c.are_afloat.ensures
