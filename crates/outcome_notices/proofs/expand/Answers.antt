@@ -15,22 +15,20 @@ use Rattle.bench_views.specs.Canon.{walk}
 use Rattle.outcome_notices.proofs.Telling.{halfway, head, past, walk_none, walk_more, grow_head, grow_begins, grow_more, grow_ends}
 use Rattle.outcome_notices.proofs.Reaching.{low, few, members_low, members_seen}
 use Rattle.outcome_notices.proofs.expand.Goals as goal
+use Rattle.outcome_notices.proofs.expand.Goals.{After-load_node-n, In-loop-i}
 
--- TODO place lemma
 -- a member's position, and how many there may be
-counted : (c : tie.After-load-node invariant-loop decreases-loop) → c.load-node.result.count ≤ 64
-counted c =
-    let s = c.before.before.before in
-    omega (arith, few s.args.b.now (handle_named s.args.h) s.requires.0 s.requires.1, ap (λ (x : Node). x.count) c.load-node.ensures)
+counted : (c : After-load_node-n) → c.load_node-n.result.count ≤ 64
+counted c = omega (arith, few c.args.b.now (handle_named c.args.h) c.requires.0 c.requires.1, ap (λ (x : Node). x.count) c.load_node-n.ensures)
 
--- TODO place lemma
-reached : (a : tie.At-loop invariant-loop decreases-loop) → a.loop.i < a.before.before.load-node.result.count → (a.loop.at < 512) × (a.loop.i < 64)
-reached a l =
-    let load = a.before.before in
-    let s = load.before.before.before in
-    let n = load.load-node in (
-      rw (a.loop.invariant.1, n.ensures) (members_low s.args.b.now (handle_named s.args.h) s.requires.0 s.requires.1 a.loop.i (omega (arith, ap (λ (x : Node). x.count) n.ensures))),
-      omega (arith, counted load),
+reached : (c : In-loop-i) → (c.loop-i.at < 512) × (c.loop-i.i < 64)
+reached c =
+    let n = c.load_node-n in
+    let most = few c.args.b.now (handle_named c.args.h) c.requires.0 c.requires.1 in
+    let same = ap (λ (x : Node). x.count) n.ensures in
+    (
+      rw (c.loop-i.invariant.1, n.ensures) (members_low c.args.b.now (handle_named c.args.h) c.requires.0 c.requires.1 c.loop-i.i (omega (arith, same, c.loop-i-test.true))),
+      omega (arith, most, same, c.loop-i-test.true),
     )
 
 
@@ -46,11 +44,11 @@ loop-i-init c =
 
 
 pub load_node-m-requires : goal.load_node-m-requires
-load_node-m-requires c = (reached c c.loop-i-test.true).0
+load_node-m-requires c = (reached (goal.at.load_node-m-requires c).In-loop-i).0
 
 
 pub overflow_cast-g : goal.overflow_cast-g
-overflow_cast-g c = omega (arith, (reached c c.loop-i-test.true).0)
+overflow_cast-g c = omega (arith, (reached (goal.at.overflow_cast-g c).In-loop-i).0)
 
 
 pub overflow_cast-g-in-loop-i : goal.overflow_cast-g-in-loop-i
@@ -58,15 +56,15 @@ overflow_cast-g-in-loop-i c = omega arith
 
 
 pub overflow_add-i : goal.overflow_add-i
-overflow_add-i c = omega (arith, (reached c c.loop-i-test.true).1)
+overflow_add-i c = omega (arith, (reached (goal.at.overflow_add-i c).In-loop-i).1)
 
 
 pub offset_bounds-r-i : goal.offset_bounds-r-i
-offset_bounds-r-i c = omega (arith, (reached c c.loop-i-test.true).1)
+offset_bounds-r-i c = omega (arith, (reached (goal.at.offset_bounds-r-i c).In-loop-i).1)
 
 
 pub bounds-r-i : goal.bounds-r-i
-bounds-r-i c = omega (arith, (reached c c.loop-i-test.true).1)
+bounds-r-i c = omega (arith, (reached (goal.at.bounds-r-i c).In-loop-i).1)
 
 
 pub loop-i-smaller : goal.loop-i-smaller
@@ -77,13 +75,13 @@ pub loop-i-preserved : goal.loop-i-preserved
 loop-i-preserved c =
     let b = c.args.b.now in
     let f = c.load_node-n.result.first in
-    let r = reached at c.loop-i-test.true in
+    let r = (reached (goal.at.loop-i-preserved c).In-loop-i) in
     let step = c.load_node-m in
     (omega arith, walk_more (node_at b) f c.loop-i.i c.loop-i.at step.result c.loop-i.invariant.1 step.ensures, grow_more c.loop-i.r _ (node_at b) f c.loop-i.i c.loop-i.at step.result r.1 c.loop-i.invariant.2 c.loop-i.invariant.1 step.ensures)
 
 
 pub overflow_add-r : goal.overflow_add-r
-overflow_add-r c = omega (arith, counted c)
+overflow_add-r c = omega (arith, counted (goal.at.overflow_add-r c).After-load_node-n)
 
 
 pub returns : goal.returns
