@@ -7,10 +7,8 @@ use Rattle.picture_pieces.proofs.Drawing.{drawn_past, drawn_counted, Copied, cop
 use borrow.Author.Rules.{rules}
 use Rattle.picture_pieces.proofs.put.Given as goal
 
-
 abbrev pub invariant-loop-j : goal.invariant-loop-j
 invariant-loop-j l = Copied l.initial.out l.at l.piece l.j l.out × (l.at + l.n ≤ length l.initial.out)
-
 
 abbrev pub decreases-loop-j : goal.decreases-loop-j
 decreases-loop-j l = l.n - l.j

@@ -3,10 +3,8 @@ use Rattle.picture_pieces.proofs.Drawing.{drawn_none, same_text, comma_first, co
 use borrow.Author.Rules.{rules}
 use Rattle.picture_pieces.proofs.put_comma.Goals as goal
 
-
 pub returns-then-i-eq0 : goal.returns-then-i-eq0
 returns-then-i-eq0 c = same_text (comma_first c.args.i c.if-i-eq0.true) drawn_none
-
 
 pub returns : goal.returns
 returns c =

@@ -77,7 +77,7 @@ put_members-requires c =
     let p = c.find-f.result.place in
     let h = c.find-f.ensures.found c.if-f-ne0.false in
     let b = bytes_from s p c.type_inv.file.given in
-    (members_room s c.args.k p b h c.line_at.result c.line_at.ensures c.front_of-front.result c.front_of-front.ensures, omega (arith, c.if-out-size.false, c.put_front.auto.0))
+    (members_room s c.args.k p b h c.line_at.result c.line_at.ensures c.front_of-front.result c.front_of-front.ensures, omega (arith, c.if-out-size.false, c.put_front.auto.out))
 
 
 pub returns : goal.returns

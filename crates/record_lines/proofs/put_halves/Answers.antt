@@ -22,7 +22,7 @@ pub put_field-requires : goal.put_field-requires
 put_field-requires c =
     let f = decimal c.args.left in
     let g = decimal c.args.right in
-    omega (arith, c.requires, ap length (tail_two f g), length-append (32 ∷ f) (32 ∷ g), c.put_field-p.ensures.next, c.put_field-p.auto.0)
+    omega (arith, c.requires, ap length (tail_two f g), length-append (32 ∷ f) (32 ∷ g), c.put_field-p.ensures.next, c.put_field-p.auto.out)
 
 
 pub returns : goal.returns

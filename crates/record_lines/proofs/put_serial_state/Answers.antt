@@ -23,7 +23,7 @@ pub put_state-requires : goal.put_state-requires
 put_state-requires c =
     let f = decimal c.args.serial in
     let g = state_text c.args.state in
-    omega (arith, c.requires, ap length (tail_two f g), length-append (32 ∷ f) (32 ∷ g), c.put_field-p.ensures.next, c.put_field-p.auto.0)
+    omega (arith, c.requires, ap length (tail_two f g), length-append (32 ∷ f) (32 ∷ g), c.put_field-p.ensures.next, c.put_field-p.auto.out)
 
 
 pub returns : goal.returns

@@ -35,7 +35,7 @@ pub loop-left-preserved : goal.loop-left-preserved
 loop-left-preserved c =
     let a = c.args in
     let l = c.loop-left in
-    write_on a.t.now a.count a.q a.out.now a.at l.out l.place l.from l.left l.invariant c.loop-left-test.true c.four_at-n.result c.four_at-n.ensures.0 _ c.put_field-place.result c.put_field-place.auto.0 c.put_field-place.ensures
+    write_on a.t.now a.count a.q a.out.now a.at l.out l.place l.from l.left l.invariant c.loop-left-test.true c.four_at-n.result c.four_at-n.ensures.0 _ c.put_field-place.result c.put_field-place.auto.out c.put_field-place.ensures
 
 
 pub shape_of-out : goal.shape_of-out

@@ -9,7 +9,7 @@ use Rattle.record_numbers.proofs.put_four.Goals as goal
 
 pub put_two-requires : goal.put_two-requires
 put_two-requires c =
-    omega (arith, c.put_two-p.ensures.next, c.put_two-p.auto.0, length_bytes 2 c.args.n, c.requires)
+    omega (arith, c.put_two-p.ensures.next, c.put_two-p.auto.out, length_bytes 2 c.args.n, c.requires)
 
 
 pub returns : goal.returns

@@ -41,7 +41,7 @@ put_four-requires c =
     let l = c.loop-from in
     let e = c.part_end-e in
     let n = next a.text.now a.out.now a.start l.from l.p l.entry l.out l.invariant.0 c.loop-from-test.true e.result e.ensures in
-    omega (arith, l.invariant.0.room, ap (λ (y : List Op). length y) n.first, c.put_record-next.auto.0)
+    omega (arith, l.invariant.0.room, ap (λ (y : List Op). length y) n.first, c.put_record-next.auto.out)
 
 
 pub overflow_add-entry : goal.overflow_add-entry

@@ -10,12 +10,12 @@ use Rattle.record_puts.proofs.put_member.Goals as goal
 
 pub put_four-q-requires : goal.put_four-q-requires
 put_four-q-requires c =
-    omega (arith, c.put_four-p.ensures.next, c.put_four-p.auto.0, length_bytes 4 c.args.n, c.requires)
+    omega (arith, c.put_four-p.ensures.next, c.put_four-p.auto.out, length_bytes 4 c.args.n, c.requires)
 
 
 pub put_four-requires : goal.put_four-requires
 put_four-requires c =
-    omega (arith, c.put_four-p.ensures.next, c.put_four-p.auto.0, c.put_four-q.ensures.next, c.put_four-q.auto.0, length_bytes 4 c.args.n, c.requires)
+    omega (arith, c.put_four-p.ensures.next, c.put_four-p.auto.out, c.put_four-q.ensures.next, c.put_four-q.auto.out, length_bytes 4 c.args.n, c.requires)
 
 
 pub returns : goal.returns

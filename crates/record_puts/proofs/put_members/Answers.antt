@@ -37,7 +37,7 @@ loop-i-smaller c = omega (arith, c.loop-i-test.true)
 pub loop-i-preserved : goal.loop-i-preserved
 loop-i-preserved c =
     let m = c.put_member-p in
-    put_on (take c.args.count c.args.serials.now) c.args.out.now c.args.at c.loop-i.i c.loop-i.p c.loop-i.out c.loop-i.invariant (omega (arith, length-take-le c.args.count c.args.serials.now c.requires.1, c.loop-i-test.true)) _ (sym (get_or-take c.args.count c.args.serials.now c.loop-i.i 0 c.loop-i-test.true)) _ m.result m.auto.0 m.ensures
+    put_on (take c.args.count c.args.serials.now) c.args.out.now c.args.at c.loop-i.i c.loop-i.p c.loop-i.out c.loop-i.invariant (omega (arith, length-take-le c.args.count c.args.serials.now c.requires.1, c.loop-i-test.true)) _ (sym (get_or-take c.args.count c.args.serials.now c.loop-i.i 0 c.loop-i-test.true)) _ m.result m.auto.out m.ensures
 
 
 pub shape_of-out : goal.shape_of-out

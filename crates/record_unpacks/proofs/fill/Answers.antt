@@ -35,7 +35,7 @@ loop-left-smaller c = omega (arith, c.loop-left-test.true)
 
 pub loop-left-preserved : goal.loop-left-preserved
 loop-left-preserved c =
-    fill_on c.args.s.now c.args.t.now c.args.list c.args.count c.args.out.now c.loop-left.entry c.loop-left.left c.loop-left.at c.loop-left.out (bytes_all c.args.t.now c.type_inv.t.given) c.loop-left.invariant c.loop-left-test.true c.four_at-p.result c.four_at-p.ensures.0 _ c.put_line-at.result c.put_line-at.auto.0 c.put_line-at.ensures
+    fill_on c.args.s.now c.args.t.now c.args.list c.args.count c.args.out.now c.loop-left.entry c.loop-left.left c.loop-left.at c.loop-left.out (bytes_all c.args.t.now c.type_inv.t.given) c.loop-left.invariant c.loop-left-test.true c.four_at-p.result c.four_at-p.ensures.0 _ c.put_line-at.result c.put_line-at.auto.out c.put_line-at.ensures
 
 
 pub shape_of-out : goal.shape_of-out

@@ -12,7 +12,7 @@ put_number-requires c = simp length-set (omega arith)
 
 
 pub shape_of-out : goal.shape_of-out
-shape_of-out c = c.put_number.auto.0 ∙ simp length-set
+shape_of-out c = c.put_number.auto.out ∙ simp length-set
 
 
 pub returns : goal.returns

@@ -14,7 +14,7 @@ put_signed-requires c = rw (to_z-of_z {w = w64} c.ranges.z) (simp length-set (om
 
 
 pub shape_of-out : goal.shape_of-out
-shape_of-out c = c.put_signed.auto.0 ∙ simp length-set
+shape_of-out c = c.put_signed.auto.out ∙ simp length-set
 
 
 pub returns : goal.returns

@@ -8,10 +8,8 @@ use Rattle.text_decimals.proofs.Signs.{below, fits_below, negated}
 use borrow.Author.Rules.{rules}
 use Rattle.text_decimals.proofs.minus.Goals as goal
 
-
 pub overflow_sub-result-2 : goal.overflow_sub-result-2
 overflow_sub-result-2 c = rw (to_z_pos w64 {n = c.args.n - 1} (omega arith), below) (fits_below _ (omega arith))
-
 
 pub returns : goal.returns
 returns c = rw (to_z_pos w64 {n = c.args.n - 1} (omega arith), below) (to_z-of_z {w = w64} (fits_below _ (omega arith)) ∙ sym (negated c.args.n (omega arith)))

@@ -6,24 +6,20 @@ use Rattle.text_decimals.proofs.Fields.{natural_empty, natural_one, natural_zero
 use borrow.Author.Rules.{rules}
 use Rattle.text_decimals.proofs.number_in.Goals as goal
 
-
 pub returns-then-f-eq0 : goal.returns-then-f-eq0
 returns-then-f-eq0 c =
     let a = c.args in
     sym (ap (between a.least a.most) (natural_empty a.f.now c.if-f-eq0.true) ∙ between_none a.least a.most)
-
 
 pub returns-then-f-eq1 : goal.returns-then-f-eq1
 returns-then-f-eq1 c =
     let a = c.args in
     c.value_in.ensures ∙ ap (between a.least a.most) (sym (natural_one a.f.now c.if-f-eq1.true))
 
-
 pub returns-then-f-eq48 : goal.returns-then-f-eq48
 returns-then-f-eq48 c =
     let a = c.args in
     sym (ap (between a.least a.most) (natural_zero a.f.now c.if-f-eq0.false c.if-f-eq1.false c.if-f-eq48.true) ∙ between_none a.least a.most)
-
 
 pub returns : goal.returns
 returns c =

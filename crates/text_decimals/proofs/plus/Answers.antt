@@ -5,6 +5,5 @@ use mir.Facts.{to_z_pos}
 use borrow.Author.Rules.{rules}
 use Rattle.text_decimals.proofs.plus.Goals as goal
 
-
 pub returns : goal.returns
 returns c = to_z_pos w64 {n = c.args.n} (omega arith)
