@@ -115,7 +115,7 @@ LENT = {}
 
 
 def lent_of(callee):
-    """The parameters of a function that are no plain numbers: what a call's `.new` has by name."""
+    """The parameters of a function: what a call's `.new` has by name."""
     if callee not in LENT:
         crate, *path = callee.split("::")
         for top, _, files in os.walk(f"crates/{crate}/src"):
@@ -125,7 +125,7 @@ def lent_of(callee):
                     name = m[1]
                     found = re.findall(r"(\w+): ([^,()]+(?:\([^)]*\))?)", m[2])
                     if name == path[-1]:
-                        LENT[callee] = [n for n, ty in found if not re.fullmatch(r"\s*(u8|u16|u32|u64|usize|i8|i16|i32|i64|bool)\s*", ty)]
+                        LENT[callee] = [n for n, ty in found]
         LENT.setdefault(callee, [])
     return LENT[callee]
 

@@ -36,7 +36,7 @@ loop-m-smaller c =
 
 pub loop-m-preserved : goal.loop-m-preserved
 loop-m-preserved c =
-    going_on c.args.b.now c.args.unit c.args.k c.args.touching c.put-r.new.out c.put-r.result c.loop-m.out c.loop-m.r c.loop-m.p c.loop-m.m c.loop-m.i c.loop-m.invariant c.loop-m-test.true c.put_comma-s.new.out c.put_comma-s.result c.put_member-r.new.out.1.0 c.put_member-r.result
+    going_on c.args.b.now c.args.unit c.args.k c.args.touching c.put-r.new.out c.put-r.result c.loop-m.out c.loop-m.r c.loop-m.p c.loop-m.m c.loop-m.i c.loop-m.invariant c.loop-m-test.true c.put_comma-s.new.out c.put_comma-s.result c.put_member-r.new.out c.put_member-r.result
     c.put_comma-s.ensures c.put_member-r.ensures c.load_node-x.result.next (ap (λ (x : Node). x.next) c.load_node-x.ensures)
 
 

@@ -32,7 +32,7 @@ loop-k-smaller c =
 
 pub loop-k-preserved : goal.loop-k-preserved
 loop-k-preserved c =
-    (omega (arith, c.loop-k-test.true), along_on c.args.b.now c.args.unit c.args.places.now c.args.count c.requires.places c.args.short c.put-r.new.out c.put-r.result c.loop-k.out c.loop-k.r c.loop-k.k c.loop-k.i c.loop-k.invariant.1 c.loop-k-test.true c.put_comma-s.new.out c.put_comma-s.result c.put_slot-r.new.out.1.0 c.put_slot-r.result c.put_comma-s.ensures c.put_slot-r.ensures)
+    (omega (arith, c.loop-k-test.true), along_on c.args.b.now c.args.unit c.args.places.now c.args.count c.requires.places c.args.short c.put-r.new.out c.put-r.result c.loop-k.out c.loop-k.r c.loop-k.k c.loop-k.i c.loop-k.invariant.1 c.loop-k-test.true c.put_comma-s.new.out c.put_comma-s.result c.put_slot-r.new.out c.put_slot-r.result c.put_comma-s.ensures c.put_slot-r.ensures)
 
 
 pub shape_of-out : goal.shape_of-out

@@ -23,4 +23,4 @@ pub returns : goal.returns
 returns c =
     let t = picture (view c.args.b.now) c.args.unit c.args.short in
     let g = c.slice_known-1.given in
-    written t c.args.out.now (omega arith) (measured_fits t c.args.out.now _ _ _ c.draw-n.ensures (omega arith) c.if-out-n.false) c.draw-m.new.out.1.1.0 c.draw-m.result c.draw-m.ensures
+    written t c.args.out.now (omega arith) (measured_fits t c.args.out.now _ _ _ c.draw-n.ensures (omega arith) c.if-out-n.false) c.draw-m.new.out c.draw-m.result c.draw-m.ensures

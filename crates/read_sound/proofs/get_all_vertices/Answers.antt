@@ -58,5 +58,5 @@ returns-else-out-n c =
     let n = seen_some b h f.stands in
     let a = c.all_vertices-count in
     let z = ap (λ (x : Node). x.size) c.load_node-n.ensures in
-    let w = wrote_front (vertices_of (view b) h) c.args.out.now a.new.1.1.0 a.result (omega (arith, c.if-out-n.false, held_many b h k f c.requires, z)) (rw (held_under b h k f) at a.ensures) in
-    vertices_yes (view b) h n.0 n.1 c.args.out.now (omega (arith, c.if-out-n.false, held_size b h k f, z)) a.result a.new.1.1.0 w.0 w.1
+    let w = wrote_front (vertices_of (view b) h) c.args.out.now a.new.out a.result (omega (arith, c.if-out-n.false, held_many b h k f c.requires, z)) (rw (held_under b h k f) at a.ensures) in
+    vertices_yes (view b) h n.0 n.1 c.args.out.now (omega (arith, c.if-out-n.false, held_size b h k f, z)) a.result a.new.out w.0 w.1

@@ -9,4 +9,4 @@ returns c =
     let a = c.args in
     let t = c.answer_opening-t in
     let f = c.finish in
-    all_done a.input.now a.buf.now a.out.now t.new.0 t.new.1.1.0 t.new.1.1.1.1.1.1.0 t.result.held t.result.wrote t.ensures f.new.1.0 f.result f.ensures
+    all_done a.input.now a.buf.now a.out.now t.new.b t.new.buf t.new.out t.result.held t.result.wrote t.ensures f.new.out f.result f.ensures

@@ -16,4 +16,4 @@ returns-in-Engine c =
 
 pub returns-in-NoEngine : goal.returns-in-NoEngine
 returns-in-NoEngine c =
-    first_any c.args.line.now c.engine_chosen.result c.engine_chosen.ensures c.in-NoEngine.is c.args.b.now c.requires.0 c.answer_line.new.b c.args.out.now c.answer_line.new.out.0 c.answer_line.result c.answer_line.ensures
+    first_any c.args.line.now c.engine_chosen.result c.engine_chosen.ensures c.in-NoEngine.is c.args.b.now c.requires.0 c.answer_line.new.b c.args.out.now c.answer_line.new.out c.answer_line.result c.answer_line.ensures

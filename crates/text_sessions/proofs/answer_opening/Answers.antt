@@ -13,7 +13,7 @@ use Rattle.text_sessions.proofs.answer_opening.Goals as goal
 
 pub returns-then-not-f : goal.returns-then-not-f
 returns-then-not-f c =
-    opening_part c.args.chunk.now (take c.args.before c.args.buf.now) c.feed-f.new.buf.1.0 c.feed-f.result.ended c.feed-f.result.held c.feed-f.result.at c.feed-f.ensures c.args.out.now (ap not c.if-not-f.true) c.start.new.b c.start.ensures
+    opening_part c.args.chunk.now (take c.args.before c.args.buf.now) c.feed-f.new.buf c.feed-f.result.ended c.feed-f.result.held c.feed-f.result.at c.feed-f.ensures c.args.out.now (ap not c.if-not-f.true) c.start.new.b c.start.ensures
 
 
 pub slice_bounds-answer_first-end-2 : goal.slice_bounds-answer_first-end-2
@@ -34,12 +34,12 @@ answer_rest-requires c =
       c.feed-f.ensures.long,
       omega arith,
       c.feed-f.ensures.in_chunk,
-      opening_room a.chunk.now (take a.before a.buf.now) c.feed-f.new.buf.1.0 c.feed-f.result.ended c.feed-f.result.held c.feed-f.result.at c.feed-f.ensures a.out.now c.answer_first-first.new.b c.answer_first-first.new.out.0 c.answer_first-first.result (ap not c.if-not-f.false) c.answer_first-first.ensures,
+      opening_room a.chunk.now (take a.before a.buf.now) c.feed-f.new.buf c.feed-f.result.ended c.feed-f.result.held c.feed-f.result.at c.feed-f.ensures a.out.now c.answer_first-first.new.b c.answer_first-first.new.out c.answer_first-first.result (ap not c.if-not-f.false) c.answer_first-first.ensures,
       omega (arith, c.requires.3, c.answer_first-first.auto.1.1.1.1.0),
     )
 
 
 pub returns : goal.returns
 returns c =
-    opening_line c.args.chunk.now (take c.args.before c.args.buf.now) c.feed-f.new.buf.1.0 c.feed-f.result.ended c.feed-f.result.held c.feed-f.result.at c.feed-f.ensures c.args.out.now (ap not c.if-not-f.false)
-    c.answer_first-first.new.b c.answer_first-first.new.out.0 c.answer_first-first.result c.answer_first-first.ensures c.answer_rest.new.b c.answer_rest.new.serials c.answer_rest.new.out.1.1.0 c.answer_rest.result.held c.answer_rest.result.wrote c.answer_rest.ensures
+    opening_line c.args.chunk.now (take c.args.before c.args.buf.now) c.feed-f.new.buf c.feed-f.result.ended c.feed-f.result.held c.feed-f.result.at c.feed-f.ensures c.args.out.now (ap not c.if-not-f.false)
+    c.answer_first-first.new.b c.answer_first-first.new.out c.answer_first-first.result c.answer_first-first.ensures c.answer_rest.new.b c.answer_rest.new.buf c.answer_rest.new.out c.answer_rest.result.held c.answer_rest.result.wrote c.answer_rest.ensures

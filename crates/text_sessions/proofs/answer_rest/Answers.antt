@@ -50,8 +50,8 @@ loop-at-preserved-then-f c =
       words = c.answer_line-wrote.ensures.words;
       same = c.answer_line-wrote.auto.1.1.0 ∙ c.loop-at.invariant.same;
       going = going_line (view c.args.b.now) c.args.chunk.now (drop c.args.from c.args.chunk.now) (take c.args.before c.args.buf.now) c.args.out.now c.args.written (view c.loop-at.b) c.loop-at.buf c.loop-at.out c.loop-at.held c.loop-at.wrote c.loop-at.at c.loop-at.invariant.going
-          c.feed-f.new.buf.1.0 c.feed-f.result.ended c.feed-f.result.held c.feed-f.result.at c.feed-f.ensures c.if-f.true
-          (view c.answer_line-wrote.new.b) c.answer_line-wrote.new.out.0 c.answer_line-wrote.result c.answer_line-wrote.ensures.answered;
+          c.feed-f.new.buf c.feed-f.result.ended c.feed-f.result.held c.feed-f.result.at c.feed-f.ensures c.if-f.true
+          (view c.answer_line-wrote.new.b) c.answer_line-wrote.new.out c.answer_line-wrote.result c.answer_line-wrote.ensures.answered;
     }
 
 
@@ -67,7 +67,7 @@ loop-at-preserved c =
       words = l.invariant.words;
       same = l.invariant.same;
       going = going_part (view a.b.now) a.chunk.now (drop a.from a.chunk.now) (take a.before a.buf.now) a.out.now a.written (view l.b) l.buf l.out l.held l.wrote l.at l.invariant.going
-          c.feed-f.new.buf.1.0 c.feed-f.result.ended c.feed-f.result.held c.feed-f.result.at c.feed-f.ensures c.if-f.false;
+          c.feed-f.new.buf c.feed-f.result.ended c.feed-f.result.held c.feed-f.result.at c.feed-f.ensures c.if-f.false;
     }
 
 
