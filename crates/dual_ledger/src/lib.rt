@@ -1,20 +1,20 @@
 #![tactic(auto)]
-// What Rust and C link: every public call, read and check under its C name, over words, numbers and slices (include/dual_ledger.h). Each is one call of
-// the crate that does it, its answer written out as words. Assumes nothing.
+// What Rust and C link, by crate dual_ledger_c: every public call, read and check by its C name, over words, numbers and slices (include/dual_ledger.h). Each
+// is one call of the crate that does it, its answer written out as words. Assumes nothing.
 pub mod marks; // the marks of an interface
 pub mod obstacles; // groups of obstacles
 pub mod open_calls; // the calls on any words
 pub mod open_reads; // the reads and checks on any words
-mod pictures; // the picture for the viewer
+pub mod pictures; // the picture for the viewer
 pub mod present; // the reads of present nodes
-mod recorded; // growing against a recording
-mod records; // files of byte records
-mod runs; // a run over a file of byte records
-mod text; // the text program's lines and chunks
-mod told_calls; // the calls on sound words, with notices
-mod trusted_calls; // the calls on sound words, without notices
-mod trusted_groups; // groups of obstacles, on sound words
-mod trusted_reads; // the reads and checks on sound words
+pub mod recorded; // growing against a recording
+pub mod records; // files of byte records
+pub mod runs; // a run over a file of byte records
+pub mod text; // the text program's lines and chunks
+pub mod told_calls; // the calls on sound words, with notices
+pub mod trusted_calls; // the calls on sound words, without notices
+pub mod trusted_groups; // groups of obstacles, on sound words
+pub mod trusted_reads; // the reads and checks on sound words
 
 ghost use Rattle.std.specs.Prelude.{◌≡◌, true};
 ghost use Rattle.call_set_up.specs.Opened.{OpenedBy, OpenedInBy};
@@ -23,22 +23,19 @@ ghost use Rattle.link_answers.specs.Forms.{flag_word};
 
 use bench_words::WORDS;
 
-#[unsafe(no_mangle)]
-pub extern "C" fn dual_ledger_set_up(bench: &mut [u64; WORDS], first: u32) -> u8
+pub fn dual_ledger_set_up(bench: &mut [u64; WORDS], first: u32) -> u8
     ensures { OpenedBy first result bench.new }
 {
     call_set_up::set_up(bench, first)
 }
 
-#[unsafe(no_mangle)]
-pub extern "C" fn dual_ledger_set_up_plain(bench: &mut [u64; WORDS], first: u32) -> u8
+pub fn dual_ledger_set_up_plain(bench: &mut [u64; WORDS], first: u32) -> u8
     ensures { OpenedInBy true first result bench.new }
 {
     call_set_up::set_up_in(bench, true, first)
 }
 
-#[unsafe(no_mangle)]
-pub extern "C" fn dual_ledger_is_sound(bench: &[u64; WORDS]) -> u8
+pub fn dual_ledger_is_sound(bench: &[u64; WORDS]) -> u8
     ensures { result ≡ flag_word (sound_words bench.now) }
 {
     if sound_lent::is_bench(bench) {

@@ -14,8 +14,7 @@ use bench_words::WORDS;
 use kinds::numbers;
 
 // From now to its clear the interface gives a new node its lowest empty slot.
-#[unsafe(no_mangle)]
-pub extern "C" fn dual_ledger_mark_filling(bench: &mut [u64; WORDS], unit: u8) -> u8
+pub fn dual_ledger_mark_filling(bench: &mut [u64; WORDS], unit: u8) -> u8
     ensures { Left bench.old (Mark unit filling) result bench.new }
 {
     if !sound_lent::is_bench(bench) {
@@ -24,8 +23,7 @@ pub extern "C" fn dual_ledger_mark_filling(bench: &mut [u64; WORDS], unit: u8) -
     dual_ledger_trusted_mark_filling(bench, unit)
 }
 
-#[unsafe(no_mangle)]
-pub extern "C" fn dual_ledger_trusted_mark_filling(bench: &mut [u64; WORDS], unit: u8) -> u8
+pub fn dual_ledger_trusted_mark_filling(bench: &mut [u64; WORDS], unit: u8) -> u8
     requires { SoundWords bench.old }
     ensures { Settled bench.old (Mark unit filling) result bench.new }
 {
@@ -33,8 +31,7 @@ pub extern "C" fn dual_ledger_trusted_mark_filling(bench: &mut [u64; WORDS], uni
     made.number
 }
 
-#[unsafe(no_mangle)]
-pub extern "C" fn dual_ledger_is_filling(bench: &[u64; WORDS], unit: u8, filling: &mut u64) -> u8
+pub fn dual_ledger_is_filling(bench: &[u64; WORDS], unit: u8, filling: &mut u64) -> u8
     ensures { (result, filling.new) ≡ worded flag_word (read_words bench.now (fillsRead (view bench.now) unit)) }
 {
     let a = read_any::is_filling(bench, unit);
@@ -42,12 +39,7 @@ pub extern "C" fn dual_ledger_is_filling(bench: &[u64; WORDS], unit: u8, filling
     a.number
 }
 
-#[unsafe(no_mangle)]
-pub extern "C" fn dual_ledger_trusted_is_filling(
-    bench: &[u64; WORDS],
-    unit: u8,
-    filling: &mut u64,
-) -> u8
+pub fn dual_ledger_trusted_is_filling(bench: &[u64; WORDS], unit: u8, filling: &mut u64) -> u8
     requires { SoundWords bench.now }
     ensures { (result, filling.new) ≡ worded flag_word (fills_of (view bench.now) unit) }
 {
@@ -57,8 +49,7 @@ pub extern "C" fn dual_ledger_trusted_is_filling(
 }
 
 // From now to its clear a growth that takes a value of the interface's tree below 0 is refused.
-#[unsafe(no_mangle)]
-pub extern "C" fn dual_ledger_mark_floored(bench: &mut [u64; WORDS], unit: u8) -> u8
+pub fn dual_ledger_mark_floored(bench: &mut [u64; WORDS], unit: u8) -> u8
     ensures { Left bench.old (Mark unit floor) result bench.new }
 {
     if !sound_lent::is_bench(bench) {
@@ -67,8 +58,7 @@ pub extern "C" fn dual_ledger_mark_floored(bench: &mut [u64; WORDS], unit: u8) -
     dual_ledger_trusted_mark_floored(bench, unit)
 }
 
-#[unsafe(no_mangle)]
-pub extern "C" fn dual_ledger_trusted_mark_floored(bench: &mut [u64; WORDS], unit: u8) -> u8
+pub fn dual_ledger_trusted_mark_floored(bench: &mut [u64; WORDS], unit: u8) -> u8
     requires { SoundWords bench.old }
     ensures { Settled bench.old (Mark unit floor) result bench.new }
 {
@@ -76,8 +66,7 @@ pub extern "C" fn dual_ledger_trusted_mark_floored(bench: &mut [u64; WORDS], uni
     made.number
 }
 
-#[unsafe(no_mangle)]
-pub extern "C" fn dual_ledger_is_floored(bench: &[u64; WORDS], unit: u8, floored: &mut u64) -> u8
+pub fn dual_ledger_is_floored(bench: &[u64; WORDS], unit: u8, floored: &mut u64) -> u8
     ensures { (result, floored.new) ≡ worded flag_word (read_words bench.now (flooredRead (view bench.now) unit)) }
 {
     let a = read_any::is_floored(bench, unit);
@@ -85,12 +74,7 @@ pub extern "C" fn dual_ledger_is_floored(bench: &[u64; WORDS], unit: u8, floored
     a.number
 }
 
-#[unsafe(no_mangle)]
-pub extern "C" fn dual_ledger_trusted_is_floored(
-    bench: &[u64; WORDS],
-    unit: u8,
-    floored: &mut u64,
-) -> u8
+pub fn dual_ledger_trusted_is_floored(bench: &[u64; WORDS], unit: u8, floored: &mut u64) -> u8
     requires { SoundWords bench.now }
     ensures { (result, floored.new) ≡ worded flag_word (floored_of (view bench.now) unit) }
 {

@@ -11,15 +11,13 @@ ghost use Rattle.link_answers.specs.Forms.{flag_word, length_words, worded};
 use bench_words::WORDS;
 use group_lent::{GROUP, OBSTACLE};
 
-#[unsafe(no_mangle)]
-pub extern "C" fn dual_ledger_empty_group(group: &mut [u64; GROUP])
+pub fn dual_ledger_empty_group(group: &mut [u64; GROUP])
     ensures { Emptied group.old group.new }
 {
     group_lent_takes::empty_group(group);
 }
 
-#[unsafe(no_mangle)]
-pub extern "C" fn dual_ledger_group_is_sound(group: &[u64; GROUP]) -> u8
+pub fn dual_ledger_group_is_sound(group: &[u64; GROUP]) -> u8
     ensures { result ≡ flag_word (sound_in group.now) }
 {
     if group_lent_any::is_group(group) {
@@ -28,8 +26,7 @@ pub extern "C" fn dual_ledger_group_is_sound(group: &[u64; GROUP]) -> u8
     0
 }
 
-#[unsafe(no_mangle)]
-pub extern "C" fn dual_ledger_group_is_empty(group: &[u64; GROUP], yes: &mut u64) -> u8
+pub fn dual_ledger_group_is_empty(group: &[u64; GROUP], yes: &mut u64) -> u8
     ensures { (result, yes.new) ≡ worded flag_word (asked_of group.now false is_empty) }
 {
     let a = group_lent_any::is_empty(group);
@@ -37,8 +34,7 @@ pub extern "C" fn dual_ledger_group_is_empty(group: &[u64; GROUP], yes: &mut u64
     a.number
 }
 
-#[unsafe(no_mangle)]
-pub extern "C" fn dual_ledger_group_is_active(group: &[u64; GROUP], yes: &mut u64) -> u8
+pub fn dual_ledger_group_is_active(group: &[u64; GROUP], yes: &mut u64) -> u8
     ensures { (result, yes.new) ≡ worded flag_word (asked_of group.now false is_active) }
 {
     let a = group_lent_any::is_active(group);
@@ -46,8 +42,7 @@ pub extern "C" fn dual_ledger_group_is_active(group: &[u64; GROUP], yes: &mut u6
     a.number
 }
 
-#[unsafe(no_mangle)]
-pub extern "C" fn dual_ledger_group_get_none_zero_growth(
+pub fn dual_ledger_group_get_none_zero_growth(
     group: &[u64; GROUP],
     asked: &mut u64,
     length: &mut u64,
@@ -61,25 +56,19 @@ pub extern "C" fn dual_ledger_group_get_none_zero_growth(
     a.number
 }
 
-#[unsafe(no_mangle)]
-pub extern "C" fn dual_ledger_group_peek(group: &[u64; GROUP], obstacle: &mut [u64; OBSTACLE]) -> u8
+pub fn dual_ledger_group_peek(group: &[u64; GROUP], obstacle: &mut [u64; OBSTACLE]) -> u8
     ensures { PeekedAny group.now result obstacle.new }
 {
     group_lent_any::peek(group, obstacle)
 }
 
-#[unsafe(no_mangle)]
-pub extern "C" fn dual_ledger_group_pop(
-    group: &mut [u64; GROUP],
-    obstacle: &mut [u64; OBSTACLE],
-) -> u8
+pub fn dual_ledger_group_pop(group: &mut [u64; GROUP], obstacle: &mut [u64; OBSTACLE]) -> u8
     ensures { PoppedAny group.old result obstacle.new group.new }
 {
     group_lent_any::pop(group, obstacle)
 }
 
-#[unsafe(no_mangle)]
-pub extern "C" fn dual_ledger_group_pop_sparing_stops(
+pub fn dual_ledger_group_pop_sparing_stops(
     group: &mut [u64; GROUP],
     obstacle: &mut [u64; OBSTACLE],
 ) -> u8
@@ -88,8 +77,7 @@ pub extern "C" fn dual_ledger_group_pop_sparing_stops(
     group_lent_any::pop_sparing_stops(group, obstacle)
 }
 
-#[unsafe(no_mangle)]
-pub extern "C" fn dual_ledger_group_add(
+pub fn dual_ledger_group_add(
     bench: &[u64; WORDS],
     group: &mut [u64; GROUP],
     obstacle: &[u64; OBSTACLE],
@@ -99,8 +87,7 @@ pub extern "C" fn dual_ledger_group_add(
     group_lent_any::add(bench, group, obstacle)
 }
 
-#[unsafe(no_mangle)]
-pub extern "C" fn dual_ledger_group_extend(
+pub fn dual_ledger_group_extend(
     bench: &[u64; WORDS],
     group: &mut [u64; GROUP],
     other: &[u64; GROUP],

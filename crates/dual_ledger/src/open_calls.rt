@@ -11,8 +11,7 @@ use bench_words::WORDS;
 use kinds::numbers;
 use link_told::ANSWER;
 
-#[unsafe(no_mangle)]
-pub extern "C" fn dual_ledger_create_defect_node(
+pub fn dual_ledger_create_defect_node(
     bench: &mut [u64; WORDS],
     unit: u8,
     vertex: u32,
@@ -26,8 +25,7 @@ pub extern "C" fn dual_ledger_create_defect_node(
     told_calls::dual_ledger_told_create_defect_node(bench, unit, vertex, answer)
 }
 
-#[unsafe(no_mangle)]
-pub extern "C" fn dual_ledger_create_blossom(
+pub fn dual_ledger_create_blossom(
     bench: &mut [u64; WORDS],
     unit: u8,
     members: &[u64],
@@ -42,8 +40,7 @@ pub extern "C" fn dual_ledger_create_blossom(
     told_calls::dual_ledger_told_create_blossom(bench, unit, members, touching, answer)
 }
 
-#[unsafe(no_mangle)]
-pub extern "C" fn dual_ledger_expand_blossom(
+pub fn dual_ledger_expand_blossom(
     bench: &mut [u64; WORDS],
     unit: u8,
     node: u64,
@@ -58,8 +55,7 @@ pub extern "C" fn dual_ledger_expand_blossom(
 }
 
 // Grows, stays or shrinks by the sign of state.
-#[unsafe(no_mangle)]
-pub extern "C" fn dual_ledger_set_grow_state(
+pub fn dual_ledger_set_grow_state(
     bench: &mut [u64; WORDS],
     unit: u8,
     node: u64,
@@ -74,8 +70,7 @@ pub extern "C" fn dual_ledger_set_grow_state(
     told_calls::dual_ledger_told_set_grow_state(bench, unit, node, state, answer)
 }
 
-#[unsafe(no_mangle)]
-pub extern "C" fn dual_ledger_grow(
+pub fn dual_ledger_grow(
     bench: &mut [u64; WORDS],
     unit: u8,
     length: i64,
@@ -90,8 +85,7 @@ pub extern "C" fn dual_ledger_grow(
 }
 
 // Fuse and clear tell nothing.
-#[unsafe(no_mangle)]
-pub extern "C" fn dual_ledger_fuse(bench: &mut [u64; WORDS], parent: u8, left: u8, right: u8) -> u8
+pub fn dual_ledger_fuse(bench: &mut [u64; WORDS], parent: u8, left: u8, right: u8) -> u8
     ensures { Left bench.old (Fuse parent left right) result bench.new }
 {
     if !sound_lent::is_bench(bench) {
@@ -100,8 +94,7 @@ pub extern "C" fn dual_ledger_fuse(bench: &mut [u64; WORDS], parent: u8, left: u
     trusted_calls::dual_ledger_trusted_fuse(bench, parent, left, right)
 }
 
-#[unsafe(no_mangle)]
-pub extern "C" fn dual_ledger_clear(bench: &mut [u64; WORDS], unit: u8) -> u8
+pub fn dual_ledger_clear(bench: &mut [u64; WORDS], unit: u8) -> u8
     ensures { Left bench.old (Clear unit) result bench.new }
 {
     if !sound_lent::is_bench(bench) {

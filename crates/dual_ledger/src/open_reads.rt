@@ -10,12 +10,7 @@ ghost use Rattle.ledger_spec.specs.Answers.{sumRead, speedRead, countRead, index
 use bench_words::WORDS;
 use kinds::NodeIndex;
 
-#[unsafe(no_mangle)]
-pub extern "C" fn dual_ledger_sum_dual_variables(
-    bench: &[u64; WORDS],
-    unit: u8,
-    sum: &mut u64,
-) -> u8
+pub fn dual_ledger_sum_dual_variables(bench: &[u64; WORDS], unit: u8, sum: &mut u64) -> u8
     ensures { (result, sum.new) ≡ worded signed_word (read_words bench.now (sumRead (view bench.now) unit)) }
 {
     let a = read_any::sum_dual_variables(bench, unit);
@@ -23,8 +18,7 @@ pub extern "C" fn dual_ledger_sum_dual_variables(
     a.number
 }
 
-#[unsafe(no_mangle)]
-pub extern "C" fn dual_ledger_sum_grow_speed(bench: &[u64; WORDS], unit: u8, speed: &mut u64) -> u8
+pub fn dual_ledger_sum_grow_speed(bench: &[u64; WORDS], unit: u8, speed: &mut u64) -> u8
     ensures { (result, speed.new) ≡ worded signed_word (read_words bench.now (speedRead (view bench.now) unit)) }
 {
     let a = read_any::sum_grow_speed(bench, unit);
@@ -32,8 +26,7 @@ pub extern "C" fn dual_ledger_sum_grow_speed(bench: &[u64; WORDS], unit: u8, spe
     a.number
 }
 
-#[unsafe(no_mangle)]
-pub extern "C" fn dual_ledger_nodes_count(bench: &[u64; WORDS], unit: u8, count: &mut u64) -> u8
+pub fn dual_ledger_nodes_count(bench: &[u64; WORDS], unit: u8, count: &mut u64) -> u8
     ensures { (result, count.new) ≡ read_words bench.now (countRead (view bench.now) unit) }
 {
     let a = read_any::nodes_count(bench, unit);
@@ -41,13 +34,7 @@ pub extern "C" fn dual_ledger_nodes_count(bench: &[u64; WORDS], unit: u8, count:
     a.number
 }
 
-#[unsafe(no_mangle)]
-pub extern "C" fn dual_ledger_get_node(
-    bench: &[u64; WORDS],
-    unit: u8,
-    index: u32,
-    node: &mut u64,
-) -> u8
+pub fn dual_ledger_get_node(bench: &[u64; WORDS], unit: u8, index: u32, node: &mut u64) -> u8
     ensures { (result, node.new) ≡ indexed (read_words bench.now (indexRead (view bench.now) unit index)) }
 {
     let a = read_any::get_node(bench, unit, NodeIndex(index));
@@ -56,8 +43,7 @@ pub extern "C" fn dual_ledger_get_node(
     a.number
 }
 
-#[unsafe(no_mangle)]
-pub extern "C" fn dual_ledger_check_ptr_belonging(
+pub fn dual_ledger_check_ptr_belonging(
     bench: &[u64; WORDS],
     unit: u8,
     node: u64,
@@ -71,12 +57,7 @@ pub extern "C" fn dual_ledger_check_ptr_belonging(
     a.number
 }
 
-#[unsafe(no_mangle)]
-pub extern "C" fn dual_ledger_get_dual_variable(
-    bench: &[u64; WORDS],
-    node: u64,
-    value: &mut u64,
-) -> u8
+pub fn dual_ledger_get_dual_variable(bench: &[u64; WORDS], node: u64, value: &mut u64) -> u8
     ensures { (result, value.new) ≡ worded signed_word (read_words bench.now (valueRead (view bench.now) (hand_given node))) }
 {
     let h = link_answers::hand(node);
@@ -85,8 +66,7 @@ pub extern "C" fn dual_ledger_get_dual_variable(
     a.number
 }
 
-#[unsafe(no_mangle)]
-pub extern "C" fn dual_ledger_get_ancestor_blossom(
+pub fn dual_ledger_get_ancestor_blossom(
     bench: &[u64; WORDS],
     node: u64,
     ancestor: &mut u64,
@@ -102,8 +82,7 @@ pub extern "C" fn dual_ledger_get_ancestor_blossom(
     a.number
 }
 
-#[unsafe(no_mangle)]
-pub extern "C" fn dual_ledger_get_secondary_ancestor_blossom(
+pub fn dual_ledger_get_secondary_ancestor_blossom(
     bench: &[u64; WORDS],
     node: u64,
     second: &mut u64,
@@ -117,8 +96,7 @@ pub extern "C" fn dual_ledger_get_secondary_ancestor_blossom(
     a.number
 }
 
-#[unsafe(no_mangle)]
-pub extern "C" fn dual_ledger_get_representative_vertex(
+pub fn dual_ledger_get_representative_vertex(
     bench: &[u64; WORDS],
     node: u64,
     vertex: &mut u32,
@@ -131,8 +109,7 @@ pub extern "C" fn dual_ledger_get_representative_vertex(
     a.number
 }
 
-#[unsafe(no_mangle)]
-pub extern "C" fn dual_ledger_get_all_vertices(
+pub fn dual_ledger_get_all_vertices(
     bench: &[u64; WORDS],
     node: u64,
     out: &mut [u32],
@@ -146,8 +123,7 @@ pub extern "C" fn dual_ledger_get_all_vertices(
     a.number
 }
 
-#[unsafe(no_mangle)]
-pub extern "C" fn dual_ledger_sanity_check(
+pub fn dual_ledger_sanity_check(
     bench: &[u64; WORDS],
     unit: u8,
     verdict: &mut u64,
@@ -161,8 +137,7 @@ pub extern "C" fn dual_ledger_sanity_check(
     a.number
 }
 
-#[unsafe(no_mangle)]
-pub extern "C" fn dual_ledger_strict_check(
+pub fn dual_ledger_strict_check(
     bench: &[u64; WORDS],
     unit: u8,
     verdict: &mut u64,

@@ -9,8 +9,7 @@ ghost use Rattle.picture_any.specs.Chosen.{chosen};
 
 use bench_words::WORDS;
 
-#[unsafe(no_mangle)]
-pub extern "C" fn dual_ledger_snapshot(
+pub fn dual_ledger_snapshot(
     bench: &[u64; WORDS],
     unit: u8,
     abbreviated: u8,
@@ -24,8 +23,7 @@ pub extern "C" fn dual_ledger_snapshot(
     a.number
 }
 
-#[unsafe(no_mangle)]
-pub extern "C" fn dual_ledger_trusted_snapshot(
+pub fn dual_ledger_trusted_snapshot(
     bench: &[u64; WORDS],
     unit: u8,
     abbreviated: u8,

@@ -10,8 +10,7 @@ ghost use Rattle.dual_ledger.specs.Nexts.{next_words};
 use bench_words::WORDS;
 use kinds::NodeIndex;
 
-#[unsafe(no_mangle)]
-pub extern "C" fn dual_ledger_present_count(bench: &[u64; WORDS], unit: u8, count: &mut u64) -> u8
+pub fn dual_ledger_present_count(bench: &[u64; WORDS], unit: u8, count: &mut u64) -> u8
     ensures { (result, count.new) ≡ read_words bench.now (present_read (view bench.now) unit) }
 {
     let a = read_present_any::present_count(bench, unit);
@@ -19,8 +18,7 @@ pub extern "C" fn dual_ledger_present_count(bench: &[u64; WORDS], unit: u8, coun
     a.number
 }
 
-#[unsafe(no_mangle)]
-pub extern "C" fn dual_ledger_next_present(
+pub fn dual_ledger_next_present(
     bench: &[u64; WORDS],
     unit: u8,
     index: u32,
@@ -36,12 +34,7 @@ pub extern "C" fn dual_ledger_next_present(
     a.number
 }
 
-#[unsafe(no_mangle)]
-pub extern "C" fn dual_ledger_trusted_present_count(
-    bench: &[u64; WORDS],
-    unit: u8,
-    count: &mut u64,
-) -> u8
+pub fn dual_ledger_trusted_present_count(bench: &[u64; WORDS], unit: u8, count: &mut u64) -> u8
     requires { SoundWords bench.now }
     ensures { (result, count.new) ≡ present_of (view bench.now) unit }
 {
@@ -50,8 +43,7 @@ pub extern "C" fn dual_ledger_trusted_present_count(
     a.number
 }
 
-#[unsafe(no_mangle)]
-pub extern "C" fn dual_ledger_trusted_next_present(
+pub fn dual_ledger_trusted_next_present(
     bench: &[u64; WORDS],
     unit: u8,
     index: u32,

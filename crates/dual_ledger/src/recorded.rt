@@ -6,8 +6,7 @@ ghost use Rattle.recorded_any.specs.Any.{RecordedAny};
 
 use bench_words::WORDS;
 
-#[unsafe(no_mangle)]
-pub extern "C" fn dual_ledger_grow_recorded(
+pub fn dual_ledger_grow_recorded(
     bench: &mut [u64; WORDS],
     unit: u8,
     length: i64,
@@ -22,8 +21,7 @@ pub extern "C" fn dual_ledger_grow_recorded(
     a.number
 }
 
-#[unsafe(no_mangle)]
-pub extern "C" fn dual_ledger_trusted_grow_recorded(
+pub fn dual_ledger_trusted_grow_recorded(
     bench: &mut [u64; WORDS],
     unit: u8,
     length: i64,

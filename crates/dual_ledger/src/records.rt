@@ -6,8 +6,7 @@ ghost use Rattle.record_spec.specs.Moves.{to_records, to_text};
 ghost use Rattle.record_gets.specs.Words.{get_into};
 ghost use Rattle.link_records.specs.Answers.{counted, MovedBy};
 
-#[unsafe(no_mangle)]
-pub extern "C" fn dual_ledger_records_count(file: &[u8], count: &mut usize) -> u8
+pub fn dual_ledger_records_count(file: &[u8], count: &mut usize) -> u8
     ensures { (result, count.new) ≡ counted (file_ops file.now) }
 {
     let a = link_records::count(file);
@@ -15,13 +14,7 @@ pub extern "C" fn dual_ledger_records_count(file: &[u8], count: &mut usize) -> u
     a.number
 }
 
-#[unsafe(no_mangle)]
-pub extern "C" fn dual_ledger_records_get(
-    file: &[u8],
-    at: usize,
-    out: &mut [u64],
-    wrote: &mut usize,
-) -> u8
+pub fn dual_ledger_records_get(file: &[u8], at: usize, out: &mut [u64], wrote: &mut usize) -> u8
     ensures { MovedBy (get_into file.now at out.old) out.new result wrote.new }
 {
     let a = record_gets::get(file, at, out);
@@ -29,8 +22,7 @@ pub extern "C" fn dual_ledger_records_get(
     a.number
 }
 
-#[unsafe(no_mangle)]
-pub extern "C" fn dual_ledger_to_records(text: &[u8], out: &mut [u8], wrote: &mut usize) -> u8
+pub fn dual_ledger_to_records(text: &[u8], out: &mut [u8], wrote: &mut usize) -> u8
     ensures { MovedBy (to_records text.now out.old) out.new result wrote.new }
 {
     let a = record_packs::to_records(text, out);
@@ -38,8 +30,7 @@ pub extern "C" fn dual_ledger_to_records(text: &[u8], out: &mut [u8], wrote: &mu
     a.number
 }
 
-#[unsafe(no_mangle)]
-pub extern "C" fn dual_ledger_to_text(file: &[u8], out: &mut [u8], wrote: &mut usize) -> u8
+pub fn dual_ledger_to_text(file: &[u8], out: &mut [u8], wrote: &mut usize) -> u8
     ensures { MovedBy (to_text file.now out.old) out.new result wrote.new }
 {
     let a = record_unpacks::to_text(file, out);

@@ -5,8 +5,7 @@ ghost use Rattle.record_runs.specs.Runs.{Ran, RanAny};
 
 use bench_words::WORDS;
 
-#[unsafe(no_mangle)]
-pub extern "C" fn dual_ledger_run_records(
+pub fn dual_ledger_run_records(
     bench: &mut [u64; WORDS],
     file: &[u8],
     answers: &mut [i64],
@@ -19,8 +18,7 @@ pub extern "C" fn dual_ledger_run_records(
     a.number
 }
 
-#[unsafe(no_mangle)]
-pub extern "C" fn dual_ledger_trusted_run_records(
+pub fn dual_ledger_trusted_run_records(
     bench: &mut [u64; WORDS],
     file: &[u8],
     answers: &mut [i64],

@@ -8,8 +8,7 @@ use bench_serials::HINTS;
 use bench_words::WORDS;
 use link_text::HELD;
 
-#[unsafe(no_mangle)]
-pub extern "C" fn dual_ledger_text_line(
+pub fn dual_ledger_text_line(
     bench: &mut [u64; WORDS],
     line: &[u8],
     hints: &mut [u16; HINTS],
@@ -26,8 +25,7 @@ pub extern "C" fn dual_ledger_text_line(
     any.number
 }
 
-#[unsafe(no_mangle)]
-pub extern "C" fn dual_ledger_trusted_text_line(
+pub fn dual_ledger_trusted_text_line(
     bench: &mut [u64; WORDS],
     line: &[u8],
     hints: &mut [u16; HINTS],
@@ -45,8 +43,7 @@ pub extern "C" fn dual_ledger_trusted_text_line(
     said.number
 }
 
-#[unsafe(no_mangle)]
-pub extern "C" fn dual_ledger_text_chunk(
+pub fn dual_ledger_text_chunk(
     bench: &mut [u64; WORDS],
     chunk: &[u8],
     buf: &mut [u8; HELD],
@@ -64,8 +61,7 @@ pub extern "C" fn dual_ledger_text_chunk(
     a.number
 }
 
-#[unsafe(no_mangle)]
-pub extern "C" fn dual_ledger_trusted_text_chunk(
+pub fn dual_ledger_trusted_text_chunk(
     bench: &mut [u64; WORDS],
     chunk: &[u8],
     buf: &mut [u8; HELD],
@@ -84,8 +80,7 @@ pub extern "C" fn dual_ledger_trusted_text_chunk(
     a.number
 }
 
-#[unsafe(no_mangle)]
-pub extern "C" fn dual_ledger_text_opening(
+pub fn dual_ledger_text_opening(
     bench: &mut [u64; WORDS],
     chunk: &[u8],
     buf: &mut [u8; HELD],
@@ -103,8 +98,7 @@ pub extern "C" fn dual_ledger_text_opening(
     a.number
 }
 
-#[unsafe(no_mangle)]
-pub extern "C" fn dual_ledger_text_end(held: usize, out: &mut [u8], wrote: &mut usize) -> u8
+pub fn dual_ledger_text_end(held: usize, out: &mut [u8], wrote: &mut usize) -> u8
     ensures { EndBy held out.old out.new result wrote.new }
 {
     let a = link_text::end(held, out);

@@ -11,8 +11,7 @@ use bench_words::WORDS;
 use kinds::Vertex;
 use link_told::ANSWER;
 
-#[unsafe(no_mangle)]
-pub extern "C" fn dual_ledger_told_create_defect_node(
+pub fn dual_ledger_told_create_defect_node(
     bench: &mut [u64; WORDS],
     unit: u8,
     vertex: u32,
@@ -29,8 +28,7 @@ pub extern "C" fn dual_ledger_told_create_defect_node(
     0
 }
 
-#[unsafe(no_mangle)]
-pub extern "C" fn dual_ledger_told_create_blossom(
+pub fn dual_ledger_told_create_blossom(
     bench: &mut [u64; WORDS],
     unit: u8,
     members: &[u64],
@@ -49,8 +47,7 @@ pub extern "C" fn dual_ledger_told_create_blossom(
 }
 
 // What is told follows the circle, which is there only before the work; so the number is asked first.
-#[unsafe(no_mangle)]
-pub extern "C" fn dual_ledger_told_expand_blossom(
+pub fn dual_ledger_told_expand_blossom(
     bench: &mut [u64; WORDS],
     unit: u8,
     node: u64,
@@ -70,8 +67,7 @@ pub extern "C" fn dual_ledger_told_expand_blossom(
 }
 
 // Grows, stays or shrinks by the sign of state.
-#[unsafe(no_mangle)]
-pub extern "C" fn dual_ledger_told_set_grow_state(
+pub fn dual_ledger_told_set_grow_state(
     bench: &mut [u64; WORDS],
     unit: u8,
     node: u64,
@@ -91,8 +87,7 @@ pub extern "C" fn dual_ledger_told_set_grow_state(
     0
 }
 
-#[unsafe(no_mangle)]
-pub extern "C" fn dual_ledger_told_grow(
+pub fn dual_ledger_told_grow(
     bench: &mut [u64; WORDS],
     unit: u8,
     length: i64,

@@ -10,8 +10,7 @@ ghost use Rattle.dual_ledger.specs.Linked.{Settled, node_of};
 use bench_words::WORDS;
 use kinds::Vertex;
 
-#[unsafe(no_mangle)]
-pub extern "C" fn dual_ledger_trusted_create_defect_node(
+pub fn dual_ledger_trusted_create_defect_node(
     bench: &mut [u64; WORDS],
     unit: u8,
     vertex: u32,
@@ -26,8 +25,7 @@ pub extern "C" fn dual_ledger_trusted_create_defect_node(
     made.number
 }
 
-#[unsafe(no_mangle)]
-pub extern "C" fn dual_ledger_trusted_create_blossom(
+pub fn dual_ledger_trusted_create_blossom(
     bench: &mut [u64; WORDS],
     unit: u8,
     members: &[u64],
@@ -43,12 +41,7 @@ pub extern "C" fn dual_ledger_trusted_create_blossom(
     made.number
 }
 
-#[unsafe(no_mangle)]
-pub extern "C" fn dual_ledger_trusted_expand_blossom(
-    bench: &mut [u64; WORDS],
-    unit: u8,
-    node: u64,
-) -> u8
+pub fn dual_ledger_trusted_expand_blossom(bench: &mut [u64; WORDS], unit: u8, node: u64) -> u8
     requires { SoundWords bench.old }
     ensures { Settled bench.old (Expand unit (hand_given node)) result bench.new }
 {
@@ -58,8 +51,7 @@ pub extern "C" fn dual_ledger_trusted_expand_blossom(
 }
 
 // Grows, stays or shrinks by the sign of state.
-#[unsafe(no_mangle)]
-pub extern "C" fn dual_ledger_trusted_set_grow_state(
+pub fn dual_ledger_trusted_set_grow_state(
     bench: &mut [u64; WORDS],
     unit: u8,
     node: u64,
@@ -74,8 +66,7 @@ pub extern "C" fn dual_ledger_trusted_set_grow_state(
     made.number
 }
 
-#[unsafe(no_mangle)]
-pub extern "C" fn dual_ledger_trusted_grow(bench: &mut [u64; WORDS], unit: u8, length: i64) -> u8
+pub fn dual_ledger_trusted_grow(bench: &mut [u64; WORDS], unit: u8, length: i64) -> u8
     requires { SoundWords bench.old }
     ensures { Settled bench.old (Grow unit length) result bench.new }
 {
@@ -83,13 +74,7 @@ pub extern "C" fn dual_ledger_trusted_grow(bench: &mut [u64; WORDS], unit: u8, l
     made.number
 }
 
-#[unsafe(no_mangle)]
-pub extern "C" fn dual_ledger_trusted_fuse(
-    bench: &mut [u64; WORDS],
-    parent: u8,
-    left: u8,
-    right: u8,
-) -> u8
+pub fn dual_ledger_trusted_fuse(bench: &mut [u64; WORDS], parent: u8, left: u8, right: u8) -> u8
     requires { SoundWords bench.old }
     ensures { Settled bench.old (Fuse parent left right) result bench.new }
 {
@@ -97,8 +82,7 @@ pub extern "C" fn dual_ledger_trusted_fuse(
     made.number
 }
 
-#[unsafe(no_mangle)]
-pub extern "C" fn dual_ledger_trusted_clear(bench: &mut [u64; WORDS], unit: u8) -> u8
+pub fn dual_ledger_trusted_clear(bench: &mut [u64; WORDS], unit: u8) -> u8
     requires { SoundWords bench.old }
     ensures { Settled bench.old (Clear unit) result bench.new }
 {

@@ -10,8 +10,7 @@ ghost use Rattle.link_answers.specs.Forms.{flag_word, length_words, worded};
 use bench_words::WORDS;
 use group_lent::{GROUP, OBSTACLE};
 
-#[unsafe(no_mangle)]
-pub extern "C" fn dual_ledger_trusted_group_is_empty(group: &[u64; GROUP], yes: &mut u64) -> u8
+pub fn dual_ledger_trusted_group_is_empty(group: &[u64; GROUP], yes: &mut u64) -> u8
     requires { SoundGroup group.now }
     ensures { (result, yes.new) ≡ worded flag_word (is_empty (group_in group.now)) }
 {
@@ -20,8 +19,7 @@ pub extern "C" fn dual_ledger_trusted_group_is_empty(group: &[u64; GROUP], yes: 
     0
 }
 
-#[unsafe(no_mangle)]
-pub extern "C" fn dual_ledger_trusted_group_is_active(group: &[u64; GROUP], yes: &mut u64) -> u8
+pub fn dual_ledger_trusted_group_is_active(group: &[u64; GROUP], yes: &mut u64) -> u8
     requires { SoundGroup group.now }
     ensures { (result, yes.new) ≡ worded flag_word (is_active (group_in group.now)) }
 {
@@ -30,8 +28,7 @@ pub extern "C" fn dual_ledger_trusted_group_is_active(group: &[u64; GROUP], yes:
     0
 }
 
-#[unsafe(no_mangle)]
-pub extern "C" fn dual_ledger_trusted_group_get_none_zero_growth(
+pub fn dual_ledger_trusted_group_get_none_zero_growth(
     group: &[u64; GROUP],
     asked: &mut u64,
     length: &mut u64,
@@ -46,30 +43,21 @@ pub extern "C" fn dual_ledger_trusted_group_get_none_zero_growth(
     a.number
 }
 
-#[unsafe(no_mangle)]
-pub extern "C" fn dual_ledger_trusted_group_peek(
-    group: &[u64; GROUP],
-    obstacle: &mut [u64; OBSTACLE],
-) -> u8
+pub fn dual_ledger_trusted_group_peek(group: &[u64; GROUP], obstacle: &mut [u64; OBSTACLE]) -> u8
     requires { SoundGroup group.now }
     ensures { Peeked group.now result obstacle.new }
 {
     group_lent_calls::peek(group, obstacle)
 }
 
-#[unsafe(no_mangle)]
-pub extern "C" fn dual_ledger_trusted_group_pop(
-    group: &mut [u64; GROUP],
-    obstacle: &mut [u64; OBSTACLE],
-) -> u8
+pub fn dual_ledger_trusted_group_pop(group: &mut [u64; GROUP], obstacle: &mut [u64; OBSTACLE]) -> u8
     requires { SoundGroup group.old }
     ensures { Popped group.old result obstacle.new group.new }
 {
     group_lent_calls::pop(group, obstacle)
 }
 
-#[unsafe(no_mangle)]
-pub extern "C" fn dual_ledger_trusted_group_pop_sparing_stops(
+pub fn dual_ledger_trusted_group_pop_sparing_stops(
     group: &mut [u64; GROUP],
     obstacle: &mut [u64; OBSTACLE],
 ) -> u8
@@ -79,8 +67,7 @@ pub extern "C" fn dual_ledger_trusted_group_pop_sparing_stops(
     group_lent_calls::pop_sparing_stops(group, obstacle)
 }
 
-#[unsafe(no_mangle)]
-pub extern "C" fn dual_ledger_trusted_group_add(
+pub fn dual_ledger_trusted_group_add(
     bench: &[u64; WORDS],
     group: &mut [u64; GROUP],
     obstacle: &[u64; OBSTACLE],
@@ -92,8 +79,7 @@ pub extern "C" fn dual_ledger_trusted_group_add(
     group_lent_calls::add(bench, group, obstacle)
 }
 
-#[unsafe(no_mangle)]
-pub extern "C" fn dual_ledger_trusted_group_extend(
+pub fn dual_ledger_trusted_group_extend(
     bench: &[u64; WORDS],
     group: &mut [u64; GROUP],
     other: &[u64; GROUP],

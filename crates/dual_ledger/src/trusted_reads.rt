@@ -12,12 +12,7 @@ ghost use Rattle.link_answers.specs.Forms.{node_word, indexed, flag_word, signed
 use bench_words::WORDS;
 use kinds::NodeIndex;
 
-#[unsafe(no_mangle)]
-pub extern "C" fn dual_ledger_trusted_sum_dual_variables(
-    bench: &[u64; WORDS],
-    unit: u8,
-    sum: &mut u64,
-) -> u8
+pub fn dual_ledger_trusted_sum_dual_variables(bench: &[u64; WORDS], unit: u8, sum: &mut u64) -> u8
     requires { SoundWords bench.now }
     ensures { (result, sum.new) ≡ worded signed_word (sum_of (view bench.now) unit) }
 {
@@ -26,12 +21,7 @@ pub extern "C" fn dual_ledger_trusted_sum_dual_variables(
     a.number
 }
 
-#[unsafe(no_mangle)]
-pub extern "C" fn dual_ledger_trusted_sum_grow_speed(
-    bench: &[u64; WORDS],
-    unit: u8,
-    speed: &mut u64,
-) -> u8
+pub fn dual_ledger_trusted_sum_grow_speed(bench: &[u64; WORDS], unit: u8, speed: &mut u64) -> u8
     requires { SoundWords bench.now }
     ensures { (result, speed.new) ≡ worded signed_word (speed_of (view bench.now) unit) }
 {
@@ -40,12 +30,7 @@ pub extern "C" fn dual_ledger_trusted_sum_grow_speed(
     a.number
 }
 
-#[unsafe(no_mangle)]
-pub extern "C" fn dual_ledger_trusted_nodes_count(
-    bench: &[u64; WORDS],
-    unit: u8,
-    count: &mut u64,
-) -> u8
+pub fn dual_ledger_trusted_nodes_count(bench: &[u64; WORDS], unit: u8, count: &mut u64) -> u8
     requires { SoundWords bench.now }
     ensures { (result, count.new) ≡ count_of (view bench.now) unit }
 {
@@ -54,8 +39,7 @@ pub extern "C" fn dual_ledger_trusted_nodes_count(
     a.number
 }
 
-#[unsafe(no_mangle)]
-pub extern "C" fn dual_ledger_trusted_get_node(
+pub fn dual_ledger_trusted_get_node(
     bench: &[u64; WORDS],
     unit: u8,
     index: u32,
@@ -70,8 +54,7 @@ pub extern "C" fn dual_ledger_trusted_get_node(
     a.number
 }
 
-#[unsafe(no_mangle)]
-pub extern "C" fn dual_ledger_trusted_check_ptr_belonging(
+pub fn dual_ledger_trusted_check_ptr_belonging(
     bench: &[u64; WORDS],
     unit: u8,
     node: u64,
@@ -86,12 +69,7 @@ pub extern "C" fn dual_ledger_trusted_check_ptr_belonging(
     a.number
 }
 
-#[unsafe(no_mangle)]
-pub extern "C" fn dual_ledger_trusted_get_dual_variable(
-    bench: &[u64; WORDS],
-    node: u64,
-    value: &mut u64,
-) -> u8
+pub fn dual_ledger_trusted_get_dual_variable(bench: &[u64; WORDS], node: u64, value: &mut u64) -> u8
     requires { SoundWords bench.now }
     ensures { (result, value.new) ≡ worded signed_word (value_of (view bench.now) (hand_given node)) }
 {
@@ -101,8 +79,7 @@ pub extern "C" fn dual_ledger_trusted_get_dual_variable(
     a.number
 }
 
-#[unsafe(no_mangle)]
-pub extern "C" fn dual_ledger_trusted_get_ancestor_blossom(
+pub fn dual_ledger_trusted_get_ancestor_blossom(
     bench: &[u64; WORDS],
     node: u64,
     ancestor: &mut u64,
@@ -119,8 +96,7 @@ pub extern "C" fn dual_ledger_trusted_get_ancestor_blossom(
     a.number
 }
 
-#[unsafe(no_mangle)]
-pub extern "C" fn dual_ledger_trusted_get_secondary_ancestor_blossom(
+pub fn dual_ledger_trusted_get_secondary_ancestor_blossom(
     bench: &[u64; WORDS],
     node: u64,
     second: &mut u64,
@@ -135,8 +111,7 @@ pub extern "C" fn dual_ledger_trusted_get_secondary_ancestor_blossom(
     a.number
 }
 
-#[unsafe(no_mangle)]
-pub extern "C" fn dual_ledger_trusted_get_representative_vertex(
+pub fn dual_ledger_trusted_get_representative_vertex(
     bench: &[u64; WORDS],
     node: u64,
     vertex: &mut u32,
@@ -150,8 +125,7 @@ pub extern "C" fn dual_ledger_trusted_get_representative_vertex(
     a.number
 }
 
-#[unsafe(no_mangle)]
-pub extern "C" fn dual_ledger_trusted_get_all_vertices(
+pub fn dual_ledger_trusted_get_all_vertices(
     bench: &[u64; WORDS],
     node: u64,
     out: &mut [u32],
@@ -166,8 +140,7 @@ pub extern "C" fn dual_ledger_trusted_get_all_vertices(
     a.number
 }
 
-#[unsafe(no_mangle)]
-pub extern "C" fn dual_ledger_trusted_sanity_check(
+pub fn dual_ledger_trusted_sanity_check(
     bench: &[u64; WORDS],
     unit: u8,
     verdict: &mut u64,
@@ -182,8 +155,7 @@ pub extern "C" fn dual_ledger_trusted_sanity_check(
     a.number
 }
 
-#[unsafe(no_mangle)]
-pub extern "C" fn dual_ledger_trusted_strict_check(
+pub fn dual_ledger_trusted_strict_check(
     bench: &[u64; WORDS],
     unit: u8,
     verdict: &mut u64,

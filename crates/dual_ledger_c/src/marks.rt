@@ -1,0 +1,83 @@
+// The exports of dual_ledger::marks, the marks of an interface: each has the clauses of the function that it calls. Assumes nothing.
+ghost use Rattle.std.specs.Prelude.{◌≡◌};
+ghost use Rattle.ledger_spec.specs.Bench.{filling, floor};
+ghost use Rattle.ledger_spec.specs.Calls.{Mark};
+ghost use Rattle.ledger_spec.specs.Reads.{fills_of, floored_of};
+ghost use Rattle.ledger_spec.specs.Answers.{fillsRead, flooredRead};
+ghost use Rattle.bench_views.specs.Fit.{SoundWords};
+ghost use Rattle.bench_views.specs.View.{view};
+ghost use Rattle.sound_lent.specs.Verdict.{read_words};
+ghost use Rattle.link_answers.specs.Forms.{flag_word, worded};
+ghost use Rattle.dual_ledger.specs.Linked.{Settled, Left};
+
+use bench_words::WORDS;
+
+// From now to its clear the interface gives a new node its lowest empty slot.
+#[unsafe(no_mangle)]
+pub extern "C" fn dual_ledger_mark_filling(bench: &mut [u64; WORDS], unit: u8) -> u8
+    ensures { Left bench.old (Mark unit filling) result bench.new }
+{
+    dual_ledger::marks::dual_ledger_mark_filling(bench, unit)
+}
+
+#[unsafe(no_mangle)]
+pub extern "C" fn dual_ledger_trusted_mark_filling(bench: &mut [u64; WORDS], unit: u8) -> u8
+    requires { SoundWords bench.old }
+    ensures { Settled bench.old (Mark unit filling) result bench.new }
+{
+    dual_ledger::marks::dual_ledger_trusted_mark_filling(bench, unit)
+}
+
+#[unsafe(no_mangle)]
+pub extern "C" fn dual_ledger_is_filling(bench: &[u64; WORDS], unit: u8, filling: &mut u64) -> u8
+    ensures { (result, filling.new) ≡ worded flag_word (read_words bench.now (fillsRead (view bench.now) unit)) }
+{
+    dual_ledger::marks::dual_ledger_is_filling(bench, unit, filling)
+}
+
+#[unsafe(no_mangle)]
+pub extern "C" fn dual_ledger_trusted_is_filling(
+    bench: &[u64; WORDS],
+    unit: u8,
+    filling: &mut u64,
+) -> u8
+    requires { SoundWords bench.now }
+    ensures { (result, filling.new) ≡ worded flag_word (fills_of (view bench.now) unit) }
+{
+    dual_ledger::marks::dual_ledger_trusted_is_filling(bench, unit, filling)
+}
+
+// From now to its clear a growth that takes a value of the interface's tree below 0 is refused.
+#[unsafe(no_mangle)]
+pub extern "C" fn dual_ledger_mark_floored(bench: &mut [u64; WORDS], unit: u8) -> u8
+    ensures { Left bench.old (Mark unit floor) result bench.new }
+{
+    dual_ledger::marks::dual_ledger_mark_floored(bench, unit)
+}
+
+#[unsafe(no_mangle)]
+pub extern "C" fn dual_ledger_trusted_mark_floored(bench: &mut [u64; WORDS], unit: u8) -> u8
+    requires { SoundWords bench.old }
+    ensures { Settled bench.old (Mark unit floor) result bench.new }
+{
+    dual_ledger::marks::dual_ledger_trusted_mark_floored(bench, unit)
+}
+
+#[unsafe(no_mangle)]
+pub extern "C" fn dual_ledger_is_floored(bench: &[u64; WORDS], unit: u8, floored: &mut u64) -> u8
+    ensures { (result, floored.new) ≡ worded flag_word (read_words bench.now (flooredRead (view bench.now) unit)) }
+{
+    dual_ledger::marks::dual_ledger_is_floored(bench, unit, floored)
+}
+
+#[unsafe(no_mangle)]
+pub extern "C" fn dual_ledger_trusted_is_floored(
+    bench: &[u64; WORDS],
+    unit: u8,
+    floored: &mut u64,
+) -> u8
+    requires { SoundWords bench.now }
+    ensures { (result, floored.new) ≡ worded flag_word (floored_of (view bench.now) unit) }
+{
+    dual_ledger::marks::dual_ledger_trusted_is_floored(bench, unit, floored)
+}
