@@ -6,6 +6,8 @@ ghost use Rattle.text_console.specs.Serving.{Ready, Served};
 
 use bench_serials::HINTS;
 use bench_words::WORDS;
+use std::io;
+use std::io::Read;
 
 // Bytes of input in a piece; 57 bytes of answers for each.
 const PIECE: usize = 4096;
@@ -20,17 +22,26 @@ pub enum Next {
     Failed,
 }
 
+// Says on standard error which stream failed and how; where that cannot be written, nothing is said.
+pub fn fail<E: Eprint>(rt: &E, what: &str, error: io::Error) {
+    let _ = eprintln!(rt; "{what}: {error}");
+}
+
 // Writes all of it, or says on standard error that it could not.
-fn send(out: &[u8]) -> bool {
-    let done = io::write_all(libc::STDOUT_FILENO, out);
-    if !done {
-        os::fail(b"standard output");
+pub fn send<P: Print + Eprint>(rt: &P, out: &[u8]) -> bool {
+    match rt.write_all(out) {
+        Ok(()) => true,
+        Err(error) => {
+            fail(rt, "standard output", error);
+            false
+        }
     }
-    done
 }
 
 // Reads a piece, answers it and writes the answers.
-fn step(
+fn step<P: Print + Eprint, R: Read>(
+    rt: &P,
+    input: &mut R,
     b: &mut [u64; WORDS],
     piece: &mut [u8],
     buf: &mut [u8],
@@ -43,33 +54,36 @@ fn step(
     requires { Ready b.old piece.old buf.old held serials.old out.old }
     ensures { Served b.new result }
 {
-    let got = libc::read(libc::STDIN_FILENO, piece);
-    if got < 0 {
-        os::fail(b"standard input");
-        return Next::Failed;
-    }
-    if got == 0 {
+    let n = match input.read(piece) {
+        Ok(n) => n,
+        Err(error) => {
+            fail(rt, "standard input", error);
+            return Next::Failed;
+        }
+    };
+    if n == 0 {
         return Next::Ended;
     }
-    let n = io::count(got, piece);
     let taken = text_sessions::answer_next(b, &piece[..n], buf, held, fresh, serials, hints, out);
     let wrote = taken.wrote;
-    if send(&out[..wrote]) {
+    if send(rt, &out[..wrote]) {
         return Next::More(taken.held, fresh & (wrote == 0));
     }
     Next::Failed
 }
 
 // The input has ended.
-fn end(held: usize, out: &mut [u8])
+fn end<P: Print + Eprint>(rt: &P, held: usize, out: &mut [u8])
     requires { 57 ≤ length out.old }
 {
     let n = text_sessions::finish(held, out, 0);
-    send(&out[..n]);
+    send(rt, &out[..n]);
 }
 
 // A proved loop has to end, and nothing says that an input does: it counts its pieces down, from a number that no input has.
-fn serve(
+fn serve<P: Print + Eprint, R: Read>(
+    rt: &P,
+    input: &mut R,
     b: &mut [u64; WORDS],
     piece: &mut [u8],
     buf: &mut [u8],
@@ -83,7 +97,7 @@ fn serve(
     let mut fresh = true;
     let mut pieces = u64::MAX;
     while 0 < pieces {
-        let next = step(b, piece, buf, held, fresh, serials, hints, out);
+        let next = step(rt, input, b, piece, buf, held, fresh, serials, hints, out);
         match next {
             Next::More(h, f) => {
                 held = h;
@@ -91,7 +105,7 @@ fn serve(
                 pieces -= 1;
             }
             Next::Ended => {
-                end(held, out);
+                end(rt, held, out);
                 return;
             }
             Next::Failed => {
@@ -102,7 +116,8 @@ fn serve(
 }
 
 // The text program.
-pub fn run() {
+pub fn run<S: Input + Print + Eprint>(rt: &S) {
+    let mut input = rt.reader();
     let mut b: [u64; WORDS] = [0; WORDS];
     let mut piece: [u8; PIECE] = [0; PIECE];
     let mut buf: [u8; 1024] = [0; 1024];
@@ -111,6 +126,8 @@ pub fn run() {
     let mut out: [u8; ROOM] = [0; ROOM];
     text_sessions::start(&mut b);
     serve(
+        rt,
+        &mut input,
         &mut b,
         &mut piece,
         &mut buf,

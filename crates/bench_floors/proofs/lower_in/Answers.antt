@@ -21,7 +21,9 @@ overflow_add-u c = let l = slot_low c.args.b.now c.requires.fit c.args.u c.requi
 
 
 pub lower-low-requires : goal.lower-low-requires
-lower-low-requires c = let whole = (c.requires.fit, slot_there c.args.b.now c.requires.fit c.args.u c.requires.u_bound c.load_interface-f.result c.load_interface-f.ensures c.loop-s.s c.loop-s-test.true c.climb-c.result.total c.climb-c.ensures.total) in record { fit = whole.0; k_bound = whole.1.0; k_bound_2 = whole.1.1.0; t_value = whole.1.1.1 }
+lower-low-requires c =
+    let there = slot_there c.args.b.now c.requires.fit c.args.u c.requires.u_bound c.load_interface-f.result c.load_interface-f.ensures c.loop-s.s c.loop-s-test.true c.climb-c.result.total c.climb-c.ensures.total in
+    record { fit = c.requires.fit; k_bound = there.0; k_bound_2 = there.1.0; t_value = there.1.1 }
 
 
 pub overflow_add-s : goal.overflow_add-s

@@ -11,7 +11,7 @@ use Rattle.bench_floors.proofs.lowest.Goals as goal
 
 
 pub returns-then-not-marks : goal.returns-then-not-marks
-returns-then-not-marks c = unfloored c.args.b.now c.requires.fit c.args.unit c.requires.unit_bound c.requires.unit_value c.load_interface-f.result c.load_interface-f.ensures (c.if-not-marks.true)
+returns-then-not-marks c = unfloored c.args.b.now c.requires.fit c.args.unit c.requires.unit_bound c.requires.unit_value c.load_interface-f.result c.load_interface-f.ensures (not-true _ c.if-not-marks.true)
 
 
 pub loop-i-init : goal.loop-i-init
@@ -39,7 +39,7 @@ loop-i-smaller c = omega (arith, c.loop-i-test.true)
 pub loop-i-preserved : goal.loop-i-preserved
 loop-i-preserved c =
     let i = c.loop-i in
-    leasting_on c.args.b.now c.requires.fit c.args.unit c.requires.unit_bound c.requires.unit_value c.load_interface-f.result c.load_interface-f.ensures (c.if-not-marks.false) c.order_of-o.result c.order_of-o.ensures i.i i.low i.invariant
+    leasting_on c.args.b.now c.requires.fit c.args.unit c.requires.unit_bound c.requires.unit_value c.load_interface-f.result c.load_interface-f.ensures (not-false _ c.if-not-marks.false) c.order_of-o.result c.order_of-o.ensures i.i i.low i.invariant
     c.loop-i-test.true (get_or c.order_of-o.result.units i.i 0) refl c.lower_in-low.result c.lower_in-low.ensures
 
 
@@ -47,4 +47,4 @@ pub returns : goal.returns
 returns c =
     let o = c.order_of-o in
     let i = c.loop-i in
-    leasting_ends c.args.b.now c.requires.fit c.args.unit c.requires.unit_bound c.requires.unit_value c.load_interface-f.result c.load_interface-f.ensures (c.if-not-marks.false) o.result o.ensures i.i i.low i.invariant c.loop-i-test.false
+    leasting_ends c.args.b.now c.requires.fit c.args.unit c.requires.unit_bound c.requires.unit_value c.load_interface-f.result c.load_interface-f.ensures (not-false _ c.if-not-marks.false) o.result o.ensures i.i i.low i.invariant c.loop-i-test.false

@@ -5,7 +5,6 @@ use borrow.Author.Rules.{rules}
 use lib.Seq.{length-take-le}
 use Rattle.text_console.proofs.end.Goals as goal
 
-
 pub slice_bounds-send-end-2 : goal.slice_bounds-send-end-2
 slice_bounds-send-end-2 c =
     let t = c.finish-n in
