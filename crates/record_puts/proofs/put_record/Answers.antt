@@ -96,7 +96,7 @@ returns-in-SetState c =
 pub returns-in-Grow : goal.returns-in-Grow
 returns-in-Grow c =
     let q : c.args.line ≡ Grow c.in-Grow.unit c.in-Grow.length = cc in
-    let ok : SFits w64 c.in-Grow.length = record { sfits = c.known_told-in-Grow-1.given.1.0.1 } in
+    let ok : SFits w64 c.in-Grow.length = search rules in
     same_text c.args.out.now c.args.at _ _ _ _ (ap (λ (y : ℤ). head_of 71 c.in-Grow.unit ++ bytes 8 (complement y)) (to_z-of_z {w = w64} ok) ∙ parts-G c.in-Grow.unit c.in-Grow.length ∙ sym (ap (λ (x : Line). record_by x c.args.serials.now) q)) c.put_length.ensures
 
 

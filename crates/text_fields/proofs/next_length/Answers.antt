@@ -12,13 +12,11 @@ use Rattle.text_fields.proofs.Steps.{inside_at, took, missed, ran_out}
 use borrow.Author.Rules.{rules}
 use Rattle.text_fields.proofs.next_length.Goals as goal
 
-
 pub slice_bounds-integer_in-count : goal.slice_bounds-integer_in-count
 slice_bounds-integer_in-count c =
     let f = c.next_field in
     let q : f.result ≡ At c.in-At.a c.in-At.e = cc in
     (inside_at c.args.s.now c.args.place f.result f.ensures _ _ q).1
-
 
 pub returns-in-Integer : goal.returns-in-Integer
 returns-in-Integer c =
@@ -26,9 +24,8 @@ returns-in-Integer c =
     let m = c.integer_in in
     let q : f.result ≡ At c.in-At.a c.in-At.e = cc in
     let v : m.result ≡ Integer c.in-Integer.z = cc in
-    let ok : SFits w64 c.in-Integer.z = record { sfits = c.known_told-in-Integer-1.given.0.1 } in
+    let ok : SFits w64 c.in-Integer.z = search rules in
     rw (to_z-of_z {w = w64} ok) (took c.args.s.now c.args.place f.result f.ensures an_amount _ _ c.in-Integer.z q (sym m.ensures ∙ ap integer_of v))
-
 
 pub returns-in-NoInteger : goal.returns-in-NoInteger
 returns-in-NoInteger c =
@@ -37,7 +34,6 @@ returns-in-NoInteger c =
     let q : f.result ≡ At c.in-At.a c.in-At.e = cc in
     let v : m.result ≡ NoInteger = cc in
     missed c.args.s.now c.args.place f.result f.ensures an_amount _ _ q (sym m.ensures ∙ ap integer_of v)
-
 
 pub returns-in-NoField : goal.returns-in-NoField
 returns-in-NoField c =

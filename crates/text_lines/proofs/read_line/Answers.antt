@@ -11,10 +11,8 @@ use Rattle.text_lines.proofs.Whole.{line_long, line_bad, line_good}
 use borrow.Author.Rules.{rules}
 use Rattle.text_lines.proofs.read_line.Goals as goal
 
-
 pub returns-then-s-gt-MOST : goal.returns-then-s-gt-MOST
 returns-then-s-gt-MOST c = let a = c.args in read_wrong (line_of a.s.now) a.serials.now (line_long a.s.now c.if-s-gt-MOST.true)
-
 
 pub returns-in_default : goal.returns-in_default
 returns-in_default c =
@@ -24,13 +22,11 @@ returns-in_default c =
     let q : n.result ≡ Missed = cc in
     read_wrong (line_of s) a.serials.now (line_good s c.part_end.result c.if-s-gt-MOST.false c.part_end.ensures c.if-part_end-eq1.true ∙ missed s 1 0 255 n.result n.ensures (rest (get_or s 0 0)) q)
 
-
 pub overflow_cast-unit : goal.overflow_cast-unit
 overflow_cast-unit c =
     let n = c.next_number in
     let q : n.result ≡ Got c.in-Got.n c.in-Got.place = cc in
     omega (arith, (got_further c.args.s.now 1 0 255 n.result n.ensures _ _ q).2)
-
 
 pub returns-then-part_end-eq1 : goal.returns-then-part_end-eq1
 returns-then-part_end-eq1 c =
@@ -42,7 +38,6 @@ returns-then-part_end-eq1 c =
     read_as (rest (get_or s 0 0) c.in-Got.n (from s c.in-Got.place)) (line_of s) a.serials.now _ c.rest_of.result
     (line_good s z.result c.if-s-gt-MOST.false z.ensures c.if-part_end-eq1.true ∙ got s 1 0 255 n.result n.ensures _ _ q (rest (get_or s 0 0)))
     c.rest_of.ensures
-
 
 pub returns : goal.returns
 returns c = let a = c.args in read_wrong (line_of a.s.now) a.serials.now (line_bad a.s.now c.part_end.result c.if-s-gt-MOST.false c.part_end.ensures c.if-part_end-eq1.false)

@@ -37,7 +37,7 @@ returns-in-SetState c =
 
 pub returns-in-Grow : goal.returns-in-Grow
 returns-in-Grow c =
-    let ok : SFits w64 c.in-Grow.length = record { sfits = c.known_told-in-Grow-1.given.1.0.1 } in
+    let ok : SFits w64 c.in-Grow.length = search rules in
     let q : c.args.line ≡ Grow c.in-Grow.unit c.in-Grow.length = cc in
     c.three-in-Grow.ensures ∙ ap (λ (n : ℕ). record { many = 3; letter = 71; unit = c.in-Grow.unit; third = n; fourth = 0; members = 0 }) (c.complement_of.ensures ∙ ap complement (to_z-of_z {w = w64} ok)) ∙ sym (ap front_of q)
 

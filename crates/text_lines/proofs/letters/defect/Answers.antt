@@ -10,14 +10,12 @@ use Rattle.text_lines.proofs.Follow.{got, got_further, missed, ended, goes_on}
 use borrow.Author.Rules.{rules}
 use Rattle.text_lines.proofs.letters.defect.Goals as goal
 
-
 pub returns-in_default : goal.returns-in_default
 returns-in_default c =
     let a = c.args in
     let n = c.next_number in
     let q : n.result ≡ Missed = cc in
     sym (ap line_shown (missed a.s.now a.place 0 4294967295 n.result n.ensures (λ x. no_more (some (D a.unit x))) q))
-
 
 pub returns-then-e-s : goal.returns-then-e-s
 returns-then-e-s c =
@@ -26,14 +24,12 @@ returns-then-e-s c =
     let q : n.result ≡ Got c.in-Got.v c.in-Got.e = cc in
     sym (ap line_shown (got a.s.now a.place 0 4294967295 n.result n.ensures _ _ q (λ x. no_more (some (D a.unit x))) ∙ goes_on a.s.now _ _ c.if-e-s.true))
 
-
 pub overflow_cast-result : goal.overflow_cast-result
 overflow_cast-result c =
     let a = c.args in
     let n = c.next_number in
     let q : n.result ≡ Got c.in-Got.v c.in-Got.e = cc in
     omega (arith, (got_further a.s.now a.place 0 4294967295 n.result n.ensures _ _ q).2)
-
 
 pub returns : goal.returns
 returns c =

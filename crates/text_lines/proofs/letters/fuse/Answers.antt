@@ -10,14 +10,12 @@ use Rattle.text_lines.proofs.Follow.{got, got_further, missed, ended, goes_on}
 use borrow.Author.Rules.{rules}
 use Rattle.text_lines.proofs.letters.fuse.Goals as goal
 
-
 pub returns-in_default : goal.returns-in_default
 returns-in_default c =
     let a = c.args in
     let n = c.next_number in
     let q : n.result ≡ Missed = cc in
     sym (ap line_shown (missed a.s.now a.place 0 255 n.result n.ensures (λ x. then a_unit (λ y. no_more (some (F a.parent x y)))) q))
-
 
 pub returns-in_default-next_number : goal.returns-in_default-next_number
 returns-in_default-next_number c =
@@ -28,7 +26,6 @@ returns-in_default-next_number c =
     let w : o.result ≡ Missed = cc in
     sym (ap line_shown (got a.s.now a.place 0 255 n.result n.ensures _ _ q (λ x. then a_unit (λ y. no_more (some (F a.parent x y)))) ∙ missed a.s.now _ 0 255 o.result o.ensures (λ y. no_more (some (F a.parent _ y))) w))
 
-
 pub returns-then-z-s : goal.returns-then-z-s
 returns-then-z-s c =
     let a = c.args in
@@ -38,7 +35,6 @@ returns-then-z-s c =
     let w : o.result ≡ Got c.in-Got-next_number.m c.in-Got-next_number.z = cc in
     sym (ap line_shown (got a.s.now a.place 0 255 n.result n.ensures _ _ q (λ x. then a_unit (λ y. no_more (some (F a.parent x y)))) ∙ got a.s.now _ 0 255 o.result o.ensures _ _ w (λ y. no_more (some (F a.parent _ y))) ∙ goes_on a.s.now _ _ c.if-z-s.true))
 
-
 pub overflow_cast-result : goal.overflow_cast-result
 overflow_cast-result c =
     let a = c.args in
@@ -46,14 +42,12 @@ overflow_cast-result c =
     let q : n.result ≡ Got c.in-Got.l c.in-Got.e = cc in
     omega (arith, (got_further a.s.now a.place 0 255 n.result n.ensures _ _ q).2)
 
-
 pub overflow_cast-result-2 : goal.overflow_cast-result-2
 overflow_cast-result-2 c =
     let a = c.args in
     let o = c.next_number-2 in
     let w : o.result ≡ Got c.in-Got-next_number.m c.in-Got-next_number.z = cc in
     omega (arith, (got_further a.s.now _ 0 255 o.result o.ensures _ _ w).2)
-
 
 pub returns : goal.returns
 returns c =

@@ -12,14 +12,12 @@ use Rattle.text_lines.proofs.Follow.{length_got, length_missed, ended, goes_on}
 use borrow.Author.Rules.{rules}
 use Rattle.text_lines.proofs.letters.grow.Goals as goal
 
-
 pub returns-in_default : goal.returns-in_default
 returns-in_default c =
     let a = c.args in
     let n = c.next_length in
     let q : n.result ≡ NoLength = cc in
     sym (ap line_shown (length_missed a.s.now a.place n.result n.ensures (λ x. no_more (some (G a.unit x))) q))
-
 
 pub returns-then-e-s : goal.returns-then-e-s
 returns-then-e-s c =
@@ -28,11 +26,10 @@ returns-then-e-s c =
     let q : n.result ≡ Length c.in-Length.l c.in-Length.e = cc in
     sym (ap line_shown (length_got a.s.now a.place n.result n.ensures (λ x. no_more (some (G a.unit x))) _ _ q ∙ goes_on a.s.now _ _ c.if-e-s.true))
 
-
 pub returns : goal.returns
 returns c =
     let a = c.args in
     let n = c.next_length in
     let q : n.result ≡ Length c.in-Length.l c.in-Length.e = cc in
-    let ok : SFits w64 c.in-Length.l = record { sfits = c.known_told-1.given.0.1 } in
+    let ok : SFits w64 c.in-Length.l = search rules in
     rw (to_z-of_z {w = w64} ok) (sym (ap line_shown (length_got a.s.now a.place n.result n.ensures (λ x. no_more (some (G a.unit x))) _ _ q ∙ ended a.s.now _ _ c.if-e-s.false)))

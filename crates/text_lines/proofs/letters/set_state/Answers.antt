@@ -13,14 +13,12 @@ use Rattle.text_lines.proofs.Follow.{got, got_further, missed, state_got, state_
 use borrow.Author.Rules.{rules}
 use Rattle.text_lines.proofs.letters.set_state.Goals as goal
 
-
 pub returns-in_default : goal.returns-in_default
 returns-in_default c =
     let a = c.args in
     let n = c.next_number in
     let q : n.result ≡ Missed = cc in
     sym (ap line_shown (missed a.s.now a.place 1 4294967295 n.result n.ensures (λ x. then a_state (λ y. no_more (some (S a.unit x y)))) q))
-
 
 pub returns-in_default-next_state : goal.returns-in_default-next_state
 returns-in_default-next_state c =
@@ -31,7 +29,6 @@ returns-in_default-next_state c =
     let w : o.result ≡ NoState = cc in
     sym (ap line_shown (got a.s.now a.place 1 4294967295 n.result n.ensures _ _ q (λ x. then a_state (λ y. no_more (some (S a.unit x y)))) ∙ state_missed a.s.now _ o.result o.ensures (λ y. no_more (some (S a.unit _ y))) w))
 
-
 pub returns-then-z-s : goal.returns-then-z-s
 returns-then-z-s c =
     let a = c.args in
@@ -41,14 +38,12 @@ returns-then-z-s c =
     let w : o.result ≡ To c.in-To.g c.in-To.z = cc in
     sym (ap line_shown (got a.s.now a.place 1 4294967295 n.result n.ensures _ _ q (λ x. then a_state (λ y. no_more (some (S a.unit x y)))) ∙ state_got a.s.now _ o.result o.ensures (λ y. no_more (some (S a.unit _ y))) _ _ w ∙ goes_on a.s.now _ _ c.if-z-s.true))
 
-
 pub overflow_cast-result : goal.overflow_cast-result
 overflow_cast-result c =
     let a = c.args in
     let n = c.next_number in
     let q : n.result ≡ Got c.in-Got.n c.in-Got.e = cc in
     omega (arith, (got_further a.s.now a.place 1 4294967295 n.result n.ensures _ _ q).2)
-
 
 pub returns : goal.returns
 returns c =
