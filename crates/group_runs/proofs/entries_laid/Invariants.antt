@@ -2,18 +2,12 @@
 use Prim.Native.Nat.{◌+◌, ◌-◌, ◌≤◌}
 use mathlib.Core.Path.{◌≡◌}
 use mathlib.Core.List.{◌++◌}
-use native.Mathlib.Omega.{arith}
-use borrow.Author.Rules.{rules}
-use lib.ListN.{length, take, drop}
-use Rattle.groups.specs.View.{no_entry}
+use lib.ListN.{take, drop}
 use Rattle.groups.proofs.Lay.{upto}
-use Rattle.group_runs.proofs.Turns.{run_start, run_step, run_end}
 use Rattle.group_runs.proofs.entries_laid.Given as goal
-
 
 abbrev pub invariant-loop-a : goal.invariant-loop-a
 invariant-loop-a l = (l.from ≤ l.a) × (l.a ≤ l.n) × (l.q ≡ l.at + (l.a - l.from)) × (l.r ≡ upto (take l.at l.initial.r ++ drop l.from (take l.n l.more)) l.q l.initial.r)
-
 
 abbrev pub decreases-loop-a : goal.decreases-loop-a
 decreases-loop-a l = l.n - l.a
