@@ -17,7 +17,7 @@ loop-turns-init c = (c.requires.placed.low, nests_set c.args.b.now c.args.t.now 
 
 
 pub fill-requires : goal.fill-requires
-fill-requires c = let whole = (c.requires.fit, c.loop-turns.invariant) in record { fit = whole.0; k_bound = whole.1.0; nests = whole.1.1 }
+fill-requires c = let rest = c.loop-turns.invariant in record { fit = c.requires.fit; k_bound = rest.0; nests = rest.1 }
 
 
 pub after-at-requires : goal.after-at-requires

@@ -12,11 +12,11 @@ returns-then-not-touching c =
 
 
 pub index_of-i-requires : goal.index_of-i-requires
-index_of-i-requires c = let whole = (c.requires.indices, left_low c.args.b.now c.args.q c.load_node-n.result c.load_node-n.ensures) in record { indices = whole.0; unit_bound = whole.1.0; slot_bound = whole.1.1 }
+index_of-i-requires c = let rest = left_low c.args.b.now c.args.q c.load_node-n.result c.load_node-n.ensures in record { indices = c.requires.indices; unit_bound = rest.0; slot_bound = rest.1 }
 
 
 pub index_of-j-requires : goal.index_of-j-requires
-index_of-j-requires c = let whole = (c.requires.indices, right_low c.args.b.now c.args.q c.load_node-n.result c.load_node-n.ensures) in record { indices = whole.0; unit_bound = whole.1.0; slot_bound = whole.1.1 }
+index_of-j-requires c = let rest = right_low c.args.b.now c.args.q c.load_node-n.result c.load_node-n.ensures in record { indices = c.requires.indices; unit_bound = rest.0; slot_bound = rest.1 }
 
 
 pub returns : goal.returns

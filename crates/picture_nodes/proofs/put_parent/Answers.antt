@@ -12,7 +12,7 @@ use Rattle.picture_nodes.proofs.put_parent.Goals as goal
 pub index_of-requires : goal.index_of-requires
 index_of-requires c =
     let h = c.in-Inside.h in
-    let e : c.args.parent ≡ Inside h = cc in let whole = (c.requires.indices, inside_low c.args.parent h e c.requires.lowly) in record { indices = whole.0; unit_bound = whole.1.0; slot_bound = whole.1.1 }
+    let e : c.args.parent ≡ Inside h = cc in let rest = inside_low c.args.parent h e c.requires.lowly in record { indices = c.requires.indices; unit_bound = rest.0; slot_bound = rest.1 }
 
 
 pub returns-in-Outermost : goal.returns-in-Outermost
