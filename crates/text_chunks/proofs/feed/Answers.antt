@@ -37,7 +37,7 @@ loop-i-smaller c = omega arith
 pub loop-i-preserved : goal.loop-i-preserved
 loop-i-preserved c =
     feed_turn c.args.at (drop c.args.at c.args.chunk.now) (take c.args.held c.args.buf.now) c.args.chunk.now c.loop-i.buf c.loop-i.n c.loop-i.i c.loop-i.invariant c.loop-i-test.true c.if-b-eq10.false
-    c.push-n.new.buf c.push-n.result c.push-n.auto.0 c.push-n.ensures
+    c.push-n.new.buf c.push-n.result c.push-n.auto.buf c.push-n.ensures
 
 pub shape_of-buf : goal.shape_of-buf
 shape_of-buf c = c.loop-i.invariant.long ∙ sym c.requires.1.0
