@@ -34,7 +34,7 @@ returns-then-size-eq0 c =
 pub overflow_add-p : goal.overflow_add-p
 overflow_add-p c =
     let m = c.measure-m in
-    let g = stands c.args.t.now c.loop-left.p m.result m.ensures c.loop-left.invariant.low (bytes_from c.args.t.now c.loop-left.p c.type_inv.t.given) c.if-size-eq0.false in
+    let g = stands c.args.t.now c.loop-left.p m.result m.ensures c.loop-left.invariant.low (bytes_from c.args.t.now c.loop-left.p c.type_inv.t) c.if-size-eq0.false in
     omega (arith, g.fits, ap (λ (x : Measured). x.size) g.is)
 
 
@@ -50,7 +50,7 @@ overflow_sub-left c = omega (arith, c.loop-left-test.true)
 pub overflow_add-text : goal.overflow_add-text
 overflow_add-text c =
     let m = c.measure-m in
-    let g = stands c.args.t.now c.loop-left.p m.result m.ensures c.loop-left.invariant.low (bytes_from c.args.t.now c.loop-left.p c.type_inv.t.given) c.if-size-eq0.false in
+    let g = stands c.args.t.now c.loop-left.p m.result m.ensures c.loop-left.invariant.low (bytes_from c.args.t.now c.loop-left.p c.type_inv.t) c.if-size-eq0.false in
     omega (arith, c.loop-left.invariant.short, c.loop-left-test.true, c.requires.1, g.short, ap (λ (x : Measured). x.line) g.is)
 
 
@@ -62,7 +62,7 @@ loop-left-smaller c =
 pub loop-left-preserved : goal.loop-left-preserved
 loop-left-preserved c =
     let m = c.measure-m in
-    let g = stands c.args.t.now c.loop-left.p m.result m.ensures c.loop-left.invariant.low (bytes_from c.args.t.now c.loop-left.p c.type_inv.t.given) c.if-size-eq0.false in
+    let g = stands c.args.t.now c.loop-left.p m.result m.ensures c.loop-left.invariant.low (bytes_from c.args.t.now c.loop-left.p c.type_inv.t) c.if-size-eq0.false in
     walk_on c.args.s.now c.args.t.now c.args.list c.args.count c.loop-left.p c.loop-left.entry c.loop-left.left c.loop-left.text c.loop-left.own c.loop-left.invariant c.loop-left-test.true c.four_at-start.result c.four_at-start.ensures.0 c.if-start-p.false m.result c.both-own.result g c.both-own.ensures
 
 

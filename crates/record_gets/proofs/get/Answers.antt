@@ -25,7 +25,7 @@ overflow_mul-size c =
     let s = c.args.file.now in
     let p = c.find-f.result.place in
     let h = c.find-f.ensures.found c.if-f-ne0.false in
-    let b = bytes_from s p c.type_inv.file.given in
+    let b = bytes_from s p c.type_inv.file in
     let l = c.line_at in
     let w = c.front_of-front in
     omega (arith, members_room s c.args.k p b h l.result l.ensures w.result w.ensures, c.well_formed)
@@ -36,7 +36,7 @@ overflow_add-size c =
     let s = c.args.file.now in
     let p = c.find-f.result.place in
     let h = c.find-f.ensures.found c.if-f-ne0.false in
-    let b = bytes_from s p c.type_inv.file.given in
+    let b = bytes_from s p c.type_inv.file in
     let l = c.line_at in
     let w = c.front_of-front in
     omega (arith, members_room s c.args.k p b h l.result l.ensures w.result w.ensures, (fronted s c.args.k p b h l.result l.ensures w.result w.ensures).1, c.well_formed)
@@ -47,7 +47,7 @@ returns-then-out-size c =
     let s = c.args.file.now in
     let p = c.find-f.result.place in
     let h = c.find-f.ensures.found c.if-f-ne0.false in
-    let b = bytes_from s p c.type_inv.file.given in
+    let b = bytes_from s p c.type_inv.file in
     let w = c.front_of-front in
     no_space s c.args.k p b h c.line_at.result c.line_at.ensures w.result w.ensures c.args.out.now c.if-out-size.true
 
@@ -57,7 +57,7 @@ put_front-requires c =
     let s = c.args.file.now in
     let p = c.find-f.result.place in
     let h = c.find-f.ensures.found c.if-f-ne0.false in
-    let b = bytes_from s p c.type_inv.file.given in
+    let b = bytes_from s p c.type_inv.file in
     let r = fronted s c.args.k p b h c.line_at.result c.line_at.ensures c.front_of-front.result c.front_of-front.ensures in
     (r.0, (r.1, omega (arith, c.if-out-size.false)))
 
@@ -67,7 +67,7 @@ overflow_add-p c =
     let s = c.args.file.now in
     let p = c.find-f.result.place in
     let h = c.find-f.ensures.found c.if-f-ne0.false in
-    let b = bytes_from s p c.type_inv.file.given in
+    let b = bytes_from s p c.type_inv.file in
     omega (arith, members_room s c.args.k p b h c.line_at.result c.line_at.ensures c.front_of-front.result c.front_of-front.ensures, c.well_formed)
 
 
@@ -76,7 +76,7 @@ put_members-requires c =
     let s = c.args.file.now in
     let p = c.find-f.result.place in
     let h = c.find-f.ensures.found c.if-f-ne0.false in
-    let b = bytes_from s p c.type_inv.file.given in
+    let b = bytes_from s p c.type_inv.file in
     (members_room s c.args.k p b h c.line_at.result c.line_at.ensures c.front_of-front.result c.front_of-front.ensures, omega (arith, c.if-out-size.false, c.put_front.auto.out))
 
 
@@ -85,5 +85,5 @@ returns c =
     let s = c.args.file.now in
     let p = c.find-f.result.place in
     let h = c.find-f.ensures.found c.if-f-ne0.false in
-    let b = bytes_from s p c.type_inv.file.given in
+    let b = bytes_from s p c.type_inv.file in
     got s c.args.k p b h c.line_at.result c.line_at.ensures c.front_of-front.result c.front_of-front.ensures c.args.out.now c.if-out-size.false _ _ c.put_front.ensures c.put_members.ensures

@@ -17,7 +17,7 @@ pub put_line-at-requires : goal.put_line-at-requires
 put_line-at-requires c =
     let a = c.args in
     let l = c.loop-left in
-    line_ready a.s.now a.t.now a.list a.count a.out.now l.entry l.left l.at l.out (bytes_all a.t.now c.type_inv.t.given) l.invariant c.loop-left-test.true c.four_at-p.result c.four_at-p.ensures.0
+    line_ready a.s.now a.t.now a.list a.count a.out.now l.entry l.left l.at l.out (bytes_all a.t.now c.type_inv.t) l.invariant c.loop-left-test.true c.four_at-p.result c.four_at-p.ensures.0
 
 
 pub overflow_add-entry : goal.overflow_add-entry
@@ -35,7 +35,7 @@ loop-left-smaller c = omega (arith, c.loop-left-test.true)
 
 pub loop-left-preserved : goal.loop-left-preserved
 loop-left-preserved c =
-    fill_on c.args.s.now c.args.t.now c.args.list c.args.count c.args.out.now c.loop-left.entry c.loop-left.left c.loop-left.at c.loop-left.out (bytes_all c.args.t.now c.type_inv.t.given) c.loop-left.invariant c.loop-left-test.true c.four_at-p.result c.four_at-p.ensures.0 _ c.put_line-at.result c.put_line-at.auto.out c.put_line-at.ensures
+    fill_on c.args.s.now c.args.t.now c.args.list c.args.count c.args.out.now c.loop-left.entry c.loop-left.left c.loop-left.at c.loop-left.out (bytes_all c.args.t.now c.type_inv.t) c.loop-left.invariant c.loop-left-test.true c.four_at-p.result c.four_at-p.ensures.0 _ c.put_line-at.result c.put_line-at.auto.out c.put_line-at.ensures
 
 
 pub shape_of-out : goal.shape_of-out
@@ -46,4 +46,4 @@ pub returns : goal.returns
 returns c =
     let a = c.args in
     let l = c.loop-left in
-    filled a.s.now a.t.now a.list a.count a.out.now l.entry l.left l.at l.out (bytes_all a.t.now c.type_inv.t.given) l.invariant c.loop-left-test.false
+    filled a.s.now a.t.now a.list a.count a.out.now l.entry l.left l.at l.out (bytes_all a.t.now c.type_inv.t) l.invariant c.loop-left-test.false

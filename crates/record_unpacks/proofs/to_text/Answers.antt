@@ -33,7 +33,7 @@ pub slice_bounds-fill-end : goal.slice_bounds-fill-end
 slice_bounds-fill-end c =
     let s = c.args.file.now in
     let m = holds s c.scan-w.result c.scan-w.ensures (c.if-not-w.false) in
-    let b = bytes_all s c.type_inv.file.given in
+    let b = bytes_all s c.type_inv.file in
     let h : c.scan-w.result.start ≤ length s = omega (arith, start_inside s c.scan-w.result m (c.if-not-w-2.false) b) in
     sym (length-take-le _ _ h)
 
@@ -42,7 +42,7 @@ pub fill-requires : goal.fill-requires
 fill-requires c =
     let s = c.args.file.now in
     let m = holds s c.scan-w.result c.scan-w.ensures (c.if-not-w.false) in
-    let b = bytes_all s c.type_inv.file.given in
+    let b = bytes_all s c.type_inv.file in
     let o = c.if-not-w-2.false in
     (start_inside s c.scan-w.result m o b, ready s c.scan-w.result m o b c.args.out.now c.if-out-size.false)
 
@@ -51,4 +51,4 @@ pub returns : goal.returns
 returns c =
     let s = c.args.file.now in
     let m = holds s c.scan-w.result c.scan-w.ensures (c.if-not-w.false) in
-    moved s c.scan-w.result m (c.if-not-w-2.false) (bytes_all s c.type_inv.file.given) c.args.out.now _ c.if-out-size.false c.fill.ensures
+    moved s c.scan-w.result m (c.if-not-w-2.false) (bytes_all s c.type_inv.file) c.args.out.now _ c.if-out-size.false c.fill.ensures
