@@ -7,10 +7,8 @@ use Rattle.record_files.proofs.Trailers.{too_short, unfit, fit}
 use borrow.Author.Rules.{rules}
 use Rattle.record_files.proofs.read_trailer.Goals as goal
 
-
 pub returns-then-size-lt16 : goal.returns-then-size-lt16
 returns-then-size-lt16 c = c.no_trailer.ensures ∙ too_short c.args.s.now c.if-size-lt16.true
-
 
 pub returns-then-is_fitting : goal.returns-then-is_fitting
 returns-then-is_fitting c =
@@ -20,7 +18,6 @@ returns-then-is_fitting c =
     let y = c.four_at-before in
     let z = c.four_at-letters in
     fit s n long c.four_at-start.result c.four_at-count.result y.result z.result c.four_at-start.ensures.0 c.four_at-count.ensures.0 y.ensures.0 z.ensures.0 (sym c.is_fitting.ensures ∙ c.if-is_fitting.true)
-
 
 pub returns : goal.returns
 returns c =

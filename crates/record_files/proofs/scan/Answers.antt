@@ -8,7 +8,6 @@ use Rattle.record_files.proofs.Trailers.{trailed, no_file, file_there}
 use borrow.Author.Rules.{rules}
 use Rattle.record_files.proofs.scan.Goals as goal
 
-
 pub slice_bounds-walk-end : goal.slice_bounds-walk-end
 slice_bounds-walk-end c =
     let s = c.args.s.now in
@@ -17,7 +16,6 @@ slice_bounds-walk-end c =
     let h : t.result.start ≤ length s = omega (arith, x.room) in
     sym (length-take-le _ _ h)
 
-
 pub walk-requires : goal.walk-requires
 walk-requires c =
     let s = c.args.s.now in
@@ -25,13 +23,11 @@ walk-requires c =
     let x = trailed s t.result t.ensures c.if-t.true in
     (omega (arith, x.room), x.few)
 
-
 pub returns-then-t : goal.returns-then-t
 returns-then-t c =
     let s = c.args.s.now in
     let t = c.read_trailer-t in
     c.walk.ensures ∙ file_there s t.result t.ensures c.if-t.true
-
 
 pub returns : goal.returns
 returns c =

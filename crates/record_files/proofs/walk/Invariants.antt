@@ -7,10 +7,8 @@ use Rattle.record_files.proofs.Slices.{bytes_from}
 use Rattle.record_files.proofs.Walking.{Walking, walking, stands, stands_not, astray, broken, walk_on, bytes_left, walked}
 use Rattle.record_files.proofs.walk.Given as goal
 
-
 abbrev pub invariant-loop-left : goal.invariant-loop-left
 invariant-loop-left l = Walking l.s l.t l.list l.count l.p l.entry l.left l.text l.own
-
 
 abbrev pub decreases-loop-left : goal.decreases-loop-left
 decreases-loop-left l = l.left

@@ -9,7 +9,6 @@ use borrow.Author.Rules.{rules}
 use Rattle.record_lines.proofs.Pieces.{tail_two}
 use Rattle.record_lines.proofs.put_halves.Goals as goal
 
-
 pub put_field-p-requires : goal.put_field-p-requires
 put_field-p-requires c =
     let a = c.args in
@@ -17,13 +16,11 @@ put_field-p-requires c =
     let g = decimal a.right in
     omega (arith, c.requires, ap length (tail_two f g), length-append (32 ∷ f) (32 ∷ g))
 
-
 pub put_field-requires : goal.put_field-requires
 put_field-requires c =
     let f = decimal c.args.left in
     let g = decimal c.args.right in
     omega (arith, c.requires, ap length (tail_two f g), length-append (32 ∷ f) (32 ∷ g), c.put_field-p.ensures.next, c.put_field-p.auto.out)
-
 
 pub returns : goal.returns
 returns c =

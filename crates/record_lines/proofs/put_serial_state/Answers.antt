@@ -10,7 +10,6 @@ use borrow.Author.Rules.{rules}
 use Rattle.record_lines.proofs.Pieces.{tail_two}
 use Rattle.record_lines.proofs.put_serial_state.Goals as goal
 
-
 pub put_field-p-requires : goal.put_field-p-requires
 put_field-p-requires c =
     let a = c.args in
@@ -18,13 +17,11 @@ put_field-p-requires c =
     let g = state_text a.state in
     omega (arith, c.requires, ap length (tail_two f g), length-append (32 ∷ f) (32 ∷ g))
 
-
 pub put_state-requires : goal.put_state-requires
 put_state-requires c =
     let f = decimal c.args.serial in
     let g = state_text c.args.state in
     omega (arith, c.requires, ap length (tail_two f g), length-append (32 ∷ f) (32 ∷ g), c.put_field-p.ensures.next, c.put_field-p.auto.out)
-
 
 pub returns : goal.returns
 returns c =

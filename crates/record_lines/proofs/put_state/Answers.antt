@@ -9,19 +9,15 @@ use borrow.Author.Rules.{rules}
 use Rattle.record_lines.proofs.Pieces.{state_minus, state_plain}
 use Rattle.record_lines.proofs.put_state.Goals as goal
 
-
 pub put_below-requires : goal.put_below-requires
 put_below-requires c = omega (arith, c.requires, ap length (state_minus c.args.n c.if-n-eq255.true))
-
 
 pub returns-then-n-eq255 : goal.returns-then-n-eq255
 returns-then-n-eq255 c =
     same_text c.args.out.now c.args.at _ _ _ _ (ap (λ (l : List ℕ). 32 ∷ l) (sym (state_minus c.args.n c.if-n-eq255.true))) c.put_below.ensures
 
-
 pub put_field-requires : goal.put_field-requires
 put_field-requires c = omega (arith, c.requires, ap length (state_plain c.args.n c.if-n-eq255.false))
-
 
 pub returns : goal.returns
 returns c =

@@ -9,10 +9,8 @@ use Rattle.text_decimals.proofs.Writes.{same_text}
 use borrow.Author.Rules.{rules}
 use Rattle.record_lines.proofs.put_word.Goals as goal
 
-
 pub put_field-requires : goal.put_field-requires
 put_field-requires c = omega (arith, c.requires.0, ap (λ (k : ℕ). length (decimal k)) c.four_at-n.ensures.0)
-
 
 pub returns : goal.returns
 returns c =

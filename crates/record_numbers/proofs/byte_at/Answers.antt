@@ -4,11 +4,9 @@ use Rattle.record_spec.specs.Places.{at}
 use borrow.Author.Rules.{rules}
 use Rattle.record_numbers.proofs.byte_at.Goals as goal
 
-
 pub overflow_cast-result : goal.overflow_cast-result
-overflow_cast-result c = omega (arith, c.type_inv.s.given c.args.p)
-
+overflow_cast-result c = omega (arith, c.type_inv.s c.args.p)
 
 pub returns : goal.returns
 unfolding at
-returns c = (omega arith, omega (arith, c.type_inv.s.given c.args.p))
+returns c = (omega arith, omega (arith, c.type_inv.s c.args.p))

@@ -5,7 +5,6 @@ use Rattle.record_spec.specs.Numbers.{bytes}
 use borrow.Author.Rules.{rules}
 use Rattle.record_numbers.proofs.put_byte.Goals as goal
 
-
 pub returns : goal.returns
 unfolding bytes
 returns c = byte_wrote c.args.out.now c.args.at (c.args.n % 256)

@@ -6,11 +6,9 @@ use Rattle.record_spec.proofs.Numbers.{length_bytes}
 use borrow.Author.Rules.{rules}
 use Rattle.record_numbers.proofs.put_eight.Goals as goal
 
-
 pub put_four-requires : goal.put_four-requires
 put_four-requires c =
     omega (arith, c.put_four-p.ensures.next, c.put_four-p.auto.out, length_bytes 4 c.args.n, c.requires)
-
 
 pub returns : goal.returns
 unfolding bytes

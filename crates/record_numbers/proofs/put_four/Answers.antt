@@ -6,11 +6,9 @@ use Rattle.record_spec.proofs.Numbers.{length_bytes}
 use borrow.Author.Rules.{rules}
 use Rattle.record_numbers.proofs.put_four.Goals as goal
 
-
 pub put_two-requires : goal.put_two-requires
 put_two-requires c =
     omega (arith, c.put_two-p.ensures.next, c.put_two-p.auto.out, length_bytes 2 c.args.n, c.requires)
-
 
 pub returns : goal.returns
 unfolding bytes

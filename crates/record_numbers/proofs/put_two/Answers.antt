@@ -6,11 +6,9 @@ use Rattle.record_spec.proofs.Numbers.{length_bytes}
 use borrow.Author.Rules.{rules}
 use Rattle.record_numbers.proofs.put_two.Goals as goal
 
-
 pub put_byte-requires : goal.put_byte-requires
 put_byte-requires c =
     omega (arith, c.put_byte-p.ensures.next, c.put_byte-p.auto.out, length_bytes 1 c.args.n, c.requires)
-
 
 pub returns : goal.returns
 unfolding bytes

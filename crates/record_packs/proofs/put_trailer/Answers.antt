@@ -10,21 +10,17 @@ use Rattle.record_packs.proofs.Moving.{trailer_parts}
 use borrow.Author.Rules.{rules}
 use Rattle.record_packs.proofs.put_trailer.Goals as goal
 
-
 pub put_four-q-requires : goal.put_four-q-requires
 put_four-q-requires c =
     omega (arith, c.put_four-p.ensures.next, c.put_four-p.auto.out, length_bytes 4 c.args.start, c.requires.0)
-
 
 pub put_four-r-requires : goal.put_four-r-requires
 put_four-r-requires c =
     omega (arith, c.put_four-p.ensures.next, c.put_four-p.auto.out, length_bytes 4 c.args.start, c.put_four-q.ensures.next, c.put_four-q.auto.out, length_bytes 4 c.args.count, c.requires.0)
 
-
 pub put_four-requires : goal.put_four-requires
 put_four-requires c =
     omega (arith, c.put_four-p.ensures.next, c.put_four-p.auto.out, length_bytes 4 c.args.start, c.put_four-q.ensures.next, c.put_four-q.auto.out, length_bytes 4 c.args.count, c.put_four-r.ensures.next, c.put_four-r.auto.out, length_bytes 4 (c.args.start + 4 * c.args.count), c.requires.0)
-
 
 pub returns : goal.returns
 returns c =

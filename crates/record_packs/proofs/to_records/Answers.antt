@@ -5,12 +5,10 @@ use Rattle.record_packs.proofs.Moving.{moves, moves_not, sizes, ready, too_small
 use borrow.Author.Rules.{rules}
 use Rattle.record_packs.proofs.to_records.Goals as goal
 
-
 pub returns-then-not-w : goal.returns-then-not-w
 returns-then-not-w c =
     let w = c.weigh-w in
     moves_not c.args.text.now w.result w.ensures c.args.out.now (c.if-not-w.true)
-
 
 pub overflow_mul-end : goal.overflow_mul-end
 overflow_mul-end c =
@@ -20,7 +18,6 @@ overflow_mul-end c =
     let m = moves t w.result w.ensures (c.if-not-w.false) in
     omega (arith, sizes t w.result m)
 
-
 pub overflow_add-end : goal.overflow_add-end
 overflow_add-end c =
     let t = c.args.text.now in
@@ -28,7 +25,6 @@ overflow_add-end c =
     let w = c.weigh-w in
     let m = moves t w.result w.ensures (c.if-not-w.false) in
     omega (arith, sizes t w.result m)
-
 
 pub overflow_add-size : goal.overflow_add-size
 overflow_add-size c =
@@ -38,7 +34,6 @@ overflow_add-size c =
     let m = moves t w.result w.ensures (c.if-not-w.false) in
     omega (arith, sizes t w.result m)
 
-
 pub returns-then-out-size : goal.returns-then-out-size
 returns-then-out-size c =
     let t = c.args.text.now in
@@ -47,7 +42,6 @@ returns-then-out-size c =
     let m = moves t w.result w.ensures (c.if-not-w.false) in
     too_small t w.result m out c.if-out-size.true
 
-
 pub fill-requires : goal.fill-requires
 fill-requires c =
     let t = c.args.text.now in
@@ -55,14 +49,12 @@ fill-requires c =
     let m = moves t c.weigh-w.result c.weigh-w.ensures (c.if-not-w.false) in
     ready t c.weigh-w.result m out (omega (arith, c.if-out-size.false))
 
-
 pub put_trailer-requires : goal.put_trailer-requires
 put_trailer-requires c =
     let t = c.args.text.now in
     let out = c.args.out.now in
     let m = moves t c.weigh-w.result c.weigh-w.ensures (c.if-not-w.false) in
-    (omega (arith, c.if-out-size.false, c.fill.auto.1.0), (omega (arith, sizes t c.weigh-w.result m), omega (arith, sizes t c.weigh-w.result m)))
-
+    (omega (arith, c.if-out-size.false, c.fill.auto.out), (omega (arith, sizes t c.weigh-w.result m), omega (arith, sizes t c.weigh-w.result m)))
 
 pub returns : goal.returns
 returns c =

@@ -12,16 +12,13 @@ use Rattle.record_puts.proofs.Putting.{head_long}
 use borrow.Author.Rules.{rules}
 use Rattle.record_puts.proofs.put_blossom.Goals as goal
 
-
 pub put_two-q-requires : goal.put_two-q-requires
 put_two-q-requires c =
     omega (arith, c.put_head-p.ensures.next, c.put_head-p.auto.out, head_long 66 c.args.unit, c.requires.0)
 
-
 pub put_members-requires : goal.put_members-requires
 put_members-requires c =
     (omega (arith, c.put_head-p.ensures.next, c.put_head-p.auto.out, head_long 66 c.args.unit, c.put_two-q.ensures.next, c.put_two-q.auto.out, length_bytes 2 c.args.count, c.requires.0), c.requires.1)
-
 
 pub returns : goal.returns
 returns c =

@@ -7,11 +7,9 @@ use Rattle.record_puts.proofs.Putting.{head_long}
 use borrow.Author.Rules.{rules}
 use Rattle.record_puts.proofs.put_four_after.Goals as goal
 
-
 pub put_four-requires : goal.put_four-requires
 put_four-requires c =
     omega (arith, c.put_head-p.ensures.next, c.put_head-p.auto.out, head_long c.args.letter c.args.unit, c.requires)
-
 
 pub returns : goal.returns
 returns c =

@@ -11,11 +11,9 @@ use borrow.Author.Rules.{rules}
 use mir.Syntax.{w64}
 use Rattle.record_puts.proofs.put_length.Goals as goal
 
-
 pub put_eight-requires : goal.put_eight-requires
 put_eight-requires c =
     omega (arith, c.put_head-p.ensures.next, c.put_head-p.auto.out, head_long 71 c.args.unit, c.requires)
-
 
 pub returns : goal.returns
 returns c =

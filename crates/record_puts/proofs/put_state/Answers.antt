@@ -13,11 +13,9 @@ use Rattle.record_puts.proofs.Putting.{head_long}
 use borrow.Author.Rules.{rules}
 use Rattle.record_puts.proofs.put_state.Goals as goal
 
-
 pub put_byte-requires : goal.put_byte-requires
 put_byte-requires c =
     omega (arith, c.put_four_after-p.ensures.next, c.put_four_after-p.auto.out, head_long 83 c.args.unit, length-append (head_of 83 c.args.unit) (bytes 4 c.args.serial), length_bytes 4 c.args.serial, c.requires)
-
 
 pub returns : goal.returns
 returns c =

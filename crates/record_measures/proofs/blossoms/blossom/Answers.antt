@@ -15,18 +15,15 @@ use Rattle.record_measures.proofs.Measuring.{none_measured, whatever_after}
 use borrow.Author.Rules.{rules}
 use Rattle.record_measures.proofs.blossoms.blossom.Goals as goal
 
-
 pub returns-then-t-q-lt2 : goal.returns-then-t-q-lt2
 returns-then-t-q-lt2 c =
     let a = c.args in
     c.nothing.ensures ∙ none_measured (rest 66 a.unit (drop a.q a.t.now)) (short-B a.t.now a.q a.unit (omega (arith, c.if-t-q-lt2.true, c.requires.0)))
 
-
 pub returns-then-t-q : goal.returns-then-t-q
 returns-then-t-q c =
     let a = c.args in
     c.nothing-then-t-q.ensures ∙ none_measured (rest 66 a.unit (drop a.q a.t.now)) (few-B a.t.now a.q a.unit (omega (arith, c.if-t-q-lt2.false, c.requires.0)) (omega (arith, c.if-t-q-lt2.false, c.requires.0, c.if-t-q.true, c.two_at-n.ensures.0)))
-
 
 pub returns : goal.returns
 returns c =

@@ -11,24 +11,20 @@ use Rattle.record_measures.proofs.Members.{weight_bad, weight_good, serial_zero,
 use borrow.Author.Rules.{rules}
 use Rattle.record_measures.proofs.blossoms.weigh_member.Goals as goal
 
-
 pub returns-then-serial-eq0 : goal.returns-then-serial-eq0
 returns-then-serial-eq0 c =
     let m = member_at c.args.t.now c.args.q in
     (weight_bad m (serial_zero m (sym c.four_at-serial.ensures.0 ∙ c.if-serial-eq0.true)), omega arith)
-
 
 pub returns-then-first-eq0 : goal.returns-then-first-eq0
 returns-then-first-eq0 c =
     let m = member_at c.args.t.now c.args.q in
     (weight_bad m (first_zero m (sym c.four_at-first.ensures.0 ∙ c.if-first-eq0.true)), omega arith)
 
-
 pub returns-then-second-eq0 : goal.returns-then-second-eq0
 returns-then-second-eq0 c =
     let m = member_at c.args.t.now c.args.q in
     (weight_bad m (second_zero m (sym c.four_at-second.ensures.0 ∙ c.if-second-eq0.true)), omega arith)
-
 
 pub returns : goal.returns
 returns c =

@@ -9,12 +9,10 @@ use Rattle.record_measures.proofs.Plains.{is-D}
 use borrow.Author.Rules.{rules}
 use Rattle.record_measures.proofs.letters.defect.Goals as goal
 
-
 pub returns-then-t-q-lt4 : goal.returns-then-t-q-lt4
 returns-then-t-q-lt4 c =
     let a = c.args in
     c.nothing.ensures ∙ none_measured (rest 68 a.unit (drop a.q a.t.now)) (short-D a.t.now a.q a.unit (omega (arith, c.if-t-q-lt4.true, c.requires.0)))
-
 
 pub returns : goal.returns
 returns c =

@@ -9,18 +9,15 @@ use Rattle.record_measures.proofs.Plains.{is-E, zero-E}
 use borrow.Author.Rules.{rules}
 use Rattle.record_measures.proofs.letters.expand.Goals as goal
 
-
 pub returns-then-t-q-lt4 : goal.returns-then-t-q-lt4
 returns-then-t-q-lt4 c =
     let a = c.args in
     c.nothing.ensures ∙ none_measured (rest 69 a.unit (drop a.q a.t.now)) (short-E a.t.now a.q a.unit (omega (arith, c.if-t-q-lt4.true, c.requires.0)))
 
-
 pub returns-then-serial-eq0 : goal.returns-then-serial-eq0
 returns-then-serial-eq0 c =
     let a = c.args in
     c.nothing-then-serial-eq0.ensures ∙ zero-E a.t.now a.q a.unit c.requires.1 (omega (arith, c.if-t-q-lt4.false, c.requires.0)) (sym c.four_at-serial.ensures.0 ∙ c.if-serial-eq0.true)
-
 
 pub returns : goal.returns
 returns c =

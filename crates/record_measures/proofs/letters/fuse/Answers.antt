@@ -9,12 +9,10 @@ use Rattle.record_measures.proofs.Plains.{is-F}
 use borrow.Author.Rules.{rules}
 use Rattle.record_measures.proofs.letters.fuse.Goals as goal
 
-
 pub returns-then-t-q-lt2 : goal.returns-then-t-q-lt2
 returns-then-t-q-lt2 c =
     let a = c.args in
     c.nothing.ensures ∙ none_measured (rest 70 a.parent (drop a.q a.t.now)) (short-F a.t.now a.q a.parent (omega (arith, c.if-t-q-lt2.true, c.requires.0)))
-
 
 pub returns : goal.returns
 returns c =

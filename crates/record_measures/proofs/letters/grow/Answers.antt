@@ -9,12 +9,10 @@ use Rattle.record_measures.proofs.Plains.{is-G}
 use borrow.Author.Rules.{rules}
 use Rattle.record_measures.proofs.letters.grow.Goals as goal
 
-
 pub returns-then-t-q-lt8 : goal.returns-then-t-q-lt8
 returns-then-t-q-lt8 c =
     let a = c.args in
     c.nothing.ensures ∙ none_measured (rest 71 a.unit (drop a.q a.t.now)) (short-G a.t.now a.q a.unit (omega (arith, c.if-t-q-lt8.true, c.requires.0)))
-
 
 pub returns : goal.returns
 returns c =

@@ -4,7 +4,6 @@ use mathlib.Core.List.{[]}
 use borrow.Author.Rules.{rules}
 use Rattle.record_measures.proofs.letters.unit_alone.Goals as goal
 
-
 pub returns : goal.returns
 returns c s =
     let u = c.args.unit in
