@@ -3,6 +3,7 @@
 use Prim.Native.Nat.{ℕ, ◌+◌, ◌-◌, ◌≤◌, ◌<◌}
 use mathlib.Core.Path.{◌≡◌, refl, sym, ap, ◌∙◌, subst}
 use mathlib.Core.Bool.{Bool, true, false, cond}
+use mathlib.Core.Logic.{◌⊎◌, inl, inr}
 use mathlib.Core.Option.{Option, none, some}
 use mathlib.Core.List.{List, [], ◌∷◌, ◌++◌, append_assoc}
 use native.Mathlib.Numerals.{add-one}
@@ -250,6 +251,14 @@ module _ (own other : List Stop) (own-list : List Entry) (n m : ℕ) where
           go true c p q = let z : j + 0 ≡ j = omega arith in (omega arith, rw z (passes (ltb-true _ _ p)))
           go false true p q = come_turn (before_y h (ltb-true _ _ q)) (k + (n - i)) (λ a. a) (λ a. a)
           go false false p q = meet_turn (omega (arith, ltb-false y.vertex.0 x.vertex.0 p, ltb-false x.vertex.0 y.vertex.0 q)) (meeting_of (pair_of x.obstacle) (pair_of y.obstacle)) refl
+
+  -- a turn by the test that leads to it
+  module _ (own-long : n ≤ length own) (other-long : m ≤ length other) (whole : Option Lists) (list : List Entry) (out : List Stop) (at i j k : ℕ) (d : Stop)
+      (M : Merging own other own-list n m whole list out at i j k) (jm : j < m) where
+    pub next_turn : (r : Turn) → ((i < n) × (r ≡ turn_of (get_or other j d) (get_or own i d) (k + (n - i)) at)) ⊎ ((n ≤ i) × (r ≡ comes_in (get_or other j d) k)) →
+        After own other own-list n m whole list out at i j k r
+    next_turn r (inl p) = subst (λ (t : Turn). After own other own-list n m whole list out at i j k t) (sym p.1) (turn own-long other-long whole list out at i j k d M jm p.0)
+    next_turn r (inr p) = subst (λ (t : Turn). After own other own-list n m whole list out at i j k t) (sym p.1) (last_turn own-long other-long whole list out at i j k d M jm p.0)
 
   -- ---- all others are added: what is left of the own stops follows
   module _ (own-long : n ≤ length own) (other-long : m ≤ length other) (whole : Option Lists) (list : List Entry) (out : List Stop) (at i j k : ℕ)
