@@ -7,10 +7,8 @@ use Rattle.bench_links.specs.Find.{Finds}
 use Rattle.bench_links.proofs.Finding.{no_handle, is_handle}
 use Rattle.bench_links.proofs.find_word.Goals as goal
 
-
 pub returns-then-w-ge-PAST_HANDLES : goal.returns-then-w-ge-PAST_HANDLES
 returns-then-w-ge-PAST_HANDLES c = no_handle c.args.b.now c.args.w c.if-w-ge-PAST_HANDLES.true
-
 
 pub returns : goal.returns
 returns c =

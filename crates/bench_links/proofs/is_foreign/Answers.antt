@@ -6,6 +6,5 @@ use borrow.Author.Rules.{rules}
 use lib.Dec.{eqb}
 use Rattle.bench_links.proofs.is_foreign.Goals as goal
 
-
 pub returns : goal.returns
 returns c = ap (λ (t : ℕ). not (eqb t c.args.unit)) c.top_of.ensures.0

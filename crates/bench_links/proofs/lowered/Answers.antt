@@ -7,10 +7,8 @@ use Rattle.bench_views.specs.View.{off}
 use Rattle.bench_links.proofs.Weighing.{lowered_fits}
 use Rattle.bench_links.proofs.lowered.Goals as goal
 
-
 pub overflow_sub-result : goal.overflow_sub-result
 overflow_sub-result c = rw (to_z_pos w64 {n = c.args.x} (omega arith), to_z_pos w64 {n = c.args.c} (omega arith)) (lowered_fits c.args.x c.args.c c.requires.0 c.requires.1)
-
 
 pub returns : goal.returns
 unfolding off

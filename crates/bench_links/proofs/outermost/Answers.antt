@@ -8,16 +8,13 @@ use Rattle.ledger_spec.specs.Named.{handle_named}
 use Rattle.bench_links.proofs.Rising.{Going, going_starts, spot_low, going_ends, going_on, going_spent}
 use Rattle.bench_links.proofs.outermost.Goals as goal
 
-
 pub loop-links-init : goal.loop-links-init
 loop-links-init c = going_starts c.args.b.now (handle_named c.args.h) c.requires.fit c.requires.stands
-
 
 pub load_node-n-requires : goal.load_node-n-requires
 load_node-n-requires c =
     let l = c.loop-links in
     spot_low c.args.b.now (handle_named c.args.h) (handle_named l.at) (handle_named l.under) l.links l.invariant
-
 
 pub returns-in-Outermost : goal.returns-in-Outermost
 returns-in-Outermost c =
@@ -25,14 +22,12 @@ returns-in-Outermost c =
     going_ends c.args.b.now (handle_named c.args.h) (handle_named l.at) (handle_named l.under) l.links l.invariant c.load_node-n.result c.load_node-n.ensures (cc)
     (record { node = l.at; under = l.under; links = l.links }) refl refl refl
 
-
 pub loop-links-preserved : goal.loop-links-preserved
 loop-links-preserved c =
     let l = c.loop-links in
     let q : c.load_node-n.result.parent ≡ Inside c.in-Inside.q = cc in
     going_on c.args.b.now (handle_named c.args.h) (handle_named l.at) (handle_named l.under) l.links l.invariant c.load_node-n.result c.load_node-n.ensures
     (omega (arith, c.loop-links-test.true)) c.in-Inside.q q
-
 
 pub returns : goal.returns
 returns c =

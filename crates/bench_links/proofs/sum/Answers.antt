@@ -7,10 +7,8 @@ use Rattle.bench_links.proofs.Weighing.{sum_seen, sum_small}
 use mir.Syntax.{w64}
 use Rattle.bench_links.proofs.sum.Goals as goal
 
-
 pub lowered-requires : goal.lowered-requires
 lowered-requires c = (sum_small c.args.b.now c.requires.fit c.args.unit c.requires.unit_bound c.requires.unit_value c.load_interface-f.result c.load_interface-f.ensures, omega arith)
-
 
 pub returns : goal.returns
 returns c = to_z-of_z {w = w64} (record { sfits = c.lowered.type_inv }) ∙ c.lowered.ensures ∙ sum_seen c.args.b.now c.requires.fit c.args.unit c.requires.unit_bound c.requires.unit_value c.load_interface-f.result c.load_interface-f.ensures

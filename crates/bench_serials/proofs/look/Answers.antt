@@ -8,7 +8,6 @@ use Rattle.bench_links.proofs.Finding.{found_at}
 use Rattle.bench_serials.proofs.Scanning.{held_at, all_at, all_none, seeks_one, seeks_none}
 use Rattle.bench_serials.proofs.look.Goals as goal
 
-
 pub returns-in-At : goal.returns-in-At
 returns-in-At c =
     let k = c.in-At.p in
@@ -17,13 +16,11 @@ returns-in-At c =
     seeks_one c.args.b.now c.args.serial.0 c.requires.fit k
     (held_at c.args.b.now c.args.serial.0 h k (ap (λ (x : Handle). x.serial) c.handle_at.ensures) (found_at c.args.b.now h c.find-hinted.ensures k q))
 
-
 pub returns-in-At-found : goal.returns-in-At-found
 returns-in-At-found c =
     let k = c.in-At-found.p in
     let q : c.scan-found.result ≡ At k = cc in
     seeks_one c.args.b.now c.args.serial.0 c.requires.fit k (all_at c.args.b.now c.args.serial.0 k c.scan-found.ensures q)
-
 
 pub returns-in-Stale-found : goal.returns-in-Stale-found
 returns-in-Stale-found c =

@@ -13,10 +13,8 @@ use Rattle.bench_serials.specs.Seek.{handle}
 use Rattle.bench_serials.proofs.Scanning.{held_at, one_more, all_slots}
 use Rattle.bench_serials.proofs.scan_unit.Given as goal
 
-
 abbrev pub invariant-loop-s : goal.invariant-loop-s
 invariant-loop-s l = (t : ℕ) → t < l.s → node_named (view l.b) (handle l.unit t l.serial.0) ≡ none
-
 
 abbrev pub decreases-loop-s : goal.decreases-loop-s
 decreases-loop-s l = l.f.used - l.s

@@ -6,16 +6,13 @@ use mathlib.Core.Path.{ap}
 use mathlib.Core.Bool.{not}
 use Rattle.bench_slots.proofs.free_slot.Goals as goal
 
-
 pub overflow_cast-result : goal.overflow_cast-result
 overflow_cast-result c = omega (arith, used_small c.args.b.now c.requires.canon c.args.unit c.requires.unit_bound c.load_interface-f.result c.load_interface-f.ensures)
-
 
 pub returns-then-not-marks : goal.returns-then-not-marks
 returns-then-not-marks c =
     let f = c.load_interface-f in
     next_slot c.args.b.now c.requires.canon c.args.unit c.requires.unit_bound f.result f.ensures c.if-not-marks.true
-
 
 pub returns-in-At : goal.returns-in-At
 returns-in-At c =
@@ -23,7 +20,6 @@ returns-in-At c =
     let m = c.load_map-map in
     let r = c.lowest_clear-found in
     lowest_slot c.args.b.now c.requires.canon c.args.unit c.requires.unit_bound f.result f.ensures c.if-not-marks.false m.result m.ensures r.result r.ensures c.in-At.s c.in-At.is
-
 
 pub returns-in-Nothing : goal.returns-in-Nothing
 returns-in-Nothing c =

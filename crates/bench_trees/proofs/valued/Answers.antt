@@ -2,10 +2,8 @@
 use borrow.Author.Rules.{rules}
 use Rattle.bench_trees.proofs.valued.Goals as goal
 
-
 pub returns-in-Grow : goal.returns-in-Grow
 returns-in-Grow c = cc
-
 
 pub returns-in-Shrink : goal.returns-in-Shrink
 returns-in-Shrink c = cc

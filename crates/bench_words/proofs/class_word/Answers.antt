@@ -2,6 +2,5 @@
 use borrow.Author.Rules.{rules}
 use Rattle.bench_words.proofs.class_word.Goals as goal
 
-
 pub returns-in-Defect : goal.returns-in-Defect
 returns-in-Defect c = cc

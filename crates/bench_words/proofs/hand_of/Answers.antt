@@ -4,11 +4,9 @@ use borrow.Author.Tests.{lt-ltb, le-ltb}
 use Rattle.bench_words.specs.Codec.{hand_of}
 use Rattle.bench_words.proofs.hand_of.Goals as goal
 
-
 pub returns-then-w-lt-PAST_HANDLES : goal.returns-then-w-lt-PAST_HANDLES
 unfolding hand_of
 returns-then-w-lt-PAST_HANDLES c = rw (lt-ltb _ _ c.if-w-lt-PAST_HANDLES.true) c.handle_of.ensures
-
 
 pub returns : goal.returns
 unfolding hand_of

@@ -3,7 +3,6 @@ use Rattle.bench_words.specs.Store.{interface_at}
 use borrow.Author.Rules.{rules}
 use Rattle.bench_words.proofs.load_interface.Goals as goal
 
-
 pub returns : goal.returns
 unfolding interface_at
 returns c =

@@ -3,7 +3,6 @@ use Rattle.bench_words.specs.Store.{store_interface}
 use borrow.Author.Rules.{rules}
 use Rattle.bench_words.proofs.store_interface.Goals as goal
 
-
 pub returns : goal.returns
 unfolding store_interface
 returns c = cc

@@ -3,7 +3,6 @@ use Rattle.bench_words.specs.Store.{store_node}
 use borrow.Author.Rules.{rules}
 use Rattle.bench_words.proofs.store_node.Goals as goal
 
-
 pub returns : goal.returns
 unfolding store_node
 returns c = cc

@@ -9,15 +9,12 @@ use Rattle.call_sound.proofs.Settling.{stops, fits, goes_bare}
 use Rattle.ledger_spec.specs.Refuse.{unit_tests}
 use Rattle.call_sound.proofs.clear.Goals as goal
 
-
 pub returns-then-number-ne0 : goal.returns-then-number-ne0
 unfolding tests_of
 returns-then-number-ne0 c = stops c.args.b.now c.requires (Clear c.args.unit) c.unit_number-number.result c.unit_number-number.ensures _ c.if-number-ne0.true refl c.refused.result c.refused.ensures
 
-
 pub wipe-requires : goal.wipe-requires
 wipe-requires c = fits c.args.b.now c.requires (first (unit_tests (view c.args.b.now) c.args.unit)) c.unit_number-number.result c.unit_number-number.ensures c.if-number-ne0.false
-
 
 pub returns : goal.returns
 unfolding tests_of deed_of node_of

@@ -10,15 +10,12 @@ use Rattle.call_sound.proofs.Settling.{stops, fits, goes_bare}
 use Rattle.ledger_spec.specs.Refuse.{mark_tests}
 use Rattle.call_sound.proofs.mark_floored.Goals as goal
 
-
 pub returns-then-number-ne0 : goal.returns-then-number-ne0
 unfolding tests_of
 returns-then-number-ne0 c = stops c.args.b.now c.requires (Mark c.args.unit floor) c.mark_number-number.result c.mark_number-number.ensures _ c.if-number-ne0.true refl c.refused.result c.refused.ensures
 
-
 pub mark_floored-requires : goal.mark_floored-requires
 mark_floored-requires c = fits c.args.b.now c.requires (first (mark_tests (view c.args.b.now) c.args.unit)) c.mark_number-number.result c.mark_number-number.ensures c.if-number-ne0.false
-
 
 pub returns : goal.returns
 unfolding tests_of deed_of node_of

@@ -11,16 +11,13 @@ use Rattle.outcome_notices.proofs.Tells.{tells_blossom}
 use Rattle.call_told.proofs.Telling.{stops, goes, few_members}
 use Rattle.call_told.proofs.create_blossom.Goals as goal
 
-
 pub returns-then-made-ne0 : goal.returns-then-made-ne0
 returns-then-made-ne0 c = stops c.create_blossom-made.ensures.0 c.if-made-ne0.true c.refused.ensures
-
 
 pub blossom-notices-requires : goal.blossom-notices-requires
 blossom-notices-requires c =
     let a = c.args in
     few_members a.b.now a.unit a.members.now (pairs_given a.touching.now) (tests_are c.create_blossom-made.ensures.0 c.if-made-ne0.false)
-
 
 pub returns : goal.returns
 unfolding node_of

@@ -10,10 +10,8 @@ use Rattle.outcome_notices.proofs.Tells.{tells_defect}
 use Rattle.call_told.proofs.Telling.{stops, goes}
 use Rattle.call_told.proofs.create_defect_node.Goals as goal
 
-
 pub returns-then-made-ne0 : goal.returns-then-made-ne0
 returns-then-made-ne0 c = stops c.create_defect_node-made.ensures.0 c.if-made-ne0.true c.refused.ensures
-
 
 pub returns : goal.returns
 unfolding node_of

@@ -7,17 +7,14 @@ use Rattle.ledger_laws.proofs.Answered.{tests_of}
 use Rattle.call_told.proofs.Telling.{stops_early, zero_again, goes, ring_of}
 use Rattle.call_told.proofs.expand_blossom.Goals as goal
 
-
 pub returns-then-number-ne0 : goal.returns-then-number-ne0
 unfolding tests_of
 returns-then-number-ne0 c =
     stops_early c.requires (Expand c.args.unit (handle_named c.args.node)) c.expand_number-number.ensures c.if-number-ne0.true c.refused.ensures
 
-
 pub expand-notices-requires : goal.expand-notices-requires
 expand-notices-requires c =
     ring_of c.args.b.now c.requires c.args.unit (handle_named c.args.node) c.expand_number-number.result c.expand_number-number.ensures c.if-number-ne0.false
-
 
 pub returns : goal.returns
 unfolding tests_of tells

@@ -5,10 +5,8 @@ use Rattle.ledger_spec.specs.Notices.{tells}
 use Rattle.call_told.proofs.Telling.{stops, goes, grow_told}
 use Rattle.call_told.proofs.grow.Goals as goal
 
-
 pub returns-then-made-ne0 : goal.returns-then-made-ne0
 returns-then-made-ne0 c = grow_told c.ranges.length (stops c.grow-made.ensures.0 c.if-made-ne0.true c.refused.ensures)
-
 
 pub returns : goal.returns
 unfolding tells

@@ -5,10 +5,8 @@ use Rattle.ledger_spec.specs.Notices.{tells}
 use Rattle.call_told.proofs.Telling.{stops, goes}
 use Rattle.call_told.proofs.set_grow_state.Goals as goal
 
-
 pub returns-then-made-ne0 : goal.returns-then-made-ne0
 returns-then-made-ne0 c = stops c.set_grow_state-made.ensures.0 c.if-made-ne0.true c.refused.ensures
-
 
 pub returns : goal.returns
 unfolding tells

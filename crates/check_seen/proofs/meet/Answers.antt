@@ -8,30 +8,23 @@ use Rattle.check_seen.proofs.Noting.{noted_is, kept_now}
 use Rattle.check_seen.proofs.Looking.{Looked, look_starts, look_ends, look_found, look_few, look_falls, look_on}
 use Rattle.check_seen.proofs.meet.Goals as goal
 
-
 pub loop-p-init : goal.loop-p-init
 loop-p-init c = look_starts c.args.t.now c.args.n c.args.v c.requires.keeps
-
 
 pub overflow_cast-at : goal.overflow_cast-at
 overflow_cast-at c = record { fits = omega (arith, look_few c.args.t.now c.args.n c.args.v c.requires.keeps c.loop-p.cell c.loop-p.rest c.loop-p.p c.loop-p.invariant c.loop-p-test.true, c.requires.n_bound) }
 
-
 pub overflow_mul-at : goal.overflow_mul-at
 overflow_mul-at c = record { fits = omega (arith, look_few c.args.t.now c.args.n c.args.v c.requires.keeps c.loop-p.cell c.loop-p.rest c.loop-p.p c.loop-p.invariant c.loop-p-test.true, c.requires.n_bound) }
-
 
 pub overflow_add-at : goal.overflow_add-at
 overflow_add-at c = record { fits = omega (arith, look_few c.args.t.now c.args.n c.args.v c.requires.keeps c.loop-p.cell c.loop-p.rest c.loop-p.p c.loop-p.invariant c.loop-p-test.true, c.requires.n_bound) }
 
-
 pub offset_bounds-t-at : goal.offset_bounds-t-at
 offset_bounds-t-at c = record { fits = omega (arith, look_few c.args.t.now c.args.n c.args.v c.requires.keeps c.loop-p.cell c.loop-p.rest c.loop-p.p c.loop-p.invariant c.loop-p-test.true, c.requires.n_bound) }
 
-
 pub bounds-t-at : goal.bounds-t-at
 bounds-t-at c = omega (arith, look_few c.args.t.now c.args.n c.args.v c.requires.keeps c.loop-p.cell c.loop-p.rest c.loop-p.p c.loop-p.invariant c.loop-p-test.true, c.requires.n_bound)
-
 
 pub returns-then-t-at : goal.returns-then-t-at
 returns-then-t-at c =
@@ -41,44 +34,34 @@ returns-then-t-at c =
       noted = λ e. absurd (true≢false e);
     }
 
-
 pub overflow_add-cell : goal.overflow_add-cell
 overflow_add-cell c = record { fits = omega (arith, look_few c.args.t.now c.args.n c.args.v c.requires.keeps c.loop-p.cell c.loop-p.rest c.loop-p.p c.loop-p.invariant c.loop-p-test.true, c.requires.n_bound) }
-
 
 pub overflow_add-cell-in-loop-p : goal.overflow_add-cell-in-loop-p
 overflow_add-cell-in-loop-p c = record { fits = omega (arith, look_few c.args.t.now c.args.n c.args.v c.requires.keeps c.loop-p.cell c.loop-p.rest c.loop-p.p c.loop-p.invariant c.loop-p-test.true, c.requires.n_bound) }
 
-
 pub offset_bounds-t-cell-in-loop-p : goal.offset_bounds-t-cell-in-loop-p
 offset_bounds-t-cell-in-loop-p c = record { fits = omega (arith, look_few c.args.t.now c.args.n c.args.v c.requires.keeps c.loop-p.cell c.loop-p.rest c.loop-p.p c.loop-p.invariant c.loop-p-test.true, c.requires.n_bound) }
 
-
 pub bounds-t-cell-in-loop-p : goal.bounds-t-cell-in-loop-p
 bounds-t-cell-in-loop-p c = omega (arith, look_few c.args.t.now c.args.n c.args.v c.requires.keeps c.loop-p.cell c.loop-p.rest c.loop-p.p c.loop-p.invariant c.loop-p-test.true, c.requires.n_bound)
-
 
 pub loop-p-smaller : goal.loop-p-smaller
 loop-p-smaller c =
     omega (arith, look_falls c.args.t.now c.args.n c.args.v c.requires.keeps c.loop-p.cell c.loop-p.rest c.loop-p.p c.loop-p.invariant c.loop-p-test.true, c.loop-p.invariant.low, c.requires.n_bound)
 
-
 pub loop-p-preserved : goal.loop-p-preserved
 loop-p-preserved c =
     look_on c.args.t.now c.args.n c.args.v c.requires.keeps c.loop-p.cell c.loop-p.rest c.loop-p.p c.loop-p.invariant c.loop-p-test.true c.if-t-at.false
 
-
 pub offset_bounds-t-cell-2 : goal.offset_bounds-t-cell-2
 offset_bounds-t-cell-2 c = record { fits = omega (arith, c.loop-p.invariant.low, c.requires.n_bound) }
-
 
 pub bounds-t-cell-2 : goal.bounds-t-cell-2
 bounds-t-cell-2 c = omega (arith, c.loop-p.invariant.low, c.requires.n_bound)
 
-
 pub bounds-t-n : goal.bounds-t-n
 bounds-t-n c = omega (arith, c.requires.n_bound)
-
 
 pub returns : goal.returns
 returns c =

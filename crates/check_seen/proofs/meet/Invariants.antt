@@ -8,10 +8,8 @@ use Rattle.check_seen.proofs.Noting.{noted_is, kept_now}
 use Rattle.check_seen.proofs.Looking.{Looked, look_starts, look_ends, look_found, look_few, look_falls, look_on}
 use Rattle.check_seen.proofs.meet.Given as goal
 
-
 abbrev pub invariant-loop-p : goal.invariant-loop-p
 invariant-loop-p l = Looked l.t l.n l.v l.cell l.rest l.p
-
 
 abbrev pub decreases-loop-p : goal.decreases-loop-p
 decreases-loop-p l = 2048 - l.cell

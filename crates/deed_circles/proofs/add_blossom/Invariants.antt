@@ -10,10 +10,8 @@ use Rattle.deed_circles.proofs.Givens.{ringable}
 use Rattle.deed_circles.proofs.Bodies.{Looping, loop_begins, loop_range, loop_steady, loop_total, loop_ranged, loop_size, loop_turns, loop_ready, loop_ends}
 use Rattle.deed_circles.proofs.add_blossom.Given as goal
 
-
 abbrev pub invariant-loop-i : goal.invariant-loop-i
 invariant-loop-i l = Looping l.initial.b l.unit l.members l.touching l.q l.b l.size l.speed l.i
-
 
 abbrev pub decreases-loop-i : goal.decreases-loop-i
 decreases-loop-i l = length l.members - l.i

@@ -10,41 +10,33 @@ use Rattle.deed_circles.proofs.Freeing.{Freeing, freeing_begins}
 use Rattle.deed_circles.proofs.Bodies.{expand_reach, expand_can, expand_turns, expand_ends}
 use Rattle.deed_circles.proofs.remove_blossom.Goals as goal
 
-
 pub load_node-n-requires : goal.load_node-n-requires
 load_node-n-requires c = let a = c.args in let r = expand_reach a.b.now a.unit a.h c.requires.0 c.requires.1 in omega (arith, r.home, r.slot)
 
-
 pub load_interface-f-requires : goal.load_interface-f-requires
 load_interface-f-requires c = let a = c.args in (expand_reach a.b.now a.unit a.h c.requires.0 c.requires.1).top
-
 
 pub loop-i-init : goal.loop-i-init
 loop-i-init c =
     (freeing_begins c.args.b.now c.load_node-n.result.first c.requires.0, omega arith)
 
-
 pub release-at-requires : goal.release-at-requires
 release-at-requires c =
     expand_can c.args.b.now c.args.unit c.args.h c.requires.0 c.requires.1 c.load_node-n.result c.load_node-n.ensures c.loop-i.invariant.0 c.loop-i-test.true c.load_interface-f.ensures c.lag-t.ensures
-
 
 pub overflow_add-i : goal.overflow_add-i
 overflow_add-i c =
     let r = expand_reach c.args.b.now c.args.unit c.args.h c.requires.0 c.requires.1 in
     omega (arith, r.few, ap (λ (x : Node). x.count) c.load_node-n.ensures, c.loop-i-test.true)
 
-
 pub loop-i-preserved : goal.loop-i-preserved
 loop-i-preserved c =
     let a = c.args in
     (expand_turns a.b.now a.unit a.h c.requires.0 c.requires.1 c.load_node-n.result c.load_node-n.ensures c.release-at.new.b c.release-at.result c.loop-i.invariant.0 c.loop-i-test.true c.release-at.ensures.0 c.release-at.ensures.1, omega arith)
 
-
 pub store_node-requires : goal.store_node-requires
 store_node-requires c =
     let a = c.args in let r = expand_reach a.b.now a.unit a.h c.requires.0 c.requires.1 in omega (arith, r.home, r.slot)
-
 
 pub overflow_add-f : goal.overflow_add-f
 overflow_add-f c =
@@ -52,13 +44,11 @@ overflow_add-f c =
     let r = expand_reach a.b.now a.unit a.h c.requires.0 c.requires.1 in
     omega (arith, r.fast, ap (λ (x : Interface). x.speed) c.load_interface-f.ensures)
 
-
 pub overflow_add-f-2 : goal.overflow_add-f-2
 overflow_add-f-2 c =
     let a = c.args in
     let r = expand_reach a.b.now a.unit a.h c.requires.0 c.requires.1 in
     omega (arith, r.fast, r.few, ap (λ (x : Interface). x.speed) c.load_interface-f.ensures, ap (λ (x : Node). x.count) c.load_node-n.ensures)
-
 
 pub overflow_sub-f : goal.overflow_sub-f
 overflow_sub-f c =
@@ -66,16 +56,13 @@ overflow_sub-f c =
     let r = expand_reach a.b.now a.unit a.h c.requires.0 c.requires.1 in
     omega (arith, r.slow, ap (λ (x : Interface). x.speed) c.load_interface-f.ensures, c.rate_of-loss.ensures.1)
 
-
 pub pace-requires : goal.pace-requires
 pace-requires c =
     let a = c.args in (expand_reach a.b.now a.unit a.h c.requires.0 c.requires.1).top
 
-
 pub unmark-requires : goal.unmark-requires
 unmark-requires c =
     let a = c.args in let r = expand_reach a.b.now a.unit a.h c.requires.0 c.requires.1 in (r.home, r.slot)
-
 
 pub returns : goal.returns
 returns c =

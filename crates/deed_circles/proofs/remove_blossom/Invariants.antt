@@ -10,10 +10,8 @@ use Rattle.deed_circles.proofs.Freeing.{Freeing, freeing_begins}
 use Rattle.deed_circles.proofs.Bodies.{expand_reach, expand_can, expand_turns, expand_ends}
 use Rattle.deed_circles.proofs.remove_blossom.Given as goal
 
-
 abbrev pub invariant-loop-i : goal.invariant-loop-i
 invariant-loop-i l = Freeing l.initial.b l.initial.at l.b l.at l.i × (l.i ≤ l.count)
-
 
 abbrev pub decreases-loop-i : goal.decreases-loop-i
 decreases-loop-i l = l.count - l.i

@@ -2,6 +2,5 @@
 use borrow.Author.Rules.{rules}
 use Rattle.deed_circles.proofs.seat.Goals as goal
 
-
 pub returns : goal.returns
 returns c = simp (c.following-next.ensures, c.touch-left.ensures, c.touch-right.ensures)

@@ -2,6 +2,5 @@
 use borrow.Author.Rules.{rules}
 use Rattle.deed_circles.proofs.unmark.Goals as goal
 
-
 pub returns : goal.returns
 returns c = simp (c.store_map.ensures, c.without.ensures, c.load_map-map.ensures)

@@ -2,6 +2,5 @@
 use borrow.Author.Rules.{rules}
 use Rattle.deed_nodes.proofs.no_node.Goals as goal
 
-
 pub returns : goal.returns
 returns c = rw c.nobody-nobody.ensures

@@ -3,7 +3,6 @@ use borrow.Author.Rules.{rules}
 use Rattle.deed_nodes.proofs.Bodies.{pace_by}
 use Rattle.deed_nodes.proofs.pace.Goals as goal
 
-
 pub returns : goal.returns
 returns c =
     let a = c.args in

@@ -3,7 +3,6 @@ use Rattle.deed_nodes.proofs.Bodies.{push_by}
 use borrow.Author.Rules.{rules}
 use Rattle.deed_nodes.proofs.push.Goals as goal
 
-
 pub returns : goal.returns
 returns c =
     let a = c.args in

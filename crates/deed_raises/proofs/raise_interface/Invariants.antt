@@ -9,10 +9,8 @@ use Rattle.deed_raises.specs.Raises.{RaisedIn}
 use Rattle.deed_raises.proofs.Raising.{raised_none, raised_more, raised_all, movable_now}
 use Rattle.deed_raises.proofs.raise_interface.Given as goal
 
-
 abbrev pub invariant-loop-s : goal.invariant-loop-s
 invariant-loop-s l = RaisedIn l.initial.b l.unit l.length l.b l.s × (l.s ≤ l.used) × (l.used ≡ (interface_at l.initial.b l.unit).used)
-
 
 abbrev pub decreases-loop-s : goal.decreases-loop-s
 decreases-loop-s l = l.used - l.s

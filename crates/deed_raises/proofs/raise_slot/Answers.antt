@@ -11,10 +11,8 @@ use Rattle.deed_raises.proofs.raise_slot.Goals as goal
 like : {g h : GrowState} {v w l : ℕ} → g ≡ h → v ≡ w → Movable h w l → Movable g v l
 like p q m = rw (p, q) m
 
-
 pub moved-requires : goal.moved-requires
 moved-requires c = like c.load_state-g.ensures c.load_bias-value.ensures c.requires.movable
-
 
 pub returns : goal.returns
 returns c =

@@ -2,6 +2,5 @@
 use borrow.Author.Rules.{rules}
 use Rattle.deed_trees.proofs.put_under.Goals as goal
 
-
 pub returns : goal.returns
 returns c = simp (c.store_interface.ensures, c.load_interface-f.ensures)

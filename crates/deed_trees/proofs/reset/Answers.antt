@@ -6,12 +6,10 @@ use Rattle.bench_words.specs.declared.Interface.{Interface}
 use Rattle.deed_trees.proofs.Emptying.{reset_by}
 use Rattle.deed_trees.proofs.reset.Goals as goal
 
-
 pub empty_slots-requires : goal.empty_slots-requires
 empty_slots-requires c =
     let p = c.requires in
     (p.0, omega (arith, p.1.slots c.args.unit p.0, ap (λ (x : Interface). x.used) c.load_interface-f.ensures), p.1, p.2)
-
 
 pub returns : goal.returns
 returns c =

@@ -9,27 +9,22 @@ use Rattle.deed_trees.proofs.Cleared.{wiped}
 use Rattle.deed_trees.proofs.wipe.Goals as goal
 use Rattle.deed_trees.proofs.wipe.Goals.{then-up-unit, else-up-unit}
 
-
 pub loop-w-init : goal.loop-w-init
 loop-w-init c = (wiping_begins c.args.b.now c.args.unit c.requires.0 c.requires.1, omega arith)
-
 
 pub climb-up-requires : goal.climb-up-requires
 climb-up-requires c =
     let low = wipe_low c.args.b.now c.args.unit c.requires.0 c.requires.1 in record { unit_bound = omega (arith, low, c.loop-w-test.true); steady = c.loop-w.invariant.0.steady }
-
 
 pub reset-requires : goal.reset-requires
 reset-requires c =
     let low = wipe_low c.args.b.now c.args.unit c.requires.0 c.requires.1 in
     (omega (arith, low, c.loop-w-test.true), c.loop-w.invariant.0.steady, c.loop-w.invariant.0.coded)
 
-
 pub overflow_add-w : goal.overflow_add-w
 overflow_add-w c =
     let low = wipe_low c.args.b.now c.args.unit c.requires.0 c.requires.1 in
     omega (arith, low, c.loop-w-test.true)
-
 
 pub loop-w-preserved : goal.loop-w-preserved
 loop-w-preserved c =
@@ -39,18 +34,16 @@ loop-w-preserved c =
     let b₀ = c.args.b.now in
     let u = c.args.unit in (
       elim c.if-up-unit.branch [
-          then-up-unit x ↦ rw x.b-is (wiping_reset b₀ u c.requires.0 c.requires.1 l.b l.w l.invariant.0 (omega (arith, t)) x.reset.new.b (of_tree b₀ u c.requires.0 c.requires.1 l.b l.w l.invariant.0 (omega (arith, t)) up x.if-up-unit.true) x.reset.ensures)
+        | then-up-unit x ↦ rw x.b-is (wiping_reset b₀ u c.requires.0 c.requires.1 l.b l.w l.invariant.0 (omega (arith, t)) x.reset.new.b (of_tree b₀ u c.requires.0 c.requires.1 l.b l.w l.invariant.0 (omega (arith, t)) up x.if-up-unit.true) x.reset.ensures)
         | else-up-unit x ↦ rw x.b-is (wiping_past b₀ u c.requires.0 c.requires.1 l.b l.w l.invariant.0 (omega (arith, t)) up x.if-up-unit.false)
       ],
       omega (arith, t),
     )
 
-
 pub reset-requires-2 : goal.reset-requires-2
 reset-requires-2 c =
     let l = c.loop-w in
     (wipe_low c.args.b.now c.args.unit c.requires.0 c.requires.1, l.invariant.0.steady, l.invariant.0.coded)
-
 
 -- the loop ends at the top itself
 pub returns : goal.returns

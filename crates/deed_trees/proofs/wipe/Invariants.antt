@@ -8,10 +8,8 @@ use Rattle.deed_trees.proofs.Wiping.{Wiping, wipe_low, top_own, wiping_begins, w
 use Rattle.deed_trees.proofs.Cleared.{wiped}
 use Rattle.deed_trees.proofs.wipe.Given as goal
 
-
 abbrev pub invariant-loop-w : goal.invariant-loop-w
 invariant-loop-w l = Wiping l.initial.b l.unit l.b l.w × (l.w ≤ l.unit)
-
 
 abbrev pub decreases-loop-w : goal.decreases-loop-w
 decreases-loop-w l = l.unit - l.w

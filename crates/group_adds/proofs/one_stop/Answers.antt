@@ -6,7 +6,6 @@ use lib.ListN.{length, length-map}
 use Rattle.group_adds.proofs.Bytes.{lone_stop}
 use Rattle.group_adds.proofs.one_stop.Goals as goal
 
-
 pub returns : goal.returns
 returns c =
     let w = (c.well_formed.0.1.1.1.1.0.1.0.1) in

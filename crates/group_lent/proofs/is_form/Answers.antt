@@ -3,36 +3,29 @@ use borrow.Author.Tests.{ne_eqb}
 use Rattle.group_lent.specs.Forms.{is_form}
 use Rattle.group_lent.proofs.is_form.Goals as goal
 
-
 pub returns-in-1 : goal.returns-in-1
 unfolding is_form
 returns-in-1 c = rw c.in-1.is
-
 
 pub returns-in-2 : goal.returns-in-2
 unfolding is_form
 returns-in-2 c = rw c.in-2.is
 
-
 pub returns-in-3 : goal.returns-in-3
 unfolding is_form
 returns-in-3 c = rw c.in-3.is
-
 
 pub returns-in-4 : goal.returns-in-4
 unfolding is_form
 returns-in-4 c = rw c.in-4.is
 
-
 pub returns-in-5 : goal.returns-in-5
 unfolding is_form
 returns-in-5 c = rw c.in-5.is
 
-
 pub returns-in-6 : goal.returns-in-6
 unfolding is_form
 returns-in-6 c = rw c.in-6.is
-
 
 pub returns-in_default : goal.returns-in_default
 unfolding is_form

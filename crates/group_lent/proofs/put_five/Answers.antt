@@ -5,7 +5,6 @@ use native.Mathlib.Omega.{arith}
 use borrow.Author.Rules.{rules}
 use Rattle.group_lent.proofs.put_five.Goals as goal
 
-
 pub returns : goal.returns
 returns c =
     let at = c.args.at in

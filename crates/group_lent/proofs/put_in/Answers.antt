@@ -5,6 +5,5 @@ use Rattle.group_lent.specs.Forms.{five_words}
 use borrow.Author.Rules.{rules}
 use Rattle.group_lent.proofs.put_in.Goals as goal
 
-
 pub returns : goal.returns
 returns c = sets_all c.args.w.now (five_words c.args.f) (sym c.all_five.ensures)

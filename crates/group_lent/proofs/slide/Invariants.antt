@@ -6,10 +6,8 @@ use Rattle.group_lent.specs.Moves.{slid}
 use Rattle.group_lent.proofs.Slides.{slide_begin, slide_turn}
 use Rattle.group_lent.proofs.slide.Given as goal
 
-
 abbrev pub invariant-loop-j : goal.invariant-loop-j
 invariant-loop-j l = (l.j ≤ l.k) × (l.w ≡ slid l.initial.w l.at l.j)
-
 
 abbrev pub decreases-loop-j : goal.decreases-loop-j
 decreases-loop-j l = l.k - l.j

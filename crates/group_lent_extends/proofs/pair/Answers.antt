@@ -2,6 +2,5 @@
 use borrow.Author.Rules.{rules}
 use Rattle.group_lent_extends.proofs.pair.Goals as goal
 
-
 pub returns : goal.returns
 returns c = rw (c.flag_after-h.ensures, c.length_after-l.ensures)

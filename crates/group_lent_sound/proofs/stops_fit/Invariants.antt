@@ -7,10 +7,8 @@ use Rattle.group_lent_sound.specs.Test.{stops_fit}
 use Rattle.group_lent_sound.proofs.Fits.{stops_no, stops_on, stops_end}
 use Rattle.group_lent_sound.proofs.stops_fit.Given as goal
 
-
 abbrev pub invariant-loop-i : goal.invariant-loop-i
 invariant-loop-i l = (l.i ≤ l.m) × (stops_fit l.w 0 0 l.m ≡ stops_fit l.w l.least l.i (l.m - l.i))
-
 
 abbrev pub decreases-loop-i : goal.decreases-loop-i
 decreases-loop-i l = l.m - l.i

@@ -2,6 +2,5 @@
 use borrow.Author.Rules.{rules}
 use Rattle.group_lent_stops.proofs.insert.Goals as goal
 
-
 pub returns : goal.returns
 returns c = rw (c.put_stop.ensures, c.lift.ensures)

@@ -5,11 +5,9 @@ use lib.ListN.{length, length-set}
 use borrow.Author.Rules.{rules}
 use Rattle.group_lent_stops.proofs.join.Goals as goal
 
-
 pub slide-requires : goal.slide-requires
 slide-requires c =
     (ap length c.put_five.ensures ∙ simp length-set c.requires.0, omega arith)
-
 
 pub returns : goal.returns
 returns c =

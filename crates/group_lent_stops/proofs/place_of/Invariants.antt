@@ -10,10 +10,8 @@ use Rattle.group_lent_stops.specs.Stops.{place_in}
 use Rattle.group_lent_stops.proofs.Places.{vertex_is, place_begin, place_stop, place_turn, place_end}
 use Rattle.group_lent_stops.proofs.place_of.Given as goal
 
-
 abbrev pub invariant-loop-p : goal.invariant-loop-p
 invariant-loop-p l = (l.p ≤ l.m) × (place_in l.w l.v ≡ l.p + length (front_of l.v (run (stop_at l.w) l.p (l.m - l.p))))
-
 
 abbrev pub decreases-loop-p : goal.decreases-loop-p
 decreases-loop-p l = l.m - l.p

@@ -4,6 +4,5 @@ use native.Mathlib.Numerals.{add-one}
 use borrow.Author.Rules.{rules}
 use Rattle.group_lent_stops.proofs.put_stop.Goals as goal
 
-
 pub returns : goal.returns
 returns c = c.put_five.ensures ∙ rw (add-one c.args.at)

@@ -11,10 +11,8 @@ use Rattle.groups.proofs.Lay.{upto}
 use Rattle.group_takes.proofs.Down.{down_step}
 use Rattle.group_takes.proofs.moved_down.Given as goal
 
-
 abbrev pub invariant-loop-j : goal.invariant-loop-j
 invariant-loop-j l = (l.j ≤ l.n) × (l.r ≡ upto (drop 1 l.initial.r) l.j l.initial.r)
-
 
 abbrev pub decreases-loop-j : goal.decreases-loop-j
 decreases-loop-j l = l.n - l.j

@@ -11,27 +11,22 @@ use Rattle.group_takes.specs.Takes.{top_by}
 use Rattle.group_takes.proofs.Taking.{peek_broken, peek_growth, peek_conflicts}
 use Rattle.group_takes.proofs.peek.Goals as goal
 
-
 pub returns-then-not-group_is_sound : goal.returns-then-not-group_is_sound
 returns-then-not-group_is_sound c = peek_broken c.args.g (sym c.group_is_sound.ensures ∙ c.if-not-group_is_sound.true)
-
 
 pub offset_bounds-g-n : goal.offset_bounds-g-n
 offset_bounds-g-n c =
     let n = sound_counts c.args.g c.in-Conflicts.is (sym c.group_is_sound.ensures ∙ c.if-not-group_is_sound.false) in
     omega (arith, n.0, c.less-n.ensures)
 
-
 pub bounds-g-n : goal.bounds-g-n
 bounds-g-n c =
     let n = sound_counts c.args.g c.in-Conflicts.is (sym c.group_is_sound.ensures ∙ c.if-not-group_is_sound.false) in
     omega (arith, n.0, c.less-n.ensures)
 
-
 pub returns-in-Growth : goal.returns-in-Growth
 returns-in-Growth c =
     peek_growth c.args.g (sym c.group_is_sound.ensures ∙ c.if-not-group_is_sound.false) _ _ c.in-Growth.is
-
 
 pub returns-in-Conflicts : goal.returns-in-Conflicts
 returns-in-Conflicts c =

@@ -11,32 +11,26 @@ use Rattle.group_takes.specs.Takes.{top_by}
 use Rattle.group_takes.proofs.Taking.{pops_broken, pops_growth, pops_conflicts}
 use Rattle.group_takes.proofs.pop.Goals as goal
 
-
 pub returns-then-not-group_is_sound : goal.returns-then-not-group_is_sound
 returns-then-not-group_is_sound c = let whole = pops_broken c.args.g (sym c.group_is_sound.ensures ∙ c.if-not-group_is_sound.true) in record { says = whole.0; leaves = whole.1 }
-
 
 pub offset_bounds-list-n : goal.offset_bounds-list-n
 offset_bounds-list-n c =
     let n = sound_counts c.args.g c.in-Conflicts.is (sym c.group_is_sound.ensures ∙ c.if-not-group_is_sound.false) in
     omega (arith, n.0, c.less-n.ensures)
 
-
 pub bounds-list-n : goal.bounds-list-n
 bounds-list-n c =
     let n = sound_counts c.args.g c.in-Conflicts.is (sym c.group_is_sound.ensures ∙ c.if-not-group_is_sound.false) in
     omega (arith, n.0, c.less-n.ensures)
-
 
 pub moved_down-requires : goal.moved_down-requires
 moved_down-requires c =
     let n = sound_counts c.args.g c.in-Conflicts.is (sym c.group_is_sound.ensures ∙ c.if-not-group_is_sound.false) in
     omega (arith, n.1, c.less-m.ensures)
 
-
 pub returns-in-Growth : goal.returns-in-Growth
 returns-in-Growth c = let whole = pops_growth c.args.g (sym c.group_is_sound.ensures ∙ c.if-not-group_is_sound.false) _ _ c.in-Growth.is in record { says = whole.0; leaves = whole.1 }
-
 
 pub returns-in-Conflicts : goal.returns-in-Conflicts
 returns-in-Conflicts c =

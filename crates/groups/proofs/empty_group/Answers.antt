@@ -20,6 +20,5 @@ emptyBy h = record {
   stopped = 0;
 }
 
-
 pub returns : goal.returns
 returns c = ap emptyBy c.nobody-h.ensures

@@ -12,10 +12,8 @@ use Rattle.groups.proofs.View.{view_growth, view_conflicts}
 use Rattle.groups.proofs.Asking.{same_bits, growth_broken, growth_largest, growth_is}
 use Rattle.groups.proofs.get_none_zero_growth.Goals as goal
 
-
 pub returns-then-not-group_is_sound : goal.returns-then-not-group_is_sound
 returns-then-not-group_is_sound c = growth_broken (group_of c.args.g) (sym c.group_is_sound.ensures ∙ c.if-not-group_is_sound.true)
-
 
 pub returns-then-length-eq-LARGEST : goal.returns-then-length-eq-LARGEST
 returns-then-length-eq-LARGEST c =
@@ -25,7 +23,6 @@ returns-then-length-eq-LARGEST c =
     let fits : SFits w64 l = search rules in
     growth_largest (group_of g) (growth l f) (sym c.group_is_sound.ensures ∙ c.if-not-group_is_sound.false) (view_growth g l f c.in-Growth.is) (same_bits l fits ∙ eq-eqb _ _ c.if-length-eq-LARGEST.true)
 
-
 pub returns-else-length-eq-LARGEST : goal.returns-else-length-eq-LARGEST
 returns-else-length-eq-LARGEST c =
     let g = c.args.g in
@@ -33,7 +30,6 @@ returns-else-length-eq-LARGEST c =
     let f = c.in-Growth.field-1 in
     let fits : SFits w64 l = search rules in
     growth_is (group_of g) (growth l f) (sym c.group_is_sound.ensures ∙ c.if-not-group_is_sound.false) (view_growth g l f c.in-Growth.is) (same_bits l fits ∙ ne_eqb _ _ c.if-length-eq-LARGEST.false) _ (ap some (to_z-of_z {w = w64} fits))
-
 
 pub returns-in-Conflicts : goal.returns-in-Conflicts
 returns-in-Conflicts c =

@@ -16,10 +16,8 @@ use Rattle.outcome_notices.proofs.Telling.{halfway, head, past, walk_none, walk_
 use Rattle.outcome_notices.proofs.Reaching.{low, few, members_low, members_seen}
 use Rattle.outcome_notices.proofs.expand.Given as goal
 
-
 abbrev pub invariant-loop-i : goal.invariant-loop-i
 invariant-loop-i l = (l.i ≤ l.count) × (l.at ≡ walk l.i (node_at l.b) l.initial.at) × (l.r ≡ halfway (head l.initial.r ∷ past (node_at l.b) l.initial.at l.i) [])
-
 
 abbrev pub decreases-loop-i : goal.decreases-loop-i
 decreases-loop-i l = l.count - l.i

@@ -9,7 +9,6 @@ use Rattle.kinds.specs.declared.Notice.TheVariants.{Grown}
 use Rattle.outcome_notices.specs.Laid.{circle_in, only, laid}
 use Rattle.outcome_notices.proofs.grown.Goals as goal
 
-
 pub returns : goal.returns
 unfolding laid circle_in
 returns c =

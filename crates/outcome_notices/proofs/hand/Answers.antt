@@ -5,6 +5,5 @@ use Rattle.bench_views.proofs.Givens.{hand_given_lem}
 use Rattle.outcome_notices.specs.Laid.{packed}
 use Rattle.outcome_notices.proofs.hand.Goals as goal
 
-
 pub returns : goal.returns
 returns c = c.hand_of.ensures ∙ ap packed (hand_given_lem _)

@@ -10,7 +10,6 @@ use Rattle.outcome_notices.proofs.none.Goals as goal
 abbrev noneBy : Packed → Notices
 noneBy h = record { told = replicate 66 blank; count = 0; circle = replicate 64 h; members = 0 }
 
-
 pub returns : goal.returns
 unfolding laid circle_in
 returns c = ap noneBy c.nobody-nobody.ensures

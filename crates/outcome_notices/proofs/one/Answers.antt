@@ -7,7 +7,6 @@ use Rattle.outcome_notices.specs.declared.Notices.{Notices}
 use Rattle.outcome_notices.proofs.Telling.{told}
 use Rattle.outcome_notices.proofs.one.Goals as goal
 
-
 pub returns : goal.returns
 unfolding laid circle_in
 returns c = ap (λ (r : Notices). told (set r.told 0 c.args.e) r.circle 1 r.members) c.none-r.ensures

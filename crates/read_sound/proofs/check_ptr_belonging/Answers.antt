@@ -9,23 +9,19 @@ use Rattle.bench_views.specs.View.{view}
 use Rattle.read_sound.proofs.Saying.{belongs_no, belongs_stale, belongs_there}
 use Rattle.read_sound.proofs.check_ptr_belonging.Goals as goal
 
-
 pub returns-then-number-ne0 : goal.returns-then-number-ne0
 returns-then-number-ne0 c = belongs_no (view c.args.b.now) c.args.unit c.unit_number-number.result c.unit_number-number.ensures c.if-number-ne0.true (handle_named c.args.h)
-
 
 pub is_foreign-foreign-requires : goal.is_foreign-foreign-requires
 is_foreign-foreign-requires c =
     let k = c.in-At.field-0 in
     let q : c.find-found.result ≡ At k = cc in record { steady = c.requires.canon.steady; unit_bound = (found_at c.args.b.now (handle_named c.args.h) c.find-found.ensures k q).stands.unit }
 
-
 pub returns-in-Stale : goal.returns-in-Stale
 returns-in-Stale c =
     let q : c.find-found.result ≡ Stale = cc in
     belongs_stale (view c.args.b.now) c.args.unit c.unit_number-number.result c.unit_number-number.ensures c.if-number-ne0.false (handle_named c.args.h)
     (found_none c.args.b.now (handle_named c.args.h) c.find-found.ensures q)
-
 
 pub returns-in-At : goal.returns-in-At
 returns-in-At c =

@@ -14,13 +14,11 @@ use Rattle.bench_views.specs.View.{view}
 use Rattle.read_sound.proofs.Saying.{vertices_no, vertices_small, vertices_yes}
 use Rattle.read_sound.proofs.get_all_vertices.Goals as goal
 
-
 pub load_node-n-requires : goal.load_node-n-requires
 load_node-n-requires c =
     let k = c.in-At.k in
     let q : c.find-found.result ≡ At k = cc in
     (found_at c.args.b.now (handle_named c.args.h) c.find-found.ensures k q).low
-
 
 pub returns-then-out-n : goal.returns-then-out-n
 returns-then-out-n c =
@@ -32,7 +30,6 @@ returns-then-out-n c =
     let n = seen_some b h f.stands in
     vertices_small (view b) h n.0 n.1 c.args.out.now (omega (arith, c.if-out-n.true, held_size b h k f, ap (λ (x : Node). x.size) c.load_node-n.ensures))
 
-
 pub all_vertices-count-requires : goal.all_vertices-count-requires
 all_vertices-count-requires c =
     let b = c.args.b.now in
@@ -41,12 +38,10 @@ all_vertices-count-requires c =
     let q : c.find-found.result ≡ At k = cc in
     let f = found_at b h c.find-found.ensures k q in record { fit = c.requires; placed = held_placed b h k f; k_in_bounds = omega (arith, c.if-out-n.false, held_many b h k f c.requires, ap length (held_under b h k f), ap (λ (x : Node). x.size) c.load_node-n.ensures) }
 
-
 pub returns-in-Stale : goal.returns-in-Stale
 returns-in-Stale c =
     let q : c.find-found.result ≡ Stale = cc in
     vertices_no (view c.args.b.now) (handle_named c.args.h) (found_none c.args.b.now (handle_named c.args.h) c.find-found.ensures q) c.args.out.now
-
 
 pub returns-else-out-n : goal.returns-else-out-n
 returns-else-out-n c =

@@ -10,19 +10,16 @@ use Rattle.bench_views.specs.View.{view}
 use Rattle.read_sound.proofs.Saying.{outer_no, outer_yes}
 use Rattle.read_sound.proofs.get_ancestor_blossom.Goals as goal
 
-
 pub outermost-o-requires : goal.outermost-o-requires
 outermost-o-requires c =
     let k = c.in-At.field-0 in
     let q : c.find-found.result ≡ At k = cc in record { fit = c.requires; stands = (found_at c.args.b.now (handle_named c.args.h) c.find-found.ensures k q).stands }
-
 
 pub returns-in-Stale : goal.returns-in-Stale
 returns-in-Stale c =
     let q : c.find-found.result ≡ Stale = cc in
     ap (λ (g : Handle). (8, (handle_named g, 0))) c.nobody.ensures
     ∙ outer_no (view c.args.b.now) (handle_named c.args.h) (found_none c.args.b.now (handle_named c.args.h) c.find-found.ensures q)
-
 
 pub returns-in-At : goal.returns-in-At
 returns-in-At c =

@@ -12,18 +12,15 @@ use Rattle.bench_views.specs.View.{view}
 use Rattle.read_sound.proofs.Saying.{value_no, value_yes}
 use Rattle.read_sound.proofs.get_dual_variable.Goals as goal
 
-
 pub value-weight-requires : goal.value-weight-requires
 value-weight-requires c =
     let k = c.in-At.field-0 in
     let q : c.find-found.result ≡ At k = cc in record { fit = c.requires; stands = (found_at c.args.b.now (handle_named c.args.h) c.find-found.ensures k q).stands }
 
-
 pub returns-in-Stale : goal.returns-in-Stale
 returns-in-Stale c =
     let q : c.find-found.result ≡ Stale = cc in
     value_no (view c.args.b.now) (handle_named c.args.h) (found_none c.args.b.now (handle_named c.args.h) c.find-found.ensures q)
-
 
 pub returns-in-At : goal.returns-in-At
 returns-in-At c =

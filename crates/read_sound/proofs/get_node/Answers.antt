@@ -10,15 +10,12 @@ use Rattle.ledger_spec.proofs.Accepted.{clear_passed}
 use Rattle.read_sound.proofs.Saying.{index_no, index_past, index_there}
 use Rattle.read_sound.proofs.get_node.Goals as goal
 
-
 pub returns-then-number-ne0 : goal.returns-then-number-ne0
 returns-then-number-ne0 c = index_no (view c.args.b.now) c.args.unit c.args.index.0 c.unit_number-number.result c.unit_number-number.ensures c.if-number-ne0.true
-
 
 pub locate-spot-requires : goal.locate-spot-requires
 locate-spot-requires c =
     let o = clear_passed (view c.args.b.now) c.args.unit (sym c.unit_number-number.ensures ∙ c.if-number-ne0.false) in record { fit = c.requires; unit_bound = o.low; unit_value = o.free }
-
 
 pub node_at-node-requires : goal.node_at-node-requires
 node_at-node-requires c =
@@ -26,12 +23,10 @@ node_at-node-requires c =
     let q : c.locate-spot.result ≡ Slot k = cc in
     let a = located c.args.b.now c.args.unit c.args.index.0 c.locate-spot.ensures k q in record { k_bound = a.low; k_bound_2 = a.used }
 
-
 pub returns-in-Past : goal.returns-in-Past
 returns-in-Past c =
     let q : c.locate-spot.result ≡ Past = cc in
     index_past (view c.args.b.now) c.args.unit c.args.index.0 c.unit_number-number.result c.unit_number-number.ensures c.if-number-ne0.false (located_past c.args.b.now c.args.unit c.args.index.0 c.locate-spot.ensures q)
-
 
 pub returns-in-Slot : goal.returns-in-Slot
 returns-in-Slot c =

@@ -13,18 +13,15 @@ use Rattle.bench_views.specs.View.{view}
 use Rattle.read_sound.proofs.Saying.{vertex_no, vertex_yes}
 use Rattle.read_sound.proofs.get_representative_vertex.Goals as goal
 
-
 pub first_vertex-vertex-requires : goal.first_vertex-vertex-requires
 first_vertex-vertex-requires c =
     let k = c.in-At.k in
     let q : c.find-found.result ≡ At k = cc in record { fit = c.requires; placed = held_placed c.args.b.now (handle_named c.args.h) k (found_at c.args.b.now (handle_named c.args.h) c.find-found.ensures k q) }
 
-
 pub returns-in-Stale : goal.returns-in-Stale
 returns-in-Stale c =
     let q : c.find-found.result ≡ Stale = cc in
     vertex_no (view c.args.b.now) (handle_named c.args.h) (found_none c.args.b.now (handle_named c.args.h) c.find-found.ensures q)
-
 
 pub returns-in-At : goal.returns-in-At
 returns-in-At c =

@@ -10,12 +10,10 @@ use Rattle.bench_views.specs.View.{view}
 use Rattle.read_sound.proofs.Saying.{under_no, under_top, under_yes}
 use Rattle.read_sound.proofs.get_secondary_ancestor_blossom.Goals as goal
 
-
 pub outermost-o-requires : goal.outermost-o-requires
 outermost-o-requires c =
     let k = c.in-At.field-0 in
     let q : c.find-found.result ≡ At k = cc in record { fit = c.requires; stands = (found_at c.args.b.now (handle_named c.args.h) c.find-found.ensures k q).stands }
-
 
 pub returns-then-o-eq0 : goal.returns-then-o-eq0
 returns-then-o-eq0 c =
@@ -27,13 +25,11 @@ returns-then-o-eq0 c =
     ap (λ (g : Handle). (12, handle_named g)) c.nobody-then-o-eq0.ensures
     ∙ under_top (view b) h n.0 n.1 (no_link (view b) h (sym c.outermost-o.ensures.links ∙ c.if-o-eq0.true))
 
-
 pub returns-in-Stale : goal.returns-in-Stale
 returns-in-Stale c =
     let q : c.find-found.result ≡ Stale = cc in
     ap (λ (g : Handle). (8, handle_named g)) c.nobody.ensures
     ∙ under_no (view c.args.b.now) (handle_named c.args.h) (found_none c.args.b.now (handle_named c.args.h) c.find-found.ensures q)
-
 
 pub returns-else-o-eq0 : goal.returns-else-o-eq0
 returns-else-o-eq0 c =

@@ -9,10 +9,8 @@ use Rattle.recorded_steps.proofs.Passing.{by_low}
 use Rattle.recorded_steps.proofs.Reaching.{Reached, reached_start, reached_stop, reached_past, reached_next, reached_end}
 use Rattle.recorded_steps.proofs.pass.Given as goal
 
-
 abbrev pub invariant-loop-done : goal.invariant-loop-done
 invariant-loop-done l = Reached (limit_no l.reach l.floor) l.ws l.length l.at l.taken l.done
-
 
 abbrev pub decreases-loop-done : goal.decreases-loop-done
 decreases-loop-done l = size l.ws - l.at

@@ -7,11 +7,9 @@ use Rattle.bench_views.specs.View.{view}
 use Rattle.refuse_calls.proofs.Fuses.{differ_yes, differ_no}
 use Rattle.refuse_calls.proofs.floors_differ.Goals as goal
 
-
 pub returns-then-is_floored : goal.returns-then-is_floored
 returns-then-is_floored c = let a = c.args in
     ap not c.is_floored-then-is_floored.ensures ∙ differ_yes (floored (view a.b.now) a.l) (floored (view a.b.now) a.r) (sym c.is_floored.ensures ∙ c.if-is_floored.true)
-
 
 pub returns : goal.returns
 returns c = let a = c.args in

@@ -7,10 +7,8 @@ use lib.ListN.{length}
 use Rattle.refuse_circles.proofs.Twice.{in_at, still, still_here, still_on, still_end}
 use Rattle.refuse_circles.proofs.compared_twice.Given as goal
 
-
 abbrev pub invariant-loop-i : goal.invariant-loop-i
 invariant-loop-i l = still l.ws 0 ≡ still l.ws l.i
-
 
 abbrev pub decreases-loop-i : goal.decreases-loop-i
 decreases-loop-i l = length l.ws - l.i

@@ -4,6 +4,5 @@ use borrow.Author.Rules.{rules}
 use Rattle.refuse_circles.proofs.Seen.{blank}
 use Rattle.refuse_circles.proofs.given_twice.Goals as goal
 
-
 pub marked_twice-requires : goal.marked_twice-requires
 marked_twice-requires c = (c.requires, blank 512 refl)

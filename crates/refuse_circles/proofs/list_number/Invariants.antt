@@ -10,10 +10,8 @@ use Rattle.refuse_circles.specs.Marks.{list_mark, lower}
 use Rattle.refuse_circles.proofs.Lowest.{none_lower, rest, turn, ends}
 use Rattle.refuse_circles.proofs.list_number.Given as goal
 
-
 abbrev pub invariant-loop-i : goal.invariant-loop-i
 invariant-loop-i l = list_mark (view l.b) l.unit (hands_given l.ws) ≡ lower l.number (rest (view l.b) l.unit l.ws l.i)
-
 
 abbrev pub decreases-loop-i : goal.decreases-loop-i
 decreases-loop-i l = length l.ws - l.i

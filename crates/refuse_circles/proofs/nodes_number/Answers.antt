@@ -7,7 +7,6 @@ use Rattle.refuse_circles.specs.Marks.{lower}
 use Rattle.refuse_circles.proofs.Touching.{both_lists}
 use Rattle.refuse_circles.proofs.nodes_number.Goals as goal
 
-
 pub returns : goal.returns
 returns c = let a = c.args in
     c.lower.ensures ∙ ap₂ lower c.list_number-number.ensures c.touching_number.ensures ∙ sym (both_lists (view a.b.now) a.unit (hands_given a.members.now) (pairs_given a.touching.now))

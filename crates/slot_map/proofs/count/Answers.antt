@@ -4,10 +4,8 @@ use lib.Count.{ones-le}
 use Rattle.slot_map.proofs.Counts.{ones_bits}
 use Rattle.slot_map.proofs.count.Goals as goal
 
-
 pub overflow_cast-result : goal.overflow_cast-result
 overflow_cast-result c = omega (arith, ones-le 64 c.args.w c.ranges.w.fits)
-
 
 pub returns : goal.returns
 returns c = ones_bits c.args.w 64 c.ranges.w.fits

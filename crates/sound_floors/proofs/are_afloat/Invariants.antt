@@ -10,10 +10,8 @@ use Rattle.sound_trees.proofs.Belows.{all_none, all_more, all_not, all_done}
 use Rattle.sound_floors.specs.Floors.{slot_afloat}
 use Rattle.sound_floors.proofs.are_afloat.Given as goal
 
-
 abbrev pub invariant-loop-s : goal.invariant-loop-s
 invariant-loop-s l = (all_to (slot_afloat l.b l.u l.t) l.s ≡ true) × (l.s ≤ l.used)
-
 
 abbrev pub decreases-loop-s : goal.decreases-loop-s
 decreases-loop-s l = l.used - l.s

@@ -4,7 +4,6 @@ use borrow.Author.Rules.{rules}
 use Rattle.sound_bench.proofs.Theorem.{sound_says}
 use Rattle.sound_lent.proofs.is_bench.Goals as goal
 
-
 pub returns : goal.returns
 returns c =
     let b = c.args.b.now in

@@ -11,10 +11,8 @@ use Rattle.sound_nodes.specs.Nodes.{slot_test}
 use Rattle.sound_nodes.proofs.Slots.{slots_of}
 use Rattle.sound_nodes.proofs.are_slots.Given as goal
 
-
 abbrev pub invariant-loop-s : goal.invariant-loop-s
 invariant-loop-s l = (all_to (slot_test l.b l.used l.map l.u) l.s ≡ true) × (l.s ≤ 64)
-
 
 abbrev pub decreases-loop-s : goal.decreases-loop-s
 decreases-loop-s l = 64 - l.s

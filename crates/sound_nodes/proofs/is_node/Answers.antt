@@ -5,14 +5,11 @@ use Rattle.sound_nodes.proofs.Slots.{good_parent, node_uncoded, node_row}
 use borrow.Author.Rules.{rules}
 use Rattle.sound_nodes.proofs.is_node.Goals as goal
 
-
 pub returns-then-not-is_coded : goal.returns-then-not-is_coded
 returns-then-not-is_coded c = node_uncoded c.args.b.now c.args.u c.args.s c.is_coded.result c.is_coded.ensures (c.if-not-is_coded.true)
 
-
 pub is_parent-seat-requires : goal.is_parent-seat-requires
 is_parent-seat-requires c = record { steady = c.requires.steady; good_parent = good_parent c.args.b.now (c.args.u * 64 + c.args.s) c.load_node-n.result c.load_node-n.ensures }
-
 
 pub returns : goal.returns
 returns c =

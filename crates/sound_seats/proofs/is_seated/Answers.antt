@@ -3,15 +3,12 @@ use Rattle.sound_seats.proofs.Seating.{seat_many, seat_past, seat_row}
 use borrow.Author.Rules.{rules}
 use Rattle.sound_seats.proofs.is_seated.Goals as goal
 
-
 pub returns-then-m-gt64 : goal.returns-then-m-gt64
 returns-then-m-gt64 c = seat_many c.args.b.now c.args.k c.args.top c.args.n c.args.q c.load_node-m.result c.load_node-m.ensures c.if-m-gt64.true
-
 
 pub returns-then-m-n : goal.returns-then-m-n
 returns-then-m-n c =
     seat_past c.args.b.now c.args.k c.args.top c.args.n c.args.q c.load_node-m.result c.load_node-m.ensures c.if-m-gt64.false c.if-m-n.true
-
 
 pub returns : goal.returns
 returns c =

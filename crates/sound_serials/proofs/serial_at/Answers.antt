@@ -3,6 +3,5 @@ use Rattle.sound_serials.proofs.Differing.{serial_of}
 use borrow.Author.Rules.{rules}
 use Rattle.sound_serials.proofs.serial_at.Goals as goal
 
-
 pub returns : goal.returns
 returns c = serial_of c.args.b.now c.args.k c.load_node-n.result c.load_node-n.ensures

@@ -6,10 +6,8 @@ use Rattle.sound_tops.specs.Tops.{rate_in}
 use Rattle.sound_tops.proofs.Pacing.{Adding, adding_none, adding_more, adding_done, rate_known}
 use Rattle.sound_tops.proofs.rates.Given as goal
 
-
 abbrev pub invariant-loop-s : goal.invariant-loop-s
 invariant-loop-s l = Adding (rate_in l.b l.u) 2 l.used l.total l.s
-
 
 abbrev pub decreases-loop-s : goal.decreases-loop-s
 decreases-loop-s l = l.used - l.s

@@ -4,22 +4,17 @@ use Rattle.sound_trees.proofs.Rows.{down_none, down_high, down_high_right, down_
 use borrow.Author.Rules.{rules}
 use Rattle.sound_trees.proofs.are_halves.Goals as goal
 
-
 pub returns-then-l-eq0 : goal.returns-then-l-eq0
 returns-then-l-eq0 c = down_none (interface_at c.args.b.now) c.args.l c.args.r c.args.u c.if-l-eq0.true
-
 
 pub returns-then-n-l : goal.returns-then-n-l
 returns-then-n-l c = down_high (interface_at c.args.b.now) c.args.l c.args.r c.args.u c.if-l-eq0.false c.if-n-l.true
 
-
 pub returns-then-n-r : goal.returns-then-n-r
 returns-then-n-r c = down_high_right (interface_at c.args.b.now) c.args.l c.args.r c.args.u c.if-l-eq0.false c.if-n-l.false c.if-n-r.true
 
-
 pub returns-then-r-eq0 : goal.returns-then-r-eq0
 returns-then-r-eq0 c = down_alone (interface_at c.args.b.now) c.args.l c.args.r c.args.u c.if-l-eq0.false c.if-n-l.false c.if-n-r.false c.if-r-eq0.true
-
 
 pub returns : goal.returns
 returns c =

@@ -3,10 +3,8 @@ use Rattle.sound_trees.proofs.Rows.{good_loaded, interface_row}
 use borrow.Author.Rules.{rules}
 use Rattle.sound_trees.proofs.is_interface.Goals as goal
 
-
 pub is_half-requires : goal.is_half-requires
 is_half-requires c = record { good_up = good_loaded c.args.b.now c.args.u c.load_interface-f.result c.load_interface-f.ensures; u_bound = c.requires }
-
 
 pub returns : goal.returns
 returns c =

@@ -3,7 +3,6 @@ use Rattle.bench_words.specs.Store.{node_at}
 use borrow.Author.Rules.{rules}
 use Rattle.bench_words.proofs.biases.load_state.Goals as goal
 
-
 pub returns : goal.returns
 unfolding node_at
 returns c = search rules

@@ -3,7 +3,6 @@ use Rattle.bench_words.specs.Store.{store_bias}
 use borrow.Author.Rules.{rules}
 use Rattle.bench_words.proofs.biases.store_bias.Goals as goal
 
-
 pub returns : goal.returns
 unfolding store_bias
 returns c = search rules

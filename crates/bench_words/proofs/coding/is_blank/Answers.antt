@@ -3,7 +3,6 @@ use Rattle.bench_words.specs.Coding.{blank_at}
 use borrow.Author.Rules.{rules}
 use Rattle.bench_words.proofs.coding.is_blank.Goals as goal
 
-
 pub returns : goal.returns
 unfolding blank_at
 returns c = search rules

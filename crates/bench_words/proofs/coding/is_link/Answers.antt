@@ -3,7 +3,6 @@ use Rattle.bench_words.specs.Coding.{link_at}
 use borrow.Author.Rules.{rules}
 use Rattle.bench_words.proofs.coding.is_link.Goals as goal
 
-
 pub returns : goal.returns
 unfolding link_at
 returns c = search rules

@@ -3,7 +3,6 @@ use Rattle.bench_words.specs.Coding.{spare_at}
 use borrow.Author.Rules.{rules}
 use Rattle.bench_words.proofs.coding.is_spare.Goals as goal
 
-
 pub returns : goal.returns
 unfolding spare_at
 returns c = search rules

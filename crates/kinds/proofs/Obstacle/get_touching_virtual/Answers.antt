@@ -4,6 +4,5 @@ use Rattle.kinds.proofs.Tests.{virtual_known}
 use borrow.Author.Rules.{rules}
 use Rattle.kinds.proofs.Obstacle.get_touching_virtual.Goals as goal
 
-
 pub returns-in-TouchingVirtual : goal.returns-in-TouchingVirtual
 returns-in-TouchingVirtual c = virtual_known _ _ _ _ c.in-TouchingVirtual.is
