@@ -12,11 +12,21 @@ fn fail(why: String) -> ! {
     std::process::exit(1)
 }
 
-/// The latest change below a folder.
+/// The latest change below a folder, what the toolchain writes (folders out) left aside.
 fn latest(folder: &Path) -> Option<SystemTime> {
-    let entries = fs::read_dir(folder).ok()?.flatten();
+    let entries = fs::read_dir(folder).ok()?.flatten().filter(|entry| entry.file_name() != "out");
     let changed = |path: PathBuf| if path.is_dir() { latest(&path) } else { path.metadata().ok()?.modified().ok() };
     entries.filter_map(|entry| changed(entry.path())).max()
+}
+
+/// Has cargo look at a crate's own folders, and not at what the toolchain writes beside them.
+fn watch(sources: &Path) {
+    println!("cargo:rerun-if-changed={}", sources.with_extension("txt").display());
+    for entry in fs::read_dir(sources).into_iter().flatten().flatten() {
+        for part in ["src", "specs", "proofs"].map(|name| entry.path().join(name)).iter().filter(|part| part.exists()) {
+            println!("cargo:rerun-if-changed={}", part.display());
+        }
+    }
 }
 
 /// Whether an archive is there and no source of it was changed since.
@@ -49,7 +59,7 @@ fn folder(root: &Path) -> PathBuf {
         return folder.canonicalize().unwrap_or(folder);
     }
     let (sources, built) = (root.join("crates"), root.join("target/staticlib"));
-    println!("cargo:rerun-if-changed={}", sources.display());
+    watch(&sources);
     println!("cargo:rerun-if-changed={}", root.join("rust/archive").display());
     if is_current(&built.join(ARCHIVE), &sources) {
         return built;

@@ -65,7 +65,7 @@ fn as_recorded() {
             }
         }
     }
-    // the reads of present nodes have no letter: their tests are those of the count and of the index (nextOf, presentOf in crates/read_present)
+    // the reads of present nodes have no letter: their tests are those of the count and of the index (next_of, present_of in crates/read_present)
     for (name, like) in [("present_count", "nodes_count"), ("next_present", "get_node")] {
         let same = seen.get(like).cloned().unwrap_or_default();
         seen.insert(name, same);
