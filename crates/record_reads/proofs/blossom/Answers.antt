@@ -10,7 +10,6 @@ use Rattle.record_measures.proofs.Members.{members_many}
 use borrow.Author.Rules.{rules}
 use Rattle.record_reads.proofs.blossom.Goals as goal
 
-
 pub returns : goal.returns
 returns c =
     let a = c.args in

@@ -5,6 +5,5 @@ use Rattle.text_lines.specs.declared.Line.TheVariants.{Expand}
 use borrow.Author.Rules.{rules}
 use Rattle.record_reads.proofs.expand.Goals as goal
 
-
 pub returns : goal.returns
 returns c = ap (λ (n : ℕ). Expand c.args.unit (record { 0 = n })) c.serial_at-serial.ensures

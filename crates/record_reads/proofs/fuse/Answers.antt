@@ -6,7 +6,6 @@ use Rattle.record_reads.proofs.Reading.{one_byte}
 use borrow.Author.Rules.{rules}
 use Rattle.record_reads.proofs.fuse.Goals as goal
 
-
 pub returns : goal.returns
 returns c =
     let a = c.args in

@@ -8,7 +8,6 @@ use borrow.Author.Rules.{rules}
 use mir.Syntax.{w64}
 use Rattle.record_reads.proofs.grow.Goals as goal
 
-
 pub returns : goal.returns
 returns c =
     let a = c.args in

@@ -5,7 +5,6 @@ use Rattle.record_reads.specs.Reads.{state_of}
 use borrow.Author.Rules.{rules}
 use Rattle.record_reads.proofs.set_state.Goals as goal
 
-
 pub returns : goal.returns
 returns c =
     let a = c.args in

@@ -8,18 +8,14 @@ use Rattle.record_runs.proofs.Putting.{put_four}
 use borrow.Author.Rules.{rules}
 use Rattle.record_runs.proofs.put.Goals as goal
 
-
 pub bounds-answers-at-2 : goal.bounds-answers-at-2
 bounds-answers-at-2 c = simp length-set (omega (arith, c.requires))
-
 
 pub bounds-answers-at-3 : goal.bounds-answers-at-3
 bounds-answers-at-3 c = simp length-set (omega (arith, c.requires))
 
-
 pub bounds-answers-at-4 : goal.bounds-answers-at-4
 bounds-answers-at-4 c = simp length-set (omega (arith, c.requires))
-
 
 pub returns : goal.returns
 returns c =
