@@ -91,7 +91,7 @@ interface_at b u =
 abbrev pub interface_words : Interface → List ℕ
 interface_words n = n.used ∷ n.progress ∷ n.sum ∷ n.speed ∷ up_word n.parent ∷ n.left ∷ n.right ∷ []
 
--- ---- an interface with one field changed, and one as set_up_lem leaves it: what every other definition makes one by, so that a new field is said in this file alone
+-- ---- an interface with one field changed, and one as set-up leaves it: what every other definition makes one by, so that a new field is said in this file alone
 
 abbrev pub set_used : Interface → ℕ → Interface
 set_used f x = record { used = x; progress = f.progress; sum = f.sum; speed = f.speed; parent = f.parent; left = f.left; right = f.right; marks = f.marks }

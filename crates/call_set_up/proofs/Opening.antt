@@ -1,4 +1,4 @@
--- Words that show the bench of set_up_lem hold a sound one, since the ledger's is; and they are the only ones. Assumes nothing.
+-- Words that show the bench of set-up hold a sound one, since the ledger's is; and they are the only ones. Assumes nothing.
 use Prim.Native.Nat.{ℕ, zero, suc, ◌<◌}
 use mathlib.Core.Path.{◌≡◌, refl, sym, ◌∙◌, ap}
 use mathlib.Core.Bool.{Bool, true, false}

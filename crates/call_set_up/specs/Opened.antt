@@ -1,4 +1,4 @@
--- What set_up_lem answers and leaves: the plain ledger's own, in words that hold a sound bench. Assumes nothing.
+-- What set-up answers and leaves: the plain ledger's own, in words that hold a sound bench. Assumes nothing.
 use Rattle.std.specs.Prelude.{ℕ, ◌≡◌, Bool, List}
 use Rattle.ledger_spec.specs.Calls.{set_up_call, set_up_call_in}
 use Rattle.bench_views.specs.View.{view}

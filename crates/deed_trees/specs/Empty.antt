@@ -25,7 +25,7 @@ pub record Emptied (b : List ℕ) (u : ℕ) (b' : List ℕ) (n : ℕ) : Type 0 w
   pub gone : (s : ℕ) → s < n → node_at b' (u * 64 + s) ≡ no_node
   pub kept : (k : ℕ) → ((s : ℕ) → s < n → k ≢ u * 64 + s) → node_at b' k ≡ node_at b k
 
--- b' is b with interface u as set_up_lem leaves it, its map too, and the slots that it used empty
+-- b' is b with interface u as set-up leaves it, its map too, and the slots that it used empty
 pub record Reset (b : List ℕ) (u : ℕ) (b' : List ℕ) : Type 0 where
   pub steady : Steady b'
   pub coded : Coded b'

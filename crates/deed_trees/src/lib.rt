@@ -1,5 +1,5 @@
 #![tactic(auto)]
-// The work of fuse, clear and set_up_lem, over the words that the caller lends, against the plain ledger's own definitions. A fuse touches no node; a
+// The work of fuse, clear and set-up, over the words that the caller lends, against the plain ledger's own definitions. A fuse touches no node; a
 // clear touches the slots used in its tree. No refusal is left: each asks that its tests pass on words that fit. Assumes nothing.
 ghost use Rattle.std.specs.Prelude.{◌≡◌, ℕ, ◌+◌, ◌*◌, ◌<◌, ◌≤◌, length, get_or};
 ghost use Rattle.bench_words.specs.Store.{interface_at, store_interface, no_interface};
@@ -15,7 +15,7 @@ ghost use Rattle.deed_trees.specs.Empty.{with_up, Emptied, Reset};
 
 use bench_words::{Interface, Marks, Up, WORDS};
 
-// An interface as set_up_lem leaves it, in either engine.
+// An interface as set-up leaves it, in either engine.
 fn no_interface(plain: bool) -> Interface
     ensures { result ≡ no_interface plain }
 {

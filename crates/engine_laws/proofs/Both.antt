@@ -1,4 +1,4 @@
--- THEOREM. The same calls from set_up_lem in both engines: the same answers, and benches that nobody can tell apart; the same lines: the same bytes. Assumes nothing.
+-- THEOREM. The same calls from set-up in both engines: the same answers, and benches that nobody can tell apart; the same lines: the same bytes. Assumes nothing.
 use Prim.Native.Nat.{ℕ}
 use mathlib.Core.Path.{◌≡◌, refl, sym, ap, subst, ◌∙◌}
 use mathlib.Core.Bool.{Bool, true, false}
@@ -54,7 +54,7 @@ module _ (m : Bool) where
   turns_engine k [] = refl
   turns_engine k (c ∷ cs) = ap (λ (j : Book). turns j cs) (turn_engine k c) ∙ turns_engine (turn k c) cs
 
--- ---- from set_up_lem
+-- ---- from set-up
 pub kept_through : (b : Bench) (cs : List Call) → (after b cs).plain ≡ b.plain
 kept_through b cs = ap (λ (d : Bench). d.plain) (after_engine b.plain b cs)
 

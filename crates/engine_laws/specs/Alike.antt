@@ -1,4 +1,4 @@
--- The same calls from set_up_lem in both engines, and what is said of the two runs. Assumes nothing.
+-- The same calls from set-up in both engines, and what is said of the two runs. Assumes nothing.
 use Rattle.std.specs.Prelude.{ℕ, ◌≡◌, true, false, List, [], ◌∷◌}
 use Rattle.ledger_spec.specs.Bench.{Handle, Bench, set_up_in}
 use Rattle.ledger_spec.specs.Calls.{Call}
@@ -29,7 +29,7 @@ pub record Lookalikes (p l : Bench) : Type 0 where
   pub interfaces : p.interfaces ≡ l.interfaces
   pub asked : (q : Question) → read p (asking p q) ≡ read l (asking l q)
 
--- any calls from set_up_lem, from any first serial
+-- any calls from set-up, from any first serial
 pub record BothEngines (n : ℕ) (cs : List Call) : Type 0 where
   pub answers : heard (set_up_in true n) cs ≡ heard (set_up_in false n) cs
   pub benches : Lookalikes (after (set_up_in true n) cs) (after (set_up_in false n) cs)

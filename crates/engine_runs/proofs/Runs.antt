@@ -42,7 +42,7 @@ engines_run T stop stop = record { answers = refl; words = T; asking = asked_ali
 engines_run T (next x R) (next y S) =
     let F = engines_run (called_twins T x y) R S in record { answers = ap₂ ◌∷◌ (called_alike T x y) F.answers; words = F.words; asking = F.asking }
 
--- ---- from set_up_lem, with any first serial
+-- ---- from set-up, with any first serial
 pub opened_twins : {n : ℕ} {p l : List ℕ} → OpenedIn true n p → OpenedIn false n l → Twins true p l
 opened_twins {n} P L = record { one = P.words; other = L.words; seen = P.seen ∙ opened_in true n ∙ sym (ap (in_engine true) L.seen) }
 

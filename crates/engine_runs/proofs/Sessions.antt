@@ -1,4 +1,4 @@
--- THEOREM. Two runs of the same public calls from set_up_lem, whatever they are, one in the plain engine and one in the lazy, from any first serial: all that they
+-- THEOREM. Two runs of the same public calls from set-up, whatever they are, one in the plain engine and one in the lazy, from any first serial: all that they
 -- give back is equal, the benches left differ in the engine alone, and every question is answered the same. Assumes nothing.
 use Prim.Native.Nat.{ℕ}
 use mathlib.Core.Path.{◌≡◌, refl, ap, ap₂}
@@ -24,7 +24,7 @@ sessions_run T (files {b' = p₁} {bytes = f} {room = o} {room' = o₁} {r = r} 
     let F = files_alike T f o r s p₁ l₁ o₁ o₂ x y in before (ap₂ ran F.same F.slices) (sessions_run F.words R S)
 sessions_run T (asks {q = q} R) (asks S) = before (ap (told q) (asked_alike T q)) (sessions_run T R S)
 
--- ---- from set_up_lem
+-- ---- from set-up
 module _ {n : ℕ} {p l : List ℕ} (P : OpenedIn true n p) (L : OpenedIn false n l) {xs : List Step} {ys zs : List Seen} {p' l' : List ℕ} (R : Session p xs ys p') (S : Session l xs zs l') where
   pub engines_alike : Alike true ys zs p' l'
   engines_alike = sessions_run (opened_twins P L) R S

@@ -42,7 +42,7 @@ pub const TWICE: u8 = 13;
 // Every slot of the interface used.
 pub const FULL: u8 = 14;
 
-// No serial left; set_up_lem from 0.
+// No serial left; set-up from 0.
 pub const WORN: u8 = 15;
 
 // Fuse: left is right, or the parent's number not above both.

@@ -1,4 +1,4 @@
--- Every call keeps a sound bench sound, so that from set_up_lem no call ever meets BROKEN. Assumes nothing.
+-- Every call keeps a sound bench sound, so that from set-up no call ever meets BROKEN. Assumes nothing.
 use Prim.Native.Nat.{ℕ, zero, suc, ◌≤◌, ◌<◌, ◌^◌}
 use mathlib.Core.Path.{◌≡◌, refl, sym, ◌∙◌, ap, subst}
 use mathlib.Core.Logic.{◌≢◌}
@@ -60,7 +60,7 @@ answered_sound b S c = go (answer b c).number refl
 pub answer_sound : (b : Bench) (c : Call) → sound b ≡ true → sound (answer b c).bench ≡ true
 answer_sound b c e = holds (answer b c).bench (answered_sound b (says b e) c)
 
--- ---- from set_up_lem, whose first serial has 32 bits
+-- ---- from set-up, whose first serial has 32 bits
 from_one : (n : ℕ) → set_up_no n ≡ 0 → 1 ≤ n
 unfolding first
 from_one zero e = absurd (omega arith)
@@ -128,6 +128,6 @@ broken_only b c e = go (sound b) refl
 pub never_broken : (n : ℕ) → n < 2 ^ 32 → (cs : List Call) (c : Call) → (answer (turns (new_book n) cs).bench c).number ≢ 2
 never_broken n h cs c e = true≢false (sym (always_sound n h cs) ∙ broken_only (turns (new_book n) cs).bench c e)
 
--- in a floored interface no present node has a negative value, after any calls from set_up_lem
+-- in a floored interface no present node has a negative value, after any calls from set-up
 pub never_below : (n : ℕ) → n < 2 ^ 32 → (cs : List Call) (u s : ℕ) (m : Node) → floored (turns (new_book n) cs).bench u ≡ true → slot_of (turns (new_book n) cs).bench u s ≡ some m → le_z (pos 0) m.value ≡ true
 never_below n h cs u s m f e = ap afloat (sym e) ∙ (turns_sound (new_book n) cs (begun_sound n h)).floors.values u s f

@@ -52,7 +52,7 @@ module _ {A : Type 0} (b : Bench) (z : A) where
       go true e = ap (λ (r : ℕ × A). r.1) (ask_true (said n v z) e) ∙ said_refused n v (λ k. q (ap (λ (r : ℕ × A). r.0) (ask_true (said n v z) e) ∙ k))
       go false e = ap (λ (r : ℕ × A). r.1) (ask_false (said n v z) e)
 
--- after any calls from set_up_lem a read answers what it reads
+-- after any calls from set-up a read answers what it reads
 pub ask_always : {A : Type 0} (n : ℕ) → n < 2 ^ 32 → (cs : List Call) (z : A) (r : ℕ × A) → ask (turns (new_book n) cs).bench z r ≡ r
 ask_always n h cs z r = ask_true (turns (new_book n) cs).bench z r (always_sound n h cs)
 

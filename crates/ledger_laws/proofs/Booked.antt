@@ -209,7 +209,7 @@ module _ (b : Bench) (F : Frame b) (u : ℕ) (g : Gone) where
       bare_now w e (yes x) = forgot_yes w x
       bare_now w e (no x) = forgot_no w x ∙ K.bare w (ap (λ (f : Interface). f.slots) (sym (wipe_else b u w x)) ∙ e)
 
--- ---- set_up_lem
+-- ---- set-up
 pub opened_booked : (n : ℕ) → Booked (set_up n) (λ w. [])
 unfolding slot_sum total
 opened_booked n = record {

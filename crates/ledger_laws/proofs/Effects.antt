@@ -258,7 +258,7 @@ fuse_leaves b p l r z = subst (FuseLeaves b p l r (answer b (Fuse p l r)).node) 
     j : Joins b p l r
     j = joins (says b (zero_sound b (Fuse p l r) z)).frame f
 
--- ---- clear: the tree as at set_up_lem, the others and the next serial as they were
+-- ---- clear: the tree as at set-up, the others and the next serial as they were
 pub record ClearLeaves (b : Bench) (u : ℕ) (h : Handle) (b' : Bench) : Type 0 where
   pub handle : h ≡ nobody
   pub inside : (w : ℕ) → top b w ≡ u → interface b' w ≡ fresh

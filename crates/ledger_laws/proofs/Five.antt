@@ -1,4 +1,4 @@
--- The check's verdict 5: it comes exactly where the walk finds nothing and the sum is not the total of values; after calls from set_up_lem, where what
+-- The check's verdict 5: it comes exactly where the walk finds nothing and the sum is not the total of values; after calls from set-up, where what
 -- went from the tree does not add up to 0. Assumes nothing.
 use Prim.Native.Nat.{ℕ, zero, suc, ◌≤◌, ◌<◌}
 use mathlib.Core.Path.{◌≡◌, refl, ap}
@@ -135,7 +135,7 @@ module _ (b : Bench) (u : ℕ) where
       go zero f = (f, λ s. omega (arith, e, ap (λ (w : ℕ × ℕ). w.0) (verdict_zero f s)))
       go (suc k) f = absurd (omega (arith, e, ap (λ (w : ℕ × ℕ). w.0) (verdict_found k f), walk_small b (slots_of b u) (slots_of b u) [] 0))
 
--- ---- after calls from set_up_lem: exactly where what went from the tree does not add up to 0
+-- ---- after calls from set-up: exactly where what went from the tree does not add up to 0
 module _ (n : ℕ) (cs : List Call) (i : ℕ) (h : i < 8) (free : (interface (turns (new_book n) cs).bench i).parent ≡ none) where
   abbrev pub went : ℤ
   went = along (λ u. total ((turns (new_book n) cs).gone u)) (tree 8 (turns (new_book n) cs).bench i)

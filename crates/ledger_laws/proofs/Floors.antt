@@ -160,7 +160,7 @@ choose_floors b F L u k P = record {
     at w s e (yes x) = ap afloat (ap (λ (y : List (Option Node)). get_or y s none) (ap (λ (m : ℕ). (interface b m).slots) x ∙ P.no_slots))
     at w s e (no x) = L.values w s (sym (same_mark w x) ∙ e)
 
--- ---- set_up_lem
+-- ---- set-up
 pub opened_floors : (n : ℕ) → Floors (set_up n)
 opened_floors n = record {
   level = λ u p e. absurd (none_some (ap (λ (f : Interface). f.parent) (all_fresh 8 u)) e);

@@ -129,7 +129,7 @@ module _ (b : Bench) (F : Frame b) (u : ℕ) where
     apart = λ x c d h. F.apart x c d (halves_of x (c, d) h).1;
   }
 
--- ---- set_up_lem
+-- ---- set-up
 pub all_fresh : (m u : ℕ) → get_or (replicate m fresh) u fresh ≡ fresh
 all_fresh zero u = refl
 all_fresh (suc m) zero = refl

@@ -133,7 +133,7 @@ clear_paced b F u P = bal_clear (top b) (top (wipe b u)) (rates_in b) (rates_in 
     (λ i. (interface b i).speed) (λ i. (interface (wipe b u) i).speed)
     (λ w h e. ap (λ (f : Interface). f.speed) (wipe_under b u w e)) (λ w h e. ap (λ (f : Interface). f.speed) (wipe_else b u w e)) P
 
--- ---- set_up_lem
+-- ---- set-up
 pub opened_paced : (n : ℕ) → Paced (set_up n)
 unfolding slot_sum
 opened_paced n i h root = ap (λ (f : Interface). f.speed) (all_fresh 8 i)

@@ -205,7 +205,7 @@ clear_sewn b F S u = sewn_at b (wipe b u) b.next (wipe_next b u) S.begun
     (knit_clear (slot_of b) (slot_of (wipe b u)) b.next (top b) (top (wipe b u)) u S.knit
     (λ w v e. ap (λ (f : Interface). get_or f.slots v none) (wipe_under b u w e)) (λ w v e. ap (λ (f : Interface). get_or f.slots v none) (wipe_else b u w e)) (wipe_top_else b u F))
 
--- ---- set_up_lem: no nodes
+-- ---- set-up: no nodes
 pub opened_empty : (n u s : ℕ) → slot_of (set_up n) u s ≡ none
 opened_empty n u s = ap (λ (f : Interface). get_or f.slots s none) (all_fresh 8 u)
 

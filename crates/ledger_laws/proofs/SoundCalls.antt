@@ -296,7 +296,7 @@ module _ (b : Bench) (S : Sound b) (u : ℕ) where
     floors = clear_floors b S.frame S.floors u;
   }
 
--- ---- set_up_lem
+-- ---- set-up
 pub opened_sound : (n : ℕ) → 1 ≤ n → n ≤ 2 ^ 32 → Sound (set_up n)
 opened_sound n low high = record {
   frame = opened_frame n;

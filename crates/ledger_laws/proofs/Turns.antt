@@ -1,4 +1,4 @@
--- Demand 3, the accounting: after any calls from set_up_lem the stored sum and speed of every interface without a parent are right, and the check's
+-- Demand 3, the accounting: after any calls from set-up the stored sum and speed of every interface without a parent are right, and the check's
 -- verdict 5 is what went from the tree. Assumes nothing.
 use Prim.Native.Nat.{ℕ, zero, suc, ◌<◌}
 use mathlib.Core.Path.{◌≡◌, refl, sym, ◌∙◌, ap, subst}

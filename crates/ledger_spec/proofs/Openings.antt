@@ -1,4 +1,4 @@
--- An input whose first line chooses no engine is answered as lines of the grammar, from set_up_lem; one whose first line does: four zeros, then its other lines.
+-- An input whose first line chooses no engine is answered as lines of the grammar, from set-up; one whose first line does: four zeros, then its other lines.
 -- Assumes nothing.
 use Prim.Native.Nat.{ℕ}
 use mathlib.Core.Bool.{Bool}

@@ -1,4 +1,4 @@
--- The bench of docs/MANUAL.md, Words, held plainly: what a node, an interface and a bench are, and the bench that set_up_lem makes.
+-- The bench of docs/MANUAL.md, Words, held plainly: what a node, an interface and a bench are, and the bench that set-up makes.
 -- A weight is the ℤ that a contract has for an `i64`; serials, slots and vertices are ℕ. Assumes nothing.
 use Rattle.std.specs.Prelude.{ℕ, Bool, true, false, List, [], ℤ, pos, negsuc, replicate}
 use Rattle.std.proofs.Math.Option.{Option, none}
@@ -63,7 +63,7 @@ pub record Interface : Type 0 where
   pub halves : Option (ℕ × ℕ)
   pub marks : Marks
 
--- `plain` says which engine holds the values: the plain one adds to each at every growth. It is chosen at set_up_lem, and no call, read or check looks at it.
+-- `plain` says which engine holds the values: the plain one adds to each at every growth. It is chosen at set-up, and no call, read or check looks at it.
 pub record Bench : Type 0 where
   pub next : ℕ
   pub interfaces : List Interface
@@ -95,7 +95,7 @@ with_halves f x = record { slots = f.slots; progress = f.progress; sum = f.sum; 
 abbrev pub with_marks : Interface → Marks → Interface
 with_marks f x = record { slots = f.slots; progress = f.progress; sum = f.sum; speed = f.speed; parent = f.parent; halves = f.halves; marks = x }
 
--- the bench that set_up_lem makes, in either engine; and in the lazy one
+-- the bench that set-up makes, in either engine; and in the lazy one
 abbrev pub set_up_in : Bool → ℕ → Bench
 set_up_in plain first = record { next = first; interfaces = replicate 8 fresh; plain = plain }
 

@@ -7,7 +7,7 @@ use Rattle.ledger_spec.specs.Answers.{Answer, answer}
 use Rattle.ledger_spec.specs.Book.{turns, new_book}
 use Rattle.ledger_spec.specs.Opened.{run}
 
--- the number and the handle that a call answers after others, from set_up_lem
+-- the number and the handle that a call answers after others, from set-up
 pub after : List Call → Call → ℕ × Handle
 unfolding run
 after cs c = let a : Answer = answer (turns (new_book 1) cs).bench c in (a.number, a.node)

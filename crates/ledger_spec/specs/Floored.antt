@@ -8,7 +8,7 @@ use Rattle.ledger_spec.specs.Answers.{answer}
 use Rattle.ledger_spec.specs.Book.{turns, new_book}
 use Rattle.ledger_spec.specs.Opened.{run}
 
--- the number that a call answers after others, from set_up_lem; and on a bench
+-- the number that a call answers after others, from set-up; and on a bench
 pub after : List Call → Call → ℕ
 unfolding run
 after cs c = (answer (turns (new_book 1) cs).bench c).number

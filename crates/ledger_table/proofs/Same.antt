@@ -1,5 +1,5 @@
 -- Every text counts the same, replayed by the plain ledger, which tests the whole bench before each answer, and by the one that looks at the next serial
--- alone: a bench that set_up_lem made and calls changed is sound unless its first serial was past 32 bits, and then no call changes it. Assumes nothing.
+-- alone: a bench that set-up made and calls changed is sound unless its first serial was past 32 bits, and then no call changes it. Assumes nothing.
 use Prim.Native.Nat.{ℕ, zero, suc, ◌≤◌, ◌^◌}
 use Prim.Native.Char.{code}
 use Prim.Native.String.{String}
@@ -98,7 +98,7 @@ module _ (t : Bench → Bool) (k : Desk) (c : ℕ) (l : List ℤ) where
 turn_same : (k : Desk) (c : ℕ) (l : List ℤ) → Reached k.bench → desk_turn plain k c l ≡ desk_turn (tested next_fits) k c l
 turn_same k c l R = ap (λ (L : Ledger). desk_turn L k c l) plain_tested ∙ turn_here sound k c l ∙ ap (λ (s : Bool). desk_turn (tested (λ b. s)) k c l) R.agree ∙ sym (turn_here next_fits k c l)
 
--- only set_up_lem and calls change the bench
+-- only set-up and calls change the bench
 module _ (k : Desk) (c : ℕ) (l : List ℤ) (R : Reached k.bench) where
   regroups_reached : (r : Option (List ℤ × Group)) → Reached (regroups plain k c l r).desk.bench
   unfolding regroups

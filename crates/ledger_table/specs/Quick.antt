@@ -29,7 +29,7 @@ tested t = record {
       g;
 }
 
--- all that can be wrong with a bench that a text leads to: a set_up_lem past the serials
+-- all that can be wrong with a bench that a text leads to: a set-up past the serials
 abbrev pub next_fits : Bench → Bool
 next_fits b = leb b.next (2 ^ 32)
 

@@ -1,4 +1,4 @@
--- The theorem is not empty: two runs from set_up_lem with serials 1 and 1000, in which the other patch makes quite different calls, and the watched one makes
+-- The theorem is not empty: two runs from set-up with serials 1 and 1000, in which the other patch makes quite different calls, and the watched one makes
 -- defects, blossoms with touching pairs, fuses, grows, expands, clears and marks its own, adds to a group and pops one, asks for present nodes, names nodes that went and a number that it was
 -- not given, and interfaces that have a parent or do not exist. Assumes nothing.
 use Prim.Native.Nat.{ℕ}

@@ -1,4 +1,4 @@
--- The link between the patch alone on a bench and the patch on a bench that it shares: it holds at set_up_lem, a call of the other patch keeps it, and a call
+-- The link between the patch alone on a bench and the patch on a bench that it shares: it holds at set-up, a call of the other patch keeps it, and a call
 -- of the patch, made on both, keeps it and shows the patch the same. Assumes nothing.
 use Prim.Native.Nat.{ℕ, zero, suc, ◌≤◌, ◌<◌, ◌^◌}
 use mathlib.Core.Path.{◌≡◌, refl, sym, ◌∙◌, ap, ap₂, subst, subst₂}

@@ -25,7 +25,7 @@ use Rattle.patch_laws.proofs.Rising.{shifted, rising_shift}
 use Rattle.patch_laws.proofs.Links.{Link, theirs_link, ours_link, ours_seen}
 use Rattle.patch_laws.proofs.Told.{told_same}
 
--- ---- at set_up_lem no interface names anything
+-- ---- at set-up no interface names anything
 module _ (p : Patch) (m n : ℕ) where
   opened_faces : (R : Renaming) → Faces p R (set_up m) (set_up n)
   opened_faces R = record { long = refl; face = λ w k. all_fresh 8 w ∙ ap (re_face R) (sym (all_fresh 8 w)) }
@@ -37,7 +37,7 @@ module _ (p : Patch) (m n : ℕ) where
     right = λ w l r k e. absurd (none_some (ap (λ (f : Interface). f.halves) (all_fresh 8 w)) e);
   }
 
--- set_up_lem from 0 is refused, and leaves the bench of set_up_lem from 1
+-- set-up from 0 is refused, and leaves the bench of set-up from 1
 pub first_serial : ℕ → ℕ
 first_serial zero = 1
 first_serial (suc n) = suc n
@@ -79,13 +79,13 @@ module _ (a p : Patch) (apart : Apart a p) where
   pub alone : (ρ : ℕ → ℕ) (k₀ k : Side) → Link p ρ k₀ k → (xs : List Step) → AllFit a p xs → Unworn (sees k xs) → sees k xs ≡ sees k₀ (own xs)
   unfolding sees own
   alone ρ k₀ k L [] fit w = refl
-  alone ρ k₀ k L (theirs c ∷ xs) fit w = alone _ k₀ (record { bench = (answer k.bench c).bench; table = k.table }) (theirs_link a p apart ρ k₀ k L c (each a (units_named c) fit.0)) xs fit.1 w
+  alone ρ k₀ k L (theirs c ∷ xs) fit w = alone (shifted ρ k₀.bench.next (answer k.bench c).bench.next) k₀ (record { bench = (answer k.bench c).bench; table = k.table }) (theirs_link a p apart ρ k₀ k L c (each a (units_named c) fit.0)) xs fit.1 w
   alone ρ k₀ k L (ours c ∷ xs) fit w = let q : (answer_to k c).number ≢ 15 = unfold seen in w.0 in
       ap₂ ◌∷◌ (ours_seen p ρ k₀ k L c (each p (units_of c) fit.0) q)
       (alone ρ (after k₀ c) (after k c) (ours_link p ρ k₀ k L c (each p (units_of c) fit.0) q) xs fit.1 w.1)
   alone ρ k₀ k L (asked r ∷ xs) fit w = ap₂ ◌∷◌ (told_same p ρ k₀ k L r (each p (read_of r) fit.0)) (alone ρ k₀ k L xs fit.1 w.1)
 
--- what the patch sees is what it sees alone, from set_up_lem with serial 1
+-- what the patch sees is what it sees alone, from set-up with serial 1
 pub as_alone : (a p : Patch) → Apart a p → (n : ℕ) → n < 2 ^ 32 → (xs : List Step) → AllFit a p xs → Unworn (sees (opened n) xs) → sees (opened n) xs ≡ sees (opened 1) (own xs)
 as_alone a p apart n h xs fit w = alone a p apart _ (opened 1) (opened n) (opened_link p n h) xs fit w
 

@@ -167,7 +167,7 @@ reached k (theirs c ∷ xs) = reached (record { bench = (answer k.bench c).bench
 reached k (ours c ∷ xs) = reached (after k c) xs
 reached k (asked r ∷ xs) = reached k xs
 
--- from set_up_lem with its first serial, and no handles
+-- from set-up with its first serial, and no handles
 abbrev pub opened : ℕ → Side
 opened n = record { bench = (set_up_call n).bench; table = [] }
 

@@ -49,7 +49,7 @@ abbrev pub Unworn : List Seen → Type 0
 Unworn [] = Unit {0}
 Unworn (x ∷ xs) = (number_of x ≢ WORN) × Unworn xs
 
--- Two runs from set_up_lem, with any first serials, whose watched patch makes the same calls and reads, show it the same: numbers, names, notices, values,
+-- Two runs from set-up, with any first serials, whose watched patch makes the same calls and reads, show it the same: numbers, names, notices, values,
 -- verdicts and groups. The other patch's calls, how many and between which steps, are any in each. A bench has no settings of its own; one that is
 -- added must be the same in both.
 abbrev pub TwoPatches : Type 0

@@ -70,7 +70,7 @@ abbrev pub AllFresh : List Sight → Type 0
 AllFresh [] = Unit {0}
 AllFresh (x ∷ xs) = FreshSight x × AllFresh xs
 
--- two runs from set_up_lem, with any first serials, whose watched patch makes the same calls, reads and recorded growths, show it the same
+-- two runs from set-up, with any first serials, whose watched patch makes the same calls, reads and recorded growths, show it the same
 abbrev pub TwoPlays : Type 0
 TwoPlays =
     (a p : Patch) → Apart a p → (m n : ℕ) → m < 2 ^ 32 → n < 2 ^ 32 → (xs ys : List Play) → AllPlay a p xs → AllPlay a p ys

@@ -184,7 +184,7 @@ module _ (a p : Patch) (apart : Apart a p) where
   line_by_line (theirs l ∷ xs) ρ k₀ k L q₀ q N₀ N₁ fit x = by_other xs (line_by_line xs) ρ k₀ k L q₀ q N₀ N₁ fit.1 l (each a (units_in l) fit.0) x
   line_by_line (ours l ∷ xs) ρ k₀ k L q₀ q N₀ N₁ fit x = by_line xs (line_by_line xs) ρ k₀ k L q₀ q N₀ N₁ fit.1 l (each p (units_in l) fit.0) x
 
--- ---- from set_up_lem
+-- ---- from set-up
 opened_kin : (n : ℕ) → Kin (opened n) (page.opened n)
 opened_kin n = record { bench = refl; serials = refl; firm = λ h i. absurd (not_in_nil i); old = λ h i. absurd (not_in_nil i) }
 

@@ -37,7 +37,7 @@ abbrev pub Unworn : List Read → Type 0
 Unworn [] = Unit {0}
 Unworn (x ∷ xs) = (x.0 ≢ WORN) × Unworn xs
 
--- Two runs of lines from set_up_lem, with any first serials, whose lines of the watched patch are the same but for serials, read by numbers: their answers
+-- Two runs of lines from set-up, with any first serials, whose lines of the watched patch are the same but for serials, read by numbers: their answers
 -- are the same, the serial field by numbers too.
 abbrev pub TwoTexts : Type 0
 TwoTexts =

@@ -105,6 +105,6 @@ own_of (x ∷ xs) [] = []
 own_of (theirs l ∷ xs) (r ∷ rs) = own_of xs rs
 own_of (ours l ∷ xs) (r ∷ rs) = r ∷ own_of xs rs
 
--- from set_up_lem with its first serial, and nothing handed out
+-- from set-up with its first serial, and nothing handed out
 abbrev pub opened : ℕ → Page
 opened n = record { bench = (set_up_call n).bench; serials = [] }

@@ -1,4 +1,4 @@
--- No value below zero, of the stored words: after any run of the public calls from set_up_lem. Assumes nothing.
+-- No value below zero, of the stored words: after any run of the public calls from set-up. Assumes nothing.
 use Prim.Native.Nat.{ℕ}
 use mathlib.Core.Path.{◌≡◌, sym, ◌∙◌, ap}
 use mathlib.Core.Bool.{true}

@@ -1,4 +1,4 @@
--- Any run of public calls from set_up_lem answers as the plain ledger does, never meets BROKEN, and leaves words whose stored sums and speeds are right;
+-- Any run of public calls from set-up answers as the plain ledger does, never meets BROKEN, and leaves words whose stored sums and speeds are right;
 -- growing in two steps leaves the words that one step leaves. Assumes nothing.
 use Prim.Native.Nat.{ℕ, ◌<◌}
 use mathlib.Core.Path.{◌≡◌, refl, sym, ◌∙◌, ap, ap₂, subst}
@@ -76,7 +76,7 @@ follows (next {c = c} x R) W k e =
       unbroken = (not_broken W x, F.unbroken);
     }
 
--- ---- from set_up_lem
+-- ---- from set-up
 module _ {n : ℕ} {b : List ℕ} (O : Opened n b) {cs : List Call} {rs : List Answer} {b' : List ℕ} (R : Ran b cs rs b') where
   pub from_set_up : Followed (new_book n) cs rs b'
   from_set_up = follows R O.words (new_book n) O.seen

@@ -34,7 +34,7 @@ text_some a =
     )
 
 module _ (chunk p buf : List ℕ) (n at : ℕ) (out : List ℕ) where
-  -- the first line is not ended: nothing is written, and the bench is as set_up_lem makes it
+  -- the first line is not ended: nothing is written, and the bench is as set-up makes it
   pub opened_part : Feeds 0 chunk p chunk buf false n at → (b : Bench) → b ≡ set_up 1 → OpeningAnswered chunk p out b buf out n 0
   opened_part f b e =
       let z = f.no_first refl in

@@ -8,7 +8,7 @@ pub whole : replayed "N 1\n= 0\nD 0 3\n= 0 1 1 0 1 1 1\nD 0 8\n= 0 2 2 0 1 1 2\n
 unfolding quickly
 whole = by_quick _ refl
 
--- BROKEN stands in front of every answer: a set_up_lem past 32 bits leaves a bench that is not sound, one just at them a worn one
+-- BROKEN stands in front of every answer: a set-up past 32 bits leaves a bench that is not sound, one just at them a worn one
 pub past : replayed "N 4294967297\n= 0\nD 0 3\n= 2 0 0 0 0\ns 0\n= 2 0\ng 0 5 1\n= 2\nN 4294967296\n= 0\nD 0 3\n= 15 0 0 0 0\nD 8 3\n= 3 0 0 0 0\nN 0\n= 15\nD 0 3\n= 0 1 1 0 1 1 1\n" ≡ (9, 0)
 unfolding quickly
 past = by_quick _ refl
