@@ -8,7 +8,7 @@ use native.Mathlib.Numerals.{add-one}
 use native.Mathlib.Omega.{arith}
 use borrow.Author.Tests.{le-ltb}
 use lib.ListN.{length, drop, get_or, drop_of_length-le}
-use lib.Seq.{drop_cons}
+use lib.Seq.{drop-cons}
 use lib.IntN.{pos}
 use Rattle.bench_words.specs.Store.{node_at, interface_at}
 use Rattle.bench_words.specs.declared.Interface.{Interface}
@@ -71,7 +71,7 @@ module _ (b : List ℕ) (u m : ℕ) where
         here = ap₂ (slot_of (view b)) unit slot
 
         more : drop s slots ≡ get_or slots s none ∷ drop (s + 1) slots
-        more = drop_cons slots s none (omega (arith, count, h)) ∙ ap (λ (j : ℕ). get_or slots s none ∷ drop j slots) (sym (add-one s))
+        more = drop-cons slots s none (omega (arith, count, h)) ∙ ap (λ (j : ℕ). get_or slots s none ∷ drop j slots) (sym (add-one s))
 
 -- where a slot stands
 module _ (b : List ℕ) (F : Fit b) (u : ℕ) (lu : u < 8) (f : Interface) (e : f ≡ interface_at b u) (s : ℕ) (h : s < f.used) where

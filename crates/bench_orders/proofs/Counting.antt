@@ -7,7 +7,7 @@ use mathlib.Core.List.{List, [], ◌∷◌}
 use native.Mathlib.Numerals.{add-one}
 use native.Mathlib.Omega.{arith}
 use lib.ListN.{length, drop, get_or, drop_of_length-le}
-use lib.Seq.{drop_cons, get_or-take, length-take-le}
+use lib.Seq.{drop-cons, get_or-take, length-take-le}
 use Rattle.bench_words.specs.Store.{node_at, interface_at}
 use Rattle.bench_words.specs.declared.Interface.{Interface}
 use Rattle.ledger_spec.specs.Bench.{Handle, Node}
@@ -49,7 +49,7 @@ module _ (b : List ℕ) (F : Fit b) (unit : ℕ) (lu : unit < 8) (o : Order) (L 
     unit_low = subst (λ (x : ℕ). x < 8) unit_at (tree_low (view b) F.frame unit i lu (omega (arith, counted)))
 
     pub left_more : left i ≡ gather (view b) (u ∷ drop (i + 1) (tree 8 (view b) unit))
-    left_more = ap (gather (view b)) (drop_cons (tree 8 (view b) unit) i 0 (omega (arith, counted)) ∙ ap₂ (λ (x : ℕ) (n : ℕ). x ∷ drop n (tree 8 (view b) unit)) unit_at (sym (add-one i)))
+    left_more = ap (gather (view b)) (drop-cons (tree 8 (view b) unit) i 0 (omega (arith, counted)) ∙ ap₂ (λ (x : ℕ) (n : ℕ). x ∷ drop n (tree 8 (view b) unit)) unit_at (sym (add-one i)))
 
     pub index_there : (n : ℕ) (h : Handle) → u ≡ h.unit → h.slot < (interface_at b h.unit).used → index_in (left i) n h ≡ n + h.slot
     index_there n h q m =

@@ -7,7 +7,7 @@ use mathlib.Core.List.{List, ◌∷◌}
 use native.Mathlib.Numerals.{add-one}
 use native.Mathlib.Omega.{arith}
 use lib.ListN.{drop, get_or, drop_of_length-le}
-use lib.Seq.{drop_cons}
+use lib.Seq.{drop-cons}
 use lib.IntN.{ℤ, ◌+ℤ◌, nat_abs, +ℤ_assoc, +ℤ_idl, +ℤ_idr}
 use Rattle.bench_words.specs.Store.{node_at, interface_at}
 use Rattle.bench_words.specs.declared.Node.{Node}
@@ -108,7 +108,7 @@ module _ (b : List ℕ) (unit : ℕ) where
           let W = slots_of (view b) unit in
           let I = place_at in
           let more : drop i W ≡ (k / 64, k % 64, slot_of (view b) (k / 64) (k % 64)) ∷ drop (i + 1) W =
-          drop_cons W i (0, 0, none) (omega (arith, P.count)) ∙ ap₂ (λ (x : Entry) (j : ℕ). x ∷ drop j W) I.at (sym (add-one i)) in
+          drop-cons W i (0, 0, none) (omega (arith, P.count)) ∙ ap₂ (λ (x : Entry) (j : ℕ). x ∷ drop j W) I.at (sym (add-one i)) in
           record {
             whole = ap (λ (z : ℤ). z +ℤ total_of (drop (i + 1) W)) D.value ∙ +ℤ_assoc (off 4611686018427387904 sum) (worth (slot_of (view b) (k / 64) (k % 64))) (total_of (drop (i + 1) W))
                 ∙ sym (ap (λ (z : ℤ). off 4611686018427387904 sum +ℤ z) (ap total_of more ∙ total_more (k / 64, k % 64, slot_of (view b) (k / 64) (k % 64)) (drop (i + 1) W))) ∙ A.whole;

@@ -7,7 +7,7 @@ use mathlib.Core.List.{List, [], ◌∷◌}
 use native.Mathlib.Numerals.{add-one}
 use native.Mathlib.Omega.{arith}
 use lib.ListN.{drop, get_or, replicate, drop_of_length-le}
-use lib.Seq.{drop_cons}
+use lib.Seq.{drop-cons}
 use Rattle.ledger_spec.specs.Bench.{Bench}
 use Rattle.ledger_spec.specs.Reads.{slots_of}
 use Rattle.ledger_laws.specs.Clean.{Entry}
@@ -40,7 +40,7 @@ module _ (b : List ℕ) (unit : ℕ) (s : Bool) (ps : List ℕ) (count : ℕ) (P
 
   module _ (l : k < count) (met' : List ℕ) (r : Step) (T : Steps b unit s k met n met' r) where
     opened : walk_by s (view b) (slots_of (view b) unit) (get_or (slots_of (view b) unit) k (0, 0, none) ∷ drop (suc k) (slots_of (view b) unit)) (known met n) k ≡ walk_by s (view b) (slots_of (view b) unit) (slots_of (view b) unit) [] 0
-    opened = sym (ap (λ (ts : List Entry). walk_by s (view b) (slots_of (view b) unit) ts (known met n) k) (drop_cons (slots_of (view b) unit) k (0, 0, none) (omega (arith, P.count)))) ∙ W.whole
+    opened = sym (ap (λ (ts : List Entry). walk_by s (view b) (slots_of (view b) unit) ts (known met n) k) (drop-cons (slots_of (view b) unit) k (0, 0, none) (omega (arith, P.count)))) ∙ W.whole
 
     pub walking_found : (r.verdict ≡ 0 → ⊥) → (r.verdict, r.index.0) ≡ walk_by s (view b) (slots_of (view b) unit) (slots_of (view b) unit) [] 0
     walking_found z = sym (T.found z (drop (suc k) (slots_of (view b) unit))) ∙ opened

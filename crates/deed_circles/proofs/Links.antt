@@ -8,7 +8,7 @@ use native.Mathlib.Numerals.{add-one}
 use native.Mathlib.Omega.{arith}
 use borrow.Author.Tests.{eq-eqb, ne_eqb, lt-ltb, le-ltb}
 use lib.ListN.{length, get_or, drop, drop_of_length-le}
-use lib.Seq.{drop_cons}
+use lib.Seq.{drop-cons}
 use Rattle.bench_words.specs.Codec.{handle_of}
 use Rattle.bench_words.specs.declared.Node.{Node}
 use Rattle.ledger_spec.specs.Bench.{Member}
@@ -44,8 +44,8 @@ pairs_step : (ts : List ℕ) (i n : ℕ) → length ts ≡ n * 2 → i < n
     → pairs_given (drop (i * 2) ts) ≡ (hand_given (get_or ts (i * 2 + 0) 0), hand_given (get_or ts (i * 2 + 1) 0)) ∷ pairs_given (drop (suc i * 2) ts)
 unfolding pairs_given
 pairs_step ts i n e l =
-    let a : drop (i * 2) ts ≡ get_or ts (i * 2) 0 ∷ drop (suc (i * 2)) ts = drop_cons ts (i * 2) 0 (omega arith) in
-    let b : drop (suc (i * 2)) ts ≡ get_or ts (suc (i * 2)) 0 ∷ drop (suc (suc (i * 2))) ts = drop_cons ts (suc (i * 2)) 0 (omega arith) in
+    let a : drop (i * 2) ts ≡ get_or ts (i * 2) 0 ∷ drop (suc (i * 2)) ts = drop-cons ts (i * 2) 0 (omega arith) in
+    let b : drop (suc (i * 2)) ts ≡ get_or ts (suc (i * 2)) 0 ∷ drop (suc (suc (i * 2))) ts = drop-cons ts (suc (i * 2)) 0 (omega arith) in
     let z0 : i * 2 + 0 ≡ i * 2 = omega arith in
     let z1 : i * 2 + 1 ≡ suc (i * 2) = omega arith in
     let z2 : suc i * 2 ≡ suc (suc (i * 2)) = omega arith in
@@ -63,9 +63,9 @@ circle_touch ms ts i l p = by_cases (ℕ_discrete (length ts) 0)
     (λ (e : length ts ≡ 0).
     let n1 : drop (i * 2) ts ≡ [] = drop_of_length-le ts {i = i * 2} (omega arith) in
     let n2 : drop (suc i * 2) ts ≡ [] = drop_of_length-le ts {i = suc i * 2} (omega arith) in
-    rw (drop_cons ms i 0 l, n1, n2, eq-eqb (length ts) 0 e, nil_pairs))
+    rw (drop-cons ms i 0 l, n1, n2, eq-eqb (length ts) 0 e, nil_pairs))
     (λ (e : length ts ≡ 0 → ⊥).
-    rw (drop_cons ms i 0 l, pairs_step ts i (length ms) (p e) l, ne_eqb (length ts) 0 e))
+    rw (drop-cons ms i 0 l, pairs_step ts i (length ms) (p e) l, ne_eqb (length ts) 0 e))
 
 module _ (A : ℕ → Node) (ms ts : List ℕ) (paired : (length ts ≡ 0 → ⊥) → length ts ≡ length ms * 2)
     (sure : (i : ℕ) → i < length ms → get_or ms i 0 < 2199023255552) (touch : (i d : ℕ) → i < length ms → d < 2 → touch_word ms ts i d < 2199023255552)

@@ -8,7 +8,7 @@ use mathlib.Core.List.{List, ◌∷◌}
 use native.Mathlib.Decide.{ℕ_discrete}
 use native.Mathlib.Omega.{arith}
 use lib.ListN.{length, get_or, drop, drop_of_length-le}
-use lib.Seq.{drop_cons}
+use lib.Seq.{drop-cons}
 use Rattle.kinds.specs.declared.GrowState.TheVariants.{Stay}
 use Rattle.kinds.specs.declared.Class.TheVariants.{Blossom}
 use Rattle.kinds.specs.declared.Handle.{Handle as Packed}
@@ -210,7 +210,7 @@ module _ (b : List ℕ) (u : ℕ) (ms ts : List ℕ) (F : Fit b) (R : Ringable b
       (λ i l. refl) (λ i l. (R.stands i l).shows.present)
       (λ i l. value_low (node_at b (spot_at ms i)).state (node_at b (spot_at ms i)).bias (T₀ i) (R.stands i l).ranged.least (omega (arith, sum_up_le b st 8 (spot_at ms i / 64) (rw (home i l) (R.stands i l).unit))))
       speed_step circles (some (handle_named q₀)) (λ i l. refl) (λ i. get_or ms i 0 / 8 / 64 % 4294967296) (λ i. hands_given (drop i ms))
-      (λ i l. ap hands_given (drop_cons ms i 0 l) ∙ ap (λ (h : Handle). h ∷ hands_given (drop (suc i) ms)) (hand_is i l))
+      (λ i l. ap hands_given (drop-cons ms i 0 l) ∙ ap (λ (h : Handle). h ∷ hands_given (drop (suc i) ms)) (hand_is i l))
       (ap hands_given (drop_of_length-le ms {i = length ms} (omega arith)))
       ∙ ap (λ (W : ℕ → Interface). mark_all (view_in (get_or b 0 0) W (node_at b)) (hands_given ms) stays (some (handle_named q₀))) (speed_start ∙ pacing_self (interface_at b) u)
 
@@ -219,7 +219,7 @@ module _ (b : List ℕ) (u : ℕ) (ms ts : List ℕ) (F : Fit b) (R : Ringable b
   unfolding sizes
   size_step i l =
       let s = R.stands i l in
-      ap (λ (x : List ℕ). sizes (view b) (hands_given x)) (drop_cons ms i 0 l)
+      ap (λ (x : List ℕ). sizes (view b) (hands_given x)) (drop-cons ms i 0 l)
       ∙ ap (λ (x : ℕ). x + sizes (view b) (hands_given (drop (suc i) ms)))
       (ap (λ (h : Handle). size_of (look.node_named (view b) h)) (given_fine (get_or ms i 0) (R.sure i l)) ∙ ap size_of s.named ∙ s.shows.size)
 

@@ -12,7 +12,7 @@ use Rattle.ledger_spec.specs.Look.{interface, node_named}
 use Rattle.ledger_spec.specs.Tests.{first, outside, child}
 use Rattle.ledger_spec.specs.Refuse.{unit_tests}
 use Rattle.ledger_spec.specs.Reads.{said, as_handle, sum_of, speed_of, count_of, fills_of, floored_of, index_tests, handle_at_index, node_tests, value_of, belongs}
-use Rattle.ledger_spec.specs.Check.{index_in_lem}
+use Rattle.ledger_spec.specs.Check.{index_in}
 use Rattle.ledger_spec.specs.Answers.{ask, read}
 use Rattle.picture_spec.specs.Sketch.{seen_of, sketch_of}
 use Rattle.picture_spec.specs.Text.{names_by, text_of}
@@ -52,9 +52,9 @@ module _ (m : Bool) (b : Bench) where
   unfolding index_tests
   index_tests_lem u k = λ i. (outside u, UNIT) ∷ (child b u, CHILD) ∷ (leb (length (slots_in m b u i)) k, RANGE) ∷ []
 
-  index_in_lem_lem : (u k : ℕ) → handle_at_index (in_engine m b) u k ≡ handle_at_index b u k
+  index_in_lem : (u k : ℕ) → handle_at_index (in_engine m b) u k ≡ handle_at_index b u k
   unfolding handle_at_index
-  index_in_lem_lem u k = λ i. said (first (index_tests_lem u k i)) (as_handle (get_or (slots_in m b u i) k (0, 0, none))) none
+  index_in_lem u k = λ i. said (first (index_tests_lem u k i)) (as_handle (get_or (slots_in m b u i) k (0, 0, none))) none
 
   -- ---- reads of a node
   belongs_in : (u : ℕ) (h : Handle) → belongs (in_engine m b) u h ≡ belongs b u h
@@ -68,7 +68,7 @@ module _ (m : Bool) (b : Bench) where
   -- ---- the picture
   sketch_in : (u : ℕ) → sketch_of (in_engine m b) u ≡ sketch_of b u
   unfolding sketch_of
-  sketch_in u = λ i. record { speed = (interface b u).speed; sum = (interface b u).sum; nodes = map (λ t. seen_of (λ h. index_in_lem (slots_in m b u i) 0 h) t.2) (slots_in m b u i) }
+  sketch_in u = λ i. record { speed = (interface b u).speed; sum = (interface b u).sum; nodes = map (λ t. seen_of (λ h. index_in (slots_in m b u i) 0 h) t.2) (slots_in m b u i) }
 
   picture_in : (u : ℕ) (a : Bool) → picture (in_engine m b) u a ≡ picture b u a
   unfolding picture
@@ -91,7 +91,7 @@ module _ (m : Bool) (b : Bench) where
   own_in (Floored u) = floored_in u
   own_in (Check u) = check_in m b u
   own_in (Strict u) = strict_in m b u
-  own_in (At u k) = index_in_lem_lem u k
+  own_in (At u k) = index_in_lem u k
   own_in (Belongs u h) = belongs_in u h
   own_in (Value h) = value_in h
   own_in (Outer h) = outer_in m b h

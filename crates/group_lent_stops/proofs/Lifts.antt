@@ -4,7 +4,7 @@ use mathlib.Core.Path.{◌≡◌, refl, sym, ap, ◌∙◌}
 use mathlib.Core.List.{List, [], ◌∷◌}
 use native.Mathlib.Omega.{arith}
 use lib.ListN.{length, take, drop, get_or, set, length-drop, drop_of_length-le}
-use lib.Seq.{sets, length-sets, length-take-le, drop_cons, get_or-take, get_or-drop, set_comm}
+use lib.Seq.{sets, length-sets, length-take-le, drop-cons, get_or-take, get_or-drop, set_comm}
 use Rattle.group_lent.proofs.Stores.{sets_out, sets_in}
 use Rattle.group_lent.proofs.Seen.{Reads, out_reads}
 use Rattle.group_lent_stops.specs.Stops.{lifted}
@@ -58,7 +58,7 @@ module _ (ws : List ℕ) (at k : ℕ) (h : at + 6 + k ≤ length ws) where
       rw (read, e)
       (ap (λ (n : ℕ). set (sets ws n (drop (suc i) row)) a (get_or row i 0)) z
       ∙ set_sets ws a (suc a) (get_or row i 0) (drop (suc i) row) (omega arith)
-      ∙ sym (ap (sets ws a) (drop_cons row i 0 (omega arith))))
+      ∙ sym (ap (sets ws a) (drop-cons row i 0 (omega arith))))
 
   pub lift_end : (j : ℕ) → j ≡ 0 → lifted_from j ≡ lifted ws at k
   unfolding lifted

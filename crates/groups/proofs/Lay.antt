@@ -5,7 +5,7 @@ use mathlib.Core.List.{List, ◌∷◌, ◌++◌}
 use native.Mathlib.Numerals.{add-one}
 use native.Mathlib.Omega.{arith}
 use lib.ListN.{length, take, drop, get_or, set, length-append, length-drop, take-append-drop}
-use lib.Seq.{drop_cons, take-suc, append_snoc, set_at, take_at, drop_at, get_or_at, get_or-append-add, get_or-drop, length-take-le, take-take, take-add, take-append-add}
+use lib.Seq.{drop-cons, take-suc, append_snoc, set_at, take_at, drop_at, get_or_at, get_or-append-add, get_or-drop, length-take-le, take-take, take-add, take-append-add}
 use Rattle.groups.specs.View.{over}
 
 module _ {A : Type 0} where
@@ -16,7 +16,7 @@ module _ {A : Type 0} where
   -- one store, one element on
   pub upto_step : (c s : List A) (j : ℕ) (d : A) → j < length c → j < length s → set (upto c j s) j (get_or c j d) ≡ upto c (j + 1) s
   upto_step c s j d h k =
-      ap (λ (r : List A). set (take j c ++ r) j (get_or c j d)) (drop_cons s j d k)
+      ap (λ (r : List A). set (take j c ++ r) j (get_or c j d)) (drop-cons s j d k)
       ∙ set_at (take j c) (get_or s j d) (drop (suc j) s) (get_or c j d) j (length-take-le j c (omega arith))
       ∙ sym (append_snoc (take j c) (get_or c j d) (drop (suc j) s))
       ∙ rw (add-one j, take-suc c j d h)

@@ -6,7 +6,7 @@ use native.Mathlib.Numerals.{add-one}
 use native.Mathlib.Nat.{le_of_suc-le-suc}
 use native.Mathlib.Omega.{arith}
 use lib.ListN.{length, take, drop, get_or, drop_of_length-le, take-append-drop}
-use lib.Seq.{drop_cons, get_or-take, length-take-le}
+use lib.Seq.{drop-cons, get_or-take, length-take-le}
 use Rattle.groups.specs.View.{counted, over}
 
 module _ {A : Type 0} where
@@ -15,7 +15,7 @@ module _ {A : Type 0} where
   step n i l d h k =
       let e : length (take n l) ≡ n = length-take-le n l k in
       let p : i < length (take n l) = omega arith in
-      drop_cons (take n l) i d p ∙ rw (get_or-take n l i d h, add-one)
+      drop-cons (take n l) i d p ∙ rw (get_or-take n l i d h, add-one)
 
   -- nothing is left of the first n after n
   pub spent : (n i : ℕ) (l : List A) → n ≤ i → n ≤ length l → drop i (take n l) ≡ []

@@ -18,19 +18,19 @@ use Rattle.groups.specs.declared.Asked.{Asked}
 told_same : (r s : Told) → shown_told r ≡ shown_told s → r ≡ s
 told_same r s e = λ i. record { number = (e i).0; yes = (e i).1 }
 
-abbrev length_back_lem : Option ℤ → MaybeLength
-length_back_lem none = NoLength
-length_back_lem (some l) = Length l
+abbrev length_back : Option ℤ → MaybeLength
+length_back none = NoLength
+length_back (some l) = Length l
 
-length_back_lem_lem : (m : MaybeLength) → length_back_lem (maybe_length m) ≡ m
-length_back_lem_lem NoLength = refl
-length_back_lem_lem (Length l) = refl
+length_back_lem : (m : MaybeLength) → length_back (maybe_length m) ≡ m
+length_back_lem NoLength = refl
+length_back_lem (Length l) = refl
 
 asked_same : (r s : Asked) → shown_asked r ≡ shown_asked s → r ≡ s
 asked_same r s e = λ i. record { number = (e i).0; length = same i }
   where
     same : r.length ≡ s.length
-    same = sym (length_back_lem_lem r.length) ∙ ap (λ (p : ℕ × Option ℤ). length_back_lem p.1) e ∙ length_back_lem_lem s.length
+    same = sym (length_back_lem r.length) ∙ ap (λ (p : ℕ × Option ℤ). length_back p.1) e ∙ length_back_lem s.length
 
 pub only_empty_group : (r s : Code) → r ≡ empty_of → s ≡ empty_of → r ≡ s
 only_empty_group r s p q = p ∙ sym q

@@ -18,7 +18,7 @@ use Rattle.record_spec.specs.Reader.{state_in, rest, serials_good}
 use Rattle.record_spec.specs.Places.{at}
 use Rattle.record_spec.proofs.Numbers.{length_only}
 use Rattle.record_measures.specs.declared.Measured.{Measured}
-use Rattle.record_measures.specs.Measures.{nothing, tried, digits_in, state_digits}
+use Rattle.record_measures.specs.Measures.{nothing, tried, digits_of, state_digits}
 use Rattle.record_measures.proofs.Rests.{rest-D, rest-E, rest-S, bad-S, rest-G, rest-F}
 use Rattle.record_measures.proofs.Measuring.{none_measured, plain_measured, plain_unfit, line-D, line-E, line-S, line-G, line-F, line-C, line-K}
 
@@ -71,10 +71,10 @@ module _ (t : List ℕ) (q u : ℕ) (unit : u < 256) (a : ℕ) (digits : a ≡ l
   is-S v n b d h e s g f i j z = go (state_in (at 1 t (q + 4))) refl
     where
       go : (o : Option State) → state_in (at 1 t (q + 4)) ≡ o → Is (plain 7 (5 + a + b + d)) 83 u (drop q t)
-      go none p = absurd (z (j ∙ ap (λ (k : ℕ). digits_in (state_in k)) f ∙ ap digits_in p))
+      go none p = absurd (z (j ∙ ap (λ (k : ℕ). digits_of (state_in k)) f ∙ ap digits_of p))
       go (some x) p =
           plain_measured (rest 83 u (drop q t)) (S u (at 4 t q) x) (drop (q + 4 + 1) t) (rest-S t q u x h p) tt (unit, omega arith) (le-leb 1 (at 4 t q) (omega arith)) 7 (5 + a + b + d) refl
-          (omega (arith, line-S u (at 4 t q) x, digits, i, shown v (at 4 t q) e, j, ap (λ (k : ℕ). digits_in (state_in k)) f, ap digits_in p)) refl
+          (omega (arith, line-S u (at 4 t q) x, digits, i, shown v (at 4 t q) e, j, ap (λ (k : ℕ). digits_of (state_in k)) f, ap digits_of p)) refl
 
 module _ (t : List ℕ) (q u : ℕ) (unit : u < 256) where
   pub zero-E : q + 4 ≤ length t → at 4 t q ≡ 0 → Is nothing 69 u (drop q t)
@@ -100,4 +100,4 @@ module _ (t : List ℕ) (q u : ℕ) (unit : u < 256) where
 
       go : (o : Option State) → state_in (at 1 t (q + 4)) ≡ o → Is nothing 83 u (drop q t)
       go none p = none_measured (rest 83 u (drop q t)) (bad-S t q u h p)
-      go (some x) p = absurd (omega (arith, some_text x, j, ap (λ (k : ℕ). digits_in (state_in k)) f, ap digits_in p))
+      go (some x) p = absurd (omega (arith, some_text x, j, ap (λ (k : ℕ). digits_of (state_in k)) f, ap digits_of p))

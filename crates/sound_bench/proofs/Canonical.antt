@@ -13,7 +13,7 @@ use Rattle.kinds.specs.declared.Handle.{Handle}
 use Rattle.kinds.specs.declared.Parent.{Parent}
 use Rattle.kinds.specs.declared.Parent.TheVariants.{Outermost, Inside}
 use Rattle.kinds.specs.declared.Vertex.{Vertex}
-use Rattle.bench_words.specs.Store.{node_at_lem, interface_at, map_at, base, node_words}
+use Rattle.bench_words.specs.Store.{node_at, interface_at, map_at, base, node_words}
 use Rattle.bench_words.specs.declared.Node.{Node}
 use Rattle.bench_words.proofs.Laws.{GoodHandle, GoodParent, good_node}
 use Rattle.ledger_spec.specs.Look.{climb}
@@ -56,7 +56,7 @@ module _ (b : List ℕ) (P : Parts b) (len : length b ≡ 6273) where
 
   module _ (u s : ℕ) (lu : u < 8) (ls : s < 64) where
     abbrev n : Node
-    n = node_at_lem b (u * 64 + s)
+    n = node_at b (u * 64 + s)
 
     coding : Coding b (u * 64 + s)
     coding = go (P.slot u s lu ls)
@@ -65,10 +65,10 @@ module _ (b : List ℕ) (P : Parts b) (len : length b ≡ 6273) where
         go (blank m e) = blank_coded b (u * 64 + s) e
         go (held m l K) = K.coded
 
-    past : (interface_at b u).used ≤ s → node_at_lem b (u * 64 + s) ≡ no_node
+    past : (interface_at b u).used ≤ s → node_at b (u * 64 + s) ≡ no_node
     past h = go (P.slot u s lu ls)
       where
-        go : Slot b u s → node_at_lem b (u * 64 + s) ≡ no_node
+        go : Slot b u s → node_at b (u * 64 + s) ≡ no_node
         go (blank m e) = blank_none b (u * 64 + s) e
         go (held m l K) = absurd (omega (arith, l, h))
 
@@ -77,15 +77,15 @@ module _ (b : List ℕ) (P : Parts b) (len : length b ≡ 6273) where
       where
         go : Slot b u s → n ≡ no_node
         go (blank m e) = blank_none b (u * 64 + s) e
-        go (held m l K) = absurd (class_present (node_at_lem b) (get_or b 0 0) (handle_in u s n) n K.class q)
+        go (held m l K) = absurd (class_present (node_at b) (get_or b 0 0) (handle_in u s n) n K.class q)
 
     -- its bit in the map is its own
-    marked : bit_at (map_at b u) s ≡ held_in (node_at_lem b) u s
+    marked : bit_at (map_at b u) s ≡ held_in (node_at b) u s
     marked = go (P.slot u s lu ls)
       where
-        go : Slot b u s → bit_at (map_at b u) s ≡ held_in (node_at_lem b) u s
+        go : Slot b u s → bit_at (map_at b u) s ≡ held_in (node_at b) u s
         go (blank m e) = m ∙ sym (held_absent (none_class (blank_none b (u * 64 + s) e)))
-        go (held m l K) = m ∙ sym (held_present n.class (class_present (node_at_lem b) (get_or b 0 0) (handle_in u s n) n K.class))
+        go (held m l K) = m ∙ sym (held_present n.class (class_present (node_at b) (get_or b 0 0) (handle_in u s n) n K.class))
 
     -- a slot that is not empty is used, and its node keeps the rules
     pub present : (n.class ≡ Absent → ⊥) → (s < (interface_at b u).used) × Kept b u s
@@ -95,11 +95,11 @@ module _ (b : List ℕ) (P : Parts b) (len : length b ≡ 6273) where
         go (blank m e) = absurd (q (none_class (blank_none b (u * 64 + s) e)))
         go (held m l K) = (l, K)
 
-    pub ring_kept : n.class ≡ Blossom → Ring (node_at_lem b) (get_or b 0 0) (handle_in u s n) n
-    ring_kept q = class_ring (node_at_lem b) (get_or b 0 0) (handle_in u s n) n (present (λ a. absent_blossom a q)).1.class q
+    pub ring_kept : n.class ≡ Blossom → Ring (node_at b) (get_or b 0 0) (handle_in u s n) n
+    ring_kept q = class_ring (node_at b) (get_or b 0 0) (handle_in u s n) n (present (λ a. absent_blossom a q)).1.class q
 
     defect : (v : Vertex) → n.class ≡ Defect v → (n.first ≡ 0) × (n.count ≡ 0)
-    defect v q = let r = class_single (node_at_lem b) (get_or b 0 0) (handle_in u s n) n (present (λ a. absent_defect a q)).1.class v q in (r.1, r.2)
+    defect v q = let r = class_single (node_at b) (get_or b 0 0) (handle_in u s n) n (present (λ a. absent_defect a q)).1.class v q in (r.1, r.2)
 
     ring : n.class ≡ Blossom → 0 < n.count
     ring q = positive n.count (ring_kept q).some
@@ -116,10 +116,10 @@ module _ (b : List ℕ) (P : Parts b) (len : length b ≡ 6273) where
         go (held m l K) = parent_alone b (u * 64 + s) (climb 8 (view b) u) n K.parent q
 
     -- a member is used and has its seat
-    pub seated : (q : Handle) → n.parent ≡ Inside q → (s < (interface_at b u).used) × Kept b u s × Seat b (u * 64 + s) (climb 8 (view b) u) n q (node_at_lem b (q.unit * 64 + q.slot))
+    pub seated : (q : Handle) → n.parent ≡ Inside q → (s < (interface_at b u).used) × Kept b u s × Seat b (u * 64 + s) (climb 8 (view b) u) n q (node_at b (q.unit * 64 + q.slot))
     seated q e = go (P.slot u s lu ls)
       where
-        go : Slot b u s → (s < (interface_at b u).used) × Kept b u s × Seat b (u * 64 + s) (climb 8 (view b) u) n q (node_at_lem b (q.unit * 64 + q.slot))
+        go : Slot b u s → (s < (interface_at b u).used) × Kept b u s × Seat b (u * 64 + s) (climb 8 (view b) u) n q (node_at b (q.unit * 64 + q.slot))
         go (blank m z) = absurd (outer_inside (none_parent (blank_none b (u * 64 + s) z)) e)
         go (held m l K) = (l, K, parent_seat b (u * 64 + s) (climb 8 (view b) u) n K.parent q e)
 
@@ -127,7 +127,7 @@ module _ (b : List ℕ) (P : Parts b) (len : length b ≡ 6273) where
     good_inside q e = subst GoodParent e (good_node b (u * 64 + s)).parent
 
   module _ (u s : ℕ) (lu : u < 8) (ls : s < 64) where
-    inside : (q : Handle) → (node_at_lem b (u * 64 + s)).parent ≡ Inside q → Seated b (u * 64 + s) q
+    inside : (q : Handle) → (node_at b (u * 64 + s)).parent ≡ Inside q → Seated b (u * 64 + s) q
     unfolding walk
     inside q e =
         let g = good_inside u s lu ls q e in
@@ -140,7 +140,7 @@ module _ (b : List ℕ) (P : Parts b) (len : length b ≡ 6273) where
           ring = S.ring;
           within = S.within;
           seat = S.seat;
-          last = λ h. ap (λ (k : ℕ). (node_at_lem b k).next) (sym S.seat) ∙ ap (λ (i : ℕ). walk i (node_at_lem b) (node_at_lem b (q.unit * 64 + q.slot)).first) (sym (add-one (node_at_lem b (u * 64 + s)).place) ∙ h) ∙ R.end;
+          last = λ h. ap (λ (k : ℕ). (node_at b k).next) (sym S.seat) ∙ ap (λ (i : ℕ). walk i (node_at b) (node_at b (q.unit * 64 + q.slot)).first) (sym (add-one (node_at b (u * 64 + s)).place) ∙ h) ∙ R.end;
         }
 
   coded : Coded b
@@ -148,11 +148,11 @@ module _ (b : List ℕ) (P : Parts b) (len : length b ≡ 6273) where
     spare = spare_words b (λ u l. (interface_coded b u (P.interface u l)).0);
     units = λ u l. link_words b u (interface_coded b u (P.interface u l)).1;
     marks = λ u l. flag_words b u (interface_coded b u (P.interface u l)).2;
-    nodes = by_place (λ k. (j : ℕ) → j < 12 → get_or b (base k + (1 + j)) 0 ≡ get_or (node_words (node_at_lem b k)) j 0) coding;
+    nodes = by_place (λ k. (j : ℕ) → j < 12 → get_or b (base k + (1 + j)) 0 ≡ get_or (node_words (node_at b k)) j 0) coding;
   }
 
-  pub empty_slot : (k : ℕ) → k < 512 → (node_at_lem b k).class ≡ Absent → node_at_lem b k ≡ no_node
-  empty_slot = by_place (λ k. (node_at_lem b k).class ≡ Absent → node_at_lem b k ≡ no_node) empty
+  pub empty_slot : (k : ℕ) → k < 512 → (node_at b k).class ≡ Absent → node_at b k ≡ no_node
+  empty_slot = by_place (λ k. (node_at b k).class ≡ Absent → node_at b k ≡ no_node) empty
 
   pub canon : Canon b
   canon = record {
@@ -162,11 +162,11 @@ module _ (b : List ℕ) (P : Parts b) (len : length b ≡ 6273) where
     whole = λ u l. (links u l).none;
     both = λ u l z. ((links u l).both z).some;
     past = λ u s lu ls. past u s lu ls;
-    map = λ u l. is_low_map (map_at b u) (held_in (node_at_lem b) u) 64 (P.map u l) (λ s ls. marked u s l ls);
+    map = λ u l. is_low_map (map_at b u) (held_in (node_at b) u) 64 (P.map u l) (λ s ls. marked u s l ls);
     empty = empty_slot;
-    defect = λ k v l. by_place (λ k. (node_at_lem b k).class ≡ Defect v → ((node_at_lem b k).first ≡ 0) × ((node_at_lem b k).count ≡ 0)) (λ u s lu ls. defect u s lu ls v) k l;
-    ring = by_place (λ k. (node_at_lem b k).class ≡ Blossom → 0 < (node_at_lem b k).count) ring;
-    chain = λ k i l. by_place (λ k. (node_at_lem b k).class ≡ Blossom → i < (node_at_lem b k).count → (node_at_lem b (walk i (node_at_lem b) (node_at_lem b k).first)).place ≡ i) (λ u s lu ls q li. ((ring_kept u s lu ls q).member i li).place) k l;
-    alone = by_place (λ k. (node_at_lem b k).parent ≡ Outermost → Alone (node_at_lem b k)) alone;
-    inside = λ k q l. by_place (λ k. (node_at_lem b k).parent ≡ Inside q → Seated b k q) (λ u s lu ls. inside u s lu ls q) k l;
+    defect = λ k v l. by_place (λ k. (node_at b k).class ≡ Defect v → ((node_at b k).first ≡ 0) × ((node_at b k).count ≡ 0)) (λ u s lu ls. defect u s lu ls v) k l;
+    ring = by_place (λ k. (node_at b k).class ≡ Blossom → 0 < (node_at b k).count) ring;
+    chain = λ k i l. by_place (λ k. (node_at b k).class ≡ Blossom → i < (node_at b k).count → (node_at b (walk i (node_at b) (node_at b k).first)).place ≡ i) (λ u s lu ls q li. ((ring_kept u s lu ls q).member i li).place) k l;
+    alone = by_place (λ k. (node_at b k).parent ≡ Outermost → Alone (node_at b k)) alone;
+    inside = λ k q l. by_place (λ k. (node_at b k).parent ≡ Inside q → Seated b k q) (λ u s lu ls. inside u s lu ls q) k l;
   }

@@ -37,10 +37,10 @@ member_at_lem (suc n) A p {m} i = go (in_cases i) (member_at_lem n A (A p).next)
     go (inl e) ih = (zero, omega arith, e)
     go (inr j) ih = let r = ih j in (suc r.0, omega (arith, r.1), r.2 ∙ ap (member_at A) (walk_next r.0 A p))
 
-pub node_at_lem_lem : (n : ℕ) (A : ℕ → Node) (p : ℕ) {h : Handle} → In h (nodes (follow n A p)) → (i : ℕ) × (i < n) × (h ≡ handle_at A (walk i A p))
+pub node_at_lem : (n : ℕ) (A : ℕ → Node) (p : ℕ) {h : Handle} → In h (nodes (follow n A p)) → (i : ℕ) × (i < n) × (h ≡ handle_at A (walk i A p))
 unfolding follow walk
-node_at_lem_lem zero A p i = absurd (not_in_nil i)
-node_at_lem_lem (suc n) A p {h} i = go (in_cases i) (node_at_lem_lem n A (A p).next)
+node_at_lem zero A p i = absurd (not_in_nil i)
+node_at_lem (suc n) A p {h} i = go (in_cases i) (node_at_lem n A (A p).next)
   where
     go : (h ≡ handle_at A p) ⊎ In h (nodes (follow n A (A p).next)) → (In h (nodes (follow n A (A p).next)) → (i : ℕ) × (i < n) × (h ≡ handle_at A (walk i A (A p).next))) → (i : ℕ) × (i < suc n) × (h ≡ handle_at A (walk i A p))
     go (inl e) ih = (zero, omega arith, e)

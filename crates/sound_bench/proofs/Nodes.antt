@@ -15,7 +15,7 @@ use Rattle.kinds.specs.declared.Handle.{Handle}
 use Rattle.kinds.specs.declared.Parent.{Parent}
 use Rattle.kinds.specs.declared.Parent.TheVariants.{Outermost, Inside}
 use Rattle.kinds.specs.declared.Vertex.{Vertex}
-use Rattle.bench_words.specs.Store.{node_at_lem}
+use Rattle.bench_words.specs.Store.{node_at}
 use Rattle.bench_words.specs.declared.Node.{Node}
 use Rattle.ledger_spec.specs.Look.{climb}
 use Rattle.ledger_spec.proofs.Lists.{and_true, both_true}
@@ -139,7 +139,7 @@ pub record Seat (b : List ℕ) (k t : ℕ) (n : Node) (q : Handle) (m : Node) : 
   pub serial : m.serial.0 ≡ q.serial.0
   pub ring : m.class ≡ Blossom
   pub near : climb 8 (view b) q.unit ≡ t
-  pub seat : walk n.place (node_at_lem b) m.first ≡ k
+  pub seat : walk n.place (node_at b) m.first ≡ k
 
 stay_is : (g : GrowState) → is_stay g ≡ true → g ≡ Stay
 stay_is Grow e = absurd (true≢false (sym e))
@@ -160,7 +160,7 @@ seat_says b k t n q m e =
     let f = and_true (is_stay n.state) (ltb n.serial.0 q.serial.0) d.0 in
     let g = and_true (eqb m.serial.0 q.serial.0 && blossom_of m.class) _ d.1 in
     let h = and_true (eqb m.serial.0 q.serial.0) (blossom_of m.class) g.0 in
-    let j = and_true (eqb (climb 8 (view b) q.unit) t) (eqb (walk n.place (node_at_lem b) m.first) k) g.1 in
+    let j = and_true (eqb (climb 8 (view b) q.unit) t) (eqb (walk n.place (node_at b) m.first) k) g.1 in
     record {
       few = leb-true m.count 64 a.0;
       within = ltb-true n.place m.count c.0;
@@ -169,14 +169,14 @@ seat_says b k t n q m e =
       serial = eqb-true m.serial.0 q.serial.0 h.0;
       ring = blossom_is m.class h.1;
       near = eqb-true (climb 8 (view b) q.unit) t j.0;
-      seat = eqb-true (walk n.place (node_at_lem b) m.first) k j.1;
+      seat = eqb-true (walk n.place (node_at b) m.first) k j.1;
     }
 
 seat_holds : (b : List ℕ) (k t : ℕ) (n : Node) (q : Handle) (m : Node) → Seat b k t n q m → seat_in b k t n q m ≡ true
 unfolding seat_in
 seat_holds b k t n q m S =
     both_true (le-leb m.count 64 S.few) (both_true (lt-ltb n.place m.count S.within) (both_true (both_true (ap is_stay S.stays) (lt-ltb n.serial.0 q.serial.0 S.older))
-    (both_true (both_true (eq-eqb m.serial.0 q.serial.0 S.serial) (ap blossom_of S.ring)) (both_true (eq-eqb (climb 8 (view b) q.unit) t S.near) (eq-eqb (walk n.place (node_at_lem b) m.first) k S.seat)))))
+    (both_true (both_true (eq-eqb m.serial.0 q.serial.0 S.serial) (ap blossom_of S.ring)) (both_true (eq-eqb (climb 8 (view b) q.unit) t S.near) (eq-eqb (walk n.place (node_at b) m.first) k S.seat)))))
 
 module _ (b : List ℕ) (k t : ℕ) (n : Node) where
   pub parent_alone : parent_test b k t n ≡ true → n.parent ≡ Outermost → Alone n
@@ -187,17 +187,17 @@ module _ (b : List ℕ) (k t : ℕ) (n : Node) where
       let z = and_true (same_code n.left no_code) (same_code n.right no_code) x.1 in
       record { place = eqb-true n.place 0 y.0; next = eqb-true n.next 0 y.1; left = same_packed n.left no_code z.0; right = same_packed n.right no_code z.1 }
 
-  pub parent_seat : parent_test b k t n ≡ true → (q : Handle) → n.parent ≡ Inside q → Seat b k t n q (node_at_lem b (q.unit * 64 + q.slot))
+  pub parent_seat : parent_test b k t n ≡ true → (q : Handle) → n.parent ≡ Inside q → Seat b k t n q (node_at b (q.unit * 64 + q.slot))
   unfolding parent_test seat_in
-  parent_seat e q p = seat_says b k t n q (node_at_lem b (q.unit * 64 + q.slot)) (rw p at e)
+  parent_seat e q p = seat_says b k t n q (node_at b (q.unit * 64 + q.slot)) (rw p at e)
 
   pub alone_parent : n.parent ≡ Outermost → Alone n → parent_test b k t n ≡ true
   unfolding parent_test alone_test
   alone_parent q L = rw q (both_true (both_true (eq-eqb n.place 0 L.place) (eq-eqb n.next 0 L.next)) (both_true (same_self n.left no_code L.left) (same_self n.right no_code L.right)))
 
-  pub seat_parent : (q : Handle) → n.parent ≡ Inside q → Seat b k t n q (node_at_lem b (q.unit * 64 + q.slot)) → parent_test b k t n ≡ true
+  pub seat_parent : (q : Handle) → n.parent ≡ Inside q → Seat b k t n q (node_at b (q.unit * 64 + q.slot)) → parent_test b k t n ≡ true
   unfolding parent_test seat_in
-  seat_parent q p S = rw p (seat_holds b k t n q (node_at_lem b (q.unit * 64 + q.slot)) S)
+  seat_parent q p S = rw p (seat_holds b k t n q (node_at b (q.unit * 64 + q.slot)) S)
 
 -- ---- a value
 module _ (g : GrowState) (bias t w : ℕ) where

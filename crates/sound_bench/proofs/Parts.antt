@@ -8,7 +8,7 @@ use lib.ListN.{get_or}
 use borrow.Author.Tests.{eqb-false, ne_eqb, leb-true, le-leb, ltb-true, lt-ltb, not-true}
 use Rattle.slot_map.specs.Slots.{bit_at}
 use Rattle.bench_words.specs.Codec.{pick}
-use Rattle.bench_words.specs.Store.{node_at_lem, interface_at, map_at}
+use Rattle.bench_words.specs.Store.{node_at, interface_at, map_at}
 use Rattle.ledger_spec.specs.Look.{climb}
 use Rattle.ledger_spec.proofs.Lists.{and_true, both_true}
 use Rattle.bench_views.specs.View.{sum_up, view}
@@ -29,11 +29,11 @@ use Rattle.sound_bench.specs.Sound.{sound_words}
 -- a node that keeps the rules
 pub record Kept (b : List ℕ) (u s : ℕ) : Type 0 where
   pub coded : Coding b (u * 64 + s)
-  pub least : 1 ≤ (node_at_lem b (u * 64 + s)).serial.0
-  pub below : (node_at_lem b (u * 64 + s)).serial.0 < get_or b 0 0
-  pub near : near_test (node_at_lem b (u * 64 + s)).state (node_at_lem b (u * 64 + s)).bias (sum_up 8 (interface_at b) u) (width_of b (climb 8 (view b) u)) ≡ true
-  pub class : class_test (node_at_lem b) (get_or b 0 0) (handle_in u s (node_at_lem b (u * 64 + s))) (node_at_lem b (u * 64 + s)) ≡ true
-  pub parent : parent_test b (u * 64 + s) (climb 8 (view b) u) (node_at_lem b (u * 64 + s)) ≡ true
+  pub least : 1 ≤ (node_at b (u * 64 + s)).serial.0
+  pub below : (node_at b (u * 64 + s)).serial.0 < get_or b 0 0
+  pub near : near_test (node_at b (u * 64 + s)).state (node_at b (u * 64 + s)).bias (sum_up 8 (interface_at b) u) (width_of b (climb 8 (view b) u)) ≡ true
+  pub class : class_test (node_at b) (get_or b 0 0) (handle_in u s (node_at b (u * 64 + s))) (node_at b (u * 64 + s)) ≡ true
+  pub parent : parent_test b (u * 64 + s) (climb 8 (view b) u) (node_at b (u * 64 + s)) ≡ true
 
 pub data Slot (b : List ℕ) (u s : ℕ) : Type 0 where
   blank : bit_at (map_at b u) s ≡ false → blank_at b (u * 64 + s) ≡ true → Slot b u s
@@ -53,18 +53,18 @@ module _ (b : List ℕ) (u s : ℕ) where
   kept_of : node_test b u s ≡ true → Kept b u s
   unfolding node_test node_in
   kept_of e =
-      let n = node_at_lem b (u * 64 + s) in
+      let n = node_at b (u * 64 + s) in
       let x = and_true (coded_at b (u * 64 + s)) _ e in
       let y = and_true ((leb 1 n.serial.0 && ltb n.serial.0 (get_or b 0 0)) && near_test n.state n.bias (sum_up 8 (interface_at b) u) (width_of b (climb 8 (view b) u))) _ x.1 in
       let z = and_true (leb 1 n.serial.0 && ltb n.serial.0 (get_or b 0 0)) _ y.0 in
       let w = and_true (leb 1 n.serial.0) (ltb n.serial.0 (get_or b 0 0)) z.0 in
-      let v = and_true (class_test (node_at_lem b) (get_or b 0 0) (handle_in u s n) n) (parent_test b (u * 64 + s) (climb 8 (view b) u) n) y.1 in
+      let v = and_true (class_test (node_at b) (get_or b 0 0) (handle_in u s n) n) (parent_test b (u * 64 + s) (climb 8 (view b) u) n) y.1 in
       record { coded = coded_words b (u * 64 + s) x.0; least = leb-true 1 n.serial.0 w.0; below = ltb-true n.serial.0 (get_or b 0 0) w.1; near = z.1; class = v.0; parent = v.1 }
 
   kept_node : Kept b u s → node_test b u s ≡ true
   unfolding node_test node_in
   kept_node K =
-      both_true (words_coded b (u * 64 + s) K.coded) (both_true (both_true (both_true (le-leb 1 (node_at_lem b (u * 64 + s)).serial.0 K.least) (lt-ltb (node_at_lem b (u * 64 + s)).serial.0 (get_or b 0 0) K.below)) K.near) (both_true K.class K.parent))
+      both_true (words_coded b (u * 64 + s) K.coded) (both_true (both_true (both_true (le-leb 1 (node_at b (u * 64 + s)).serial.0 K.least) (lt-ltb (node_at b (u * 64 + s)).serial.0 (get_or b 0 0) K.below)) K.near) (both_true K.class K.parent))
 
   slot_says : slot_test b (interface_at b u).used (map_at b u) u s ≡ true → Slot b u s
   unfolding slot_test

@@ -19,7 +19,7 @@ use Rattle.kinds.specs.declared.Parent.{Parent}
 use Rattle.kinds.specs.declared.Parent.TheVariants.{Outermost, Inside}
 use Rattle.slot_map.specs.Slots.{bit_at}
 use Rattle.slot_map.proofs.Maps.{map_lt, bit_map}
-use Rattle.bench_words.specs.Store.{node_at_lem, interface_at, map_at}
+use Rattle.bench_words.specs.Store.{node_at, interface_at, map_at}
 use Rattle.bench_words.specs.declared.Node.{Node}
 use Rattle.bench_words.specs.declared.Up.{Up}
 use Rattle.bench_words.specs.declared.Up.TheVariants.{Top, Under}
@@ -75,7 +75,7 @@ module _ (b : List ℕ) (Z : SoundWords b) where
   C = Z.canon
 
   abbrev A : ℕ → Node
-  A = node_at_lem b
+  A = node_at b
 
   abbrev N : ℕ
   N = get_or b 0 0
@@ -87,7 +87,7 @@ module _ (b : List ℕ) (Z : SoundWords b) where
   S = F.facts
 
   next_is : (view b).next ≡ N
-  next_is = view_next (get_or b 0 0) (interface_at b) (node_at_lem b)
+  next_is = view_next (get_or b 0 0) (interface_at b) (node_at b)
 
   place_low : (u s : ℕ) → u < 8 → s < 64 → u * 64 + s < 512
   place_low u s lu ls = omega arith
@@ -254,11 +254,11 @@ module _ (b : List ℕ) (Z : SoundWords b) where
       go : (p : Up) → (interface_at b j).parent ≡ p → rule (interface_at b j).parent ≡ true
       go (Under p) e = ap rule e
       go Top e =
-          let free = view_parent (get_or b 0 0) (interface_at b) (node_at_lem b) j l ∙ ap up_seen e in
+          let free = view_parent (get_or b 0 0) (interface_at b) (node_at b) j l ∙ ap up_seen e in
           let w = width_is b S.frame j l free in
-          let x = off_range 4611686018427387903 (interface_at b j).sum (512 * W (view b) j) (subst (λ (f : plain.Interface). nat_abs f.sum ≤ 512 * W (view b) j) (interface_in_lem (get_or b 0 0) (interface_at b) (node_at_lem b) j l) (S.sums j l free)) in
+          let x = off_range 4611686018427387903 (interface_at b j).sum (512 * W (view b) j) (subst (λ (f : plain.Interface). nat_abs f.sum ≤ 512 * W (view b) j) (interface_in_lem (get_or b 0 0) (interface_at b) (node_at b) j l) (S.sums j l free)) in
           let m : pace_of b j + 512 ≡ 512 + pace_of b j = omega arith in
-          let v = off_inj 1024 (interface_at b j).speed (pace_of b j + 512) (sym (ap (λ (f : plain.Interface). f.speed) (interface_in_lem (get_or b 0 0) (interface_at b) (node_at_lem b) j l)) ∙ S.speeds j l free ∙ under_pace b C.steady.slots C.empty j ∙ sym (off_both_sides 512 512 (pace_of b j))) in
+          let v = off_inj 1024 (interface_at b j).speed (pace_of b j + 512) (sym (ap (λ (f : plain.Interface). f.speed) (interface_in_lem (get_or b 0 0) (interface_at b) (node_at b) j l)) ∙ S.speeds j l free ∙ under_pace b C.steady.slots C.empty j ∙ sym (off_both_sides 512 512 (pace_of b j))) in
           ap rule e ∙ both_true (both_true (le-leb (4611686018427387904 - width_of b j * 512) (interface_at b j).sum (omega (arith, x.0, w))) (le-leb (interface_at b j).sum (4611686018427387904 + width_of b j * 512) (omega (arith, x.1, w)))) (eq-eqb (interface_at b j).speed (512 + pace_of b j) (v ∙ m))
 
   -- ---- serials
@@ -268,7 +268,7 @@ module _ (b : List ℕ) (Z : SoundWords b) where
       let p : (A (k / 64 * 64 + k % 64)).class ≡ Absent → ⊥ = λ a. z (ap (λ (x : Node). x.serial.0) (C.empty k l (ap (λ (x : ℕ). (A x).class) (sym back) ∙ a))) in
       let o = used_slot (k / 64) (k % 64) (omega arith) (omega arith) p in
       let h = slot_held (A (k / 64 * 64 + k % 64)) (sum_up 8 (interface_at b) (k / 64)) (circle_of A (k / 64 * 64 + k % 64)) p in
-      (shown_as b (k / 64) (k % 64) h.0, view_slot (get_or b 0 0) (interface_at b) (node_at_lem b) (k / 64) (k % 64) (omega arith) o ∙ h.1, ap (λ (x : ℕ). (A x).serial.0) back)
+      (shown_as b (k / 64) (k % 64) h.0, view_slot (get_or b 0 0) (interface_at b) (node_at b) (k / 64) (k % 64) (omega arith) o ∙ h.1, ap (λ (x : ℕ). (A x).serial.0) back)
 
   once_held : (k : ℕ) → k < 512 → once_test b k ≡ true
   unfolding once_test

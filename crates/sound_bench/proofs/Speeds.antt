@@ -14,7 +14,7 @@ use Rattle.kinds.specs.declared.GrowState.TheVariants.{Grow, Stay, Shrink}
 use Rattle.kinds.specs.declared.Class.{Class}
 use Rattle.kinds.specs.declared.Class.TheVariants.{Absent, Blossom, Defect}
 use Rattle.bench_words.specs.Codec.{pick}
-use Rattle.bench_words.specs.Store.{node_at_lem, interface_at}
+use Rattle.bench_words.specs.Store.{node_at, interface_at}
 use Rattle.bench_words.specs.declared.Node.{Node}
 use Rattle.ledger_spec.specs.Bench.{Member, rate}
 use Rattle.ledger_spec.specs.Bench as plain
@@ -92,10 +92,10 @@ sum_off f zero = sym (off_zero 0)
 sum_off f (suc n) = let e : n * 64 + 64 ≡ suc n * 64 = omega arith in
     ap (λ (x : ℤ). x +ℤ off 64 (f n)) (sum_off f n) ∙ off_sum (n * 64) 64 (sum_to f n) (f n) ∙ ap (λ (k : ℕ). off k (sum_to f n + f n)) e
 
-module _ (b : List ℕ) (few : (u : ℕ) → u < 8 → (interface_at b u).used ≤ 64) (empty : (k : ℕ) → k < 512 → (node_at_lem b k).class ≡ Absent → node_at_lem b k ≡ no_node) where
+module _ (b : List ℕ) (few : (u : ℕ) → u < 8 → (interface_at b u).used ≤ 64) (empty : (k : ℕ) → k < 512 → (node_at b k).class ≡ Absent → node_at b k ≡ no_node) where
   rates_in_lem : (u : ℕ) → u < 8 → rates_in (view b) u ≡ off (interface_at b u).used (sum_to (rate_in b u) (interface_at b u).used)
-  rates_in_lem u lu = ap (λ (f : plain.Interface). slot_sum share f.slots) (interface_in_lem (get_or b 0 0) (interface_at b) (node_at_lem b) u lu)
-      ∙ rates_tab (slot_in (interface_at b) (node_at_lem b) u) (rate_in b u) (interface_at b u).used (λ s l. share_off (node_at_lem b (u * 64 + s)) _ _ (empty (u * 64 + s) (omega (arith, few u lu))))
+  rates_in_lem u lu = ap (λ (f : plain.Interface). slot_sum share f.slots) (interface_in_lem (get_or b 0 0) (interface_at b) (node_at b) u lu)
+      ∙ rates_tab (slot_in (interface_at b) (node_at b) u) (rate_in b u) (interface_at b u).used (λ s l. share_off (node_at b (u * 64 + s)) _ _ (empty (u * 64 + s) (omega (arith, few u lu))))
 
   term : (i u : ℕ) → u < 8 → gate (eqb (climb 8 (view b) u) i) (rates_in (view b) u) ≡ off 64 (pace_under b i u)
   unfolding pace_under gate

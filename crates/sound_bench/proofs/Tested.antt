@@ -14,7 +14,7 @@ use Rattle.kinds.specs.declared.Class.TheVariants.{Absent, Blossom, Defect}
 use Rattle.kinds.specs.declared.Handle.{Handle as Packed}
 use Rattle.kinds.specs.declared.Parent.{Parent}
 use Rattle.kinds.specs.declared.Parent.TheVariants.{Outermost, Inside}
-use Rattle.bench_words.specs.Store.{node_at_lem, interface_at}
+use Rattle.bench_words.specs.Store.{node_at, interface_at}
 use Rattle.bench_words.specs.declared.Interface.{Interface}
 use Rattle.bench_words.specs.declared.Node.{Node}
 use Rattle.bench_words.specs.declared.Up.{Up}
@@ -44,7 +44,7 @@ use Rattle.sound_nodes.specs.Nodes.{handle_in}
 use Rattle.sound_tops.specs.Tops.{pace_of, top_in}
 use Rattle.sound_serials.specs.Different.{serial_at, unlike, once_test}
 use Rattle.sound_floors.proofs.Level.{floors_say}
-use Rattle.sound_bench.proofs.Circles.{length_follow, member_at_lem, node_at_lem_lem, once, sizes_follow}
+use Rattle.sound_bench.proofs.Circles.{length_follow, member_at_lem, node_at_lem, once, sizes_follow}
 use Rattle.sound_bench.proofs.Speeds.{range_off, off_both_sides, under_pace}
 use Rattle.sound_bench.proofs.Seeing.{shown_as, Shown, ring, single, seen, see_ring}
 use Rattle.sound_bench.proofs.Nodes as nodes-in
@@ -54,14 +54,14 @@ use Rattle.sound_bench.proofs.Canonical.{links, frame, steady, empty_slot, prese
 
 -- what is shown of a node whatever its class
 pub of_shown : (b : List ℕ) (u s : ℕ) {X : Type 0} (φ : plain.Node → X) (x : X) → ((c : plain.Class) → φ (shown_as b u s c) ≡ x) → (n : plain.Node) → Shown b u s n → φ n ≡ x
-of_shown b u s φ x h n (ring q e) = ap φ e ∙ h (blossom (circle_of (node_at_lem b) (u * 64 + s)))
+of_shown b u s φ x h n (ring q e) = ap φ e ∙ h (blossom (circle_of (node_at b) (u * 64 + s)))
 of_shown b u s φ x h n (single v q e) = ap φ e ∙ h (defect v.0)
 
 pub parent_named_lem : (p : Parent) (h : Handle) → parent_named p ≡ some h → (q : Packed) × (p ≡ Inside q) × (handle_named q ≡ h)
 parent_named_lem Outermost h e = absurd (none_some {o = none} refl e)
 parent_named_lem (Inside q) h e = (q, refl, some_eq {o = some (handle_named q)} refl e)
 
-shown_present : (b : List ℕ) (u s : ℕ) (n : plain.Node) → Shown b u s n → (node_at_lem b (u * 64 + s)).class ≡ Absent → ⊥
+shown_present : (b : List ℕ) (u s : ℕ) (n : plain.Node) → Shown b u s n → (node_at b (u * 64 + s)).class ≡ Absent → ⊥
 shown_present b u s n (ring q e) a = let z : Absent ≡ Blossom = sym a ∙ q in let z2 : ◌≡◌ {A = ℕ} 0 1 = cc in omega arith
 shown_present b u s n (single v q e) a = let z : Absent ≡ Defect v = sym a ∙ q in let z2 : ◌≡◌ {A = ℕ} 0 1 = cc in omega arith
 
@@ -70,7 +70,7 @@ handle_is u s x v r y p q e = λ i. record { unit = p i; slot = q i; serial = e 
 
 module _ (b : List ℕ) (P : Parts b) (len : length b ≡ 6273) where
   abbrev A : ℕ → Node
-  A = node_at_lem b
+  A = node_at b
 
   abbrev N : ℕ
   N = get_or b 0 0
@@ -101,7 +101,7 @@ module _ (b : List ℕ) (P : Parts b) (len : length b ≡ 6273) where
       }
 
   next_is : (view b).next ≡ N
-  next_is = view_next (get_or b 0 0) (interface_at b) (node_at_lem b)
+  next_is = view_next (get_or b 0 0) (interface_at b) (node_at b)
 
   -- ---- serials
   low : (u s : ℕ) (n : plain.Node) → slot_of (view b) u s ≡ some n → (1 ≤ n.serial) × (n.serial < (view b).next)
@@ -207,7 +207,7 @@ module _ (b : List ℕ) (P : Parts b) (len : length b ≡ 6273) where
       standing : (d : plain.Class) × (slot_of (view b) (p / 64) (p % 64) ≡ some (shown_as b (p / 64) (p % 64) d))
       standing =
           let h = slot_held (A (p / 64 * 64 + p % 64)) (sum_up 8 (interface_at b) (p / 64)) (circle_of A (p / 64 * 64 + p % 64)) (class_present A N (handle_in (p / 64) (p % 64) (A (p / 64 * 64 + p % 64))) (A (p / 64 * 64 + p % 64)) held.1.class) in
-          (h.0, view_slot (get_or b 0 0) (interface_at b) (node_at_lem b) (p / 64) (p % 64) (omega (arith, M.low)) held.0 ∙ h.1)
+          (h.0, view_slot (get_or b 0 0) (interface_at b) (node_at b) (p / 64) (p % 64) (omega (arith, M.low)) held.0 ∙ h.1)
 
       standing_has : Has (slot_of (view b)) (handle_at A p) (shown_as b (p / 64) (p % 64) standing.0)
       standing_has = record { stands = standing.1; serial = ap (λ (x : ℕ). (A x).serial.0) back }
@@ -232,7 +232,7 @@ module _ (b : List ℕ) (P : Parts b) (len : length b ≡ 6273) where
   down u s m ms g e f i =
       let H = here u s m e in
       let r = ring_class u s m ms H.shown f in
-      let t = node_at_lem_lem (A (u * 64 + s)).count A (A (u * 64 + s)).first (subst (λ (l : List Member). In g (nodes l)) r.1 i) in
+      let t = node_at_lem (A (u * 64 + s)).count A (A (u * 64 + s)).first (subst (λ (l : List Member). In g (nodes l)) r.1 i) in
       let D : Down (slot_of (view b)) (handle_at A (walk t.0 A (A (u * 64 + s)).first)) (mk u s m) =
       record {
         node = shown_as b (walk t.0 A (A (u * 64 + s)).first / 64) (walk t.0 A (A (u * 64 + s)).first % 64) (standing u s H.unit H.slot r.0 t.0 t.1).0;
@@ -286,7 +286,7 @@ module _ (b : List ℕ) (P : Parts b) (len : length b ≡ 6273) where
   top_says : (i : ℕ) → i < 8 → (interface (view b) i).parent ≡ none → (between 4611686018427387904 (width_of b i * 512) (interface_at b i).sum ≡ true) × ((interface_at b i).speed ≡ 512 + pace_of b i)
   unfolding top_in
   top_says i l free =
-      let q = top_none (interface_at b i).parent (sym (view_parent (get_or b 0 0) (interface_at b) (node_at_lem b) i l) ∙ free) in
+      let q = top_none (interface_at b i).parent (sym (view_parent (get_or b 0 0) (interface_at b) (node_at b) i l) ∙ free) in
       let t = ap (λ (x : Up). over x (between 4611686018427387904 (width_of b i * 512) (interface_at b i).sum && eqb (interface_at b i).speed (512 + pace_of b i)) (λ p. true)) (sym q) ∙ P.top i l in
       let a = and_true (between 4611686018427387904 (width_of b i * 512) (interface_at b i).sum) (eqb (interface_at b i).speed (512 + pace_of b i)) t in
       (a.0, eqb-true (interface_at b i).speed (512 + pace_of b i) a.1)
@@ -296,12 +296,12 @@ module _ (b : List ℕ) (P : Parts b) (len : length b ≡ 6273) where
       let a = top_says i l free in
       let x = and_true (leb (4611686018427387904 - width_of b i * 512) (interface_at b i).sum) _ a.0 in
       let r = range_off 4611686018427387903 (interface_at b i).sum (width_of b i * 512) (leb-true (4611686018427387904 - width_of b i * 512) (interface_at b i).sum x.0) (leb-true (interface_at b i).sum (4611686018427387904 + width_of b i * 512) x.1) in
-      subst (λ (f : plain.Interface). nat_abs f.sum ≤ 512 * W (view b) i) (sym (interface_in_lem (get_or b 0 0) (interface_at b) (node_at_lem b) i l)) (omega (arith, r, W-is i l free))
+      subst (λ (f : plain.Interface). nat_abs f.sum ≤ 512 * W (view b) i) (sym (interface_in_lem (get_or b 0 0) (interface_at b) (node_at b) i l)) (omega (arith, r, W-is i l free))
 
   speed_is : (i : ℕ) → i < 8 → (interface (view b) i).parent ≡ none → (interface (view b) i).speed ≡ Sum (climb 8 (view b)) (rates_in (view b)) i
   speed_is i l free =
       let e : 512 + pace_of b i ≡ pace_of b i + 512 = omega arith in
-      ap (λ (f : plain.Interface). f.speed) (interface_in_lem (get_or b 0 0) (interface_at b) (node_at_lem b) i l) ∙ ap (off 1024) ((top_says i l free).1 ∙ e) ∙ off_both_sides 512 512 (pace_of b i) ∙ sym (under_pace b few (empty_slot b P len) i)
+      ap (λ (f : plain.Interface). f.speed) (interface_in_lem (get_or b 0 0) (interface_at b) (node_at b) i l) ∙ ap (off 1024) ((top_says i l free).1 ∙ e) ∙ off_both_sides 512 512 (pace_of b i) ∙ sym (under_pace b few (empty_slot b P len) i)
 
   -- ---- every interface
   any : (X : plain.Interface → Type 0) → ((u : ℕ) → u < 8 → X (interface (view b) u)) → X fresh → (u : ℕ) → X (interface (view b) u)
@@ -309,14 +309,14 @@ module _ (b : List ℕ) (P : Parts b) (len : length b ≡ 6273) where
     where
       go : Dec (u < 8) → X (interface (view b) u)
       go (yes l) = h u l
-      go (no l) = let e : length (view b).interfaces ≤ u = omega (arith, view_eight (get_or b 0 0) (interface_at b) (node_at_lem b)) in subst X (sym (get_or-eq_default (view b).interfaces fresh e)) f
+      go (no l) = let e : length (view b).interfaces ≤ u = omega (arith, view_eight (get_or b 0 0) (interface_at b) (node_at b)) in subst X (sym (get_or-eq_default (view b).interfaces fresh e)) f
 
   pub facts : Sound (view b)
   facts = record {
     frame = frame b P len;
-    few = any (λ f. length f.slots ≤ 64) (λ u l. omega (arith, few u l, view_count (get_or b 0 0) (interface_at b) (node_at_lem b) u l)) (omega arith);
-    forward = any (λ f. f.progress ≡ pos (nat_abs f.progress)) (λ u l. subst (λ (f : plain.Interface). f.progress ≡ pos (nat_abs f.progress)) (sym (interface_in_lem (get_or b 0 0) (interface_at b) (node_at_lem b) u l)) refl) refl;
-    limit = any (λ f. nat_abs f.progress ≤ 2 ^ 40) (λ u l. subst (λ (f : plain.Interface). nat_abs f.progress ≤ 2 ^ 40) (sym (interface_in_lem (get_or b 0 0) (interface_at b) (node_at_lem b) u l)) ((steady b P len).progress u l)) (omega arith);
+    few = any (λ f. length f.slots ≤ 64) (λ u l. omega (arith, few u l, view_count (get_or b 0 0) (interface_at b) (node_at b) u l)) (omega arith);
+    forward = any (λ f. f.progress ≡ pos (nat_abs f.progress)) (λ u l. subst (λ (f : plain.Interface). f.progress ≡ pos (nat_abs f.progress)) (sym (interface_in_lem (get_or b 0 0) (interface_at b) (node_at b) u l)) refl) refl;
+    limit = any (λ f. nat_abs f.progress ≤ 2 ^ 40) (λ u l. subst (λ (f : plain.Interface). nat_abs f.progress ≤ 2 ^ 40) (sym (interface_in_lem (get_or b 0 0) (interface_at b) (node_at b) u l)) ((steady b P len).progress u l)) (omega arith);
     worn = omega (arith, next_is, P.worn);
     sewn = record { begun = omega (arith, next_is, positive N P.some); knit = record { low = low; one = one; up = λ u s n h e f. up u s n e h f; down = down } };
     rings = λ u s n e. let H = here u s n e in
