@@ -1,7 +1,7 @@
 #!/usr/bin/env python3
 """Spells the definitions and lemmas of this repository as today's Rattle spells names: in snake case, types and facts in upper camel case.
 
-  tools/respell.py [--list]      at the top of a repository as port.py left it; --list prints OLD NEW and changes nothing
+  tools/respell.py --apply|--list      at the top of a repository as port.py left it; --list prints OLD NEW and changes nothing
 
 A name is turned where it is declared in specs/ or proofs/: `freeSlot` becomes `free_slot`, `named-of` becomes `named_of`. A dash stays where it
 joins two names, one of which is a type, a fact or a constructor in capitals, as in `line-D`. Where a definition and a lemma would fall together,
@@ -11,6 +11,8 @@ import os
 import re
 import sys
 
+if __name__ == "__main__" and "--list" not in sys.argv and "--apply" not in sys.argv:
+    sys.exit(__doc__)
 os.chdir(os.path.dirname(os.path.dirname(os.path.abspath(__file__))) if os.path.isdir(os.path.join(os.path.dirname(os.path.abspath(__file__)), "..", "crates")) else ".")
 WORD = r"[^\s(){}\[\].;,@\"«»`:|]+"
 DECLARED = re.compile(r"^( *)(?:(?:abbrev|unfoldable|opaque|pub|ruleset) )*(" + WORD + r")(?: [^:\n]*)? : ", re.M)
