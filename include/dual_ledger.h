@@ -13,7 +13,7 @@
  * Threads: there is no state but what is lent. Functions may run at once on any threads as long as nothing that one of them writes is lent to another; reads of
  * one bench may run at once.
  *
- * The archive needs memmove and memset of the C library and nothing else. It has some 97 KB (x86-64).
+ * The archive needs memmove and memset of the C library and nothing else. It has some 97 KB (x86-64, of an older kit).
  *
  * Three forms. dual_ledger_NAME takes any words at all and tests them first (BROKEN if they hold no sound bench). dual_ledger_trusted_NAME tests
  * nothing about the words: lend it only words that a set-up or dual_ledger_text_opening and accepted or refused calls of this library alone have written, or that
@@ -170,7 +170,7 @@ uint8_t dual_ledger_check_ptr_belonging(const uint64_t *bench, uint8_t unit, uin
 uint8_t dual_ledger_get_dual_variable(const uint64_t *bench, uint64_t node, int64_t *value);
 /* The outermost blossom around the node, itself if it is in none, and the parent links followed to it: as many as the node's chain of parents has, never
  * more than the present blossoms of its tree, 0 for a node without a parent. For sizing a time slot: a chain has at most 255 links in a bench that only
- * these calls have written, 447 in any sound one; each takes 5 ns (trusted, x86-64: 14 ns for one link, 52 for 16, 259 for 64, 1,110 for 255, 2,014 for
+ * these calls have written, 447 in any sound one; each takes 5 ns (trusted, x86-64, an older kit: 14 ns for one link, 52 for 16, 259 for 64, 1,110 for 255, 2,014 for
  * 447), and the form on any words tests the bench first (2 to 10 microseconds in those nests). `oracle/run bench` measures them again. */
 uint8_t dual_ledger_get_ancestor_blossom(const uint64_t *bench, uint64_t node, uint64_t *ancestor, uint64_t *links);
 /* The node below the outermost blossom on the way there. */
