@@ -1,14 +1,11 @@
 -- `merged` makes one turn of the pass a turn of its loop; what the pass comes to by a turn is `After` it. Assumes nothing.
-use Rattle.std.proofs.Common.{◌≡◌, ℕ, List, ◌+◌, ◌-◌, ◌<◌, ◌≤◌, length, take, drop, ◌++◌, sym, ◌∙◌, subst, arith, rules}
-use mathlib.Core.Logic.{◌⊎◌, inl, inr}
-use mathlib.Core.Option.{Option}
-use Rattle.kinds.specs.declared.Entry.{Entry}
-use Rattle.kinds.specs.declared.Stop.{Stop}
-use Rattle.ledger_spec.specs.Groups.{Lists, add_stops}
+use Rattle.std.proofs.Common.{◌+◌, ◌<◌, ◌≤◌, length, take, drop, ◌++◌, ◌∙◌, subst, arith}
+use mathlib.Core.Logic.{inl, inr}
+use Rattle.ledger_spec.specs.Groups.{add_stops}
 use Rattle.groups.specs.View.{no_stop}
 use Rattle.group_merges.specs.declared.Turn.{Turn}
 use Rattle.group_merges.specs.declared.Turn.TheVariants.{Put, Enter}
-use Rattle.group_merges.proofs.Passes.{Merging, After, starts, next_turn, ended, closes}
+use Rattle.group_merges.proofs.Passes.{After, next_turn, ended, closes}
 use Rattle.group_merges.proofs.Answers.{no-room-left, all-merged}
 use Rattle.group_merges.proofs.merged.Goals as goal
 use Rattle.group_merges.proofs.merged.Goals.{In-Put, In-Enter, After-refused, then-i-n, else-i-n}
@@ -20,7 +17,7 @@ put c =
     let other : c.args.m ≤ length c.args.other = omega arith in
     next_turn c.args.g.stops c.args.other c.args.g.list c.args.g.stopped c.args.m own other (add_stops (take c.args.m c.args.other) (take c.args.listed c.args.list) (take c.args.g.stopped c.args.g.stops)) c.loop-j.entries c.loop-j.out c.loop-j.at c.loop-j.i c.loop-j.j c.loop-j.k no_stop c.loop-j.invariant c.loop-j-test.true c.if-i-n.turn
     (elim c.if-i-n.branch [
-      then-i-n w ↦ inl (w.if-i-n.true, w.turn-is ∙ w.turn_of-turn.ensures)
+      | then-i-n w ↦ inl (w.if-i-n.true, w.turn-is ∙ w.turn_of-turn.ensures)
       | else-i-n w ↦ inr (w.if-i-n.false, w.turn-is ∙ c.comes_in-turn.ensures)
     ])
 
@@ -31,7 +28,7 @@ entered c =
     let other : c.args.m ≤ length c.args.other = omega arith in
     next_turn c.args.g.stops c.args.other c.args.g.list c.args.g.stopped c.args.m own other (add_stops (take c.args.m c.args.other) (take c.args.listed c.args.list) (take c.args.g.stopped c.args.g.stops)) c.loop-j.entries c.loop-j.out c.loop-j.at c.loop-j.i c.loop-j.j c.loop-j.k no_stop c.loop-j.invariant c.loop-j-test.true c.if-i-n.turn
     (elim c.if-i-n.branch [
-      then-i-n w ↦ inl (w.if-i-n.true, w.turn-is ∙ w.turn_of-turn.ensures)
+      | then-i-n w ↦ inl (w.if-i-n.true, w.turn-is ∙ w.turn_of-turn.ensures)
       | else-i-n w ↦ inr (w.if-i-n.false, w.turn-is ∙ c.comes_in-turn.ensures)
     ])
 
@@ -42,7 +39,7 @@ filled c =
     let other : c.args.m ≤ length c.args.other = omega arith in
     next_turn c.args.g.stops c.args.other c.args.g.list c.args.g.stopped c.args.m own other (add_stops (take c.args.m c.args.other) (take c.args.listed c.args.list) (take c.args.g.stopped c.args.g.stops)) c.loop-j.entries c.loop-j.out c.loop-j.at c.loop-j.i c.loop-j.j c.loop-j.k no_stop c.loop-j.invariant c.loop-j-test.true c.if-i-n.turn
     (elim c.if-i-n.branch [
-      then-i-n w ↦ inl (w.if-i-n.true, w.turn-is ∙ w.turn_of-turn.ensures)
+      | then-i-n w ↦ inl (w.if-i-n.true, w.turn-is ∙ w.turn_of-turn.ensures)
       | else-i-n w ↦ inr (w.if-i-n.false, w.turn-is ∙ c.comes_in-turn.ensures)
     ])
 

@@ -1,6 +1,6 @@
 -- `turn_of` goes by the two vertices, and where they are one by what the two stops come to. Assumes nothing.
-use Rattle.std.proofs.Common.{◌≡◌, refl, sym}
-use Rattle.group_merges.specs.Turns.{meets, turn_of}
+use Rattle.std.proofs.Common.{refl, sym}
+use Rattle.group_merges.specs.Turns.{meets}
 use Rattle.group_merges.proofs.Turning.{by_pass, by_coming, by_meeting, by_full, by_entry}
 use Rattle.group_merges.proofs.turn_of.Goals as goal
 
