@@ -33,11 +33,11 @@ overflow_mul-u c =
 pub fill-n-requires : goal.fill-n-requires
 fill-n-requires c =
     let o = c.order_of-o in
-    let l = c.loop-i in record { out_len = l.invariant.1.long; many_bound = (
-        room c.args.b.now c.requires.fit c.args.unit c.requires.unit_bound o.result o.ensures l.i l.n l.out l.invariant.1 (get_or o.result.units l.i 0) c.loop-i-test.true refl c.load_interface-f.result c.load_interface-f.ensures,
-        reach c.args.b.now c.requires.fit c.args.unit c.requires.unit_bound o.result o.ensures l.i l.n l.out l.invariant.1 (get_or o.result.units l.i 0) c.loop-i-test.true refl c.load_interface-f.result c.load_interface-f.ensures,
-      ); many_bound_2 =  }
-
+    let l = c.loop-i in record {
+      out_len = l.invariant.1.long;
+      many_bound = room c.args.b.now c.requires.fit c.args.unit c.requires.unit_bound o.result o.ensures l.i l.n l.out l.invariant.1 (get_or o.result.units l.i 0) c.loop-i-test.true refl c.load_interface-f.result c.load_interface-f.ensures;
+      many_bound_2 = reach c.args.b.now c.requires.fit c.args.unit c.requires.unit_bound o.result o.ensures l.i l.n l.out l.invariant.1 (get_or o.result.units l.i 0) c.loop-i-test.true refl c.load_interface-f.result c.load_interface-f.ensures;
+    }
 
 pub overflow_add-i : goal.overflow_add-i
 overflow_add-i c =
