@@ -25,7 +25,7 @@ look-s-requires c =
 pub returns-then-s-ne0 : goal.returns-then-s-ne0
 returns-then-s-ne0 c =
     let r = c.look-s in
-    (walking_found c.args.b.now c.args.unit c.args.strict c.args.places.now c.args.count c.requires.places c.loop-k.k c.loop-k.n c.loop-k.met c.loop-k.invariant.1.0 c.loop-k-test.true r.new.1.1.1.1.0 r.result r.ensures.0 c.if-s-ne0.true, r.ensures.1)
+    (walking_found c.args.b.now c.args.unit c.args.strict c.args.places.now c.args.count c.requires.places c.loop-k.k c.loop-k.n c.loop-k.met c.loop-k.invariant.1.0 c.loop-k-test.true r.new.met r.result r.ensures.0 c.if-s-ne0.true, r.ensures.1)
 
 
 pub overflow_add-k : goal.overflow_add-k
@@ -42,7 +42,7 @@ pub loop-k-preserved : goal.loop-k-preserved
 loop-k-preserved c =
     let r = c.look-s in
     let t = c.loop-k-test.true in
-    (omega (arith, t), (walking_on c.args.b.now c.args.unit c.args.strict c.args.places.now c.args.count c.requires.places c.loop-k.k c.loop-k.n c.loop-k.met c.loop-k.invariant.1.0 t r.new.1.1.1.1.0 r.result r.ensures.0 c.if-s-ne0.false, r.ensures.1))
+    (omega (arith, t), (walking_on c.args.b.now c.args.unit c.args.strict c.args.places.now c.args.count c.requires.places c.loop-k.k c.loop-k.n c.loop-k.met c.loop-k.invariant.1.0 t r.new.met r.result r.ensures.0 c.if-s-ne0.false, r.ensures.1))
 
 
 pub returns : goal.returns
