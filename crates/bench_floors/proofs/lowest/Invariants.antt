@@ -9,10 +9,8 @@ use Rattle.bench_orders.proofs.Counting.{unit_low}
 use Rattle.bench_floors.proofs.Along.{Leasting, unfloored, leasting_starts, leasting_ends, leasting_on}
 use Rattle.bench_floors.proofs.lowest.Given as goal
 
-
 abbrev pub invariant-loop-i : goal.invariant-loop-i
 invariant-loop-i l = Leasting l.b l.unit l.i l.low
-
 
 abbrev pub decreases-loop-i : goal.decreases-loop-i
 decreases-loop-i l = l.o.count - l.i

@@ -7,10 +7,8 @@ use borrow.Author.Rules.{rules}
 use Rattle.bench_orders.proofs.Counting.{Counted, unit_low, used_small, count_on, count_ends}
 use Rattle.bench_orders.proofs.count.Given as goal
 
-
 abbrev pub invariant-loop-i : goal.invariant-loop-i
 invariant-loop-i l = Counted l.b l.unit l.i l.total
-
 
 abbrev pub decreases-loop-i : goal.decreases-loop-i
 decreases-loop-i l = l.o.count - l.i

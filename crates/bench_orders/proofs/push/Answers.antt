@@ -6,7 +6,6 @@ use lib.ListN.{length}
 use Rattle.bench_orders.proofs.Listing.{pushed}
 use Rattle.bench_orders.proofs.push.Goals as goal
 
-
 pub returns : goal.returns
 returns c =
     let o = c.args.o in

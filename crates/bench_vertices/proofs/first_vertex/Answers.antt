@@ -6,14 +6,11 @@ use Rattle.bench_words.specs.Store.{node_at}
 use Rattle.bench_vertices.proofs.Circling.{Down, never, first_own, first_placed, first_older, first_under}
 use Rattle.bench_vertices.proofs.first_vertex.Goals as goal
 
-
 pub loop-v-init : goal.loop-v-init
 loop-v-init c = record { placed = c.requires.placed; same = refl }
 
-
 pub load_node-n-requires : goal.load_node-n-requires
 load_node-n-requires c = c.loop-v.invariant.placed.low
-
 
 pub returns-in-Absent : goal.returns-in-Absent
 returns-in-Absent c =
@@ -21,7 +18,6 @@ returns-in-Absent c =
     let n = c.load_node-n in
     let q : n.result.class ≡ Absent = cc in
     absurd (never c.args.b.now c.requires.fit l.p l.invariant.placed n.result n.ensures q)
-
 
 pub returns-in-Defect : goal.returns-in-Defect
 returns-in-Defect c =
@@ -31,14 +27,12 @@ returns-in-Defect c =
     let q : n.result.class ≡ Defect v = cc in
     first_own c.args.b.now c.requires.fit l.p l.invariant.placed n.result n.ensures v q ∙ l.invariant.same
 
-
 pub loop-v-smaller : goal.loop-v-smaller
 loop-v-smaller c =
     let l = c.loop-v in
     let n = c.load_node-n in
     let q : n.result.class ≡ Blossom = cc in
     first_older c.args.b.now c.requires.fit l.p l.invariant.placed n.result n.ensures q
-
 
 pub loop-v-preserved : goal.loop-v-preserved
 loop-v-preserved c =

@@ -7,14 +7,11 @@ use mathlib.Core.Path.{ap}
 use mathlib.Core.Bool.{not}
 use Rattle.call_any.proofs.grow.Goals as goal
 
-
 pub returns-then-not-is_bench : goal.returns-then-not-is_bench
 returns-then-not-is_bench c = no_bench c.is_bench.ensures (ap not c.if-not-is_bench.true) c.refused.ensures refl
 
-
 pub grow-requires : goal.grow-requires
 grow-requires c = sound_bench c.is_bench.ensures (ap not c.if-not-is_bench.false)
-
 
 pub returns : goal.returns
 returns c = answers c.is_bench.ensures (ap not c.if-not-is_bench.false) (grow_told c.ranges.length c.grow.ensures)

@@ -6,14 +6,11 @@ use mathlib.Core.Path.{ap}
 use mathlib.Core.Bool.{not}
 use Rattle.call_any.proofs.set_grow_state.Goals as goal
 
-
 pub returns-then-not-is_bench : goal.returns-then-not-is_bench
 returns-then-not-is_bench c = no_bench c.is_bench.ensures (ap not c.if-not-is_bench.true) c.refused.ensures refl
 
-
 pub set_grow_state-requires : goal.set_grow_state-requires
 set_grow_state-requires c = sound_bench c.is_bench.ensures (ap not c.if-not-is_bench.false)
-
 
 pub returns : goal.returns
 returns c = answers c.is_bench.ensures (ap not c.if-not-is_bench.false) c.set_grow_state.ensures

@@ -7,14 +7,11 @@ use Rattle.sound_lent.proofs.Asking.{no_bench, a_bench, fits}
 use mathlib.Core.Bool.{not}
 use Rattle.read_any.proofs.get_ancestor_blossom.Goals as goal
 
-
 pub returns-then-not-is_bench : goal.returns-then-not-is_bench
 returns-then-not-is_bench c = ap (λ (h : Handle). (2, (handle_named h, 0))) c.nobody.ensures ∙ no_bench _ _ _ c.is_bench.ensures (ap not c.if-not-is_bench.true)
 
-
 pub get_ancestor_blossom-requires : goal.get_ancestor_blossom-requires
 get_ancestor_blossom-requires c = fits c.is_bench.ensures (ap not c.if-not-is_bench.false)
-
 
 pub returns : goal.returns
 returns c = a_bench _ _ _ c.is_bench.ensures (ap not c.if-not-is_bench.false) c.get_ancestor_blossom.ensures

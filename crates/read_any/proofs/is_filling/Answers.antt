@@ -6,10 +6,8 @@ use mathlib.Core.Path.{ap}
 use mathlib.Core.Bool.{not}
 use Rattle.read_any.proofs.is_filling.Goals as goal
 
-
 pub returns-then-not-is_bench : goal.returns-then-not-is_bench
 returns-then-not-is_bench c = c.no_mark.ensures ∙ no_bench _ _ _ c.is_bench.ensures (ap not c.if-not-is_bench.true)
-
 
 pub returns : goal.returns
 returns c = a_bench _ _ _ c.is_bench.ensures (ap not c.if-not-is_bench.false) c.is_filling.ensures

@@ -6,14 +6,11 @@ use mathlib.Core.Path.{ap}
 use mathlib.Core.Bool.{not}
 use Rattle.read_any.proofs.nodes_count.Goals as goal
 
-
 pub returns-then-not-is_bench : goal.returns-then-not-is_bench
 returns-then-not-is_bench c = c.no_count.ensures ∙ no_bench _ _ _ c.is_bench.ensures (ap not c.if-not-is_bench.true)
 
-
 pub nodes_count-requires : goal.nodes_count-requires
 nodes_count-requires c = fits c.is_bench.ensures (ap not c.if-not-is_bench.false)
-
 
 pub returns : goal.returns
 returns c = a_bench _ _ _ c.is_bench.ensures (ap not c.if-not-is_bench.false) c.nodes_count.ensures

@@ -7,7 +7,6 @@ use Rattle.read_present.proofs.Presence.{count_is, count_small}
 use borrow.Author.Rules.{rules}
 use Rattle.read_present.proofs.marked.Goals as goal
 
-
 pub returns : goal.returns
 returns c =
     let e = c.count.ensures ∙ count_is c.args.b.now c.requires.fit c.args.u c.requires.u_bound c.load_map-map.result c.load_map-map.ensures in

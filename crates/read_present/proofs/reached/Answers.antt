@@ -6,7 +6,6 @@ use Rattle.bench_words.specs.declared.Node.{Node}
 use borrow.Author.Rules.{rules}
 use Rattle.read_present.proofs.reached.Goals as goal
 
-
 pub returns : goal.returns
 returns c =
     let a = c.args in

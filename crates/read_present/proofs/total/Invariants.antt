@@ -8,10 +8,8 @@ use Rattle.bench_orders.proofs.Counting.{unit_low}
 use Rattle.read_present.proofs.Walking.{Summing, sum_on, sum_ends}
 use Rattle.read_present.proofs.total.Given as goal
 
-
 abbrev pub invariant-loop-i : goal.invariant-loop-i
 invariant-loop-i l = Summing l.b l.unit l.i l.sum
-
 
 abbrev pub decreases-loop-i : goal.decreases-loop-i
 decreases-loop-i l = l.o.count - l.i

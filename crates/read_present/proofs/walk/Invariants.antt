@@ -12,10 +12,8 @@ use Rattle.bench_orders.proofs.Counting.{unit_low, used_small}
 use Rattle.read_present.proofs.Walking.{Going, go_on, go_met, go_ends}
 use Rattle.read_present.proofs.walk.Given as goal
 
-
 abbrev pub invariant-loop-i : goal.invariant-loop-i
 invariant-loop-i l = Going l.b l.unit l.index l.i l.passed
-
 
 abbrev pub decreases-loop-i : goal.decreases-loop-i
 decreases-loop-i l = l.o.count - l.i

@@ -7,14 +7,11 @@ use mathlib.Core.Bool.{not}
 use mir.Syntax.{w64}
 use Rattle.recorded_any.proofs.grow_recorded.Goals as goal
 
-
 pub returns-then-not-is_bench : goal.returns-then-not-is_bench
 returns-then-not-is_bench c = let a = c.args in no_bench a.b.now a.unit a.length a.groups.now a.out.now c.is_bench.ensures (ap not c.if-not-is_bench.true)
 
-
 pub grow_recorded-requires : goal.grow_recorded-requires
 grow_recorded-requires c = sounds c.is_bench.ensures (ap not c.if-not-is_bench.false)
-
 
 pub returns : goal.returns
 returns c =

@@ -8,14 +8,11 @@ use Rattle.bench_serials.proofs.Scanning.{seek_at, seek_none}
 use Rattle.text_members.proofs.Naming.{names_late, names_none, names_at}
 use Rattle.text_members.proofs.member.Goals as goal
 
-
 pub returns-then-serial : goal.returns-then-serial
 returns-then-serial c = names_late c.args.b.now c.requires c.args.serial c.if-serial.true
 
-
 pub seek-found-requires : goal.seek-found-requires
 seek-found-requires c = fit_of c.args.b.now c.requires
-
 
 pub overflow_cast-k : goal.overflow_cast-k
 overflow_cast-k c =
@@ -24,14 +21,12 @@ overflow_cast-k c =
     let h = (seek_at c.args.b.now c.args.serial k c.seek-found.ensures.seeks q).finds.low in
     record { fits = omega arith }
 
-
 pub returns-in-At : goal.returns-in-At
 returns-in-At c =
     let k = c.in-At.k in
     let q : c.seek-found.result ≡ At k = cc in
     names_at c.args.b.now c.requires c.args.serial c.if-serial.false k
     (seek_at c.args.b.now c.args.serial k c.seek-found.ensures.seeks q) c.handle_word.result c.handle_word.ensures.0
-
 
 pub returns-in-Stale : goal.returns-in-Stale
 returns-in-Stale c =
