@@ -9,7 +9,7 @@ use native.Mathlib.Decide.{ℕ_discrete}
 use native.Mathlib.Omega.{arith}
 use lib.Dec.{eqb}
 use lib.ListN.{length, drop, get_or, set, length-set, replicate, length-replicate, get_or-replicate, drop_of_length-le}
-use lib.Seq.{drop_cons, get_or-set_same, get_or-set_other}
+use lib.Seq.{drop-cons, get_or-set_same, get_or-set_other}
 use borrow.Author.Tests.{eq-eqb, ne_eqb}
 use Rattle.ledger_spec.specs.Bench.{Handle, Node}
 use Rattle.ledger_spec.specs.Reads.{slots_of}
@@ -68,7 +68,7 @@ module _ (b : List ℕ) (unit : ℕ) (ps : List ℕ) (count : ℕ) (P : Places b
     split =
         let I : AtIndex b unit k p = P.at k l in
         let e : get_or (slots_of (view b) unit) k (0, 0, none) ≡ (p / 64, p % 64, (get_or (slots_of (view b) unit) k (0, 0, none)).2) = I.at ∙ ap (λ (t : Entry). (p / 64, p % 64, t.2)) (sym I.at) in
-        drop_cons (slots_of (view b) unit) k (0, 0, none) I.inside ∙ ap (λ (t : Entry). t ∷ drop (suc k) (slots_of (view b) unit)) e
+        drop-cons (slots_of (view b) unit) k (0, 0, none) I.inside ∙ ap (λ (t : Entry). t ∷ drop (suc k) (slots_of (view b) unit)) e
 
     abbrev slot : Entry
     slot = (p / 64, p % 64, (get_or (slots_of (view b) unit) k (0, 0, none)).2)

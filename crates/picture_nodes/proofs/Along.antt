@@ -7,7 +7,7 @@ use mathlib.Core.List.{List, [], ◌∷◌, ◌++◌, map}
 use native.Mathlib.Numerals.{add-one}
 use native.Mathlib.Omega.{arith}
 use lib.ListN.{drop, get_or, drop_of_length-le}
-use lib.Seq.{drop_cons}
+use lib.Seq.{drop-cons}
 use Rattle.ledger_spec.specs.Bench.{Node}
 use Rattle.ledger_spec.specs.Reads.{slots_of}
 use Rattle.bench_views.specs.View.{view}
@@ -42,7 +42,7 @@ module _ (b : List ℕ) (unit : ℕ) (ps : List ℕ) (count : ℕ) (P : Places b
       → Drawn o₁ q (slot_text (names_by a) (slot_seen_by (view b) unit (get_or slots k (0, 0, none)))) o₂ s → Along b unit a o at o₂ s (k + 1) 1
   along_on l o₁ q o₂ s v d = subst (λ (j : ℕ). Along b unit a o at o₂ s j 1) (sym (add-one k)) (record {
     text = items_on (slot_text (names_by a)) i (slot_seen_by (view b) unit (get_or slots k (0, 0, none))) (map (slot_seen_by (view b) unit) (drop (suc k) slots)) close
-        (relabel (ap (after b unit a i) (drop_cons slots k (0, 0, none) (omega (arith, P.count)))) G.text) v d;
+        (relabel (ap (after b unit a i) (drop-cons slots k (0, 0, none) (omega (arith, P.count)))) G.text) v d;
   })
 
   pub along_ends : count ≤ k → (o₀ : List ℕ) (at₀ : ℕ) → Drawn o₀ at₀ (91 ∷ []) o at → (o₁ : List ℕ) (q : ℕ) → Drawn o' r close o₁ q
