@@ -18,7 +18,7 @@ use Rattle.check_sound.specs.declared.Checked.{Checked}
 use Rattle.check_sound.specs.Judged.{shown_check}
 use Rattle.sound_lent.specs.Verdict.{asked, read_words}
 use Rattle.sound_lent.proofs.Asking.{asked_by}
-use Rattle.ledger_spec.specs.Answers.{checkRead, strictRead}
+use Rattle.ledger_spec.specs.Answers.{check_read, strict_read}
 
 -- an answer is what it shows
 pub one_answer : (r s : Checked) → shown_check r ≡ shown_check s → r ≡ s
@@ -51,10 +51,10 @@ not_two b u = go (outside u) (child b u)
     go false false e = omega arith
 
 module _ (b : List ℕ) (u : ℕ) where
-  pub check_broken : (read_words b (checkRead (view b) u)).0 ≡ 2 → SoundWords b → ⊥
+  pub check_broken : (read_words b (check_read (view b) u)).0 ≡ 2 → SoundWords b → ⊥
   unfolding check_of
   check_broken = two_broken b (0, 0) (check_of (view b) u) (λ e. not_two (view b) u (sym (said_number (first (unit_tests (view b) u)) _ (0, 0)) ∙ e))
 
-  pub strict_broken : (read_words b (strictRead (view b) u)).0 ≡ 2 → SoundWords b → ⊥
+  pub strict_broken : (read_words b (strict_read (view b) u)).0 ≡ 2 → SoundWords b → ⊥
   unfolding strict_of
   strict_broken = two_broken b (0, 0) (strict_of (view b) u) (λ e. not_two (view b) u (sym (said_number (first (unit_tests (view b) u)) _ (0, 0)) ∙ e))

@@ -5,7 +5,7 @@ ghost use Rattle.std.specs.Prelude.{◌≡◌};
 ghost use Rattle.bench_views.specs.View.{view};
 ghost use Rattle.check_sound.specs.Judged.{shown_check};
 ghost use Rattle.sound_lent.specs.Verdict.{read_words};
-ghost use Rattle.ledger_spec.specs.Answers.{checkRead, strictRead};
+ghost use Rattle.ledger_spec.specs.Answers.{check_read, strict_read};
 
 use bench_words::WORDS;
 use check_sound::Checked;
@@ -22,7 +22,7 @@ fn broken() -> Checked
 }
 
 pub fn sanity_check(b: &[u64; WORDS], unit: u8) -> Checked
-    ensures { shown_check result ≡ read_words b.now (checkRead (view b.now) unit) }
+    ensures { shown_check result ≡ read_words b.now (check_read (view b.now) unit) }
 {
     if !sound_lent::is_bench(b) {
         return broken();
@@ -31,7 +31,7 @@ pub fn sanity_check(b: &[u64; WORDS], unit: u8) -> Checked
 }
 
 pub fn strict_check(b: &[u64; WORDS], unit: u8) -> Checked
-    ensures { shown_check result ≡ read_words b.now (strictRead (view b.now) unit) }
+    ensures { shown_check result ≡ read_words b.now (strict_read (view b.now) unit) }
 {
     if !sound_lent::is_bench(b) {
         return broken();

@@ -10,13 +10,13 @@ use Rattle.bench_views.specs.View.{view}
 use Rattle.bench_views.specs.Fit.{SoundWords}
 use Rattle.sound_bench.proofs.Theorem.{sound_holds}
 use Rattle.outcomes.proofs.Outcomes.{judged_with}
-use Rattle.link_told.specs.Answers.{answerOver}
+use Rattle.link_told.specs.Answers.{answer_over}
 use Rattle.link_told.proofs.Back.{said_first}
 use Rattle.dual_ledger.specs.Linked.{Settled, node_of, ToldBy, CalledBy}
 
 module _ {b : List ℕ} {c : Call} {n : ℕ} {b' : List ℕ} (ws : List ℕ) {ws' : List ℕ} where
   pub called_told : SoundWords b → CalledBy b c n ws ws' b' → ToldBy b c n ws ws' b'
-  called_told W C = judged_with (answerOver ws) (sound_holds b W) C
+  called_told W C = judged_with (answer_over ws) (sound_holds b W) C
 
   pub told_settled : ToldBy b c n ws ws' b' → Settled b c n b'
   told_settled T = T.0

@@ -13,7 +13,7 @@ use Rattle.ledger_spec.specs.Reads.{sum_of, speed_of, count_of, fills_of, floore
 use Rattle.ledger_spec.specs.Walk.{outer_of, below_of, first_vertex, vertices_into}
 use Rattle.ledger_spec.specs.Check.{check_of, strict_of}
 use Rattle.ledger_spec.specs.GroupCalls.{is_empty, is_active, growth_of}
-use Rattle.ledger_spec.specs.Answers.{sumRead, speedRead, countRead, fillsRead, flooredRead, indexRead, belongsRead, valueRead, outerRead, belowRead, firstRead, verticesRead, checkRead, strictRead}
+use Rattle.ledger_spec.specs.Answers.{sum_read, speed_read, count_read, fills_read, floored_read, index_read, belongs_read, value_read, outer_read, below_read, first_read, vertices_read, check_read, strict_read}
 use Rattle.bench_views.specs.View.{view}
 use Rattle.sound_bench.specs.Sound.{sound_words}
 use Rattle.sound_lent.specs.Verdict.{Verdict, read_words}
@@ -147,38 +147,38 @@ module _ (b : List ℕ) where
 
 -- ---- the reads of an interface: on any words, on sound ones
 module _ (b : List ℕ) (u : ℕ) where
-  pub only_sum_dual_variables : Only (worded signed_word (read_words b (sumRead (view b) u)))
-  only_sum_dual_variables = one (worded signed_word (read_words b (sumRead (view b) u)))
+  pub only_sum_dual_variables : Only (worded signed_word (read_words b (sum_read (view b) u)))
+  only_sum_dual_variables = one (worded signed_word (read_words b (sum_read (view b) u)))
 
   pub only_trusted_sum_dual_variables : Only (worded signed_word (sum_of (view b) u))
   only_trusted_sum_dual_variables = one (worded signed_word (sum_of (view b) u))
 
-  pub only_sum_grow_speed : Only (worded signed_word (read_words b (speedRead (view b) u)))
-  only_sum_grow_speed = one (worded signed_word (read_words b (speedRead (view b) u)))
+  pub only_sum_grow_speed : Only (worded signed_word (read_words b (speed_read (view b) u)))
+  only_sum_grow_speed = one (worded signed_word (read_words b (speed_read (view b) u)))
 
   pub only_trusted_sum_grow_speed : Only (worded signed_word (speed_of (view b) u))
   only_trusted_sum_grow_speed = one (worded signed_word (speed_of (view b) u))
 
-  pub only_nodes_count : Only (read_words b (countRead (view b) u))
-  only_nodes_count = one (read_words b (countRead (view b) u))
+  pub only_nodes_count : Only (read_words b (count_read (view b) u))
+  only_nodes_count = one (read_words b (count_read (view b) u))
 
   pub only_trusted_nodes_count : Only (count_of (view b) u)
   only_trusted_nodes_count = one (count_of (view b) u)
 
-  pub only_is_filling : Only (worded flag_word (read_words b (fillsRead (view b) u)))
-  only_is_filling = one (worded flag_word (read_words b (fillsRead (view b) u)))
+  pub only_is_filling : Only (worded flag_word (read_words b (fills_read (view b) u)))
+  only_is_filling = one (worded flag_word (read_words b (fills_read (view b) u)))
 
   pub only_trusted_is_filling : Only (worded flag_word (fills_of (view b) u))
   only_trusted_is_filling = one (worded flag_word (fills_of (view b) u))
 
-  pub only_is_floored : Only (worded flag_word (read_words b (flooredRead (view b) u)))
-  only_is_floored = one (worded flag_word (read_words b (flooredRead (view b) u)))
+  pub only_is_floored : Only (worded flag_word (read_words b (floored_read (view b) u)))
+  only_is_floored = one (worded flag_word (read_words b (floored_read (view b) u)))
 
   pub only_trusted_is_floored : Only (worded flag_word (floored_of (view b) u))
   only_trusted_is_floored = one (worded flag_word (floored_of (view b) u))
 
-  pub only_get_node : (k : ℕ) → Only (indexed (read_words b (indexRead (view b) u k)))
-  only_get_node k = one (indexed (read_words b (indexRead (view b) u k)))
+  pub only_get_node : (k : ℕ) → Only (indexed (read_words b (index_read (view b) u k)))
+  only_get_node k = one (indexed (read_words b (index_read (view b) u k)))
 
   pub only_trusted_get_node : (k : ℕ) → Only (indexed (handle_at_index (view b) u k))
   only_trusted_get_node k = one (indexed (handle_at_index (view b) u k))
@@ -195,53 +195,53 @@ module _ (b : List ℕ) (u : ℕ) where
   pub only_trusted_next_present : (k : ℕ) → Only (next_words (next_of (view b) u k))
   only_trusted_next_present k = one (next_words (next_of (view b) u k))
 
-  pub only_check_ptr_belonging : (h : Handle) → Only (worded flag_word (read_words b (belongsRead (view b) u h)))
-  only_check_ptr_belonging h = one (worded flag_word (read_words b (belongsRead (view b) u h)))
+  pub only_check_ptr_belonging : (h : Handle) → Only (worded flag_word (read_words b (belongs_read (view b) u h)))
+  only_check_ptr_belonging h = one (worded flag_word (read_words b (belongs_read (view b) u h)))
 
   pub only_trusted_check_ptr_belonging : (h : Handle) → Only (worded flag_word (belongs (view b) u h))
   only_trusted_check_ptr_belonging h = one (worded flag_word (belongs (view b) u h))
 
-  pub only_sanity_check : Only (read_words b (checkRead (view b) u))
-  only_sanity_check = one (read_words b (checkRead (view b) u))
+  pub only_sanity_check : Only (read_words b (check_read (view b) u))
+  only_sanity_check = one (read_words b (check_read (view b) u))
 
   pub only_trusted_sanity_check : Only (check_of (view b) u)
   only_trusted_sanity_check = one (check_of (view b) u)
 
-  pub only_strict_check : Only (read_words b (strictRead (view b) u))
-  only_strict_check = one (read_words b (strictRead (view b) u))
+  pub only_strict_check : Only (read_words b (strict_read (view b) u))
+  only_strict_check = one (read_words b (strict_read (view b) u))
 
   pub only_trusted_strict_check : Only (strict_of (view b) u)
   only_trusted_strict_check = one (strict_of (view b) u)
 
 -- ---- the reads of a node
 module _ (b : List ℕ) (h : Handle) where
-  pub only_get_dual_variable : Only (worded signed_word (read_words b (valueRead (view b) h)))
-  only_get_dual_variable = one (worded signed_word (read_words b (valueRead (view b) h)))
+  pub only_get_dual_variable : Only (worded signed_word (read_words b (value_read (view b) h)))
+  only_get_dual_variable = one (worded signed_word (read_words b (value_read (view b) h)))
 
   pub only_trusted_get_dual_variable : Only (worded signed_word (value_of (view b) h))
   only_trusted_get_dual_variable = one (worded signed_word (value_of (view b) h))
 
-  pub only_get_ancestor_blossom : Only (worded outer_words (read_words b (outerRead (view b) h)))
-  only_get_ancestor_blossom = one (worded outer_words (read_words b (outerRead (view b) h)))
+  pub only_get_ancestor_blossom : Only (worded outer_words (read_words b (outer_read (view b) h)))
+  only_get_ancestor_blossom = one (worded outer_words (read_words b (outer_read (view b) h)))
 
   pub only_trusted_get_ancestor_blossom : Only (worded outer_words (outer_of (view b) h))
   only_trusted_get_ancestor_blossom = one (worded outer_words (outer_of (view b) h))
 
-  pub only_get_secondary_ancestor_blossom : Only (worded node_word (read_words b (belowRead (view b) h)))
-  only_get_secondary_ancestor_blossom = one (worded node_word (read_words b (belowRead (view b) h)))
+  pub only_get_secondary_ancestor_blossom : Only (worded node_word (read_words b (below_read (view b) h)))
+  only_get_secondary_ancestor_blossom = one (worded node_word (read_words b (below_read (view b) h)))
 
   pub only_trusted_get_secondary_ancestor_blossom : Only (worded node_word (below_of (view b) h))
   only_trusted_get_secondary_ancestor_blossom = one (worded node_word (below_of (view b) h))
 
-  pub only_get_representative_vertex : Only (read_words b (firstRead (view b) h))
-  only_get_representative_vertex = one (read_words b (firstRead (view b) h))
+  pub only_get_representative_vertex : Only (read_words b (first_read (view b) h))
+  only_get_representative_vertex = one (read_words b (first_read (view b) h))
 
   pub only_trusted_get_representative_vertex : Only (first_vertex (view b) h)
   only_trusted_get_representative_vertex = one (first_vertex (view b) h)
 
   -- the count and the whole slice
-  pub only_get_all_vertices : (out : List ℕ) → Only (read_words b (verticesRead (view b) h out))
-  only_get_all_vertices out = one (read_words b (verticesRead (view b) h out))
+  pub only_get_all_vertices : (out : List ℕ) → Only (read_words b (vertices_read (view b) h out))
+  only_get_all_vertices out = one (read_words b (vertices_read (view b) h out))
 
   pub only_trusted_get_all_vertices : (out : List ℕ) → Only (vertices_into (view b) h out)
   only_trusted_get_all_vertices out = one (vertices_into (view b) h out)

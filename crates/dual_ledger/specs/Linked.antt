@@ -7,7 +7,7 @@ use Rattle.bench_views.specs.View.{view}
 use Rattle.sound_bench.specs.Sound.{sound_words}
 use Rattle.outcomes.specs.Outcome.{answer_on, Outcome}
 use Rattle.link_answers.specs.Forms.{node_word}
-use Rattle.link_told.specs.Answers.{answerOver}
+use Rattle.link_told.specs.Answers.{answer_over}
 
 -- on sound words b, call c answers n and leaves the words b'
 abbrev pub Settled : List ℕ → Call → ℕ → List ℕ → Type 0
@@ -21,7 +21,7 @@ node_of b c = node_word (answer (view b) c).node
 
 -- on words b of verdict s, call c answers n, writes its answer over ws, which makes them ws', and leaves the words b'
 abbrev pub Wrote : Bool → List ℕ → Call → ℕ → List ℕ → List ℕ → List ℕ → Type 0
-Wrote s b c n ws ws' b' = Outcome s b c n b' × (ws' ≡ answerOver ws (answer_on s b c))
+Wrote s b c n ws ws' b' = Outcome s b c n b' × (ws' ≡ answer_over ws (answer_on s b c))
 
 -- on sound words
 abbrev pub ToldBy : List ℕ → Call → ℕ → List ℕ → List ℕ → List ℕ → Type 0

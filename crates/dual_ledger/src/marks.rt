@@ -3,7 +3,7 @@ ghost use Rattle.std.specs.Prelude.{◌≡◌};
 ghost use Rattle.ledger_spec.specs.Bench.{filling, floor};
 ghost use Rattle.ledger_spec.specs.Calls.{Mark};
 ghost use Rattle.ledger_spec.specs.Reads.{fills_of, floored_of};
-ghost use Rattle.ledger_spec.specs.Answers.{fillsRead, flooredRead};
+ghost use Rattle.ledger_spec.specs.Answers.{fills_read, floored_read};
 ghost use Rattle.bench_views.specs.Fit.{SoundWords};
 ghost use Rattle.bench_views.specs.View.{view};
 ghost use Rattle.sound_lent.specs.Verdict.{read_words};
@@ -32,7 +32,7 @@ pub fn dual_ledger_trusted_mark_filling(bench: &mut [u64; WORDS], unit: u8) -> u
 }
 
 pub fn dual_ledger_is_filling(bench: &[u64; WORDS], unit: u8, filling: &mut u64) -> u8
-    ensures { (result, filling.new) ≡ worded flag_word (read_words bench.now (fillsRead (view bench.now) unit)) }
+    ensures { (result, filling.new) ≡ worded flag_word (read_words bench.now (fills_read (view bench.now) unit)) }
 {
     let a = read_any::is_filling(bench, unit);
     *filling = link_answers::flag_word(a.marked);
@@ -67,7 +67,7 @@ pub fn dual_ledger_trusted_mark_floored(bench: &mut [u64; WORDS], unit: u8) -> u
 }
 
 pub fn dual_ledger_is_floored(bench: &[u64; WORDS], unit: u8, floored: &mut u64) -> u8
-    ensures { (result, floored.new) ≡ worded flag_word (read_words bench.now (flooredRead (view bench.now) unit)) }
+    ensures { (result, floored.new) ≡ worded flag_word (read_words bench.now (floored_read (view bench.now) unit)) }
 {
     let a = read_any::is_floored(bench, unit);
     *floored = link_answers::flag_word(a.marked);

@@ -5,13 +5,13 @@ ghost use Rattle.bench_views.specs.Given.{hand_given};
 ghost use Rattle.bench_views.specs.View.{view};
 ghost use Rattle.link_answers.specs.Forms.{node_word, indexed, flag_word, signed_word, outer_words, worded};
 ghost use Rattle.sound_lent.specs.Verdict.{read_words};
-ghost use Rattle.ledger_spec.specs.Answers.{sumRead, speedRead, countRead, indexRead, belongsRead, valueRead, outerRead, belowRead, firstRead, verticesRead, checkRead, strictRead};
+ghost use Rattle.ledger_spec.specs.Answers.{sum_read, speed_read, count_read, index_read, belongs_read, value_read, outer_read, below_read, first_read, vertices_read, check_read, strict_read};
 
 use bench_words::WORDS;
 use kinds::NodeIndex;
 
 pub fn dual_ledger_sum_dual_variables(bench: &[u64; WORDS], unit: u8, sum: &mut u64) -> u8
-    ensures { (result, sum.new) ≡ worded signed_word (read_words bench.now (sumRead (view bench.now) unit)) }
+    ensures { (result, sum.new) ≡ worded signed_word (read_words bench.now (sum_read (view bench.now) unit)) }
 {
     let a = read_any::sum_dual_variables(bench, unit);
     *sum = link_answers::signed_word(a.weight);
@@ -19,7 +19,7 @@ pub fn dual_ledger_sum_dual_variables(bench: &[u64; WORDS], unit: u8, sum: &mut 
 }
 
 pub fn dual_ledger_sum_grow_speed(bench: &[u64; WORDS], unit: u8, speed: &mut u64) -> u8
-    ensures { (result, speed.new) ≡ worded signed_word (read_words bench.now (speedRead (view bench.now) unit)) }
+    ensures { (result, speed.new) ≡ worded signed_word (read_words bench.now (speed_read (view bench.now) unit)) }
 {
     let a = read_any::sum_grow_speed(bench, unit);
     *speed = link_answers::signed_word(a.weight);
@@ -27,7 +27,7 @@ pub fn dual_ledger_sum_grow_speed(bench: &[u64; WORDS], unit: u8, speed: &mut u6
 }
 
 pub fn dual_ledger_nodes_count(bench: &[u64; WORDS], unit: u8, count: &mut u64) -> u8
-    ensures { (result, count.new) ≡ read_words bench.now (countRead (view bench.now) unit) }
+    ensures { (result, count.new) ≡ read_words bench.now (count_read (view bench.now) unit) }
 {
     let a = read_any::nodes_count(bench, unit);
     *count = a.count;
@@ -35,7 +35,7 @@ pub fn dual_ledger_nodes_count(bench: &[u64; WORDS], unit: u8, count: &mut u64) 
 }
 
 pub fn dual_ledger_get_node(bench: &[u64; WORDS], unit: u8, index: u32, node: &mut u64) -> u8
-    ensures { (result, node.new) ≡ indexed (read_words bench.now (indexRead (view bench.now) unit index)) }
+    ensures { (result, node.new) ≡ indexed (read_words bench.now (index_read (view bench.now) unit index)) }
 {
     let a = read_any::get_node(bench, unit, NodeIndex(index));
     let found = a.node;
@@ -49,7 +49,7 @@ pub fn dual_ledger_check_ptr_belonging(
     node: u64,
     inside: &mut u64,
 ) -> u8
-    ensures { (result, inside.new) ≡ worded flag_word (read_words bench.now (belongsRead (view bench.now) unit (hand_given node))) }
+    ensures { (result, inside.new) ≡ worded flag_word (read_words bench.now (belongs_read (view bench.now) unit (hand_given node))) }
 {
     let h = link_answers::hand(node);
     let a = read_any::check_ptr_belonging(bench, unit, h);
@@ -58,7 +58,7 @@ pub fn dual_ledger_check_ptr_belonging(
 }
 
 pub fn dual_ledger_get_dual_variable(bench: &[u64; WORDS], node: u64, value: &mut u64) -> u8
-    ensures { (result, value.new) ≡ worded signed_word (read_words bench.now (valueRead (view bench.now) (hand_given node))) }
+    ensures { (result, value.new) ≡ worded signed_word (read_words bench.now (value_read (view bench.now) (hand_given node))) }
 {
     let h = link_answers::hand(node);
     let a = read_any::get_dual_variable(bench, h);
@@ -72,7 +72,7 @@ pub fn dual_ledger_get_ancestor_blossom(
     ancestor: &mut u64,
     links: &mut u64,
 ) -> u8
-    ensures { (result, (ancestor.new, links.new)) ≡ worded outer_words (read_words bench.now (outerRead (view bench.now) (hand_given node))) }
+    ensures { (result, (ancestor.new, links.new)) ≡ worded outer_words (read_words bench.now (outer_read (view bench.now) (hand_given node))) }
 {
     let h = link_answers::hand(node);
     let a = read_any::get_ancestor_blossom(bench, h);
@@ -87,7 +87,7 @@ pub fn dual_ledger_get_secondary_ancestor_blossom(
     node: u64,
     second: &mut u64,
 ) -> u8
-    ensures { (result, second.new) ≡ worded node_word (read_words bench.now (belowRead (view bench.now) (hand_given node))) }
+    ensures { (result, second.new) ≡ worded node_word (read_words bench.now (below_read (view bench.now) (hand_given node))) }
 {
     let h = link_answers::hand(node);
     let a = read_any::get_secondary_ancestor_blossom(bench, h);
@@ -101,7 +101,7 @@ pub fn dual_ledger_get_representative_vertex(
     node: u64,
     vertex: &mut u32,
 ) -> u8
-    ensures { (result, vertex.new) ≡ read_words bench.now (firstRead (view bench.now) (hand_given node)) }
+    ensures { (result, vertex.new) ≡ read_words bench.now (first_read (view bench.now) (hand_given node)) }
 {
     let h = link_answers::hand(node);
     let a = read_any::get_representative_vertex(bench, h);
@@ -115,7 +115,7 @@ pub fn dual_ledger_get_all_vertices(
     out: &mut [u32],
     count: &mut u64,
 ) -> u8
-    ensures { (result, (count.new, out.new)) ≡ read_words bench.now (verticesRead (view bench.now) (hand_given node) out.old) }
+    ensures { (result, (count.new, out.new)) ≡ read_words bench.now (vertices_read (view bench.now) (hand_given node) out.old) }
 {
     let h = link_answers::hand(node);
     let a = read_any::get_all_vertices(bench, h, out);
@@ -129,7 +129,7 @@ pub fn dual_ledger_sanity_check(
     verdict: &mut u64,
     index: &mut u64,
 ) -> u8
-    ensures { (result, (verdict.new, index.new)) ≡ read_words bench.now (checkRead (view bench.now) unit) }
+    ensures { (result, (verdict.new, index.new)) ≡ read_words bench.now (check_read (view bench.now) unit) }
 {
     let a = check_any::sanity_check(bench, unit);
     *verdict = a.verdict as u64;
@@ -143,7 +143,7 @@ pub fn dual_ledger_strict_check(
     verdict: &mut u64,
     index: &mut u64,
 ) -> u8
-    ensures { (result, (verdict.new, index.new)) ≡ read_words bench.now (strictRead (view bench.now) unit) }
+    ensures { (result, (verdict.new, index.new)) ≡ read_words bench.now (strict_read (view bench.now) unit) }
 {
     let a = check_any::strict_check(bench, unit);
     *verdict = a.verdict as u64;

@@ -4,7 +4,7 @@ ghost use Rattle.bench_views.specs.Given.{hand_given};
 ghost use Rattle.bench_views.specs.View.{view};
 ghost use Rattle.link_answers.specs.Forms.{node_word, indexed, flag_word, signed_word, outer_words, worded};
 ghost use Rattle.sound_lent.specs.Verdict.{read_words};
-ghost use Rattle.ledger_spec.specs.Answers.{sumRead, speedRead, countRead, indexRead, belongsRead, valueRead, outerRead, belowRead, firstRead, verticesRead, checkRead, strictRead};
+ghost use Rattle.ledger_spec.specs.Answers.{sum_read, speed_read, count_read, index_read, belongs_read, value_read, outer_read, below_read, first_read, vertices_read, check_read, strict_read};
 
 use bench_words::WORDS;
 
@@ -14,21 +14,21 @@ pub extern "C" fn dual_ledger_sum_dual_variables(
     unit: u8,
     sum: &mut u64,
 ) -> u8
-    ensures { (result, sum.new) ≡ worded signed_word (read_words bench.now (sumRead (view bench.now) unit)) }
+    ensures { (result, sum.new) ≡ worded signed_word (read_words bench.now (sum_read (view bench.now) unit)) }
 {
     dual_ledger::open_reads::dual_ledger_sum_dual_variables(bench, unit, sum)
 }
 
 #[unsafe(no_mangle)]
 pub extern "C" fn dual_ledger_sum_grow_speed(bench: &[u64; WORDS], unit: u8, speed: &mut u64) -> u8
-    ensures { (result, speed.new) ≡ worded signed_word (read_words bench.now (speedRead (view bench.now) unit)) }
+    ensures { (result, speed.new) ≡ worded signed_word (read_words bench.now (speed_read (view bench.now) unit)) }
 {
     dual_ledger::open_reads::dual_ledger_sum_grow_speed(bench, unit, speed)
 }
 
 #[unsafe(no_mangle)]
 pub extern "C" fn dual_ledger_nodes_count(bench: &[u64; WORDS], unit: u8, count: &mut u64) -> u8
-    ensures { (result, count.new) ≡ read_words bench.now (countRead (view bench.now) unit) }
+    ensures { (result, count.new) ≡ read_words bench.now (count_read (view bench.now) unit) }
 {
     dual_ledger::open_reads::dual_ledger_nodes_count(bench, unit, count)
 }
@@ -40,7 +40,7 @@ pub extern "C" fn dual_ledger_get_node(
     index: u32,
     node: &mut u64,
 ) -> u8
-    ensures { (result, node.new) ≡ indexed (read_words bench.now (indexRead (view bench.now) unit index)) }
+    ensures { (result, node.new) ≡ indexed (read_words bench.now (index_read (view bench.now) unit index)) }
 {
     dual_ledger::open_reads::dual_ledger_get_node(bench, unit, index, node)
 }
@@ -52,7 +52,7 @@ pub extern "C" fn dual_ledger_check_ptr_belonging(
     node: u64,
     inside: &mut u64,
 ) -> u8
-    ensures { (result, inside.new) ≡ worded flag_word (read_words bench.now (belongsRead (view bench.now) unit (hand_given node))) }
+    ensures { (result, inside.new) ≡ worded flag_word (read_words bench.now (belongs_read (view bench.now) unit (hand_given node))) }
 {
     dual_ledger::open_reads::dual_ledger_check_ptr_belonging(bench, unit, node, inside)
 }
@@ -63,7 +63,7 @@ pub extern "C" fn dual_ledger_get_dual_variable(
     node: u64,
     value: &mut u64,
 ) -> u8
-    ensures { (result, value.new) ≡ worded signed_word (read_words bench.now (valueRead (view bench.now) (hand_given node))) }
+    ensures { (result, value.new) ≡ worded signed_word (read_words bench.now (value_read (view bench.now) (hand_given node))) }
 {
     dual_ledger::open_reads::dual_ledger_get_dual_variable(bench, node, value)
 }
@@ -75,7 +75,7 @@ pub extern "C" fn dual_ledger_get_ancestor_blossom(
     ancestor: &mut u64,
     links: &mut u64,
 ) -> u8
-    ensures { (result, (ancestor.new, links.new)) ≡ worded outer_words (read_words bench.now (outerRead (view bench.now) (hand_given node))) }
+    ensures { (result, (ancestor.new, links.new)) ≡ worded outer_words (read_words bench.now (outer_read (view bench.now) (hand_given node))) }
 {
     dual_ledger::open_reads::dual_ledger_get_ancestor_blossom(bench, node, ancestor, links)
 }
@@ -86,7 +86,7 @@ pub extern "C" fn dual_ledger_get_secondary_ancestor_blossom(
     node: u64,
     second: &mut u64,
 ) -> u8
-    ensures { (result, second.new) ≡ worded node_word (read_words bench.now (belowRead (view bench.now) (hand_given node))) }
+    ensures { (result, second.new) ≡ worded node_word (read_words bench.now (below_read (view bench.now) (hand_given node))) }
 {
     dual_ledger::open_reads::dual_ledger_get_secondary_ancestor_blossom(bench, node, second)
 }
@@ -97,7 +97,7 @@ pub extern "C" fn dual_ledger_get_representative_vertex(
     node: u64,
     vertex: &mut u32,
 ) -> u8
-    ensures { (result, vertex.new) ≡ read_words bench.now (firstRead (view bench.now) (hand_given node)) }
+    ensures { (result, vertex.new) ≡ read_words bench.now (first_read (view bench.now) (hand_given node)) }
 {
     dual_ledger::open_reads::dual_ledger_get_representative_vertex(bench, node, vertex)
 }
@@ -109,7 +109,7 @@ pub extern "C" fn dual_ledger_get_all_vertices(
     out: &mut [u32],
     count: &mut u64,
 ) -> u8
-    ensures { (result, (count.new, out.new)) ≡ read_words bench.now (verticesRead (view bench.now) (hand_given node) out.old) }
+    ensures { (result, (count.new, out.new)) ≡ read_words bench.now (vertices_read (view bench.now) (hand_given node) out.old) }
 {
     dual_ledger::open_reads::dual_ledger_get_all_vertices(bench, node, out, count)
 }
@@ -121,7 +121,7 @@ pub extern "C" fn dual_ledger_sanity_check(
     verdict: &mut u64,
     index: &mut u64,
 ) -> u8
-    ensures { (result, (verdict.new, index.new)) ≡ read_words bench.now (checkRead (view bench.now) unit) }
+    ensures { (result, (verdict.new, index.new)) ≡ read_words bench.now (check_read (view bench.now) unit) }
 {
     dual_ledger::open_reads::dual_ledger_sanity_check(bench, unit, verdict, index)
 }
@@ -133,7 +133,7 @@ pub extern "C" fn dual_ledger_strict_check(
     verdict: &mut u64,
     index: &mut u64,
 ) -> u8
-    ensures { (result, (verdict.new, index.new)) ≡ read_words bench.now (strictRead (view bench.now) unit) }
+    ensures { (result, (verdict.new, index.new)) ≡ read_words bench.now (strict_read (view bench.now) unit) }
 {
     dual_ledger::open_reads::dual_ledger_strict_check(bench, unit, verdict, index)
 }

@@ -6,7 +6,7 @@ use Rattle.kinds.specs.declared.Obstacle.{Obstacle}
 use Rattle.ledger_spec.specs.Bench.{Handle, Bench}
 use Rattle.ledger_spec.specs.Groups.{Group}
 use Rattle.ledger_spec.specs.GroupCalls.{add, extend}
-use Rattle.ledger_spec.specs.Answers.{Read, sumRead, speedRead, countRead, fillsRead, flooredRead, indexRead, belongsRead, valueRead, outerRead, belowRead, firstRead, verticesRead, checkRead, strictRead}
+use Rattle.ledger_spec.specs.Answers.{Read, sum_read, speed_read, count_read, fills_read, floored_read, index_read, belongs_read, value_read, outer_read, below_read, first_read, vertices_read, check_read, strict_read}
 use Rattle.picture_spec.specs.Picture.{picture_read}
 
 pub data Question : Type 0 where
@@ -41,20 +41,20 @@ Given (Extend g h) = Group
 
 -- asked of a bench
 abbrev pub asking : Bench → (q : Question) → Read (Given q)
-asking b (Sum u) = sumRead b u
-asking b (Speed u) = speedRead b u
-asking b (Count u) = countRead b u
-asking b (Fills u) = fillsRead b u
-asking b (Floored u) = flooredRead b u
-asking b (Check u) = checkRead b u
-asking b (Strict u) = strictRead b u
-asking b (At u k) = indexRead b u k
-asking b (Belongs u h) = belongsRead b u h
-asking b (Value h) = valueRead b h
-asking b (Outer h) = outerRead b h
-asking b (Below h) = belowRead b h
-asking b (First h) = firstRead b h
-asking b (Vertices h out) = verticesRead b h out
+asking b (Sum u) = sum_read b u
+asking b (Speed u) = speed_read b u
+asking b (Count u) = count_read b u
+asking b (Fills u) = fills_read b u
+asking b (Floored u) = floored_read b u
+asking b (Check u) = check_read b u
+asking b (Strict u) = strict_read b u
+asking b (At u k) = index_read b u k
+asking b (Belongs u h) = belongs_read b u h
+asking b (Value h) = value_read b h
+asking b (Outer h) = outer_read b h
+asking b (Below h) = below_read b h
+asking b (First h) = first_read b h
+asking b (Vertices h out) = vertices_read b h out
 asking b (Picture u a out) = picture_read b u a out
 asking b (Add g o) = record { own = add b g o; zero = g }
 asking b (Extend g h) = record { own = extend b g h; zero = g }

@@ -11,7 +11,7 @@ use Rattle.bench_views.specs.View.{view}
 use Rattle.recorded_spec.specs.Recorded.{Steps, grow_recorded}
 use Rattle.recorded_groups.specs.Recording.{recording_of}
 use Rattle.recorded_steps.specs.declared.Passed.{Passed}
-use Rattle.recorded_sound.specs.Answers.{recordedOn, RecordedAs}
+use Rattle.recorded_sound.specs.Answers.{recorded_on, RecordedAs}
 use Rattle.engine_laws.specs.Engines.{in_engine, steps_in}
 use Rattle.engine_laws.proofs.Recorded.{recorded_engine}
 use Rattle.engine_runs.specs.Alike.{Twins}
@@ -19,9 +19,9 @@ use Rattle.engine_runs.specs.Alike.{Twins}
 module _ {m : Bool} {p l : List ℕ} (T : Twins m p l) {u : ℕ} {by : ℤ} {ws out : List ℕ} {r s : Passed} {p' o l' o' : List ℕ}
     (x : RecordedAs p u by ws out r p' o) (y : RecordedAs l u by ws out s l' o') where
   abbrev lazy : Steps
-  lazy = recordedOn l u by ws (length out)
+  lazy = recorded_on l u by ws (length out)
 
-  steps_alike : recordedOn p u by ws (length out) ≡ steps_in m lazy
+  steps_alike : recorded_on p u by ws (length out) ≡ steps_in m lazy
   steps_alike = ap (λ (d : Bench). grow_recorded d u by (recording_of ws) (length out)) T.seen ∙ recorded_engine m u (view l) by (recording_of ws) (length out)
 
   numbers : r.number ≡ s.number

@@ -22,7 +22,7 @@ use Rattle.sound_lent.specs.Verdict.{Verdict, asked}
 use Rattle.sound_lent.proofs.Asking.{no_bench, a_bench}
 use Rattle.group_adds.specs.Adds.{changed}
 use Rattle.group_adds.specs.declared.Changed.{Changed}
-use Rattle.group_extends.specs.Extends.{whole_by as keptBy, whole_of}
+use Rattle.group_extends.specs.Extends.{whole_by as kept_by, whole_of}
 use Rattle.group_calls.specs.Ready.{Ready}
 use Rattle.group_calls.specs.Whole.{whole_by, whole}
 
@@ -52,7 +52,7 @@ room none z g = refl
 room (some q) z g = refl
 
 -- ROOM only where conflicts are extended by conflicts, whose bytes are the own group's
-room_of : (z : Group) (g h : Code) (k l : Kind) → changed (extended (viewed k g) (viewed l h)) (keptBy k l g h) ≡ whole (said_by false false (extended (viewed k g) (viewed l h)) z) g (keptBy k l g h)
+room_of : (z : Group) (g h : Code) (k l : Kind) → changed (extended (viewed k g) (viewed l h)) (kept_by k l g h) ≡ whole (said_by false false (extended (viewed k g) (viewed l h)) z) g (kept_by k l g h)
 unfolding said first whole_by changed extended
 room_of z g h (Growth a f) (Growth b i) = refl
 room_of z g h (Growth a f) Conflicts = refl

@@ -45,44 +45,44 @@ pub record Read (A : Type 0) : Type 0 where
 abbrev pub read : {A : Type 0} → Bench → Read A → ℕ × A
 read b r = ask b r.zero r.own
 
-abbrev pub sumRead : Bench → ℕ → Read ℤ
-sumRead b u = record { own = sum_of b u; zero = pos 0 }
+abbrev pub sum_read : Bench → ℕ → Read ℤ
+sum_read b u = record { own = sum_of b u; zero = pos 0 }
 
-abbrev pub speedRead : Bench → ℕ → Read ℤ
-speedRead b u = record { own = speed_of b u; zero = pos 0 }
+abbrev pub speed_read : Bench → ℕ → Read ℤ
+speed_read b u = record { own = speed_of b u; zero = pos 0 }
 
-abbrev pub countRead : Bench → ℕ → Read ℕ
-countRead b u = record { own = count_of b u; zero = 0 }
+abbrev pub count_read : Bench → ℕ → Read ℕ
+count_read b u = record { own = count_of b u; zero = 0 }
 
-abbrev pub fillsRead : Bench → ℕ → Read Bool
-fillsRead b u = record { own = fills_of b u; zero = false }
+abbrev pub fills_read : Bench → ℕ → Read Bool
+fills_read b u = record { own = fills_of b u; zero = false }
 
-abbrev pub flooredRead : Bench → ℕ → Read Bool
-flooredRead b u = record { own = floored_of b u; zero = false }
+abbrev pub floored_read : Bench → ℕ → Read Bool
+floored_read b u = record { own = floored_of b u; zero = false }
 
-abbrev pub indexRead : Bench → ℕ → ℕ → Read (Option Handle)
-indexRead b u k = record { own = handle_at_index b u k; zero = none }
+abbrev pub index_read : Bench → ℕ → ℕ → Read (Option Handle)
+index_read b u k = record { own = handle_at_index b u k; zero = none }
 
-abbrev pub belongsRead : Bench → ℕ → Handle → Read Bool
-belongsRead b u h = record { own = belongs b u h; zero = false }
+abbrev pub belongs_read : Bench → ℕ → Handle → Read Bool
+belongs_read b u h = record { own = belongs b u h; zero = false }
 
-abbrev pub valueRead : Bench → Handle → Read ℤ
-valueRead b h = record { own = value_of b h; zero = pos 0 }
+abbrev pub value_read : Bench → Handle → Read ℤ
+value_read b h = record { own = value_of b h; zero = pos 0 }
 
-abbrev pub outerRead : Bench → Handle → Read (Handle × ℕ)
-outerRead b h = record { own = outer_of b h; zero = (nobody, 0) }
+abbrev pub outer_read : Bench → Handle → Read (Handle × ℕ)
+outer_read b h = record { own = outer_of b h; zero = (nobody, 0) }
 
-abbrev pub belowRead : Bench → Handle → Read Handle
-belowRead b h = record { own = below_of b h; zero = nobody }
+abbrev pub below_read : Bench → Handle → Read Handle
+below_read b h = record { own = below_of b h; zero = nobody }
 
-abbrev pub firstRead : Bench → Handle → Read ℕ
-firstRead b h = record { own = first_vertex b h; zero = 0 }
+abbrev pub first_read : Bench → Handle → Read ℕ
+first_read b h = record { own = first_vertex b h; zero = 0 }
 
-abbrev pub verticesRead : Bench → Handle → List ℕ → Read (ℕ × List ℕ)
-verticesRead b h out = record { own = vertices_into b h out; zero = (0, out) }
+abbrev pub vertices_read : Bench → Handle → List ℕ → Read (ℕ × List ℕ)
+vertices_read b h out = record { own = vertices_into b h out; zero = (0, out) }
 
-abbrev pub checkRead : Bench → ℕ → Read (ℕ × ℕ)
-checkRead b u = record { own = check_of b u; zero = (0, 0) }
+abbrev pub check_read : Bench → ℕ → Read (ℕ × ℕ)
+check_read b u = record { own = check_of b u; zero = (0, 0) }
 
-abbrev pub strictRead : Bench → ℕ → Read (ℕ × ℕ)
-strictRead b u = record { own = strict_of b u; zero = (0, 0) }
+abbrev pub strict_read : Bench → ℕ → Read (ℕ × ℕ)
+strict_read b u = record { own = strict_of b u; zero = (0, 0) }

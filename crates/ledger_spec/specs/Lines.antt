@@ -8,7 +8,7 @@ use Rattle.ledger_spec.specs.Tests.{outside, child}
 use Rattle.ledger_spec.specs.Calls.{Call, Defect, Blossom, Expand, SetState, Grow, Fuse, Clear}
 use Rattle.ledger_spec.specs.Reads.{gather}
 use Rattle.ledger_spec.specs.SoundTree.{units}
-use Rattle.ledger_spec.specs.Answers.{answer, read, checkRead}
+use Rattle.ledger_spec.specs.Answers.{answer, read, check_read}
 use Rattle.ledger_spec.specs.Operations.{D, B, E, S, G, F, C, K}
 use Rattle.ledger_spec.specs.Grammar.{Line}
 
@@ -39,7 +39,7 @@ calls b u c = record { numbers = shown (answer b c).number (answer b c).node.ser
 
 -- the check's verdict stands where another line has the serial
 unfoldable pub checks : Bench → ℕ → LineAnswer
-checks b u = record { numbers = shown (read b (checkRead b u)).0 (read b (checkRead b u)).1.0 b u; bench = b }
+checks b u = record { numbers = shown (read b (check_read b u)).0 (read b (check_read b u)).1.0 b u; bench = b }
 
 unfoldable pub says : Bench → Line → LineAnswer
 says b (some (D u v)) = calls b u (Defect u v)

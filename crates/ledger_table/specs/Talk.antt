@@ -13,7 +13,7 @@ use Rattle.ledger_spec.specs.Bench.{Handle, State, grows, stays, shrinks, rate, 
 use Rattle.ledger_spec.specs.Calls.{set_up_call, Call, Defect, Blossom, Expand, SetState, Grow, Fuse, Clear}
 use Rattle.ledger_spec.specs.Notices.{Notice, defect_added, state_set, shrink_prepared, blossom_added, blossom_removed, grown}
 use Rattle.ledger_spec.specs.Reads.{slots_of}
-use Rattle.ledger_spec.specs.Answers.{Answer, answer, ask, Read, sumRead, speedRead, countRead, indexRead, belongsRead, valueRead, outerRead, belowRead, firstRead, verticesRead, checkRead, strictRead}
+use Rattle.ledger_spec.specs.Answers.{Answer, answer, ask, Read, sum_read, speed_read, count_read, index_read, belongs_read, value_read, outer_read, below_read, first_read, vertices_read, check_read, strict_read}
 use Rattle.ledger_spec.specs.Lines.{named, shown}
 use Rattle.ledger_spec.specs.Groups.{Group, growth, conflicts, empty_group}
 use Rattle.ledger_spec.specs.GroupCalls.{is_empty, is_active, growth_of, peek, pop, add, extend}
@@ -210,10 +210,10 @@ abbrev pub asks : {A : Type 0} → Ledger → Bench → Read A → ℕ × A
 asks L b r = L.ask b r.zero r.own
 
 unfoldable pub checked : Ledger → Bench → ℕ → List ℤ
-checked L b u = let r : ℕ × (ℕ × ℕ) = asks L b (checkRead b u) in four (shown r.0 r.1.0 b u) ++ (num r.1.1 ∷ [])
+checked L b u = let r : ℕ × (ℕ × ℕ) = asks L b (check_read b u) in four (shown r.0 r.1.0 b u) ++ (num r.1.1 ∷ [])
 
 unfoldable pub dumped : Ledger → Bench → ℕ → List ℤ
-dumped L b u = elim (asks L b (countRead b u)).0 [
+dumped L b u = elim (asks L b (count_read b u)).0 [
   | zero ↦ pos 0 ∷ num (length (slots_of b u)) ∷ flattened shown_slot (slots_of b u)
   | suc n ↦ num (suc n) ∷ pos 0 ∷ []
 ]
@@ -221,7 +221,7 @@ dumped L b u = elim (asks L b (countRead b u)).0 [
 -- all vertices, into so many entries that hold 77
 unfoldable pub vertices : Ledger → Bench → Handle → ℕ → List ℤ
 vertices L b h room =
-    shows (λ (r : ℕ × List ℕ). num r.0 ∷ map num r.1) (asks L b (verticesRead b h (replicate room 77)))
+    shows (λ (r : ℕ × List ℕ). num r.0 ∷ map num r.1) (asks L b (vertices_read b h (replicate room 77)))
 
 unfoldable pub group_asked : Group → List ℤ
 group_asked g = pos 0 ∷ bit (is_empty g).1 ∷ bit (is_active g).1 ∷ shows shown_length (growth_of g)
@@ -233,17 +233,17 @@ reads L k l =
     let h : Handle = named b (nat l 0) in
     let g : Group = group k (nat l 0) in
     ("K", checked L b u)
-    ∷ ("k", shows (λ (r : ℕ × ℕ). num r.0 ∷ num r.1 ∷ []) (asks L b (strictRead b u)))
-    ∷ ("s", shows (λ (z : ℤ). z ∷ []) (asks L b (sumRead b u)))
-    ∷ ("p", shows (λ (z : ℤ). z ∷ []) (asks L b (speedRead b u)))
-    ∷ ("n", shows (λ (n : ℕ). num n ∷ []) (asks L b (countRead b u)))
-    ∷ ("h", shows shown_handle (asks L b (indexRead b u (nat l 1))))
-    ∷ ("i", shows (λ (f : Bool). bit f ∷ []) (asks L b (belongsRead b u (named b (nat l 1)))))
+    ∷ ("k", shows (λ (r : ℕ × ℕ). num r.0 ∷ num r.1 ∷ []) (asks L b (strict_read b u)))
+    ∷ ("s", shows (λ (z : ℤ). z ∷ []) (asks L b (sum_read b u)))
+    ∷ ("p", shows (λ (z : ℤ). z ∷ []) (asks L b (speed_read b u)))
+    ∷ ("n", shows (λ (n : ℕ). num n ∷ []) (asks L b (count_read b u)))
+    ∷ ("h", shows shown_handle (asks L b (index_read b u (nat l 1))))
+    ∷ ("i", shows (λ (f : Bool). bit f ∷ []) (asks L b (belongs_read b u (named b (nat l 1)))))
     ∷ ("d", dumped L b u)
-    ∷ ("v", shows (λ (z : ℤ). z ∷ []) (asks L b (valueRead b h)))
-    ∷ ("o", shows (λ (r : Handle × ℕ). num r.0.serial ∷ num r.1 ∷ []) (asks L b (outerRead b h)))
-    ∷ ("u", shows (λ (g : Handle). num g.serial ∷ []) (asks L b (belowRead b h)))
-    ∷ ("f", shows (λ (n : ℕ). num n ∷ []) (asks L b (firstRead b h)))
+    ∷ ("v", shows (λ (z : ℤ). z ∷ []) (asks L b (value_read b h)))
+    ∷ ("o", shows (λ (r : Handle × ℕ). num r.0.serial ∷ num r.1 ∷ []) (asks L b (outer_read b h)))
+    ∷ ("u", shows (λ (g : Handle). num g.serial ∷ []) (asks L b (below_read b h)))
+    ∷ ("f", shows (λ (n : ℕ). num n ∷ []) (asks L b (first_read b h)))
     ∷ ("a", vertices L b h (nat l 1))
     ∷ ("y", group_asked g)
     ∷ ("l", shows shown_taken (peek g))

@@ -24,7 +24,7 @@ use Rattle.outcome_notices.specs.Laid.{packed, code, entry, circle_in, filled, l
 use Rattle.outcome_notices.specs.declared.Told.{Told}
 use Rattle.outcome_notices.specs.declared.Notices.{Notices}
 use Rattle.link_answers.specs.Forms.{node_word, signed_word}
-use Rattle.link_told.specs.Answers.{kindWord, whatWord, toldWords, front_words, saidOver, answerOver}
+use Rattle.link_told.specs.Answers.{kind_word, what_word, told_words, front_words, said_over, answer_over}
 use Rattle.link_told.proofs.Writing.{told_long}
 
 -- ---- one notice
@@ -55,7 +55,7 @@ same_bits : (l : ℤ) → signed_word l ≡ of_z w64 l
 same_bits (pos n) = refl
 same_bits (negsuc n) = omega arith
 
-notice_back : (n : Notice) → GoodNotice n → notice_of (kindWord n) (whatWord n) ≡ code n
+notice_back : (n : Notice) → GoodNotice n → notice_of (kind_word n) (what_word n) ≡ code n
 notice_back (defect_added h) g = ap DefectAdded (handle_back (packed h) g)
 notice_back (state_set h grows) g = ap (λ (x : Packed). StateSet x Grow) (handle_back (packed h) g)
 notice_back (state_set h stays) g = ap (λ (x : Packed). StateSet x Stay) (handle_back (packed h) g)
@@ -80,7 +80,7 @@ abbrev pub GoodRing : List Handle → Type 0
 GoodRing [] = Unit
 GoodRing (h ∷ hs) = Good h × GoodRing hs
 
-told_back : (ns : List Notice) → GoodTold ns → pairs_of (toldWords ns) ≡ map entry ns
+told_back : (ns : List Notice) → GoodTold ns → pairs_of (told_words ns) ≡ map entry ns
 told_back [] g = refl
 told_back (n ∷ ns) g = ap₂ (λ (x : Code) (l : List Told). record { notice = x } ∷ l) (notice_back n g.0) (told_back ns g.1)
 
@@ -103,11 +103,11 @@ first_kept [] l i = refl
 first_kept (v ∷ vs) l i = first_kept vs (set l (suc i) v) (suc i) ∙ get_or-set_other l (suc i) 0 v 0 (λ e. omega (arith, e))
 
 -- the first word is the node, whatever else is told
-pub said_first : (ws : List ℕ) → 0 < length ws → (a : Answer) → get_or (answerOver ws a) 0 0 ≡ node_word a.node
-unfolding saidOver
+pub said_first : (ws : List ℕ) → 0 < length ws → (a : Answer) → get_or (answer_over ws a) 0 0 ≡ node_word a.node
+unfolding said_over
 said_first ws l a =
     let w = node_word a.node in
-    let vs = length a.notices ∷ length (circle_in a.notices) ∷ toldWords a.notices in
+    let vs = length a.notices ∷ length (circle_in a.notices) ∷ told_words a.notices in
     first_kept (map node_word (circle_in a.notices)) (sets (set ws 0 w) 1 vs) 134 ∙ first_kept vs (set ws 0 w) 0 ∙ get_or-set_same ws 0 w 0 l
 
 module _ (ws : List ℕ) (long : length ws ≡ 199) (h : Handle) (ns : List Notice) (few : length ns ≤ 66) (most : length (circle_in ns) ≤ 64) where
@@ -123,15 +123,15 @@ module _ (ws : List ℕ) (long : length ws ≡ 199) (h : Handle) (ns : List Noti
   front_long : length front ≡ 3 + length ns * 2
   front_long = omega (arith, told_long ns)
 
-  front_kept : take (3 + length ns * 2) (saidOver ws h ns) ≡ front
-  unfolding saidOver
+  front_kept : take (3 + length ns * 2) (said_over ws h ns) ≡ front
+  unfolding said_over
   front_kept =
       take_sets (3 + length ns * 2) ring half 135 (omega arith)
       ∙ ap (take (3 + length ns * 2)) (sets-eq front ws 0 (omega (arith, front_long)))
       ∙ take_at front (drop (0 + length front) ws) (3 + length ns * 2) front_long
 
-  ring_kept : take (length (circle_in ns)) (drop 135 (saidOver ws h ns)) ≡ ring
-  unfolding saidOver
+  ring_kept : take (length (circle_in ns)) (drop 135 (said_over ws h ns)) ≡ ring
+  unfolding said_over
   ring_kept =
       let n : length half ≡ 199 = length-sets ws 0 front ∙ long in
       let m : length ring ≡ length (circle_in ns) = length-map (circle_in ns) node_word in
@@ -140,13 +140,13 @@ module _ (ws : List ℕ) (long : length ws ≡ 199) (h : Handle) (ns : List Noti
       ∙ ap (take (length (circle_in ns))) (drop_at (take 135 half) (ring ++ rest) 135 (length-take-le 135 half (omega (arith, n))))
       ∙ take_at ring rest (length (circle_in ns)) m
 
-  kept_at : (i : ℕ) → i < 3 → get_or (saidOver ws h ns) i 0 ≡ get_or front i 0
-  kept_at i l = sym (get_or-take (3 + length ns * 2) (saidOver ws h ns) i 0 (omega arith)) ∙ ap (λ (v : List ℕ). get_or v i 0) front_kept
+  kept_at : (i : ℕ) → i < 3 → get_or (said_over ws h ns) i 0 ≡ get_or front i 0
+  kept_at i l = sym (get_or-take (3 + length ns * 2) (said_over ws h ns) i 0 (omega arith)) ∙ ap (λ (v : List ℕ). get_or v i 0) front_kept
 
-  notices_back : GoodTold ns → GoodRing (circle_in ns) → notices_read (saidOver ws h ns) ≡ laid ns
+  notices_back : GoodTold ns → GoodRing (circle_in ns) → notices_read (said_over ws h ns) ≡ laid ns
   unfolding laid
   notices_back g r =
-      let v = saidOver ws h ns in
+      let v = said_over ws h ns in
       ap₂ filled
       (ap (λ (k : ℕ). pairs_of (drop 3 (take (3 + k * 2) v))) (kept_at 1 (omega arith)) ∙ ap (λ (x : List ℕ). pairs_of (drop 3 x)) front_kept ∙ told_back ns g)
       (ap (λ (k : ℕ). map handle_of (take k (drop 135 v))) (kept_at 2 (omega arith)) ∙ ap (map handle_of) ring_kept ∙ ring_back (circle_in ns) r)
@@ -162,13 +162,13 @@ pub record Written (a : Answer) : Type 0 where
   pub ring : GoodRing (circle_in a.notices)
 
 module _ {a : Answer} (W : Written a) (ws : List ℕ) (long : length ws ≡ 199) where
-  pub says_notices : notices_read (answerOver ws a) ≡ laid a.notices
+  pub says_notices : notices_read (answer_over ws a) ≡ laid a.notices
   says_notices = notices_back ws long a.node a.notices W.few W.most W.told W.ring
 
-  pub says_node : handle_of (get_or (answerOver ws a) 0 0) ≡ packed a.node
+  pub says_node : handle_of (get_or (answer_over ws a) 0 0) ≡ packed a.node
   says_node = ap handle_of (said_first ws (omega arith) a) ∙ handle_back (packed a.node) W.node
 
-pub same_words : {r s : Answer} → Written r → Written s → (ws vs : List ℕ) → length ws ≡ 199 → length vs ≡ 199 → answerOver ws r ≡ answerOver vs s
+pub same_words : {r s : Answer} → Written r → Written s → (ws vs : List ℕ) → length ws ≡ 199 → length vs ≡ 199 → answer_over ws r ≡ answer_over vs s
     → (packed r.node ≡ packed s.node) × (laid r.notices ≡ laid s.notices)
 same_words X Y ws vs l m e = (
   sym (says_node X ws l) ∙ ap (λ (u : List ℕ). handle_of (get_or u 0 0)) e ∙ says_node Y vs m,

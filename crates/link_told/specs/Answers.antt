@@ -8,41 +8,41 @@ use Rattle.ledger_spec.specs.Answers.{Answer}
 use Rattle.outcome_notices.specs.Laid.{circle_in}
 use Rattle.link_answers.specs.Forms.{node_word, signed_word}
 
-abbrev pub stateKind : State → ℕ
-stateKind stays = 2
-stateKind grows = 3
-stateKind shrinks = 4
+abbrev pub state_kind : State → ℕ
+state_kind stays = 2
+state_kind grows = 3
+state_kind shrinks = 4
 
 -- a notice's kind
-abbrev pub kindWord : Notice → ℕ
-kindWord (defect_added h) = 1
-kindWord (state_set h s) = stateKind s
-kindWord (shrink_prepared hs) = 5
-kindWord (blossom_added h) = 6
-kindWord (blossom_removed h) = 7
-kindWord (grown l) = 8
+abbrev pub kind_word : Notice → ℕ
+kind_word (defect_added h) = 1
+kind_word (state_set h s) = state_kind s
+kind_word (shrink_prepared hs) = 5
+kind_word (blossom_added h) = 6
+kind_word (blossom_removed h) = 7
+kind_word (grown l) = 8
 
 -- and what it is of: a node or a length
-abbrev pub whatWord : Notice → ℕ
-whatWord (defect_added h) = node_word h
-whatWord (state_set h s) = node_word h
-whatWord (shrink_prepared hs) = 0
-whatWord (blossom_added h) = node_word h
-whatWord (blossom_removed h) = node_word h
-whatWord (grown l) = signed_word l
+abbrev pub what_word : Notice → ℕ
+what_word (defect_added h) = node_word h
+what_word (state_set h s) = node_word h
+what_word (shrink_prepared hs) = 0
+what_word (blossom_added h) = node_word h
+what_word (blossom_removed h) = node_word h
+what_word (grown l) = signed_word l
 
-abbrev pub toldWords : List Notice → List ℕ
-toldWords [] = []
-toldWords (n ∷ ns) = kindWord n ∷ whatWord n ∷ toldWords ns
+abbrev pub told_words : List Notice → List ℕ
+told_words [] = []
+told_words (n ∷ ns) = kind_word n ∷ what_word n ∷ told_words ns
 
 -- the words that stand first: node, counts, notices
 abbrev pub front_words : Handle → List Notice → List ℕ
-front_words h ns = node_word h ∷ length ns ∷ length (circle_in ns) ∷ toldWords ns
+front_words h ns = node_word h ∷ length ns ∷ length (circle_in ns) ∷ told_words ns
 
 -- a node and notices, written over ws
-unfoldable pub saidOver : List ℕ → Handle → List Notice → List ℕ
-saidOver ws h ns = sets (sets ws 0 (front_words h ns)) 135 (map node_word (circle_in ns))
+unfoldable pub said_over : List ℕ → Handle → List Notice → List ℕ
+said_over ws h ns = sets (sets ws 0 (front_words h ns)) 135 (map node_word (circle_in ns))
 
 -- an answer, written over ws
-abbrev pub answerOver : List ℕ → Answer → List ℕ
-answerOver ws a = saidOver ws a.node a.notices
+abbrev pub answer_over : List ℕ → Answer → List ℕ
+answer_over ws a = said_over ws a.node a.notices

@@ -12,7 +12,7 @@ ghost use Rattle.bench_views.specs.View.{view};
 ghost use Rattle.deed_circles.specs.Given.{hands_given};
 ghost use Rattle.outcome_notices.specs.Lists.{Ring, blossom_made, blossom_gone};
 ghost use Rattle.link_answers.specs.Forms.{node_word};
-ghost use Rattle.link_told.specs.Answers.{stateKind, toldWords, saidOver};
+ghost use Rattle.link_told.specs.Answers.{state_kind, told_words, said_over};
 ghost use Rattle.link_told.specs.Circles.{staying, growing, Walked};
 
 use bench_words::WORDS;
@@ -42,21 +42,21 @@ fn put_one(out: &mut [u64; ANSWER], node: u64, kind: u64, what: u64)
 
 // No node and no notice: every refusal. Gives its number.
 pub fn refused(number: u8, out: &mut [u64; ANSWER]) -> u8
-    ensures { (result ≡ number) × (out.new ≡ saidOver out.old nobody []) }
+    ensures { (result ≡ number) × (out.new ≡ said_over out.old nobody []) }
 {
     put_heads(out, 0, 0, 0);
     number
 }
 
 pub fn defect(out: &mut [u64; ANSWER], h: Handle)
-    ensures { out.new ≡ saidOver out.old (handle_named h) (defect_added (handle_named h) ∷ []) }
+    ensures { out.new ≡ said_over out.old (handle_named h) (defect_added (handle_named h) ∷ []) }
 {
     let w = link_answers::node_word(h);
     put_one(out, w, 1, w);
 }
 
 fn state_kind(s: GrowState) -> u64
-    ensures { result ≡ stateKind (state_named s) }
+    ensures { result ≡ state_kind (state_named s) }
 {
     match s {
         GrowState::Grow => 3,
@@ -66,7 +66,7 @@ fn state_kind(s: GrowState) -> u64
 }
 
 pub fn state(out: &mut [u64; ANSWER], h: Handle, s: GrowState)
-    ensures { out.new ≡ saidOver out.old (handle_named h) (state_set (handle_named h) (state_named s) ∷ []) }
+    ensures { out.new ≡ said_over out.old (handle_named h) (state_set (handle_named h) (state_named s) ∷ []) }
 {
     let w = link_answers::node_word(h);
     let kind = state_kind(s);
@@ -74,7 +74,7 @@ pub fn state(out: &mut [u64; ANSWER], h: Handle, s: GrowState)
 }
 
 pub fn grown(out: &mut [u64; ANSWER], length: i64)
-    ensures { out.new ≡ saidOver out.old nobody (grown length ∷ []) }
+    ensures { out.new ≡ said_over out.old nobody (grown length ∷ []) }
 {
     let w = link_answers::signed_word(length);
     put_one(out, 0, 8, w);
@@ -91,7 +91,7 @@ fn member_word(w: u64) -> u64
 // Each member stays, in order.
 fn put_stays(out: &mut [u64; ANSWER], members: &[u64])
     requires { length members.now ≤ 64 }
-    ensures { out.new ≡ sets out.old 3 (toldWords (staying members.now)) }
+    ensures { out.new ≡ sets out.old 3 (told_words (staying members.now)) }
 {
     let n = members.len();
     let mut i: usize = 0;
@@ -132,7 +132,7 @@ fn put_circle(out: &mut [u64; ANSWER], members: &[u64])
 // Each member stays, in order; then the circle is prepared to shrink, and the blossom q is added.
 pub fn blossom(out: &mut [u64; ANSWER], members: &[u64], q: Handle)
     requires { length members.now ≤ 64 }
-    ensures { out.new ≡ saidOver out.old (handle_named q) (blossom_made (hands_given members.now) (handle_named q)) }
+    ensures { out.new ≡ said_over out.old (handle_named q) (blossom_made (hands_given members.now) (handle_named q)) }
 {
     let n = members.len();
     let w = link_answers::node_word(q);
@@ -145,7 +145,7 @@ pub fn blossom(out: &mut [u64; ANSWER], members: &[u64], q: Handle)
 // Each member of the circle that begins at slot `first` grows, in circle order.
 fn put_grows(out: &mut [u64; ANSWER], b: &[u64; WORDS], first: usize, count: usize)
     requires { Walked b.now first count }
-    ensures { out.new ≡ sets out.old 5 (toldWords (growing b.now first count)) }
+    ensures { out.new ≡ sets out.old 5 (told_words (growing b.now first count)) }
 {
     let mut at = first;
     let mut i: usize = 0;
@@ -168,7 +168,7 @@ fn put_grows(out: &mut [u64; ANSWER], b: &[u64; WORDS], first: usize, count: usi
 // The blossom that h names goes; then each member grows, in circle order. Written from the words before the work.
 pub fn expanded(out: &mut [u64; ANSWER], b: &[u64; WORDS], h: Handle)
     requires { Fit b.now × Ring (view b.now) (handle_named h) }
-    ensures { out.new ≡ saidOver out.old (handle_named h) (blossom_gone (view b.now) (handle_named h)) }
+    ensures { out.new ≡ said_over out.old (handle_named h) (blossom_gone (view b.now) (handle_named h)) }
 {
     let n = bench_words::load_node(b, (h.unit as usize) * 64 + (h.slot as usize));
     let w = link_answers::node_word(h);

@@ -26,13 +26,13 @@ use Rattle.ledger_spec.specs.Walk.{parent_in, outermost, links_from, below_from,
 use Rattle.ledger_spec.specs.Deeds.{size_of}
 use Rattle.ledger_spec.specs.Calls.{nobody}
 use Rattle.ledger_spec.specs.Check.{verdict, strict_verdict, check_of, strict_of}
-use Rattle.ledger_spec.specs.Answers.{ask, read, checkRead}
+use Rattle.ledger_spec.specs.Answers.{ask, read, check_read}
 use Rattle.ledger_spec.specs.Knit.{here, In}
 use Rattle.ledger_spec.proofs.Holds.{holds}
 use Rattle.ledger_laws.proofs.Asked.{ask_true}
 use Rattle.ledger_sparing.specs.Sparing.{pop_sparing}
 use Rattle.bench_words.specs.Codec.{pick}
-use Rattle.read_present.specs.Present.{present_in, or_else as orNext, next_from, present_of, next_of}
+use Rattle.read_present.specs.Present.{present_in, or_else as or_next, next_from, present_of, next_of}
 use Rattle.picture_spec.specs.Picture.{picture, picture_tests, picture_into}
 use Rattle.patch_laws.specs.Patch.{Patch, mine, Table, given, Name, name_of}
 use Rattle.patch_laws.specs.Runs.{Read, Value, Outer, Below, First, Vertices, Belongs, At, Next, Sum, Speed, Count, Present, Fills, Floored, Check, Strict, Picture, Empty, Active, Growth, Peek, Pop, Spare, Add, Extend, Seen, amount, counted, truth, named, linked, indexed, found, listed, judged, measured, peeked, taken, kept, name_in, lent, back, Side, read_by, told}
@@ -63,13 +63,13 @@ re_found ρ x = (x.0, re_parent (by ρ) x.1)
 next_faces : (ρ : ℕ → ℕ) (i k : ℕ) (ts : List Entry) → next_from i k (map (re_entry (by ρ)) ts) ≡ re_found ρ (next_from i k ts)
 unfolding next_from
 next_faces ρ i k [] = refl
-next_faces ρ i k (t ∷ ts) = ap₂ (λ (o : Option Handle) (r : ℕ × Option Handle). orNext o i r) (here_or (leb k i)) (next_faces ρ (suc i) k ts) ∙ joined (pick (leb k i) (as_handle t) none) (next_from (suc i) k ts)
+next_faces ρ i k (t ∷ ts) = ap₂ (λ (o : Option Handle) (r : ℕ × Option Handle). or_next o i r) (here_or (leb k i)) (next_faces ρ (suc i) k ts) ∙ joined (pick (leb k i) (as_handle t) none) (next_from (suc i) k ts)
   where
     here_or : (c : Bool) → pick c (as_handle (re_entry (by ρ) t)) none ≡ re_parent (by ρ) (pick c (as_handle t) none)
     here_or true = re_as ρ t t.2
     here_or false = refl
 
-    joined : (o : Option Handle) (r : ℕ × Option Handle) → orNext (re_parent (by ρ) o) i (re_found ρ r) ≡ re_found ρ (orNext o i r)
+    joined : (o : Option Handle) (r : ℕ × Option Handle) → or_next (re_parent (by ρ) o) i (re_found ρ r) ≡ re_found ρ (or_next o i r)
     joined none r = refl
     joined (some h) r = refl
 
@@ -163,7 +163,7 @@ module _ (p : Patch) (ρ : ℕ → ℕ) (k₀ k : Side) (L : Link p ρ k₀ k) w
     unfolding check_of
     check_same = unit_same (verdict b u) (verdict s u) (0, 0) (verdict_faces p ρ s b L.closed L.faces N L.held L.rising.origin u m)
 
-    pub check_was : read b (checkRead b u) ≡ read s (checkRead s u)
+    pub check_was : read b (check_read b u) ≡ read s (check_read s u)
     check_was = asked_same (0, 0) (check_of b u) (check_of s u) check_same
 
     strict_same : strict_of b u ≡ strict_of s u

@@ -7,7 +7,7 @@ use Rattle.ledger_spec.specs.Calls.{Call, set_up_call}
 use Rattle.ledger_spec.specs.Notices.{Notice}
 use Rattle.ledger_spec.specs.Groups.{Group}
 use Rattle.ledger_spec.specs.GroupCalls.{is_empty, is_active, growth_of, peek, pop, add, extend}
-use Rattle.ledger_spec.specs.Answers.{Answer, answer, Read as Asking, read, sumRead, speedRead, countRead, indexRead, belongsRead, valueRead, outerRead, belowRead, firstRead, verticesRead, fillsRead, flooredRead, checkRead, strictRead}
+use Rattle.ledger_spec.specs.Answers.{Answer, answer, Read as Asking, read, sum_read, speed_read, count_read, index_read, belongs_read, value_read, outer_read, below_read, first_read, vertices_read, fills_read, floored_read, check_read, strict_read}
 use Rattle.ledger_sparing.specs.Sparing.{pop_sparing}
 use Rattle.picture_spec.specs.Picture.{picture_read}
 use Rattle.read_present.specs.Present.{present_read, next_read}
@@ -116,22 +116,22 @@ seen k c = answered (answer_to k c).number (name_of (after k c).table (answer_to
 -- What a read of a bench shows, the patch's nodes being those of a table. `asks` says what a read answers, of the bench as it is here, or of the words
 -- that hold it: its own answer, or BROKEN and its zero.
 unfoldable pub read_by : ((A : Type 0) → Asking A → ℕ × A) → Bench → Table → Read → Seen
-read_by asks b t (Value n) = amount (asks ℤ (valueRead b (given t n)))
-read_by asks b t (Outer n) = let r : ℕ × (Handle × ℕ) = asks (Handle × ℕ) (outerRead b (given t n)) in linked (r.0, (name_of t r.1.0, r.1.1))
-read_by asks b t (Below n) = let r : ℕ × Handle = asks Handle (belowRead b (given t n)) in named (r.0, name_of t r.1)
-read_by asks b t (First n) = counted (asks ℕ (firstRead b (given t n)))
-read_by asks b t (Vertices n out) = listed (asks (ℕ × List ℕ) (verticesRead b (given t n) out))
-read_by asks b t (Belongs u n) = truth (asks Bool (belongsRead b u (given t n)))
-read_by asks b t (At u k) = let r : ℕ × Option Handle = asks (Option Handle) (indexRead b u k) in indexed (r.0, name_in t r.1)
+read_by asks b t (Value n) = amount (asks ℤ (value_read b (given t n)))
+read_by asks b t (Outer n) = let r : ℕ × (Handle × ℕ) = asks (Handle × ℕ) (outer_read b (given t n)) in linked (r.0, (name_of t r.1.0, r.1.1))
+read_by asks b t (Below n) = let r : ℕ × Handle = asks Handle (below_read b (given t n)) in named (r.0, name_of t r.1)
+read_by asks b t (First n) = counted (asks ℕ (first_read b (given t n)))
+read_by asks b t (Vertices n out) = listed (asks (ℕ × List ℕ) (vertices_read b (given t n) out))
+read_by asks b t (Belongs u n) = truth (asks Bool (belongs_read b u (given t n)))
+read_by asks b t (At u k) = let r : ℕ × Option Handle = asks (Option Handle) (index_read b u k) in indexed (r.0, name_in t r.1)
 read_by asks b t (Next u k) = let r : ℕ × (ℕ × Option Handle) = asks (ℕ × Option Handle) (next_read b u k) in found (r.0, (r.1.0, name_in t r.1.1))
-read_by asks b t (Sum u) = amount (asks ℤ (sumRead b u))
-read_by asks b t (Speed u) = amount (asks ℤ (speedRead b u))
-read_by asks b t (Count u) = counted (asks ℕ (countRead b u))
+read_by asks b t (Sum u) = amount (asks ℤ (sum_read b u))
+read_by asks b t (Speed u) = amount (asks ℤ (speed_read b u))
+read_by asks b t (Count u) = counted (asks ℕ (count_read b u))
 read_by asks b t (Present u) = counted (asks ℕ (present_read b u))
-read_by asks b t (Fills u) = truth (asks Bool (fillsRead b u))
-read_by asks b t (Floored u) = truth (asks Bool (flooredRead b u))
-read_by asks b t (Check u) = judged (asks (ℕ × ℕ) (checkRead b u))
-read_by asks b t (Strict u) = judged (asks (ℕ × ℕ) (strictRead b u))
+read_by asks b t (Fills u) = truth (asks Bool (fills_read b u))
+read_by asks b t (Floored u) = truth (asks Bool (floored_read b u))
+read_by asks b t (Check u) = judged (asks (ℕ × ℕ) (check_read b u))
+read_by asks b t (Strict u) = judged (asks (ℕ × ℕ) (strict_read b u))
 read_by asks b t (Picture u a out) = listed (asks (ℕ × List ℕ) (picture_read b u a out))
 read_by asks b t (Empty g) = truth (is_empty (lent t g))
 read_by asks b t (Active g) = truth (is_active (lent t g))

@@ -6,7 +6,7 @@ use native.Mathlib.Omega.{arith}
 use Rattle.ledger_spec.specs.Bench.{Bench}
 use Rattle.ledger_spec.specs.Calls.{Call}
 use Rattle.ledger_spec.specs.Notices.{Notice}
-use Rattle.ledger_spec.specs.Answers.{Read as Asking, answer, read as plainRead}
+use Rattle.ledger_spec.specs.Answers.{Read as Asking, answer, read as plain_read}
 use Rattle.ledger_laws.proofs.Answered.{zero_notices, refused_notices}
 use Rattle.ledger_laws.proofs.Asked.{ask_true}
 use Rattle.bench_words.specs.Codec.{pick}
@@ -14,7 +14,7 @@ use Rattle.bench_views.specs.View.{view}
 use Rattle.bench_views.specs.Fit.{SoundWords}
 use Rattle.sound_bench.specs.Sound.{sound_words}
 use Rattle.sound_bench.proofs.Theorem.{sound_holds}
-use Rattle.sound_lent.specs.Verdict.{asked as askedWords, read_words}
+use Rattle.sound_lent.specs.Verdict.{asked as asked_words, read_words}
 use Rattle.outcome_notices.specs.Laid.{laid, notices_of}
 use Rattle.outcome_notices.proofs.Back.{told_back}
 use Rattle.call_told.specs.Told.{Called}
@@ -36,10 +36,10 @@ notices_back b c = go (answer b c).number refl
 
 -- on sound words every read is the plain ledger's
 read_same : {b : List ℕ} → SoundWords b → (t : Table) (q : Read) → read_seen b t q ≡ told (record { bench = view b; table = t }) q
-unfolding askedWords
+unfolding asked_words
 read_same {b} W t q = λ i. read_by (λ A x. same A x i) (view b) t q
   where
-    same : (A : Type 0) (x : Asking A) → read_words b x ≡ plainRead (view b) x
+    same : (A : Type 0) (x : Asking A) → read_words b x ≡ plain_read (view b) x
     same A x = ap (λ c. pick c x.own (2, x.zero)) (sound_holds b W) ∙ sym (ask_true (view b) x.zero x.own W.sound)
 
 pub as_plain : {b : List ℕ} {t : Table} {xs : List Step} {ys : List Seen} → Woven b t xs ys → SoundWords b → (k : Side) → record { bench = view b; table = t } ≡ k → ys ≡ sees k xs

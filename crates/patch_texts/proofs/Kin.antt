@@ -16,7 +16,7 @@ use Rattle.ledger_spec.specs.Calls as calls
 use Rattle.ledger_spec.specs.Answers.{Answer, answer}
 use Rattle.ledger_spec.specs.Operations.{D, B, E, S, G, F, C}
 use Rattle.ledger_spec.specs.Grammar.{Line}
-use Rattle.ledger_spec.specs.Lines.{LineAnswer, named, shown, calls as lineCalls, says}
+use Rattle.ledger_spec.specs.Lines.{LineAnswer, named, shown, calls as line_calls, says}
 use Rattle.ledger_spec.specs.Knit.{In}
 use Rattle.ledger_spec.specs.Facts.{Sound}
 use Rattle.ledger_spec.proofs.Lists.{not_in_nil, in_cases, in_append}
@@ -90,7 +90,7 @@ pub record Says (l : Line) (c : Script) (u : ℕ) : Type 0 where
   pub by : (t : Serials) (k : ℕ) → field t l k ≡ number_from 0 t k
 
 pub d_says : (u v : ℕ) → Says (some (D u v)) (Defect u v) u
-unfolding says spelled written lineCalls
+unfolding says spelled written line_calls
 d_says u v = record { call = λ k S f. refl; hands = hands; units = refl; by = λ t k. refl }
   where
     hands : (n : ℕ) (h : Handle) → handed (some (D u v)) n h.serial ≡ map serial_of (made (Defect u v) n h)
@@ -98,7 +98,7 @@ d_says u v = record { call = λ k S f. refl; hands = hands; units = refl; by = �
     hands (suc n) h = refl
 
 pub b_says : (u : ℕ) (ks : List ℕ) → Says (some (B u ks)) (Blossom u ks []) u
-unfolding says spelled written lineCalls
+unfolding says spelled written line_calls
 b_says u ks = record { call = call; hands = hands; units = refl; by = λ t k. refl }
   where
     hands : (n : ℕ) (h : Handle) → handed (some (B u ks)) n h.serial ≡ map serial_of (made (Blossom u ks []) n h)
@@ -113,24 +113,24 @@ b_says u ks = record { call = call; hands = hands; units = refl; by = λ t k. re
         finds x = named k.bench (serial_at (map serial_of k.table) x)
 
 pub e_says : (u i : ℕ) → Says (some (E u i)) (Expand u i) u
-unfolding says spelled written lineCalls
+unfolding says spelled written line_calls
 e_says u i = record { call = λ k Z f. ap (λ (a : Answer). line_of a u) (expand_twins k.bench Z u _ _ (twin_at k.bench Z k.table f i)); hands = λ n h. refl; units = refl; by = λ t k. refl }
 
 pub s_says : (u i : ℕ) (to : State) → Says (some (S u i to)) (SetState u i to) u
-unfolding says spelled written lineCalls
+unfolding says spelled written line_calls
 s_says u i to = record { call = λ k Z f. ap (λ (a : Answer). line_of a u) (state_twins k.bench Z u _ _ to (twin_at k.bench Z k.table f i)); hands = λ n h. refl; units = refl; by = λ t k. refl }
 
 module _ (u : ℕ) where
   pub g_says : (l : ℤ) → Says (some (G u l)) (Grow u l) u
-  unfolding says spelled written lineCalls
+  unfolding says spelled written line_calls
   g_says l = record { call = λ k Z f. refl; hands = λ n h. refl; units = refl; by = λ t k. refl }
 
   pub f_says : (l r : ℕ) → Says (some (F u l r)) (Fuse u l r) u
-  unfolding says spelled written lineCalls
+  unfolding says spelled written line_calls
   f_says l r = record { call = λ k Z f. refl; hands = λ n h. refl; units = refl; by = λ t k. refl }
 
   pub c_says : Says (some (C u)) (Clear u) u
-  unfolding says spelled written lineCalls
+  unfolding says spelled written line_calls
   c_says = record { call = λ k Z f. refl; hands = λ n h. refl; units = refl; by = λ t k. refl }
 
 -- ---- the page after it

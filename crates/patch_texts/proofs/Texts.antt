@@ -13,7 +13,7 @@ use Rattle.ledger_spec.specs.Bench.{Handle, Interface, Bench, set_up}
 use Rattle.ledger_spec.specs.Look.{interface}
 use Rattle.ledger_spec.specs.Tests.{outside}
 use Rattle.ledger_spec.specs.Calls.{Call, Defect, Blossom, Expand, SetState, Grow, Fuse, Clear}
-use Rattle.ledger_spec.specs.Answers.{answer, read, checkRead}
+use Rattle.ledger_spec.specs.Answers.{answer, read, check_read}
 use Rattle.ledger_spec.specs.Fields.{upto, parts_after, cut}
 use Rattle.ledger_spec.specs.Operations.{D, B, E, S, G, F, C, K}
 use Rattle.ledger_spec.specs.Grammar.{Line, wrong}
@@ -87,12 +87,12 @@ abbrev check_row : Bench → ℕ → ℕ × (ℕ × ℕ) → page.Read
 check_row b u r = (r.0, some r.1.0, paid (hidden r.0 b u) (interface b u).speed, paid (hidden r.0 b u) (interface b u).sum)
 
 module _ (k : Side) (q : Page) (N : Kin k q) where
-  check_is : (u : ℕ) → page.read_of q (some (K u)) ≡ check_row k.bench u (read k.bench (checkRead k.bench u))
+  check_is : (u : ℕ) → page.read_of q (some (K u)) ≡ check_row k.bench u (read k.bench (check_read k.bench u))
   unfolding page.read_of says spelled checks
   check_is u = ap (λ (x : Four). (x.0, some x.1, x.2, x.3)) ((λ i. (says (N.bench i) (some (K u))).numbers) ∙ shown_is r.0 r.1.0 k.bench u)
     where
       r : ℕ × (ℕ × ℕ)
-      r = read k.bench (checkRead k.bench u)
+      r = read k.bench (check_read k.bench u)
 
   check_kin : (u : ℕ) → Kin k (page.after q (some (K u)))
   unfolding page.after says spelled checks
@@ -121,11 +121,11 @@ module _ (p : Patch) (ρ : ℕ → ℕ) (k₀ k : Side) (L : Link p ρ k₀ k) (
         ∙ ap (λ (n : ℕ). read_row (map serial_of (after k₀ c).table) n (answer_to k₀ c).node.serial (answer_to k₀ c).bench u) T.number ∙ sym (read_is k₀ q₀ N₀ L.sound₀ Y)
 
   -- that checks, or is wrong: the page does not change
-  check_read : (u : ℕ) → mine p u ≡ true → page.read_of q (some (K u)) ≡ page.read_of q₀ (some (K u))
-  check_read u m = check_is k q N₁ u ∙ (λ i. (n, some r.1.0, speed_was p ρ k₀ k L u m n i, sum_was p ρ k₀ k L u m n i)) ∙ ap (check_row k₀.bench u) (check_was p ρ k₀ k L u m) ∙ sym (check_is k₀ q₀ N₀ u)
+  check_read_lem : (u : ℕ) → mine p u ≡ true → page.read_of q (some (K u)) ≡ page.read_of q₀ (some (K u))
+  check_read_lem u m = check_is k q N₁ u ∙ (λ i. (n, some r.1.0, speed_was p ρ k₀ k L u m n i, sum_was p ρ k₀ k L u m n i)) ∙ ap (check_row k₀.bench u) (check_was p ρ k₀ k L u m) ∙ sym (check_is k₀ q₀ N₀ u)
     where
       r : ℕ × (ℕ × ℕ)
-      r = read k.bench (checkRead k.bench u)
+      r = read k.bench (check_read k.bench u)
 
       n : ℕ
       n = r.0
@@ -163,7 +163,7 @@ module _ (a p : Patch) (apart : Apart a p) where
     by_line (some (G u l)) w x = by_call (g_says u l) (here refl) w x
     by_line (some (F u l r)) w x = by_call (f_says u l r) (here refl) w x
     by_line (some (C u)) w x = by_call (c_says u) (here refl) w x
-    by_line (some (K u)) w x = by_nothing (some (K u)) (check_read p ρ k₀ k L q₀ q N₀ N₁ u (w u (here refl))) (check_kin k₀ q₀ N₀ u) (check_kin k q N₁ u) x
+    by_line (some (K u)) w x = by_nothing (some (K u)) (check_read_lem p ρ k₀ k L q₀ q N₀ N₁ u (w u (here refl))) (check_kin k₀ q₀ N₀ u) (check_kin k q N₁ u) x
     by_line none w x = by_nothing wrong (wrong_read p ρ k₀ k L q₀ q N₀ N₁) (wrong_kin k₀ q₀ N₀) (wrong_kin k q N₁) x
 
     by_other : (l : Line) → Each a (units_in l) → Unworn (reads q (theirs l ∷ xs)) → reads q (theirs l ∷ xs) ≡ reads q₀ (own (theirs l ∷ xs))

@@ -18,7 +18,7 @@ use Rattle.bench_views.specs.View.{view}
 use Rattle.bench_views.proofs.Fits.{facts}
 use Rattle.sound_bench.specs.Sound.{sound_words}
 use Rattle.sound_bench.proofs.Theorem.{sound_says}
-use Rattle.ledger_spec.specs.Answers.{outerRead}
+use Rattle.ledger_spec.specs.Answers.{outer_read}
 use Rattle.sound_lent.specs.Verdict.{read_words}
 use Rattle.sound_lent.proofs.Asking.{asked_by}
 use Rattle.read_sound.specs.Shown.{shown_ancestor}
@@ -60,7 +60,7 @@ module _ (b : Bench) (h : Handle) (r : Ancestor) where
 
 -- ---- the read of any words, by its contract
 module _ (b : List ℕ) (h : Handle) (r : Ancestor) where
-  pub links_answered : length b ≡ 6273 → shown_ancestor r ≡ read_words b (outerRead (view b) h) → Walked (view b) h r
+  pub links_answered : length b ≡ 6273 → shown_ancestor r ≡ read_words b (outer_read (view b) h) → Walked (view b) h r
   links_answered len e = words (sound_words b) refl
     where
       node : (o : Option Node) → node_named (view b) h ≡ o → sound_words b ≡ true → shown_ancestor r ≡ outer_of (view b) h → Walked (view b) h r

@@ -20,7 +20,7 @@ use Rattle.read_sound.specs.declared.Represented.{Represented}
 use Rattle.read_marks.specs.Shown.{shown_mark}
 use Rattle.read_marks.specs.declared.Marked.{Marked}
 use Rattle.sound_lent.specs.Verdict.{read_words}
-use Rattle.ledger_spec.specs.Answers.{sumRead, speedRead, countRead, fillsRead, flooredRead, indexRead, belongsRead, valueRead, outerRead, belowRead, firstRead, verticesRead}
+use Rattle.ledger_spec.specs.Answers.{sum_read, speed_read, count_read, fills_read, floored_read, index_read, belongs_read, value_read, outer_read, below_read, first_read, vertices_read}
 
 -- ---- what is shown of an answer determines it
 abbrev packed : Handle → Packed
@@ -64,39 +64,39 @@ vertex_same r s e = λ i. record { number = (e i).0; vertex = record { 0 = (e i)
 -- ---- the reads, of any words b
 module _ (b : List ℕ) where
   module _ (u : ℕ) where
-    pub only_sum_dual_variables : (r s : Weighed) → shown_weight r ≡ read_words b (sumRead (view b) u) → shown_weight s ≡ read_words b (sumRead (view b) u) → r ≡ s
+    pub only_sum_dual_variables : (r s : Weighed) → shown_weight r ≡ read_words b (sum_read (view b) u) → shown_weight s ≡ read_words b (sum_read (view b) u) → r ≡ s
     only_sum_dual_variables r s p q = weight_same r s (p ∙ sym q)
 
-    pub only_sum_grow_speed : (r s : Weighed) → shown_weight r ≡ read_words b (speedRead (view b) u) → shown_weight s ≡ read_words b (speedRead (view b) u) → r ≡ s
+    pub only_sum_grow_speed : (r s : Weighed) → shown_weight r ≡ read_words b (speed_read (view b) u) → shown_weight s ≡ read_words b (speed_read (view b) u) → r ≡ s
     only_sum_grow_speed r s p q = weight_same r s (p ∙ sym q)
 
-    pub only_nodes_count : (r s : Counted) → shown_count r ≡ read_words b (countRead (view b) u) → shown_count s ≡ read_words b (countRead (view b) u) → r ≡ s
+    pub only_nodes_count : (r s : Counted) → shown_count r ≡ read_words b (count_read (view b) u) → shown_count s ≡ read_words b (count_read (view b) u) → r ≡ s
     only_nodes_count r s p q = count_same r s (p ∙ sym q)
 
-    pub only_is_filling : (r s : Marked) → shown_mark r ≡ read_words b (fillsRead (view b) u) → shown_mark s ≡ read_words b (fillsRead (view b) u) → r ≡ s
+    pub only_is_filling : (r s : Marked) → shown_mark r ≡ read_words b (fills_read (view b) u) → shown_mark s ≡ read_words b (fills_read (view b) u) → r ≡ s
     only_is_filling r s p q = mark_same r s (p ∙ sym q)
 
-    pub only_is_floored : (r s : Marked) → shown_mark r ≡ read_words b (flooredRead (view b) u) → shown_mark s ≡ read_words b (flooredRead (view b) u) → r ≡ s
+    pub only_is_floored : (r s : Marked) → shown_mark r ≡ read_words b (floored_read (view b) u) → shown_mark s ≡ read_words b (floored_read (view b) u) → r ≡ s
     only_is_floored r s p q = mark_same r s (p ∙ sym q)
 
-    pub only_get_node : (k : ℕ) (r s : Indexed) → shown_node r ≡ read_words b (indexRead (view b) u k) → shown_node s ≡ read_words b (indexRead (view b) u k) → r ≡ s
+    pub only_get_node : (k : ℕ) (r s : Indexed) → shown_node r ≡ read_words b (index_read (view b) u k) → shown_node s ≡ read_words b (index_read (view b) u k) → r ≡ s
     only_get_node k r s p q = index_same r s (p ∙ sym q)
 
-    pub only_check_ptr_belonging : (h : Handle) (r s : Belongs) → shown_belongs r ≡ read_words b (belongsRead (view b) u h) → shown_belongs s ≡ read_words b (belongsRead (view b) u h) → r ≡ s
+    pub only_check_ptr_belonging : (h : Handle) (r s : Belongs) → shown_belongs r ≡ read_words b (belongs_read (view b) u h) → shown_belongs s ≡ read_words b (belongs_read (view b) u h) → r ≡ s
     only_check_ptr_belonging h r s p q = belongs_same r s (p ∙ sym q)
 
   module _ (h : Handle) where
-    pub only_get_dual_variable : (r s : Weighed) → shown_weight r ≡ read_words b (valueRead (view b) h) → shown_weight s ≡ read_words b (valueRead (view b) h) → r ≡ s
+    pub only_get_dual_variable : (r s : Weighed) → shown_weight r ≡ read_words b (value_read (view b) h) → shown_weight s ≡ read_words b (value_read (view b) h) → r ≡ s
     only_get_dual_variable r s p q = weight_same r s (p ∙ sym q)
 
-    pub only_get_ancestor_blossom : (r s : Ancestor) → shown_ancestor r ≡ read_words b (outerRead (view b) h) → shown_ancestor s ≡ read_words b (outerRead (view b) h) → r ≡ s
+    pub only_get_ancestor_blossom : (r s : Ancestor) → shown_ancestor r ≡ read_words b (outer_read (view b) h) → shown_ancestor s ≡ read_words b (outer_read (view b) h) → r ≡ s
     only_get_ancestor_blossom r s p q = ancestor_same r s (p ∙ sym q)
 
-    pub only_get_secondary_ancestor_blossom : (r s : Second) → shown_second r ≡ read_words b (belowRead (view b) h) → shown_second s ≡ read_words b (belowRead (view b) h) → r ≡ s
+    pub only_get_secondary_ancestor_blossom : (r s : Second) → shown_second r ≡ read_words b (below_read (view b) h) → shown_second s ≡ read_words b (below_read (view b) h) → r ≡ s
     only_get_secondary_ancestor_blossom r s p q = second_same r s (p ∙ sym q)
 
-    pub only_get_representative_vertex : (r s : Represented) → shown_vertex r ≡ read_words b (firstRead (view b) h) → shown_vertex s ≡ read_words b (firstRead (view b) h) → r ≡ s
+    pub only_get_representative_vertex : (r s : Represented) → shown_vertex r ≡ read_words b (first_read (view b) h) → shown_vertex s ≡ read_words b (first_read (view b) h) → r ≡ s
     only_get_representative_vertex r s p q = vertex_same r s (p ∙ sym q)
 
-    pub only_get_all_vertices : (out : List ℕ) (r s : Counted) (x y : List ℕ) → shown_vertices r x ≡ read_words b (verticesRead (view b) h out) → shown_vertices s y ≡ read_words b (verticesRead (view b) h out) → (r ≡ s) × (x ≡ y)
+    pub only_get_all_vertices : (out : List ℕ) (r s : Counted) (x y : List ℕ) → shown_vertices r x ≡ read_words b (vertices_read (view b) h out) → shown_vertices s y ≡ read_words b (vertices_read (view b) h out) → (r ≡ s) × (x ≡ y)
     only_get_all_vertices out r s x y p q = let e = p ∙ sym q in ((λ i. record { number = (e i).0; count = (e i).1.0 }), (λ i. (e i).1.1))

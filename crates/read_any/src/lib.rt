@@ -7,7 +7,7 @@ ghost use Rattle.bench_views.specs.View.{view};
 ghost use Rattle.read_sound.specs.Shown.{shown_weight, shown_count, shown_belongs, shown_node, shown_ancestor, shown_second, shown_vertex, shown_vertices};
 ghost use Rattle.read_marks.specs.Shown.{shown_mark};
 ghost use Rattle.sound_lent.specs.Verdict.{read_words};
-ghost use Rattle.ledger_spec.specs.Answers.{sumRead, speedRead, countRead, fillsRead, flooredRead, indexRead, belongsRead, valueRead, outerRead, belowRead, firstRead, verticesRead};
+ghost use Rattle.ledger_spec.specs.Answers.{sum_read, speed_read, count_read, fills_read, floored_read, index_read, belongs_read, value_read, outer_read, below_read, first_read, vertices_read};
 
 use bench_words::WORDS;
 use kinds::{Handle, MaybeNode, NodeIndex, Vertex, numbers};
@@ -43,7 +43,7 @@ fn no_mark() -> Marked
 }
 
 pub fn sum_dual_variables(b: &[u64; WORDS], unit: u8) -> Weighed
-    ensures { shown_weight result ≡ read_words b.now (sumRead (view b.now) unit) }
+    ensures { shown_weight result ≡ read_words b.now (sum_read (view b.now) unit) }
 {
     if !sound_lent::is_bench(b) {
         return no_weight();
@@ -52,7 +52,7 @@ pub fn sum_dual_variables(b: &[u64; WORDS], unit: u8) -> Weighed
 }
 
 pub fn sum_grow_speed(b: &[u64; WORDS], unit: u8) -> Weighed
-    ensures { shown_weight result ≡ read_words b.now (speedRead (view b.now) unit) }
+    ensures { shown_weight result ≡ read_words b.now (speed_read (view b.now) unit) }
 {
     if !sound_lent::is_bench(b) {
         return no_weight();
@@ -62,7 +62,7 @@ pub fn sum_grow_speed(b: &[u64; WORDS], unit: u8) -> Weighed
 
 // How many slots the tree has, used or emptied.
 pub fn nodes_count(b: &[u64; WORDS], unit: u8) -> Counted
-    ensures { shown_count result ≡ read_words b.now (countRead (view b.now) unit) }
+    ensures { shown_count result ≡ read_words b.now (count_read (view b.now) unit) }
 {
     if !sound_lent::is_bench(b) {
         return no_count();
@@ -72,7 +72,7 @@ pub fn nodes_count(b: &[u64; WORDS], unit: u8) -> Counted
 
 // Whether the interface gives a new node its lowest empty slot.
 pub fn is_filling(b: &[u64; WORDS], unit: u8) -> Marked
-    ensures { shown_mark result ≡ read_words b.now (fillsRead (view b.now) unit) }
+    ensures { shown_mark result ≡ read_words b.now (fills_read (view b.now) unit) }
 {
     if !sound_lent::is_bench(b) {
         return no_mark();
@@ -82,7 +82,7 @@ pub fn is_filling(b: &[u64; WORDS], unit: u8) -> Marked
 
 // Whether no value of the interface's tree may fall below 0.
 pub fn is_floored(b: &[u64; WORDS], unit: u8) -> Marked
-    ensures { shown_mark result ≡ read_words b.now (flooredRead (view b.now) unit) }
+    ensures { shown_mark result ≡ read_words b.now (floored_read (view b.now) unit) }
 {
     if !sound_lent::is_bench(b) {
         return no_mark();
@@ -92,7 +92,7 @@ pub fn is_floored(b: &[u64; WORDS], unit: u8) -> Marked
 
 // The handle at an index of the tree, nothing if its slot was emptied, RANGE (18) at or past the count.
 pub fn get_node(b: &[u64; WORDS], unit: u8, index: NodeIndex) -> Indexed
-    ensures { shown_node result ≡ read_words b.now (indexRead (view b.now) unit index.0) }
+    ensures { shown_node result ≡ read_words b.now (index_read (view b.now) unit index.0) }
 {
     if !sound_lent::is_bench(b) {
         return Indexed {
@@ -105,7 +105,7 @@ pub fn get_node(b: &[u64; WORDS], unit: u8, index: NodeIndex) -> Indexed
 
 // Whether a node stands in the interface's tree: no in place of STALE and FOREIGN.
 pub fn check_ptr_belonging(b: &[u64; WORDS], unit: u8, h: Handle) -> Belongs
-    ensures { shown_belongs result ≡ read_words b.now (belongsRead (view b.now) unit (handle_named h)) }
+    ensures { shown_belongs result ≡ read_words b.now (belongs_read (view b.now) unit (handle_named h)) }
 {
     if !sound_lent::is_bench(b) {
         return Belongs {
@@ -117,7 +117,7 @@ pub fn check_ptr_belonging(b: &[u64; WORDS], unit: u8, h: Handle) -> Belongs
 }
 
 pub fn get_dual_variable(b: &[u64; WORDS], h: Handle) -> Weighed
-    ensures { shown_weight result ≡ read_words b.now (valueRead (view b.now) (handle_named h)) }
+    ensures { shown_weight result ≡ read_words b.now (value_read (view b.now) (handle_named h)) }
 {
     if !sound_lent::is_bench(b) {
         return no_weight();
@@ -127,7 +127,7 @@ pub fn get_dual_variable(b: &[u64; WORDS], h: Handle) -> Weighed
 
 // The outermost blossom of a node, a node without a parent being its own, and how many links lead to it.
 pub fn get_ancestor_blossom(b: &[u64; WORDS], h: Handle) -> Ancestor
-    ensures { shown_ancestor result ≡ read_words b.now (outerRead (view b.now) (handle_named h)) }
+    ensures { shown_ancestor result ≡ read_words b.now (outer_read (view b.now) (handle_named h)) }
 {
     if !sound_lent::is_bench(b) {
         return Ancestor {
@@ -141,7 +141,7 @@ pub fn get_ancestor_blossom(b: &[u64; WORDS], h: Handle) -> Ancestor
 
 // The node below the outermost blossom, TOP (12) of a node without a parent.
 pub fn get_secondary_ancestor_blossom(b: &[u64; WORDS], h: Handle) -> Second
-    ensures { shown_second result ≡ read_words b.now (belowRead (view b.now) (handle_named h)) }
+    ensures { shown_second result ≡ read_words b.now (below_read (view b.now) (handle_named h)) }
 {
     if !sound_lent::is_bench(b) {
         return Second {
@@ -154,7 +154,7 @@ pub fn get_secondary_ancestor_blossom(b: &[u64; WORDS], h: Handle) -> Second
 
 // The first vertex under a node.
 pub fn get_representative_vertex(b: &[u64; WORDS], h: Handle) -> Represented
-    ensures { shown_vertex result ≡ read_words b.now (firstRead (view b.now) (handle_named h)) }
+    ensures { shown_vertex result ≡ read_words b.now (first_read (view b.now) (handle_named h)) }
 {
     if !sound_lent::is_bench(b) {
         return Represented {
@@ -168,7 +168,7 @@ pub fn get_representative_vertex(b: &[u64; WORDS], h: Handle) -> Represented
 // All vertices under a node, depth first in circle order, into the front of a slice; SMALL (19) where it is shorter than the defect size. Entries past
 // the vertices stay as they are.
 pub fn get_all_vertices(b: &[u64; WORDS], h: Handle, out: &mut [u32]) -> Counted
-    ensures { shown_vertices result out.new ≡ read_words b.now (verticesRead (view b.now) (handle_named h) out.old) }
+    ensures { shown_vertices result out.new ≡ read_words b.now (vertices_read (view b.now) (handle_named h) out.old) }
 {
     if !sound_lent::is_bench(b) {
         return no_count();

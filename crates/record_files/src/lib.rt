@@ -4,7 +4,7 @@
 ghost use Rattle.std.specs.Prelude.{◌≡◌, ◌+◌, ◌*◌, ◌≤◌, ◌<◌, length};
 ghost use Rattle.record_spec.specs.Files.{records_in, fitting, file_ops};
 ghost use Rattle.record_spec.specs.Places.{fours_at};
-ghost use Rattle.record_files.specs.Scans.{scanned_of, not_file as «not-file», trailer_of, no_trailer as «no_trailer»};
+ghost use Rattle.record_files.specs.Scans.{scanned_of, not_file as «not_file», trailer_of, no_trailer as «no_trailer»};
 
 // The letters DLG2, as a number of 4 bytes, and the most bytes of a file: starts and trailer numbers take 4.
 pub const MARK: u64 = 843533380;
@@ -29,7 +29,7 @@ pub struct Trailer {
 }
 
 fn not_file() -> Scanned
-    ensures { result ≡ «not-file» }
+    ensures { result ≡ «not_file» }
 {
     Scanned {
         whole: false,

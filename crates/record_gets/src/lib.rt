@@ -3,7 +3,7 @@
 // trailer, list or record do not fit, RANGE where there is no such record, SMALL last. Refused, the slice is as it was. Assumes nothing.
 ghost use Rattle.std.specs.Prelude.{◌≡◌, ◌+◌, ◌*◌, ◌≤◌, ◌<◌, length};
 ghost use Rattle.record_packs.specs.Packs.{MovedAs};
-ghost use Rattle.record_gets.specs.Kth.{listed, kth_of, begins as «first-begins», end_of};
+ghost use Rattle.record_gets.specs.Kth.{listed, kth_of, begins as «first_begins», end_of};
 ghost use Rattle.record_gets.specs.Words.{get_into};
 ghost use Rattle.record_gets.specs.Gets.{Finds};
 
@@ -20,7 +20,7 @@ pub struct Found {
 }
 
 fn begins(k: usize, from: usize) -> bool
-    ensures { result ≡ «first-begins» k from }
+    ensures { result ≡ «first_begins» k from }
 {
     if k == 0 {
         return from == 0;

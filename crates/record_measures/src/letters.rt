@@ -1,6 +1,6 @@
 // The records of every letter but B, after the letter and the unit: what is left starts at a place. Assumes nothing.
 ghost use Rattle.std.specs.Prelude.{◌≡◌, ℕ, ◌≤◌, ◌<◌, length, drop, List};
-ghost use Rattle.record_measures.specs.Measures.{tried, state_digits as «state-digits»};
+ghost use Rattle.record_measures.specs.Measures.{tried, state_digits as «state_digits»};
 
 use crate::Measured;
 
@@ -45,7 +45,7 @@ pub fn expand(t: &[u8], unit: u64, q: usize) -> Measured
 
 // How many bytes a state's text has, if a byte is one: 0, 1, or 255 for -1; else 0.
 fn state_digits(n: u64) -> usize
-    ensures { (result ≡ «state-digits» n) × (result ≤ 2) }
+    ensures { (result ≡ «state_digits» n) × (result ≤ 2) }
 {
     match n {
         0 => 1,

@@ -3,18 +3,18 @@
 // and are read by their number. Nothing is copied. Assumes nothing.
 ghost use Rattle.std.specs.Prelude.{◌≡◌, ◌+◌, ◌≤◌, length, drop};
 ghost use Rattle.ledger_spec.specs.Operations.{D, B, E, G, F};
-ghost use Rattle.record_spec.specs.Numbers.{length_in as «length-in»};
+ghost use Rattle.record_spec.specs.Numbers.{length_in as «length_in»};
 ghost use Rattle.record_spec.specs.Reader.{record_in};
 ghost use Rattle.record_spec.specs.Places.{at as «number_at»};
 ghost use Rattle.record_measures.specs.Measures.{members_at};
-ghost use Rattle.record_reads.specs.Reads.{Recorded, line_found, line_of_record, state_line, state_of as «state-of»};
+ghost use Rattle.record_reads.specs.Reads.{Recorded, line_found, line_of_record, state_line, state_of as «state_of»};
 
 use kinds::{GrowState, Serial, Vertex};
 use text_lines::Line;
 
 // A state from its byte, which is one: 0, 1, or 255 for -1.
 fn state_of(n: u64) -> GrowState
-    ensures { result ≡ «state-of» n }
+    ensures { result ≡ «state_of» n }
 {
     match n {
         0 => GrowState::Stay,
@@ -71,7 +71,7 @@ fn set_state(s: &[u8], unit: u8, q: usize) -> Line
 
 fn grow(s: &[u8], unit: u8, q: usize) -> Line
     requires { q + 8 ≤ length s.now }
-    ensures { result ≡ line_of_record (G unit («length-in» («number_at» 8 s.now q))) }
+    ensures { result ≡ line_of_record (G unit («length_in» («number_at» 8 s.now q))) }
 {
     let length = group_lent::length_of(record_numbers::eight_at(s, q));
     Line::Grow { unit, length }

@@ -4,7 +4,7 @@
 ghost use Rattle.std.specs.Prelude.{◌≡◌, ◌+◌, ◌*◌, ◌≤◌, length};
 ghost use Rattle.std.proofs.lemmas.List.Edits.{sets};
 ghost use Rattle.bench_views.specs.Fit.{SoundWords};
-ghost use Rattle.record_runs.specs.Runs.{four_of, Listing, Ready, Answers, Ran as «As-run», RanAny};
+ghost use Rattle.record_runs.specs.Runs.{four_of, Listing, Ready, Answers, Ran as «As_run», RanAny};
 
 use bench_serials::HINTS;
 use bench_words::WORDS;
@@ -64,7 +64,7 @@ fn run_whole(
     answers: &mut [i64],
 ) -> Ran
     requires { SoundWords b.old × Listing file.now list count }
-    ensures { «As-run» b.old file.now answers.old result b.new answers.new }
+    ensures { «As_run» b.old file.now answers.old result b.new answers.new }
 {
     if answers.len() / 4 < count {
         return refused(numbers::SMALL);
@@ -76,7 +76,7 @@ fn run_whole(
 // On words that hold a sound bench.
 pub fn run_sound(b: &mut [u64; WORDS], file: &[u8], answers: &mut [i64]) -> Ran
     requires { SoundWords b.old }
-    ensures { «As-run» b.old file.now answers.old result b.new answers.new }
+    ensures { «As_run» b.old file.now answers.old result b.new answers.new }
 {
     let scanned = record_files::scan(file);
     if !scanned.whole {

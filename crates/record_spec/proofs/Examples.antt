@@ -9,7 +9,7 @@ use lib.ListN.{replicate}
 use Rattle.ledger_spec.specs.Decimals.{digits, decimal, signed, after_digits, natural, between, integer}
 use Rattle.ledger_spec.specs.Fields.{upto, parts_after}
 use Rattle.ledger_spec.specs.Operations.{B, K}
-use Rattle.ledger_spec.specs.Grammar.{step, all_serials, rest as lineRest, line_of}
+use Rattle.ledger_spec.specs.Grammar.{step, all_serials, rest as line_rest, line_of}
 use Rattle.ledger_spec.specs.Program.{ended, lines_of}
 use Rattle.ledger_spec.specs.Bytes.{bytes as text}
 use Rattle.text_lines.specs.Texts.{spaced, fields_of, letter_of}
@@ -36,7 +36,7 @@ file =
     65 ∷ 0 ∷ 0 ∷ 0 ∷ 8 ∷ 0 ∷ 0 ∷ 0 ∷ 97 ∷ 0 ∷ 0 ∷ 0 ∷ 68 ∷ 76 ∷ 71 ∷ 50 ∷ []  -- start of that list, 8 records, 97 bytes, DLG2
 
 there : to_records lines (replicate 115 9) ≡ record { number = 0; size = 113; output = file ++ (9 ∷ 9 ∷ []) }
-unfolding to_records text_ops ops_of lines_of ended upto parts_after line_of lineRest step all_serials after_digits natural between integer text written file_of records_of starts trailer bytes_of fields member_fields spelled bytes fours complement letter_of
+unfolding to_records text_ops ops_of lines_of ended upto parts_after line_of line_rest step all_serials after_digits natural between integer text written file_of records_of starts trailer bytes_of fields member_fields spelled bytes fours complement letter_of
 there = refl
 
 back : to_text file (replicate 58 9) ≡ record { number = 0; size = 58; output = lines }
@@ -47,12 +47,12 @@ back = refl
 
 -- one byte too few
 small : to_records lines (replicate 112 9) ≡ refused 19 (replicate 112 9)
-unfolding to_records text_ops ops_of lines_of ended upto parts_after line_of lineRest step all_serials after_digits natural between integer text written file_of records_of starts trailer bytes_of fields member_fields spelled bytes fours complement letter_of
+unfolding to_records text_ops ops_of lines_of ended upto parts_after line_of line_rest step all_serials after_digits natural between integer text written file_of records_of starts trailer bytes_of fields member_fields spelled bytes fours complement letter_of
 small = refl
 
 -- a last line without newline
 unended : to_records (text "K 0") [] ≡ refused 23 []
-unfolding to_records text_ops ops_of lines_of ended upto parts_after line_of lineRest step after_digits natural between text
+unfolding to_records text_ops ops_of lines_of ended upto parts_after line_of line_rest step after_digits natural between text
 unended = refl
 
 -- no lines: the trailer alone

@@ -3,7 +3,7 @@
 // The first of the two passes from text to records; it writes nothing. Assumes nothing.
 ghost use Rattle.std.specs.Prelude.{◌≡◌, ◌<◌};
 ghost use Rattle.record_spec.specs.Moves.{text_ops};
-ghost use Rattle.record_weights.specs.Weights.{size_by, not_text as «not-text», weighed_of};
+ghost use Rattle.record_weights.specs.Weights.{size_by, not_text as «not_text», weighed_of};
 
 use text_lines::Line;
 
@@ -16,7 +16,7 @@ pub struct Weighed {
 }
 
 fn not_text() -> Weighed
-    ensures { result ≡ «not-text» }
+    ensures { result ≡ «not_text» }
 {
     Weighed {
         whole: false,

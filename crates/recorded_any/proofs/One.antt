@@ -16,7 +16,7 @@ use Rattle.outcomes.proofs.Outcomes.{sound_words_same}
 use Rattle.recorded_spec.proofs.Whole.{one_growth}
 use Rattle.recorded_groups.specs.Recording.{recording_of}
 use Rattle.recorded_steps.specs.declared.Passed.{Passed}
-use Rattle.recorded_sound.specs.Answers.{recordedOn, RecordedAs}
+use Rattle.recorded_sound.specs.Answers.{recorded_on, RecordedAs}
 use Rattle.recorded_any.specs.Any.{RecordedAny}
 use Rattle.recorded_any.proofs.Verdicts.{any_sound}
 
@@ -27,5 +27,5 @@ module _ (b : List ℕ) (W : SoundWords b) (u : ℕ) (l : ℤ) (ws out : List �
       x : RecordedAs b u l ws out r b' out'
       x = any_sound b u l ws out W A
 
-      one : ((answer (view b) (Grow u l)).number ≡ 0) × ((recordedOn b u l ws (length out)).bench ≡ (answer (view b) (Grow u l)).bench) × (total (recordedOn b u l ws (length out)).lengths ≡ l)
+      one : ((answer (view b) (Grow u l)).number ≡ 0) × ((recorded_on b u l ws (length out)).bench ≡ (answer (view b) (Grow u l)).bench) × (total (recorded_on b u l ws (length out)).lengths ≡ l)
       one = one_growth (view b) u l (recording_of ws) (length out) (sym x.number ∙ z)

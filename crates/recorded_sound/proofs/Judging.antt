@@ -36,11 +36,11 @@ use Rattle.recorded_groups.specs.Recording.{recording_of}
 use Rattle.recorded_steps.specs.declared.Passed.{Passed}
 use Rattle.recorded_steps.specs.Passes.{limit_no, PassedAs, steps_of, Ready}
 use Rattle.recorded_steps.proofs.Limits.{limits}
-use Rattle.recorded_sound.specs.Answers.{recordedOn, JudgedAs, RecordedAs}
+use Rattle.recorded_sound.specs.Answers.{recorded_on, JudgedAs, RecordedAs}
 
 module _ (b : List ℕ) (F : Fit b) (u : ℕ) (l : ℤ) (ws : List ℕ) (room : ℕ) where
   abbrev whole : Steps
-  whole = recordedOn b u l ws room
+  whole = recorded_on b u l ws room
 
   sounds : sound (view b) ≡ true
   sounds = holds (view b) F.facts

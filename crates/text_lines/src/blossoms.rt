@@ -2,7 +2,7 @@
 ghost use Rattle.std.specs.Prelude.{◌≡◌, List, ℕ, set};
 ghost use Rattle.std.proofs.Math.Option.{some};
 ghost use Rattle.std.proofs.lemmas.List.Edits.{sets};
-ghost use Rattle.ledger_spec.specs.Grammar.{all_serials as «all-serials», «some_serials»};
+ghost use Rattle.ledger_spec.specs.Grammar.{all_serials as «all_serials», «some_serials»};
 ghost use Rattle.text_fields.specs.Places.{from};
 ghost use Rattle.text_lines.specs.Counts.{counted};
 ghost use Rattle.text_lines.specs.Shown.{ReadAs};
@@ -18,7 +18,7 @@ pub enum Count {
 
 // How many serials the fields after a place are, if each is one.
 fn count_serials(s: &[u8], place: usize) -> Count
-    ensures { result ≡ counted («all-serials» (from s.now place)) }
+    ensures { result ≡ counted («all_serials» (from s.now place)) }
 {
     let mut e = place;
     let mut n: usize = 0;
@@ -43,7 +43,7 @@ fn put(out: &mut [u64], i: usize, v: u64)
 
 // The serials after a place, where each field is one.
 fn store_serials(s: &[u8], place: usize, out: &mut [u64])
-    ensures { (ns : List ℕ) → «all-serials» (from s.now place) ≡ some ns → out.new ≡ sets out.old 0 ns }
+    ensures { (ns : List ℕ) → «all_serials» (from s.now place) ≡ some ns → out.new ≡ sets out.old 0 ns }
 {
     let mut e = place;
     let mut n: usize = 0;

@@ -2,7 +2,7 @@
 ghost use Rattle.std.specs.Prelude.{◌≡◌};
 ghost use Rattle.std.proofs.Math.Option.{some};
 ghost use Rattle.ledger_spec.specs.Operations.{D, E, S, G, F, C, K};
-ghost use Rattle.ledger_spec.specs.Grammar.{a_unit as «a_unit», a_vertex as «a-vertex», a_serial as «a-serial», an_amount, a_state as «a-state», then, no_more};
+ghost use Rattle.ledger_spec.specs.Grammar.{a_unit as «a_unit», a_vertex as «a_vertex», a_serial as «a_serial», an_amount, a_state as «a_state», then, no_more};
 ghost use Rattle.text_fields.specs.Places.{from};
 ghost use Rattle.text_lines.specs.Shown.{line_shown};
 
@@ -11,7 +11,7 @@ use kinds::{Serial, Vertex};
 use text_fields::{NextLength, NextNumber, NextState};
 
 pub fn defect(s: &[u8], unit: u8, place: usize) -> Line
-    ensures { result ≡ line_shown (then «a-vertex» (λ v. no_more (some (D unit v))) (from s.now place)) }
+    ensures { result ≡ line_shown (then «a_vertex» (λ v. no_more (some (D unit v))) (from s.now place)) }
 {
     let NextNumber::Got(v, e) = text_fields::next_number(s, place, 0, 4294967295) else {
         return Line::Wrong;
@@ -26,7 +26,7 @@ pub fn defect(s: &[u8], unit: u8, place: usize) -> Line
 }
 
 pub fn expand(s: &[u8], unit: u8, place: usize) -> Line
-    ensures { result ≡ line_shown (then «a-serial» (λ n. no_more (some (E unit n))) (from s.now place)) }
+    ensures { result ≡ line_shown (then «a_serial» (λ n. no_more (some (E unit n))) (from s.now place)) }
 {
     let NextNumber::Got(n, e) = text_fields::next_number(s, place, 1, 4294967295) else {
         return Line::Wrong;
@@ -41,7 +41,7 @@ pub fn expand(s: &[u8], unit: u8, place: usize) -> Line
 }
 
 pub fn set_state(s: &[u8], unit: u8, place: usize) -> Line
-    ensures { result ≡ line_shown (then «a-serial» (λ n. then «a-state» (λ g. no_more (some (S unit n g)))) (from s.now place)) }
+    ensures { result ≡ line_shown (then «a_serial» (λ n. then «a_state» (λ g. no_more (some (S unit n g)))) (from s.now place)) }
 {
     let NextNumber::Got(n, e) = text_fields::next_number(s, place, 1, 4294967295) else {
         return Line::Wrong;

@@ -11,8 +11,8 @@ use Rattle.groups.specs.declared.Kind.TheVariants.{Growth}
 use Rattle.groups.specs.declared.Group.{Group as Code}
 use Rattle.groups.proofs.empty_group.Goals as goal
 
-abbrev emptyBy : Handle → Code
-emptyBy h = record {
+abbrev empty_by : Handle → Code
+empty_by h = record {
   kind = Growth largest false;
   list = replicate 128 (record { obstacle = BlossomNeedExpand h });
   stops = replicate 128 (record { vertex = record { 0 = 0 }; obstacle = VertexShrinkStop h NoPair });
@@ -21,4 +21,4 @@ emptyBy h = record {
 }
 
 pub returns : goal.returns
-returns c = ap emptyBy c.nobody-h.ensures
+returns c = ap empty_by c.nobody-h.ensures

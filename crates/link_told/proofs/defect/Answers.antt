@@ -4,11 +4,11 @@ use mathlib.Core.Path.{ap, ◌∙◌}
 use mathlib.Core.List.{[], ◌∷◌}
 use lib.Seq.{sets}
 use Rattle.outcome_notices.specs.Laid.{circle_in}
-use Rattle.link_told.specs.Answers.{saidOver}
+use Rattle.link_told.specs.Answers.{said_over}
 use borrow.Author.Rules.{rules}
 use Rattle.link_told.proofs.defect.Goals as goal
 
 
 pub returns : goal.returns
-unfolding saidOver circle_in
+unfolding said_over circle_in
 returns c = c.put_one.ensures ∙ ap (λ (w : ℕ). sets c.args.out.now 0 (w ∷ 1 ∷ 0 ∷ 1 ∷ w ∷ [])) c.node_word-w.ensures

@@ -7,7 +7,7 @@ use lib.Seq.{sets}
 use Rattle.bench_words.specs.Store.{node_at}
 use Rattle.bench_views.specs.Canon.{walk}
 use Rattle.outcome_notices.proofs.Telling.{walk_none, walk_more}
-use Rattle.link_told.specs.Answers.{toldWords}
+use Rattle.link_told.specs.Answers.{told_words}
 use Rattle.link_told.specs.Circles.{growing}
 use Rattle.link_told.proofs.Writing.{grow_none, grow_more}
 use Rattle.link_told.proofs.put_grows.Goals as goal
@@ -82,4 +82,4 @@ loop-i-preserved c =
 pub returns : goal.returns
 returns c =
     let n : c.loop-i.i ≡ c.args.count = omega arith in
-    c.loop-i.invariant.2 ∙ ap (λ (j : ℕ). sets c.args.out.now 5 (toldWords (growing c.args.b.now c.args.first j))) n
+    c.loop-i.invariant.2 ∙ ap (λ (j : ℕ). sets c.args.out.now 5 (told_words (growing c.args.b.now c.args.first j))) n

@@ -5,7 +5,7 @@ use native.Mathlib.Omega.{arith}
 use borrow.Author.Rules.{rules}
 use lib.ListN.{take}
 use lib.Seq.{sets}
-use Rattle.link_told.specs.Answers.{toldWords}
+use Rattle.link_told.specs.Answers.{told_words}
 use Rattle.link_told.specs.Circles.{staying}
 use Rattle.link_told.proofs.Writing.{stay_more, stay_all}
 use Rattle.link_told.proofs.put_stays.Goals as goal

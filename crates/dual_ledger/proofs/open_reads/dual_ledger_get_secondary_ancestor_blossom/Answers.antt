@@ -6,9 +6,9 @@ use Rattle.ledger_spec.specs.Bench.{Handle}
 use Rattle.dual_ledger.proofs.Handing.{worded_by}
 use Rattle.link_answers.specs.Forms.{node_word}
 use Rattle.sound_lent.specs.Verdict.{read_words}
-use Rattle.ledger_spec.specs.Answers.{belowRead}
+use Rattle.ledger_spec.specs.Answers.{below_read}
 use Rattle.dual_ledger.proofs.open_reads.dual_ledger_get_secondary_ancestor_blossom.Goals as goal
 
 
 pub returns : goal.returns
-returns c = worded_by node_word (c.get_secondary_ancestor_blossom-a.ensures ∙ ap (λ (h : Handle). read_words c.args.bench.now (belowRead (view c.args.bench.now) h)) c.hand-h.ensures) c.node_word.ensures
+returns c = worded_by node_word (c.get_secondary_ancestor_blossom-a.ensures ∙ ap (λ (h : Handle). read_words c.args.bench.now (below_read (view c.args.bench.now) h)) c.hand-h.ensures) c.node_word.ensures
