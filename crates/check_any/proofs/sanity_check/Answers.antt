@@ -6,14 +6,11 @@ use mathlib.Core.Path.{ap}
 use mathlib.Core.Bool.{not}
 use Rattle.check_any.proofs.sanity_check.Goals as goal
 
-
 pub returns-then-not-is_bench : goal.returns-then-not-is_bench
 returns-then-not-is_bench c = c.broken.ensures ∙ no_bench _ _ _ c.is_bench.ensures (ap not c.if-not-is_bench.true)
 
-
 pub sanity_check-requires : goal.sanity_check-requires
 sanity_check-requires c = fits c.is_bench.ensures (ap not c.if-not-is_bench.false)
-
 
 pub returns : goal.returns
 returns c = a_bench _ _ _ c.is_bench.ensures (ap not c.if-not-is_bench.false) c.sanity_check.ensures

@@ -7,10 +7,8 @@ use Rattle.ledger_spec.specs.Named.{handle_named}
 use Rattle.check_circles.proofs.Circling.{Going, going_starts, going_ends, next_placed, next_outer, going_on, going_found}
 use Rattle.check_circles.proofs.circle_verdict.Given as goal
 
-
 abbrev pub invariant-loop-m : goal.invariant-loop-m
 invariant-loop-m l = Going l.b l.k l.strict l.p l.m
-
 
 abbrev pub decreases-loop-m : goal.decreases-loop-m
 decreases-loop-m l = l.m

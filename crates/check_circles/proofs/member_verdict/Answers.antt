@@ -8,13 +8,11 @@ use Rattle.check_circles.specs.Found.{larger}
 use Rattle.check_circles.proofs.Standing.{stands_defect, stands_ring}
 use Rattle.check_circles.proofs.member_verdict.Goals as goal
 
-
 pub returns-in-Absent : goal.returns-in-Absent
 returns-in-Absent c =
     let n = c.load_node-n in
     let q : n.result.class ≡ Absent = cc in
     absurd (never c.args.b.now c.requires.fit c.args.k c.requires.placed n.result n.ensures q)
-
 
 pub returns-in-Defect : goal.returns-in-Defect
 returns-in-Defect c =
@@ -22,7 +20,6 @@ returns-in-Defect c =
     let v = c.in-Defect.field-0 in
     let q : n.result.class ≡ Defect v = cc in
     c.own_verdict.ensures ∙ stands_defect c.args.b.now c.requires.fit c.args.k c.requires.placed n.result n.ensures c.args.strict v q
-
 
 pub returns-in-Blossom : goal.returns-in-Blossom
 returns-in-Blossom c =

@@ -14,7 +14,6 @@ use Rattle.check_nests.proofs.Reading.{held_back}
 use Rattle.check_circles.proofs.Touching.{same_named, touch_gone, touch_near, touch_far}
 use Rattle.check_circles.proofs.touch_verdict.Goals as goal
 
-
 pub outer-node-requires : goal.outer-node-requires
 outer-node-requires c =
     let b = c.args.b.now in
@@ -22,7 +21,6 @@ outer-node-requires c =
     let k = c.in-At.k in
     let q : c.find-found.result ≡ At k = cc in
     let H = found_at b h c.find-found.ensures k q in record { fit = c.requires.fit; placed = held_placed b h k H; nests = c.requires.nests }
-
 
 pub returns-then-same : goal.returns-then-same
 returns-then-same c =
@@ -36,12 +34,10 @@ returns-then-same c =
     let e = o.ensures.0 ∙ ap (outermost (view b)) (held_back b h k H) in
     touch_near (view b) (handle_named c.args.outer) h n.0 n.1 (sym (ap (λ (x : Handle). same_handle x (handle_named c.args.outer)) e) ∙ sym (same_named o.result c.args.outer) ∙ sym c.same.ensures ∙ c.if-same.true)
 
-
 pub returns-in-Stale : goal.returns-in-Stale
 returns-in-Stale c =
     let q : c.find-found.result ≡ Stale = cc in
     touch_gone (view c.args.b.now) (handle_named c.args.outer) (handle_named c.args.h) (found_none c.args.b.now (handle_named c.args.h) c.find-found.ensures q)
-
 
 pub returns-else-same : goal.returns-else-same
 returns-else-same c =

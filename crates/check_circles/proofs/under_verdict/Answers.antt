@@ -18,14 +18,12 @@ use Rattle.check_circles.proofs.Touching.{same_named}
 use Rattle.check_circles.proofs.Arriving.{under_self, under_gone, under_below}
 use Rattle.check_circles.proofs.under_verdict.Goals as goal
 
-
 pub returns-then-same : goal.returns-then-same
 returns-then-same c =
     let b = c.args.b.now in
     let h = handle_named c.args.h in
     let m = handle_at (node_at b) c.args.k in
     under_self (view b) m h (sym (ap (same_handle h) c.handle_at-own.ensures) ∙ sym (same_named c.args.h c.handle_at-own.result) ∙ sym c.same.ensures ∙ c.if-same.true)
-
 
 pub is_within-requires : goal.is_within-requires
 is_within-requires c =
@@ -35,7 +33,6 @@ is_within-requires c =
     let k = c.in-At.p in
     let q : c.find-found.result ≡ At k = cc in
     let H = found_at b h c.find-found.ensures k q in record { fit = c.requires.fit; placed = c.requires.placed; placed_2 = held_placed b h k H; nests = c.requires.nests }
-
 
 pub returns-then-is_within : goal.returns-then-is_within
 returns-then-is_within c =
@@ -48,7 +45,6 @@ returns-then-is_within c =
     let n = seen_some b h H.stands in
     under_below (view b) m c.requires.fit.facts h n.0 n.1 (subst (λ (x : Handle). Descends (view b) m x) (held_back b h k H) (c.is_within.ensures c.if-is_within.true))
 
-
 pub rise-requires : goal.rise-requires
 rise-requires c =
     let b = c.args.b.now in
@@ -58,7 +54,6 @@ rise-requires c =
     let q : c.find-found.result ≡ At k = cc in
     let H = found_at b h c.find-found.ensures k q in record { fit = c.requires.fit; stands = H.stands }
 
-
 pub returns-in-Stale : goal.returns-in-Stale
 returns-in-Stale c =
     let b = c.args.b.now in
@@ -67,7 +62,6 @@ returns-in-Stale c =
     let q : c.find-found.result ≡ Stale = cc in
     under_gone (view b) m h (sym (ap (same_handle h) c.handle_at-own.ensures) ∙ sym (same_named c.args.h c.handle_at-own.result) ∙ sym c.same.ensures ∙ c.if-same.false)
     (found_none b h c.find-found.ensures q)
-
 
 pub returns-else-is_within : goal.returns-else-is_within
 returns-else-is_within c =

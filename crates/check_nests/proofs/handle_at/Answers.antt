@@ -6,7 +6,6 @@ use Rattle.bench_words.specs.declared.Node.{Node}
 use Rattle.ledger_spec.specs.Bench.{Handle}
 use Rattle.check_nests.proofs.handle_at.Goals as goal
 
-
 pub returns : goal.returns
 returns c =
     let k = c.args.k in

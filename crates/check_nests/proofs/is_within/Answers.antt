@@ -8,18 +8,14 @@ use Rattle.bench_words.specs.declared.Node.{Node}
 use Rattle.check_nests.proofs.Reading.{within}
 use Rattle.check_nests.proofs.is_within.Goals as goal
 
-
 pub returns-then-v-eq0 : goal.returns-then-v-eq0
 returns-then-v-eq0 c = λ e. absurd (true≢false (sym e))
-
 
 pub returns-then-w-v : goal.returns-then-w-v
 returns-then-w-v c = λ e. absurd (true≢false (sym e))
 
-
 pub returns-then-w-v-2 : goal.returns-then-w-v-2
 returns-then-w-v-2 c = λ e. absurd (true≢false (sym e))
-
 
 pub returns-then-w-v-3 : goal.returns-then-w-v-3
 returns-then-w-v-3 c =
@@ -30,7 +26,6 @@ returns-then-w-v-3 c =
     (omega (arith, c.if-w-v-2.false))
     (omega (arith, c.if-w-v-3.true, ap (λ (n : Node). n.size) c.load_node-above.ensures))
     (omega (arith, leb-true c.load_node-below.result.serial.0 c.load_node-above.result.serial.0 e, ap (λ (n : Node). n.serial.0) c.load_node-above.ensures, ap (λ (n : Node). n.serial.0) c.load_node-below.ensures))
-
 
 pub returns : goal.returns
 returns c = λ e. absurd (true≢false (sym e))

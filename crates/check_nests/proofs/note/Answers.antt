@@ -9,10 +9,8 @@ use Rattle.bench_vertices.proofs.Circling.{standing}
 use Rattle.check_nests.proofs.Reading.{root_of}
 use Rattle.check_nests.proofs.note.Goals as goal
 
-
 pub outermost-o-requires : goal.outermost-o-requires
 outermost-o-requires c = record { fit = c.requires.fit; stands = rw c.handle_at-h.ensures (standing c.args.b.now c.requires.fit c.args.k c.requires.placed) }
-
 
 pub spread-requires : goal.spread-requires
 spread-requires c =

@@ -9,16 +9,13 @@ use Rattle.bench_vertices.proofs.Circling.{standing}
 use Rattle.check_nests.proofs.Reading.{outer_read}
 use Rattle.check_nests.proofs.outer.Goals as goal
 
-
 pub outermost-o-requires : goal.outermost-o-requires
 outermost-o-requires c = record { fit = c.requires.fit; stands = rw c.handle_at.ensures (standing c.args.b.now c.requires.fit c.args.k c.requires.placed) }
-
 
 pub returns-then-w-eq0 : goal.returns-then-w-eq0
 returns-then-w-eq0 c =
     let o = c.outermost-o in
     (o.ensures.node ∙ ap (outermost (view c.args.b.now)) c.handle_at.ensures, o.ensures.stands)
-
 
 pub returns : goal.returns
 returns c =

@@ -7,10 +7,8 @@ use Rattle.check_nests.proofs.Filling.{nests_set}
 use Rattle.check_nests.proofs.Reading.{root_noted}
 use Rattle.check_nests.proofs.spread.Given as goal
 
-
 abbrev pub invariant-loop-turns : goal.invariant-loop-turns
 invariant-loop-turns l = (l.at < 512) × Nests l.b l.t
-
 
 abbrev pub decreases-loop-turns : goal.decreases-loop-turns
 decreases-loop-turns l = 512 - l.turns

@@ -8,10 +8,8 @@ use Rattle.check_places.proofs.Filling.{Listing, listing_starts, room, reach, li
 use Rattle.bench_orders.proofs.Counting.{unit_low}
 use Rattle.check_places.proofs.list.Given as goal
 
-
 abbrev pub invariant-loop-i : goal.invariant-loop-i
 invariant-loop-i l = (l.i ≤ l.o.count) × Listing l.b l.unit l.i l.n l.out
-
 
 abbrev pub decreases-loop-i : goal.decreases-loop-i
 decreases-loop-i l = l.o.count - l.i

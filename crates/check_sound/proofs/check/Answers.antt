@@ -9,17 +9,14 @@ use Rattle.read_sound.proofs.Numbers.{said_no, said_yes}
 use Rattle.check_sound.specs.Judged.{verdict_by}
 use Rattle.check_sound.proofs.check.Goals as goal
 
-
 pub returns-then-number-ne0 : goal.returns-then-number-ne0
 returns-then-number-ne0 c =
     let n = c.unit_number-number in
     said_no (verdict_by c.args.strict (view c.args.b.now) c.args.unit) (0, 0) n.result c.if-number-ne0.true ∙ ap (λ (k : ℕ). said k (verdict_by c.args.strict (view c.args.b.now) c.args.unit) (0, 0)) n.ensures
 
-
 pub judge-j-requires : goal.judge-j-requires
 judge-j-requires c =
     let o = clear_passed (view c.args.b.now) c.args.unit (sym c.unit_number-number.ensures ∙ c.if-number-ne0.false) in record { fit = c.requires; unit_bound = o.low; unit_value = o.free }
-
 
 pub returns : goal.returns
 returns c =

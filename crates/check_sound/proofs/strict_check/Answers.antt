@@ -5,6 +5,5 @@ use Rattle.bench_views.specs.View.{view}
 use Rattle.check_sound.proofs.Judging.{strict_is}
 use Rattle.check_sound.proofs.strict_check.Goals as goal
 
-
 pub returns : goal.returns
 returns c = c.check.ensures ∙ strict_is (view c.args.b.now) c.args.unit

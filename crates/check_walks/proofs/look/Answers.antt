@@ -12,7 +12,6 @@ returns-then-strict c =
     let q = c.in-Defect.is in
     (rw c.told-then-strict.ensures (look_strict c.args.b.now c.args.unit c.args.k c.args.p c.requires.at_index x.result x.ensures c.args.strict c.args.met.now c.args.n c.requires.keeps v q c.if-strict.true), c.requires.nests)
 
-
 pub returns-then-meet : goal.returns-then-meet
 returns-then-meet c =
     let v = c.in-Defect.v in
@@ -20,12 +19,10 @@ returns-then-meet c =
     let m = c.meet in
     (rw c.told-then-meet.ensures (look_again c.args.b.now c.args.unit c.args.k c.args.p c.requires.at_index c.load_node-x.result c.load_node-x.ensures c.args.strict c.args.met.now c.args.n c.requires.keeps v q c.if-strict.false m.new.t m.result m.ensures c.if-meet.true), c.requires.nests)
 
-
 pub look_circle-j-requires : goal.look_circle-j-requires
 look_circle-j-requires c =
     let x = c.load_node-x in
     let q = c.in-Blossom.is in record { fit = c.requires.fit; unit_bound = c.requires.unit_bound; unit_value = c.requires.unit_value; placed = ring_placed c.args.b.now c.args.unit c.args.k c.args.p c.requires.at_index x.result x.ensures c.args.strict c.args.met.now c.args.n c.requires.keeps q; p_value = ring_is c.args.b.now c.args.unit c.args.k c.args.p c.requires.at_index x.result x.ensures c.args.strict c.args.met.now c.args.n c.requires.keeps q; nests = c.requires.nests }
-
 
 pub returns-in-Absent : goal.returns-in-Absent
 returns-in-Absent c =
@@ -33,14 +30,12 @@ returns-in-Absent c =
     let q = c.in-Absent.is in
     (rw c.told.ensures (look_absent c.args.b.now c.args.unit c.args.k c.args.p c.requires.at_index x.result x.ensures c.args.strict c.args.met.now c.args.n c.requires.keeps q), c.requires.nests)
 
-
 pub returns-else-meet : goal.returns-else-meet
 returns-else-meet c =
     let v = c.in-Defect.v in
     let q = c.in-Defect.is in
     let m = c.meet in
     (rw c.told-in-Defect.ensures (look_new c.args.b.now c.args.unit c.args.k c.args.p c.requires.at_index c.load_node-x.result c.load_node-x.ensures c.args.strict c.args.met.now c.args.n c.requires.keeps v q c.if-strict.false m.new.t m.result m.ensures c.if-meet.false), c.requires.nests)
-
 
 pub returns-in-Blossom : goal.returns-in-Blossom
 returns-in-Blossom c =

@@ -3,16 +3,13 @@ use mathlib.Core.Path.{refl, sym}
 use borrow.Author.Rules.{rules}
 use Rattle.check_walks.proofs.look_circle.Goals as goal
 
-
 pub returns-then-f-eq0 : goal.returns-then-f-eq0
 returns-then-f-eq0 c =
     let f = c.circle_verdict-f in
     (record { finding = f.result; circled = f.ensures; verdict = sym c.if-f-eq0.true; index = λ z. absurd (z c.if-f-eq0.true) }, c.note.ensures)
 
-
 pub index_of-index-requires : goal.index_of-index-requires
 index_of-index-requires c = record { fit = c.requires.fit; unit_bound = c.requires.unit_bound; unit_value = c.requires.unit_value; stands = c.circle_verdict-f.ensures.stands c.if-f-eq0.false }
-
 
 pub returns : goal.returns
 returns c =

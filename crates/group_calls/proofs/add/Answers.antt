@@ -6,17 +6,14 @@ use mathlib.Core.Path.{ap}
 use mathlib.Core.Bool.{not}
 use Rattle.group_calls.proofs.add.Goals as goal
 
-
 pub returns-then-not-is_ready : goal.returns-then-not-is_ready
 returns-then-not-is_ready c =
     c.refused.ensures ∙ add_unready _ c.args.g c.is_ready.ensures (ap not c.if-not-is_ready.true) c.args.o
-
 
 pub names_gone-requires : goal.names_gone-requires
 names_gone-requires c =
     let r = c.is_ready.ensures in
     (fit _ r.verdict (on_bench _ c.args.g r (ap not c.if-not-is_ready.false))).canon
-
 
 pub returns-then-names_gone : goal.returns-then-names_gone
 returns-then-names_gone c =
@@ -24,17 +21,14 @@ returns-then-names_gone c =
     let g = c.args.g in
     c.refused-then-names_gone.ensures ∙ add_stale _ r.verdict (on_bench _ g r (ap not c.if-not-is_ready.false)) g c.args.o (own_sound _ g r (ap not c.if-not-is_ready.false)) (sym c.names_gone.ensures ∙ c.if-names_gone.true)
 
-
 pub vertex_of-first-requires : goal.vertex_of-first-requires
 vertex_of-first-requires c =
     let r = c.is_ready.ensures in
     fit _ r.verdict (on_bench _ c.args.g r (ap not c.if-not-is_ready.false))
 
-
 pub add-requires : goal.add-requires
 add-requires c =
     own_sound _ c.args.g c.is_ready.ensures (ap not c.if-not-is_ready.false)
-
 
 pub returns : goal.returns
 returns c =

@@ -7,12 +7,10 @@ use Rattle.ledger_spec.specs.Groups.{sound_group}
 use Rattle.groups.specs.View.{group_of}
 use Rattle.group_calls.proofs.is_ready.Goals as goal
 
-
 pub returns-then-not-is_bench : goal.returns-then-not-is_bench
 returns-then-not-is_bench c =
     let g = c.args.g in
     record { bench = c.is_bench.result; verdict = c.is_bench.ensures; both = sym (ap (λ (s : Bool). s && sound_group (group_of g)) (c.if-not-is_bench.true)) }
-
 
 pub returns : goal.returns
 returns c =

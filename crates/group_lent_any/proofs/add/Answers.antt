@@ -8,12 +8,10 @@ use mathlib.Core.Path.{ap}
 use mathlib.Core.Bool.{not}
 use Rattle.group_lent_any.proofs.add.Goals as goal
 
-
 pub returns-then-not-is_ready : goal.returns-then-not-is_ready
 returns-then-not-is_ready c =
     let a = c.args in
     not_ready a.b.now a.w.now _ c.is_ready.ensures (is_form (five_at a.o.now 0)) _ _ (ap not c.if-not-is_ready.true) (refl, refl)
-
 
 pub returns-then-not-is_form : goal.returns-then-not-is_form
 returns-then-not-is_form c =
@@ -21,10 +19,8 @@ returns-then-not-is_form c =
     not_fit a.b.now a.w.now _ c.is_ready.ensures (is_form (five_at a.o.now 0)) _ _ (ap not c.if-not-is_ready.false)
     (sym (rw c.five_in-f.ensures at c.is_form.ensures) ∙ c.if-not-is_form.true) (refl, refl)
 
-
 pub add-requires : goal.add-requires
 add-requires c = record { sound_words = c.is_ready.ensures.says (c.if-not-is_ready.false); o_value = sym (rw c.five_in-f.ensures at c.is_form.ensures) ∙ c.if-not-is_form.false }
-
 
 pub returns : goal.returns
 returns c =

@@ -8,12 +8,10 @@ use mathlib.Core.Path.{ap}
 use mathlib.Core.Bool.{not}
 use Rattle.group_lent_any.proofs.extend.Goals as goal
 
-
 pub returns-then-not-is_ready : goal.returns-then-not-is_ready
 returns-then-not-is_ready c =
     let a = c.args in
     not_ready a.b.now a.w.now _ c.is_ready.ensures (sound_in a.other.now) _ _ (ap not c.if-not-is_ready.true) (refl, refl)
-
 
 pub returns-then-not-is_group : goal.returns-then-not-is_group
 returns-then-not-is_group c =
@@ -21,12 +19,10 @@ returns-then-not-is_group c =
     not_fit a.b.now a.w.now _ c.is_ready.ensures (sound_in a.other.now) _ _ (ap not c.if-not-is_ready.false)
     (is_not a.other.now _ c.is_group.ensures (ap not c.if-not-is_group.true)) (refl, refl)
 
-
 pub extend-requires : goal.extend-requires
 extend-requires c =
     let sound = c.is_ready.ensures.says (c.if-not-is_ready.false) in
     (sound.0, (sound.1, says_sound c.args.other.now _ c.is_group.ensures (ap not c.if-not-is_group.false)))
-
 
 pub returns : goal.returns
 returns c =

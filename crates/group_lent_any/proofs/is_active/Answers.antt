@@ -7,14 +7,11 @@ use mathlib.Core.Path.{ap}
 use mathlib.Core.Bool.{not}
 use Rattle.group_lent_any.proofs.is_active.Goals as goal
 
-
 pub returns-then-not-is_group : goal.returns-then-not-is_group
 returns-then-not-is_group c = asked_no c.args.w.now _ c.is_group.ensures false is_active (ap not c.if-not-is_group.true)
 
-
 pub is_active-yes-requires : goal.is_active-yes-requires
 is_active-yes-requires c = says_sound c.args.w.now _ c.is_group.ensures (ap not c.if-not-is_group.false)
-
 
 pub returns : goal.returns
 returns c = asked_yes c.args.w.now _ c.is_group.ensures false is_active (ap not c.if-not-is_group.false) _ c.is_active-yes.ensures

@@ -5,14 +5,11 @@ use mathlib.Core.Path.{ap}
 use mathlib.Core.Bool.{not}
 use Rattle.group_lent_any.proofs.peek.Goals as goal
 
-
 pub returns-then-not-is_group : goal.returns-then-not-is_group
 returns-then-not-is_group c = skips _ _ _ (is_not c.args.w.now _ c.is_group.ensures (ap not c.if-not-is_group.true)) c.broken.ensures
 
-
 pub peek-requires : goal.peek-requires
 peek-requires c = says_sound c.args.w.now _ c.is_group.ensures (ap not c.if-not-is_group.false)
-
 
 pub returns : goal.returns
 returns c = picks _ _ _ (is_yes c.args.w.now _ c.is_group.ensures (ap not c.if-not-is_group.false)) c.peek.ensures

@@ -6,7 +6,6 @@ use Rattle.group_lent.specs.declared.Five.{Five}
 use Rattle.group_lent_takes.specs.Made.{maybe_seen}
 use Rattle.group_lent_calls.proofs.peek.Goals as goal
 
-
 pub returns : goal.returns
 returns c =
     let p = c.peek-top in

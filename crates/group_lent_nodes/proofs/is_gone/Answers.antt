@@ -11,7 +11,6 @@ use Rattle.read_sound.proofs.Numbers.{stale_yes, stale_no}
 use Rattle.bench_views.proofs.Givens.{hand_given_lem}
 use Rattle.group_lent_nodes.proofs.is_gone.Goals as goal
 
-
 pub returns-in-At : goal.returns-in-At
 returns-in-At c =
     let b = c.args.b.now in
@@ -20,7 +19,6 @@ returns-in-At c =
     let q : c.find_word-found.result ≡ At k = cc in
     let n = seen_some b h (found_at b h c.find_word-found.ensures k q).stands in
     sym (stale_no (view b) h n.0 n.1) ∙ ap (stale (view b)) (sym (hand_given_lem c.args.w))
-
 
 pub returns-in-Stale : goal.returns-in-Stale
 returns-in-Stale c =

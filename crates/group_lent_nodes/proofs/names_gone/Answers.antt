@@ -10,30 +10,23 @@ use Rattle.group_lent_nodes.proofs.Named.{names_none, names_one, names_two, name
 use Rattle.group_lent_nodes.proofs.Turns.{none_has, one_has, front_has, back_has, first_has, rest_has}
 use Rattle.group_lent_nodes.proofs.names_gone.Goals as goal
 
-
 pub returns-then-f-eq1 : goal.returns-then-f-eq1
 returns-then-f-eq1 c = none_has (stale_code (view c.args.b.now)) _ (names_none c.args.f c.if-f-eq1.true)
-
 
 pub returns-then-two_gone : goal.returns-then-two_gone
 returns-then-two_gone c = front_has (stale_code (view c.args.b.now)) _ (hand_of c.args.f.a ∷ hand_of c.args.f.b ∷ []) (hand_of c.args.f.c ∷ hand_of c.args.f.d ∷ []) (names_four c.args.f c.if-f-eq2.true) _ c.two_gone.ensures c.if-two_gone.true
 
-
 pub returns-then-f-eq2 : goal.returns-then-f-eq2
 returns-then-f-eq2 c = back_has (stale_code (view c.args.b.now)) _ (hand_of c.args.f.a ∷ hand_of c.args.f.b ∷ []) (hand_of c.args.f.c ∷ hand_of c.args.f.d ∷ []) (names_four c.args.f c.if-f-eq2.true) _ c.two_gone.ensures c.if-two_gone.false _ c.two_gone-then-f-eq2.ensures
-
 
 pub returns-then-f-eq3 : goal.returns-then-f-eq3
 returns-then-f-eq3 c = c.two_gone-then-f-eq3.ensures ∙ ap (any (stale_code (view c.args.b.now))) (sym (names_two c.args.f c.if-f-eq3.true))
 
-
 pub returns-then-is_gone : goal.returns-then-is_gone
 returns-then-is_gone c = first_has (stale_code (view c.args.b.now)) _ _ _ (names_three c.args.f c.if-f-eq6.true) _ c.is_gone.ensures c.if-is_gone.true
 
-
 pub returns-then-f-eq6 : goal.returns-then-f-eq6
 returns-then-f-eq6 c = rest_has (stale_code (view c.args.b.now)) _ _ _ (names_three c.args.f c.if-f-eq6.true) _ c.is_gone.ensures c.if-is_gone.false _ c.two_gone-then-f-eq6.ensures
-
 
 pub returns : goal.returns
 returns c =

@@ -12,10 +12,8 @@ use Rattle.bench_views.specs.View.{view}
 use Rattle.group_lent_nodes.proofs.Turns.{stop_has, stop_not, stop_end, stop_is}
 use Rattle.group_lent_nodes.proofs.stops_gone.Given as goal
 
-
 abbrev pub invariant-loop-i : goal.invariant-loop-i
 invariant-loop-i l = (l.i ≤ l.n) × (any (stale_code (view l.b)) (stop_handles (stops_in l.w)) ≡ any (stale_code (view l.b)) (stop_handles (run (stop_at l.w) l.i (l.n - l.i))))
-
 
 abbrev pub decreases-loop-i : goal.decreases-loop-i
 decreases-loop-i l = l.n - l.i

@@ -6,10 +6,8 @@ use Rattle.bench_views.specs.View.{view}
 use Rattle.group_lent_nodes.proofs.Turns.{one_has, first_has, rest_has}
 use Rattle.group_lent_nodes.proofs.two_gone.Goals as goal
 
-
 pub returns-then-is_gone : goal.returns-then-is_gone
 returns-then-is_gone c = first_has (stale_code (view c.args.b.now)) _ _ _ refl _ c.is_gone.ensures c.if-is_gone.true
-
 
 pub returns : goal.returns
 returns c = rest_has (stale_code (view c.args.b.now)) _ _ _ refl _ c.is_gone.ensures c.if-is_gone.false _ (one_has (stale_code (view c.args.b.now)) _ _ _ refl c.is_gone-2.ensures)

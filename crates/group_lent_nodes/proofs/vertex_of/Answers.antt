@@ -10,10 +10,8 @@ use Rattle.bench_views.specs.View.{view}
 use Rattle.group_lent_nodes.proofs.Named.{vertex_stop, vertex_none}
 use Rattle.group_lent_nodes.proofs.vertex_of.Goals as goal
 
-
 pub returns-then-f-lt5 : goal.returns-then-f-lt5
 returns-then-f-lt5 c = (vertex_none (view c.args.b.now) c.args.f.kind c.args.f.a c.args.f.b c.args.f.c c.args.f.d c.if-f-lt5.true, omega arith)
-
 
 pub returns : goal.returns
 returns c =

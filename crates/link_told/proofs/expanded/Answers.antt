@@ -13,18 +13,14 @@ use Rattle.link_told.proofs.Writing.{walked, gone_steps}
 use borrow.Author.Rules.{rules}
 use Rattle.link_told.proofs.expanded.Goals as goal
 
-
 pub load_node-n-requires : goal.load_node-n-requires
 load_node-n-requires c = low c.args.b.now (handle_named c.args.h) c.requires.0 c.requires.1
-
 
 pub overflow_add-n : goal.overflow_add-n
 overflow_add-n c = omega (arith, few c.args.b.now (handle_named c.args.h) c.requires.0 c.requires.1, ap (λ (x : Node). x.count) c.load_node-n.ensures)
 
-
 pub put_grows-requires : goal.put_grows-requires
 put_grows-requires c = walked c.args.b.now (handle_named c.args.h) c.requires.0 c.requires.1 c.load_node-n.result c.load_node-n.ensures
-
 
 pub returns : goal.returns
 returns c =

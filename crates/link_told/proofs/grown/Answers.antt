@@ -11,7 +11,6 @@ use borrow.Author.Rules.{rules}
 use mir.Syntax.{w64}
 use Rattle.link_told.proofs.grown.Goals as goal
 
-
 pub returns : goal.returns
 unfolding said_over circle_in
 returns c = c.put_one.ensures ∙ ap (λ (w : ℕ). sets c.args.out.now 0 (0 ∷ 1 ∷ 0 ∷ 8 ∷ w ∷ [])) (c.signed_word-w.ensures ∙ ap signed_word (to_z-of_z {w = w64} c.ranges.length))

@@ -4,6 +4,5 @@ use Rattle.link_answers.specs.Forms.{node_word}
 use borrow.Author.Rules.{rules}
 use Rattle.link_told.proofs.member_word.Goals as goal
 
-
 pub returns : goal.returns
 returns c = c.node_word.ensures ∙ ap node_word c.hand-h.ensures

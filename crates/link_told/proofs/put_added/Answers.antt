@@ -3,6 +3,5 @@ use Rattle.link_told.proofs.Writing.{four_set}
 use borrow.Author.Rules.{rules}
 use Rattle.link_told.proofs.put_added.Goals as goal
 
-
 pub returns : goal.returns
 returns c = four_set c.args.out.now c.args.at 5 0 6 c.args.node

@@ -11,10 +11,8 @@ use Rattle.link_answers.specs.Forms.{node_word}
 use Rattle.link_told.proofs.Writing.{circle_more, circle_all}
 use Rattle.link_told.proofs.put_circle.Given as goal
 
-
 abbrev pub invariant-loop-i : goal.invariant-loop-i
 invariant-loop-i l = (l.i ≤ l.n) × (l.out ≡ sets l.initial.out 135 (map node_word (map hand_given (take l.i l.members))))
-
 
 abbrev pub decreases-loop-i : goal.decreases-loop-i
 decreases-loop-i l = l.n - l.i

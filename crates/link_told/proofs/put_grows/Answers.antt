@@ -17,58 +17,44 @@ use Rattle.link_told.proofs.put_grows.Goals as goal
 reached : (a : tie.At-loop invariant-loop decreases-loop) → a.loop.i < a.before.args.count → (a.loop.at < 512) × (a.loop.i < 64)
 reached a l = (omega (arith, a.before.requires.low a.loop.i l, a.loop.invariant.1), omega (arith, a.before.requires.few))
 
-
 pub loop-i-init : goal.loop-i-init
 loop-i-init c = (search rules, walk_none (node_at c.args.b.now) c.args.first, grow_none c.args.b.now c.args.first c.args.out.now)
-
 
 pub load_node-m-requires : goal.load_node-m-requires
 load_node-m-requires c = (reached c c.loop-i-test.true).0
 
-
 pub overflow_cast-at : goal.overflow_cast-at
 overflow_cast-at c = omega (arith, (reached c c.loop-i-test.true).0)
-
 
 pub overflow_cast-at-in-loop-i : goal.overflow_cast-at-in-loop-i
 overflow_cast-at-in-loop-i c = omega arith
 
-
 pub overflow_mul-to : goal.overflow_mul-to
 overflow_mul-to c = omega arith
-
 
 pub overflow_add-to : goal.overflow_add-to
 overflow_add-to c = omega arith
 
-
 pub offset_bounds-out-to : goal.offset_bounds-out-to
 offset_bounds-out-to c = omega arith
-
 
 pub bounds-out-to : goal.bounds-out-to
 bounds-out-to c = omega arith
 
-
 pub overflow_add-out : goal.overflow_add-out
 overflow_add-out c = omega arith
-
 
 pub offset_bounds-out-to-in-loop-i : goal.offset_bounds-out-to-in-loop-i
 offset_bounds-out-to-in-loop-i c = omega arith
 
-
 pub bounds-out-to-in-loop-i : goal.bounds-out-to-in-loop-i
 bounds-out-to-in-loop-i c = omega arith
-
 
 pub overflow_add-i : goal.overflow_add-i
 overflow_add-i c = omega arith
 
-
 pub loop-i-smaller : goal.loop-i-smaller
 loop-i-smaller c = omega arith
-
 
 pub loop-i-preserved : goal.loop-i-preserved
 loop-i-preserved c =
@@ -77,7 +63,6 @@ loop-i-preserved c =
       walk_more (node_at c.args.b.now) c.args.first c.loop-i.i c.loop-i.at m.result c.loop-i.invariant.1 m.ensures,
       grow_more c.args.b.now c.args.first c.loop-i.i c.loop-i.at m.result c.args.out.now c.loop-i.out c.node_word-w.result c.loop-i.invariant.1 m.ensures c.node_word-w.ensures c.loop-i.invariant.2,
     )
-
 
 pub returns : goal.returns
 returns c =

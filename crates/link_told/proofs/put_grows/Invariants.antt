@@ -12,10 +12,8 @@ use Rattle.link_told.specs.Circles.{growing}
 use Rattle.link_told.proofs.Writing.{grow_none, grow_more}
 use Rattle.link_told.proofs.put_grows.Given as goal
 
-
 abbrev pub invariant-loop-i : goal.invariant-loop-i
 invariant-loop-i l = (l.i ≤ l.count) × (l.at ≡ walk l.i (node_at l.b) l.first) × (l.out ≡ sets l.initial.out 5 (told_words (growing l.b l.first l.i)))
-
 
 abbrev pub decreases-loop-i : goal.decreases-loop-i
 decreases-loop-i l = l.count - l.i

@@ -10,10 +10,8 @@ use Rattle.link_told.specs.Circles.{staying}
 use Rattle.link_told.proofs.Writing.{stay_more, stay_all}
 use Rattle.link_told.proofs.put_stays.Given as goal
 
-
 abbrev pub invariant-loop-i : goal.invariant-loop-i
 invariant-loop-i l = (l.i ≤ l.n) × (l.out ≡ sets l.initial.out 3 (told_words (staying (take l.i l.members))))
-
 
 abbrev pub decreases-loop-i : goal.decreases-loop-i
 decreases-loop-i l = l.n - l.i

@@ -8,7 +8,6 @@ use Rattle.link_told.specs.Answers.{said_over}
 use borrow.Author.Rules.{rules}
 use Rattle.link_told.proofs.state.Goals as goal
 
-
 pub returns : goal.returns
 unfolding said_over circle_in
 returns c = c.put_one.ensures ∙ ap₂ (λ (w k : ℕ). sets c.args.out.now 0 (w ∷ 1 ∷ 0 ∷ k ∷ w ∷ [])) c.node_word-w.ensures c.state_kind-kind.ensures

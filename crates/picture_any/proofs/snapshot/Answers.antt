@@ -5,14 +5,11 @@ use mathlib.Core.Path.{ap}
 use mathlib.Core.Bool.{not}
 use Rattle.picture_any.proofs.snapshot.Goals as goal
 
-
 pub returns-then-not-is_bench : goal.returns-then-not-is_bench
 returns-then-not-is_bench c = no_bench _ _ _ c.is_bench.ensures (ap not c.if-not-is_bench.true)
 
-
 pub snapshot-requires : goal.snapshot-requires
 snapshot-requires c = fits c.is_bench.ensures (ap not c.if-not-is_bench.false)
-
 
 pub returns : goal.returns
 returns c =

@@ -3,6 +3,5 @@ use Rattle.ledger_spec.specs.Named.{handle_named}
 use borrow.Author.Rules.{rules}
 use Rattle.picture_circles.proofs.index_of.Goals as goal
 
-
 pub returns : goal.returns
 returns c = c.requires.indices.at (handle_named c.args.h) c.requires.unit_bound c.requires.slot_bound

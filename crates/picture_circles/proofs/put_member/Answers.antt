@@ -5,19 +5,15 @@ use Rattle.picture_circles.proofs.Members.{left_low, right_low, own_item, touch_
 use borrow.Author.Rules.{rules}
 use Rattle.picture_circles.proofs.put_member.Goals as goal
 
-
 pub returns-then-not-touching : goal.returns-then-not-touching
 returns-then-not-touching c =
     same_text (own_item c.args.b.now c.args.unit c.args.index.now c.requires.indices c.args.q c.requires.q_bound c.args.touching (c.if-not-touching.true)) c.put_number.ensures
 
-
 pub index_of-i-requires : goal.index_of-i-requires
 index_of-i-requires c = let rest = left_low c.args.b.now c.args.q c.load_node-n.result c.load_node-n.ensures in record { indices = c.requires.indices; unit_bound = rest.0; slot_bound = rest.1 }
 
-
 pub index_of-j-requires : goal.index_of-j-requires
 index_of-j-requires c = let rest = right_low c.args.b.now c.args.q c.load_node-n.result c.load_node-n.ensures in record { indices = c.requires.indices; unit_bound = rest.0; slot_bound = rest.1 }
-
 
 pub returns : goal.returns
 returns c =

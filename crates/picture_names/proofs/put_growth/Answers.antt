@@ -6,14 +6,11 @@ use Rattle.picture_names.proofs.Words.{growth_grows, growth_stays, growth_shrink
 use borrow.Author.Rules.{rules}
 use Rattle.picture_names.proofs.put_growth.Goals as goal
 
-
 pub returns-in-Grow : goal.returns-in-Grow
 returns-in-Grow c = let e : c.args.state ≡ Grow = cc in same_text (growth_grows c.args.state e) c.put.ensures
 
-
 pub returns-in-Stay : goal.returns-in-Stay
 returns-in-Stay c = let e : c.args.state ≡ Stay = cc in same_text (growth_stays c.args.state e) c.put-in-Stay.ensures
-
 
 pub returns-in-Shrink : goal.returns-in-Shrink
 returns-in-Shrink c = let e : c.args.state ≡ Shrink = cc in same_text (growth_shrinks c.args.state e) c.put-in-Shrink.ensures

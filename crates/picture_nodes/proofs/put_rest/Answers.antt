@@ -7,12 +7,10 @@ use Rattle.picture_nodes.proofs.Texts.{rest_text_lem}
 use borrow.Author.Rules.{rules}
 use Rattle.picture_nodes.proofs.put_rest.Goals as goal
 
-
 pub shape_of-out : goal.shape_of-out
 shape_of-out c =
     let w = (chain c.put_either-p.ensures (chain c.put_state-q.ensures (chain c.put_either-r.ensures (chain c.put_growth-s.ensures (chain c.put_either-t.ensures (chain c.put_parent-u.ensures c.put.ensures)))))) in
     w.long
-
 
 pub returns : goal.returns
 returns c =

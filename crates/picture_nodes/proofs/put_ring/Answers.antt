@@ -8,7 +8,6 @@ use Rattle.picture_nodes.proofs.Texts.{ring_text}
 use borrow.Author.Rules.{rules}
 use Rattle.picture_nodes.proofs.put_ring.Goals as goal
 
-
 pub returns : goal.returns
 returns c =
     same_text (ring_text (map (linked (index_of (view c.args.b.now) c.args.unit)) (circle_of (node_at c.args.b.now) c.args.p)) c.args.short)

@@ -13,29 +13,23 @@ use Rattle.picture_nodes.proofs.Seeing.{parent_low, low_place, seen_absent, seen
 use borrow.Author.Rules.{rules}
 use Rattle.picture_nodes.proofs.put_slot.Goals as goal
 
-
 pub load_node-x-requires : goal.load_node-x-requires
 load_node-x-requires c = low_place c.args.b.now c.args.unit c.args.k c.args.p c.requires.at_index (node_at c.args.b.now c.args.p) refl
 
-
 pub put_rest-requires : goal.put_rest-requires
 put_rest-requires c = record { indices = c.requires.indices; lowly = parent_low c.args.b.now c.args.p c.load_node-x.result c.load_node-x.ensures }
-
 
 pub put_ring-q-requires : goal.put_ring-q-requires
 put_ring-q-requires c =
     let e : c.load_node-x.result.class ≡ Blossom = cc in record { fit = c.requires.fit; indices = c.requires.indices; placed = ring_placed c.args.b.now c.args.unit c.args.k c.args.p c.requires.at_index c.load_node-x.result c.load_node-x.ensures e; p_value = ring_is c.args.b.now c.args.unit c.args.k c.args.p c.requires.at_index c.load_node-x.result c.load_node-x.ensures e }
 
-
 pub put_rest-requires-in-Blossom : goal.put_rest-requires-in-Blossom
 put_rest-requires-in-Blossom c = record { indices = c.requires.indices; lowly = parent_low c.args.b.now c.args.p c.load_node-x.result c.load_node-x.ensures }
-
 
 pub returns-in-Absent : goal.returns-in-Absent
 returns-in-Absent c =
     let e : c.load_node-x.result.class ≡ Absent = cc in
     same_text (null_text c.args.short ∙ ap (slot_text (names_by c.args.short)) (seen_absent c.args.b.now c.args.unit c.args.k c.args.p c.requires.at_index c.load_node-x.result c.load_node-x.ensures e)) c.put.ensures
-
 
 pub returns-in-Defect : goal.returns-in-Defect
 returns-in-Defect c =
@@ -44,7 +38,6 @@ returns-in-Defect c =
     same_text (defect_text (state_named c.load_node-x.result.state) (indexed (index_of (view c.args.b.now) c.args.unit) (parent_named c.load_node-x.result.parent)) w.0 c.args.short
     ∙ ap (slot_text (names_by c.args.short)) (seen_defect c.args.b.now c.args.unit c.args.k c.args.p c.requires.at_index c.load_node-x.result c.load_node-x.ensures w e))
     (chain c.put_either-q.ensures (chain c.put_number-r.ensures c.put_rest.ensures))
-
 
 pub returns-in-Blossom : goal.returns-in-Blossom
 returns-in-Blossom c =

@@ -9,15 +9,12 @@ use borrow.Author.Rules.{rules}
 use mir.Syntax.{w64}
 use Rattle.picture_sound.proofs.draw.Goals as goal
 
-
 pub put_slots-u-requires : goal.put_slots-u-requires
 put_slots-u-requires c = record { fit = c.requires.fit; places = c.requires.places; indices = c.requires.indices }
-
 
 pub shape_of-out : goal.shape_of-out
 shape_of-out c =
     let w = (chain c.put_either-p.ensures (chain c.put_signed-q.ensures (chain c.put_either-r.ensures (chain c.put_signed-s.ensures (chain c.put-t.ensures (chain c.put_slots-u.ensures c.put.ensures)))))) in w.long
-
 
 pub returns : goal.returns
 returns c =

@@ -6,18 +6,14 @@ use Rattle.picture_sound.proofs.Fitting.{measured_small, measured_fits, written}
 use borrow.Author.Rules.{rules}
 use Rattle.picture_sound.proofs.write.Goals as goal
 
-
 pub draw-n-requires : goal.draw-n-requires
 draw-n-requires c = record { fit = c.requires.fit; unit_bound = c.requires.unit_bound; unit_value = c.requires.unit_value; places = c.list-count.ensures; indices = c.indices-index.ensures }
-
 
 pub returns-then-out-n : goal.returns-then-out-n
 returns-then-out-n c = measured_small (picture (view c.args.b.now) c.args.unit c.args.short) c.args.out.now _ _ _ c.draw-n.ensures c.if-out-n.true
 
-
 pub draw-m-requires : goal.draw-m-requires
 draw-m-requires c = record { fit = c.requires.fit; unit_bound = c.requires.unit_bound; unit_value = c.requires.unit_value; places = c.list-count.ensures; indices = c.indices-index.ensures }
-
 
 pub returns : goal.returns
 returns c =

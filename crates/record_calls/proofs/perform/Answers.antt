@@ -6,10 +6,8 @@ use Rattle.record_calls.proofs.Doing.{done_line}
 use borrow.Author.Rules.{rules}
 use Rattle.record_calls.proofs.perform.Goals as goal
 
-
 pub bounds-s-p : goal.bounds-s-p
 bounds-s-p c = let a = c.args in omega (arith, two a.s.now a.p c.requires.1.0)
-
 
 pub returns : goal.returns
 returns c =

@@ -7,17 +7,14 @@ use Rattle.outcomes.proofs.Outcomes.{sound_after}
 use Rattle.text_calls.proofs.Members.{turned_blossom}
 use Rattle.text_calls.proofs.blossom.Goals as goal
 
-
 pub slice_bounds-create_blossom-end-2 : goal.slice_bounds-create_blossom-end-2
 slice_bounds-create_blossom-end-2 c =
     let f = c.few-n in
     sym (length-take-le _ _ (omega (arith, f.ensures.most, c.name.ensures.long, c.requires.1)))
 
-
 pub tell-requires : goal.tell-requires
 tell-requires c =
     sound_after c.requires.0 c.create_blossom-made.ensures.0
-
 
 pub returns : goal.returns
 returns c =

@@ -4,10 +4,8 @@ use Rattle.bench_views.proofs.Fits.{fit_of}
 use Rattle.text_calls.proofs.Turning.{turned_check}
 use Rattle.text_calls.proofs.check.Goals as goal
 
-
 pub sanity_check-checked-requires : goal.sanity_check-checked-requires
 sanity_check-checked-requires c = fit_of c.args.b.now c.requires
-
 
 pub returns : goal.returns
 returns c =

@@ -9,10 +9,8 @@ use Rattle.outcomes.proofs.Outcomes.{sound_after}
 use Rattle.text_calls.proofs.Turning.{turned}
 use Rattle.text_calls.proofs.clear.Goals as goal
 
-
 pub tell-requires : goal.tell-requires
 tell-requires c = sound_after c.requires c.clear-made.ensures.0
-
 
 pub returns : goal.returns
 unfolding says

@@ -13,14 +13,11 @@ use Rattle.outcomes.proofs.Outcomes.{sound_after}
 use Rattle.text_calls.proofs.Turning.{turned}
 use Rattle.text_calls.proofs.expand.Goals as goal
 
-
 pub named-node-requires : goal.named-node-requires
 named-node-requires c = fit_of c.args.b.now c.requires
 
-
 pub tell-requires : goal.tell-requires
 tell-requires c = sound_after c.requires c.expand_blossom-made.ensures.0
-
 
 pub returns : goal.returns
 unfolding says

@@ -3,7 +3,6 @@ use Rattle.text_sessions.proofs.Inputs.{all_done}
 use borrow.Author.Rules.{rules}
 use Rattle.text_sessions.proofs.answer_all.Goals as goal
 
-
 pub returns : goal.returns
 returns c =
     let a = c.args in

@@ -5,14 +5,12 @@ use borrow.Author.Rules.{rules}
 use Rattle.text_chunks.specs.declared.Choice.TheVariants.{Engine}
 use Rattle.text_sessions.proofs.answer_first.Goals as goal
 
-
 pub returns-in-Engine : goal.returns-in-Engine
 returns-in-Engine c =
     let a = c.args in
     let k = c.engine_chosen in
     let q : k.result ≡ Engine c.in-Engine.plain = cc in
     first_chosen a.line.now k.result k.ensures c.in-Engine.plain q c.set_up_in.new.b c.set_up_in.ensures a.out.now c.write_answer.new.out c.write_answer.result c.write_answer.ensures
-
 
 pub returns-in-NoEngine : goal.returns-in-NoEngine
 returns-in-NoEngine c =

@@ -9,7 +9,6 @@ use Rattle.ledger_spec.specs.Grammar.{line_of}
 use Rattle.text_sessions.proofs.Session.{line_done}
 use Rattle.text_sessions.proofs.answer_line.Goals as goal
 
-
 pub returns : goal.returns
 returns c =
     let r = c.turn-r.result in

@@ -10,21 +10,17 @@ use mathlib.Core.Path.{ap}
 use mathlib.Core.Bool.{not}
 use Rattle.text_sessions.proofs.answer_opening.Goals as goal
 
-
 pub returns-then-not-f : goal.returns-then-not-f
 returns-then-not-f c =
     opening_part c.args.chunk.now (take c.args.before c.args.buf.now) c.feed-f.new.buf c.feed-f.result.ended c.feed-f.result.held c.feed-f.result.at c.feed-f.ensures c.args.out.now (ap not c.if-not-f.true) c.start.new.b c.start.ensures
-
 
 pub slice_bounds-answer_first-end-2 : goal.slice_bounds-answer_first-end-2
 slice_bounds-answer_first-end-2 c =
     let f = c.feed-f.ensures in sym (length-take-le _ _ (omega (arith, f.short, f.long)))
 
-
 pub answer_first-first-requires : goal.answer_first-first-requires
 answer_first-first-requires c =
     (c.start.ensures, c.requires.0, omega (arith, c.requires.3, c.feed-f.ensures.in_chunk, c.feed-f.ensures.on (c.if-not-f.false)))
-
 
 pub answer_rest-requires : goal.answer_rest-requires
 answer_rest-requires c =
@@ -37,7 +33,6 @@ answer_rest-requires c =
       opening_room a.chunk.now (take a.before a.buf.now) c.feed-f.new.buf c.feed-f.result.ended c.feed-f.result.held c.feed-f.result.at c.feed-f.ensures a.out.now c.answer_first-first.new.b c.answer_first-first.new.out c.answer_first-first.result (ap not c.if-not-f.false) c.answer_first-first.ensures,
       omega (arith, c.requires.3, c.answer_first-first.auto.1.1.1.1.0),
     )
-
 
 pub returns : goal.returns
 returns c =

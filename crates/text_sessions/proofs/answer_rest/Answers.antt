@@ -9,26 +9,21 @@ use Rattle.bench_views.specs.View.{view}
 use Rattle.text_sessions.proofs.Session.{Working}
 use Rattle.text_sessions.proofs.answer_rest.Goals as goal
 
-
 pub loop-at-init : goal.loop-at-init
 loop-at-init c =
     let a = c.args in
     record { words = c.requires.0; same = refl; going = going_start (view a.b.now) a.chunk.now a.buf.now a.out.now a.before a.written a.from c.requires.2 c.requires.3 c.requires.4 c.requires.5 }
-
 
 pub feed-f-requires : goal.feed-f-requires
 feed-f-requires c =
     let g = c.loop-at.invariant.going in
     (g.in_chunk, (g.long, g.short))
 
-
 pub slice_bounds-answer_line-end : goal.slice_bounds-answer_line-end
 slice_bounds-answer_line-end c = let f = c.feed-f.ensures in omega (arith, f.short, f.long)
 
-
 pub slice_bounds-answer_line-end-then-f : goal.slice_bounds-answer_line-end-then-f
 slice_bounds-answer_line-end-then-f c = let f = c.feed-f.ensures in sym (length-take-le _ _ (omega (arith, f.short, f.long)))
-
 
 pub answer_line-wrote-requires : goal.answer_line-wrote-requires
 answer_line-wrote-requires c =
@@ -38,11 +33,9 @@ answer_line-wrote-requires c =
       going_room (view a.b.now) a.chunk.now (drop a.from a.chunk.now) (take a.before a.buf.now) a.out.now a.written (view c.loop-at.b) c.loop-at.buf c.loop-at.out c.loop-at.held c.loop-at.wrote c.loop-at.at c.loop-at.invariant.going c.requires.6 c.loop-at-test.true,
     )
 
-
 pub loop-at-smaller-then-f : goal.loop-at-smaller-then-f
 loop-at-smaller-then-f c =
     let f = c.feed-f.ensures in omega (arith, f.on c.if-f.true, f.in_chunk, c.loop-at-test.true)
-
 
 pub loop-at-preserved-then-f : goal.loop-at-preserved-then-f
 loop-at-preserved-then-f c =
@@ -54,10 +47,8 @@ loop-at-preserved-then-f c =
           (view c.answer_line-wrote.new.b) c.answer_line-wrote.new.out c.answer_line-wrote.result c.answer_line-wrote.ensures.answered;
     }
 
-
 pub loop-at-smaller : goal.loop-at-smaller
 loop-at-smaller c = omega (arith, c.loop-at-test.true)
-
 
 pub loop-at-preserved : goal.loop-at-preserved
 loop-at-preserved c =
@@ -70,22 +61,18 @@ loop-at-preserved c =
           c.feed-f.new.buf c.feed-f.result.ended c.feed-f.result.held c.feed-f.result.at c.feed-f.ensures c.if-f.false;
     }
 
-
 pub shape_of-buf : goal.shape_of-buf
 shape_of-buf c =
     c.loop-at.invariant.going.long ∙ sym c.requires.2
 
-
 pub shape_of-serials : goal.shape_of-serials
 shape_of-serials c = c.loop-at.invariant.same
-
 
 pub shape_of-out : goal.shape_of-out
 shape_of-out c =
     let a = c.args in
     let l = c.loop-at in
     going_long (view a.b.now) a.chunk.now (drop a.from a.chunk.now) (take a.before a.buf.now) a.out.now a.written (view l.b) l.buf l.out l.held l.wrote l.at l.invariant.going
-
 
 pub returns : goal.returns
 returns c =

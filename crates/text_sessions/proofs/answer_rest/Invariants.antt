@@ -9,12 +9,10 @@ use Rattle.bench_views.specs.View.{view}
 use Rattle.text_sessions.proofs.Session.{Working}
 use Rattle.text_sessions.proofs.answer_rest.Given as goal
 
-
 abbrev pub invariant-loop-at : goal.invariant-loop-at
-invariant-loop-at l = 
+invariant-loop-at l =
     Working l.initial.b l.chunk (drop l.from l.chunk) (take l.before l.initial.buf) l.initial.out l.written l.initial.serials l.b l.buf l.out l.serials l.held l.wrote l.at
 
-
 abbrev pub decreases-loop-at : goal.decreases-loop-at
-decreases-loop-at l = 
+decreases-loop-at l =
     length l.chunk - l.at

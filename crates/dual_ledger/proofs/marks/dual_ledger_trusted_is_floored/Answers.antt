@@ -4,6 +4,5 @@ use Rattle.dual_ledger.proofs.Handing.{worded_by}
 use Rattle.link_answers.specs.Forms.{flag_word}
 use Rattle.dual_ledger.proofs.marks.dual_ledger_trusted_is_floored.Goals as goal
 
-
 pub returns : goal.returns
 returns c = worded_by flag_word c.is_floored-a.ensures c.flag_word.ensures

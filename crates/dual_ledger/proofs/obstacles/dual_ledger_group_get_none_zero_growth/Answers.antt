@@ -3,6 +3,5 @@ use borrow.Author.Rules.{rules}
 use Rattle.dual_ledger.proofs.Handing.{length_by}
 use Rattle.dual_ledger.proofs.obstacles.dual_ledger_group_get_none_zero_growth.Goals as goal
 
-
 pub returns : goal.returns
 returns c = length_by c.get_none_zero_growth-a.ensures c.asked_word.ensures c.length_word.ensures

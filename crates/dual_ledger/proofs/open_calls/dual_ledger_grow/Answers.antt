@@ -7,14 +7,11 @@ use mathlib.Core.Path.{ap}
 use mathlib.Core.Bool.{not}
 use Rattle.dual_ledger.proofs.open_calls.dual_ledger_grow.Goals as goal
 
-
 pub returns-then-not-is_bench : goal.returns-then-not-is_bench
 returns-then-not-is_bench c = called_broken c.is_bench.ensures (ap not c.if-not-is_bench.true) _ c.refused.ensures refl
 
-
 pub dual_ledger_told_grow-requires : goal.dual_ledger_told_grow-requires
 dual_ledger_told_grow-requires c = sound_so c.is_bench.ensures (ap not c.if-not-is_bench.false)
-
 
 pub returns : goal.returns
 returns c =

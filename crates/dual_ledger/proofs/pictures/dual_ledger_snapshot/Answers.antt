@@ -2,6 +2,5 @@
 use borrow.Author.Rules.{rules}
 use Rattle.dual_ledger.proofs.pictures.dual_ledger_snapshot.Goals as goal
 
-
 pub returns : goal.returns
 returns c = c.snapshot-a.ensures

@@ -4,10 +4,8 @@ use Rattle.bench_views.proofs.Fits.{fit_of}
 use Rattle.dual_ledger.proofs.Handing.{next_by}
 use Rattle.dual_ledger.proofs.present.dual_ledger_trusted_next_present.Goals as goal
 
-
 pub next_present-a-requires : goal.next_present-a-requires
 next_present-a-requires c = fit_of _ c.requires
-
 
 pub returns : goal.returns
 returns c = next_by c.next_present-a.ensures c.indexed_word.ensures

@@ -4,7 +4,6 @@ use borrow.Author.Rules.{rules}
 use mir.Syntax.{w64}
 use Rattle.dual_ledger.proofs.recorded.dual_ledger_grow_recorded.Goals as goal
 
-
 pub returns : goal.returns
 returns c =
     rw (to_z-of_z {w = w64} c.ranges.length) at c.grow_recorded-a.ensures

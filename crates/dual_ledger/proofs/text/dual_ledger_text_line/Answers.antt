@@ -5,7 +5,6 @@ use mir.Val.{SFits}
 use Rattle.dual_ledger.proofs.Texting.{line_left}
 use Rattle.dual_ledger.proofs.text.dual_ledger_text_line.Goals as goal
 
-
 pub returns : goal.returns
 returns c =
     let a = c.args in

@@ -5,7 +5,6 @@ use mir.Val.{SFits}
 use Rattle.dual_ledger.proofs.Texting.{line_by}
 use Rattle.dual_ledger.proofs.text.dual_ledger_trusted_text_line.Goals as goal
 
-
 pub returns : goal.returns
 returns c =
     let a = c.args in

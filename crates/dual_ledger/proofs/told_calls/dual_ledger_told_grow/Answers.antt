@@ -9,11 +9,9 @@ use Rattle.dual_ledger.proofs.Telling.{told_stops, told_goes, told_as}
 use borrow.Author.Rules.{rules}
 use Rattle.dual_ledger.proofs.told_calls.dual_ledger_told_grow.Goals as goal
 
-
 pub returns-then-made-ne0 : goal.returns-then-made-ne0
 returns-then-made-ne0 c =
     told_as _ (same_length _ c.ranges.length) (told_stops c.grow-made.ensures.0 c.if-made-ne0.true _ c.refused.ensures)
-
 
 pub returns : goal.returns
 unfolding node_of

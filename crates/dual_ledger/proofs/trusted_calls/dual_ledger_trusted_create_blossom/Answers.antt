@@ -4,6 +4,5 @@ use mathlib.Core.Path.{◌∙◌, ap}
 use Rattle.link_answers.specs.Forms.{node_word}
 use Rattle.dual_ledger.proofs.trusted_calls.dual_ledger_trusted_create_blossom.Goals as goal
 
-
 pub returns : goal.returns
 returns c = let A = c.create_blossom-made.ensures in record { settled = A.0; node_after = c.node_word.ensures ∙ ap node_word A.1 }

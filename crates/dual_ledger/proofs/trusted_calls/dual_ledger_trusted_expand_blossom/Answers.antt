@@ -5,6 +5,5 @@ use Rattle.ledger_spec.specs.Calls.{Expand}
 use Rattle.outcomes.proofs.Outcomes.{named_as}
 use Rattle.dual_ledger.proofs.trusted_calls.dual_ledger_trusted_expand_blossom.Goals as goal
 
-
 pub returns : goal.returns
 returns c = named_as (ap (Expand c.args.unit) c.hand-h.ensures) c.expand_blossom-made.ensures.0

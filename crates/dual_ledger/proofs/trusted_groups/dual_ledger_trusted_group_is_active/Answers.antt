@@ -4,6 +4,5 @@ use Rattle.dual_ledger.proofs.Handing.{worded_by}
 use Rattle.link_answers.specs.Forms.{flag_word}
 use Rattle.dual_ledger.proofs.trusted_groups.dual_ledger_trusted_group_is_active.Goals as goal
 
-
 pub returns : goal.returns
 returns c = worded_by flag_word c.is_active-a.ensures c.flag_word.ensures

@@ -8,10 +8,8 @@ use Rattle.dual_ledger.proofs.Handing.{worded_by}
 use Rattle.link_answers.specs.Forms.{node_word}
 use Rattle.dual_ledger.proofs.trusted_reads.dual_ledger_trusted_get_secondary_ancestor_blossom.Goals as goal
 
-
 pub get_secondary_ancestor_blossom-a-requires : goal.get_secondary_ancestor_blossom-a-requires
 get_secondary_ancestor_blossom-a-requires c = fit_of _ c.requires
-
 
 pub returns : goal.returns
 returns c = worded_by node_word (c.get_secondary_ancestor_blossom-a.ensures ∙ ap (below_of (view c.args.bench.now)) c.hand-h.ensures) c.node_word.ensures

@@ -25,23 +25,18 @@ names c k =
     let q = sound_counts c.args.g k c.requires.1 in
     conflicts_name (stale_code (view c.args.b.now)) c.args.g k (omega (arith, l, q.0)) (omega (arith, w, q.1))
 
-
 pub list_gone-requires : goal.list_gone-requires
 list_gone-requires c = record { canon = c.requires.canon; n_bound = (sound_counts c.args.g c.in-Conflicts.is c.requires.g_value).0 }
-
 
 pub returns-then-list_gone : goal.returns-then-list_gone
 returns-then-list_gone c =
     or_yes _ (sym c.list_gone.ensures ∙ c.if-list_gone.true) ∙ sym (names s c.in-Conflicts.is)
 
-
 pub stops_gone-requires : goal.stops_gone-requires
 stops_gone-requires c = record { canon = c.requires.canon; n_bound = (sound_counts c.args.g c.in-Conflicts.is c.requires.g_value).1 }
 
-
 pub returns-in-Growth : goal.returns-in-Growth
 returns-in-Growth c = sym (growth_names (stale_code (view c.args.b.now)) c.args.g _ _ c.in-Growth.is)
-
 
 pub returns-else-list_gone : goal.returns-else-list_gone
 returns-else-list_gone c =

@@ -9,7 +9,6 @@ use Rattle.bench_links.proofs.Rising.{seen_some}
 use Rattle.read_sound.proofs.Numbers.{stale_yes, stale_no}
 use Rattle.group_calls.proofs.presence.is_gone.Goals as goal
 
-
 pub returns-in-At : goal.returns-in-At
 returns-in-At c =
     let b = c.args.b.now in
@@ -18,7 +17,6 @@ returns-in-At c =
     let q : c.find-found.result ≡ At k = cc in
     let n = seen_some b h (found_at b h c.find-found.ensures k q).stands in
     sym (stale_no (view b) h n.0 n.1)
-
 
 pub returns-in-Stale : goal.returns-in-Stale
 returns-in-Stale c =

@@ -11,10 +11,8 @@ use Rattle.group_handles.proofs.Handles.{stop_turn, stop_end}
 use Rattle.group_calls.proofs.Turns.{or_yes, or_no}
 use Rattle.group_calls.proofs.presence.stops_gone.Given as goal
 
-
 abbrev pub invariant-loop-i : goal.invariant-loop-i
 invariant-loop-i l = (l.i ≤ l.n) × (any (stale_code (view l.b)) (stop_handles (take l.n l.stops)) ≡ any (stale_code (view l.b)) (stop_handles (drop l.i (take l.n l.stops))))
-
 
 abbrev pub decreases-loop-i : goal.decreases-loop-i
 decreases-loop-i l = l.n - l.i
