@@ -1,7 +1,6 @@
 use Rattle.std.proofs.Common.{◌-◌, ◌≤◌, rules}
 use Rattle.replay.proofs.looks.vertices_in.Goals as goal
 
-
 -- src/looks.rt:108:9
 pub vertices_within-most-requires : goal.vertices_within-most-requires
 vertices_within-most-requires c = search rules
