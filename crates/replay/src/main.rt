@@ -15,6 +15,8 @@ mod turns;
 use crate::tapes::ROOM;
 use bench_words::WORDS;
 use group_lent::GROUP;
+use std::io;
+use std::io::Read;
 
 const LINE: usize = 4096;
 
@@ -37,30 +39,34 @@ fn more(n: u64) -> u64 {
     n
 }
 
-fn differs(line: u64) {
-    io::write_all(1, b"line ");
-    io::print_decimal(1, line);
-    io::write_all(1, b" differs\n");
+fn differs<P: Print>(rt: &P, line: u64) -> io::Result<()> {
+    println!(rt; "line {line} differs")
 }
 
-fn compared(c: Count, out: &[i64; ROOM], row: &[i64; ROOM], n: usize) -> Count {
+fn compared<P: Print>(
+    rt: &P,
+    c: Count,
+    out: &[i64; ROOM],
+    row: &[i64; ROOM],
+    n: usize,
+) -> io::Result<Count> {
     let lines = more(c.lines);
     let answers = more(c.answers);
     if tapes::same(out, c.said, row, n) {
-        return Count {
+        return Ok(Count {
             lines,
             answers,
             wrong: c.wrong,
             said: 0,
-        };
+        });
     }
-    differs(lines);
-    Count {
+    differs(rt, lines)?;
+    Ok(Count {
         lines,
         answers,
         wrong: more(c.wrong),
         said: 0,
-    }
+    })
 }
 
 // One line more, after which so many numbers are said.
@@ -74,7 +80,8 @@ fn passed(c: Count, said: usize) -> Count {
 }
 
 // A whole line: a comment, a recorded answer, or a call.
-fn line_done(
+fn line_done<P: Print>(
+    rt: &P,
     b: &mut [u64; WORDS],
     p: &mut [u64; GROUP],
     q: &mut [u64; GROUP],
@@ -85,19 +92,19 @@ fn line_done(
     held: usize,
     row: &mut [i64; ROOM],
     out: &mut [i64; ROOM],
-) -> Count {
+) -> io::Result<Count> {
     let most = tapes::bytes_within(held, line);
     let text = &line[..most];
     let letter = first(text);
     if letter == b'#' {
-        return passed(c, c.said);
+        return Ok(passed(c, c.said));
     }
     let n = tapes::numbers(text, row);
     if letter == b'=' {
-        return compared(c, out, row, n);
+        return compared(rt, c, out, row, n);
     }
     let said = turns::turn(b, p, q, r, s, letter, row, n, out);
-    passed(c, said)
+    Ok(passed(c, said))
 }
 
 fn first(s: &[u8]) -> u8 {
@@ -122,21 +129,19 @@ fn byte(chunk: &[u8; CHUNK], i: usize) -> u8 {
     b'\n'
 }
 
-fn ended(c: Count) {
-    io::print_decimal(1, c.answers);
-    io::write_all(1, b" answers compared, ");
-    io::print_decimal(1, c.wrong);
-    io::write_all(1, b" differ\n");
+fn ended<P: Print>(rt: &P, c: Count) -> io::Result<()> {
+    println!(rt; "{} answers compared, {} differ", c.answers, c.wrong)
 }
 
 // The next bytes of standard input; how many there are.
-fn fill(chunk: &mut [u8]) -> usize {
-    let got = libc::read(0, chunk);
-    io::count(got, chunk)
+fn fill<R: Read>(input: &mut R, chunk: &mut [u8]) -> io::Result<usize> {
+    input.read(chunk)
 }
 
 // Reads standard input to its end.
-fn run(
+fn run<P: Print, R: Read>(
+    rt: &P,
+    input: &mut R,
     b: &mut [u64; WORDS],
     p: &mut [u64; GROUP],
     q: &mut [u64; GROUP],
@@ -146,7 +151,7 @@ fn run(
     row: &mut [i64; ROOM],
     out: &mut [i64; ROOM],
     chunk: &mut [u8; CHUNK],
-) {
+) -> io::Result<()> {
     let mut count = Count {
         lines: 0,
         answers: 0,
@@ -156,7 +161,7 @@ fn run(
     let mut held: usize = 0;
     let mut budget: u64 = 4294967296;
     while 0 < budget {
-        let n = fill(chunk);
+        let n = fill(input, chunk)?;
         if n == 0 {
             break;
         }
@@ -164,7 +169,7 @@ fn run(
         while i < n {
             let c = byte(chunk, i);
             if c == b'\n' {
-                count = line_done(b, p, q, r, s, count, line, held, row, out);
+                count = line_done(rt, b, p, q, r, s, count, line, held, row, out)?;
                 held = 0;
             } else {
                 held = keep(line, held, c);
@@ -173,10 +178,10 @@ fn run(
         }
         budget -= 1;
     }
-    ended(count);
+    ended(rt, count)
 }
 
-fn main() {
+fn main(rt: HostRuntime) -> io::Result<()> {
     let mut b = [0u64; WORDS];
     let mut p = [0u64; GROUP];
     let mut q = [0u64; GROUP];
@@ -188,7 +193,9 @@ fn main() {
     let mut chunk = [0u8; CHUNK];
     dual_ledger::dual_ledger_set_up(&mut b, 1);
     turns::empties(&mut p, &mut q, &mut r, &mut s);
+    let mut input = rt.reader();
     run(
-        &mut b, &mut p, &mut q, &mut r, &mut s, &mut line, &mut row, &mut out, &mut chunk,
-    );
+        &rt, &mut input, &mut b, &mut p, &mut q, &mut r, &mut s, &mut line, &mut row, &mut out,
+        &mut chunk,
+    )
 }
