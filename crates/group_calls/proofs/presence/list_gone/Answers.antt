@@ -25,7 +25,7 @@ names_gone-requires c = c.requires.canon
 
 pub returns-then-names_gone : goal.returns-then-names_gone
 returns-then-names_gone c =
-    let l = (c.well_formed.1.0.1.0.1) in
+    let l : length c.args.list ≡ 128 = omega arith in
     let k = c.requires.n_bound in
     or_yes _ (sym c.names_gone.ensures ∙ c.if-names_gone.true) ∙ sym (c.loop-i.invariant.1 ∙ entry_turn _ _ c.loop-i.i _ _ c.loop-i-test.true (omega arith))
 
@@ -37,12 +37,12 @@ loop-i-smaller c = omega arith
 
 pub loop-i-preserved : goal.loop-i-preserved
 loop-i-preserved c =
-    let l = (c.well_formed.1.0.1.0.1) in
+    let l : length c.args.list ≡ 128 = omega arith in
     let k = c.requires.n_bound in
     (omega arith, c.loop-i.invariant.1 ∙ entry_turn _ _ c.loop-i.i _ _ c.loop-i-test.true (omega arith) ∙ sym (or_no _ (sym c.names_gone.ensures ∙ c.if-names_gone.false)))
 
 pub returns : goal.returns
 returns c =
-    let l = (c.well_formed.1.0.1.0.1) in
+    let l : length c.args.list ≡ 128 = omega arith in
     let k = c.requires.n_bound in
     sym (c.loop-i.invariant.1 ∙ entry_end _ _ c.loop-i.i _ c.loop-i-test.false (omega arith))
