@@ -10,6 +10,6 @@ pub returns : goal.returns
 returns c =
     let p = c.peek-top in
     record {
-      seen = ap (λ (f : Five). (p.result.number, maybe_seen f)) (sym p.ensures.0) ∙ p.ensures.1;
-      obstacle = c.put_in.ensures ∙ ap five_words p.ensures.0;
+      seen = ap (λ (f : Five). (p.result.number, maybe_seen f)) (sym p.ensures.top) ∙ p.ensures.seen;
+      obstacle = c.put_in.ensures ∙ ap five_words p.ensures.top;
     }
