@@ -29,21 +29,17 @@ names b g k s l w =
 pub list_gone-requires : goal.list_gone-requires
 list_gone-requires c = record { canon = c.requires.canon; n_bound = (sound_counts c.args.g c.in-Conflicts.is c.requires.g_value).0 }
 
-
 pub returns-then-list_gone : goal.returns-then-list_gone
 returns-then-list_gone c =
     let l : length c.args.g.list ≡ 128 = omega arith in
     let w : length c.args.g.stops ≡ 128 = omega arith in
     or_yes _ (sym c.list_gone.ensures ∙ c.if-list_gone.true) ∙ sym (names c.args.b.now c.args.g c.in-Conflicts.is c.requires.g_value l w)
 
-
 pub stops_gone-requires : goal.stops_gone-requires
 stops_gone-requires c = record { canon = c.requires.canon; n_bound = (sound_counts c.args.g c.in-Conflicts.is c.requires.g_value).1 }
 
-
 pub returns-in-Growth : goal.returns-in-Growth
 returns-in-Growth c = sym (growth_names (stale_code (view c.args.b.now)) c.args.g _ _ c.in-Growth.is)
-
 
 pub returns-else-list_gone : goal.returns-else-list_gone
 returns-else-list_gone c =
