@@ -1,4 +1,4 @@
-use Rattle.std.proofs.Common.{◌-◌, ◌≤◌, rules}
+use Rattle.std.proofs.Common.{◌-◌, ◌≤◌}
 use Rattle.replay.proofs.nodes.named.Given as goal
 
 abbrev pub invariant-loop-k : goal.invariant-loop-k

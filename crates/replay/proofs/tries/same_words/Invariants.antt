@@ -1,5 +1,5 @@
 -- Each turn compares one word more, and there are 6273. Assumes nothing.
-use Rattle.std.proofs.Common.{◌-◌, ◌≤◌, rules}
+use Rattle.std.proofs.Common.{◌-◌, ◌≤◌}
 use Rattle.replay.proofs.tries.same_words.Given as goal
 
 abbrev pub invariant-loop-k : goal.invariant-loop-k
