@@ -12,5 +12,5 @@ bounds-s-p c = let a = c.args in omega (arith, two a.s.now a.p c.requires.1.0)
 pub returns : goal.returns
 returns c =
     let a = c.args in
-    done_line a.b.now a.s.now a.p c.requires.1.0 (bytes_from a.s.now a.p c.shared_slice_known-1.given) c.if-s-p-eq66.false c.line_at-line.result c.line_at-line.ensures a.members.now
+    done_line a.b.now a.s.now a.p c.requires.1.0 (bytes_from a.s.now a.p c.type_inv.s) c.if-s-p-eq66.false c.line_at-line.result c.line_at-line.ensures a.members.now
     c.turn.result _ c.turn.ensures
