@@ -43,7 +43,7 @@ returns-in-Grow c l before same is =
     let u = c.in-Grow.unit in
     let z = c.in-Grow.length in
     let q : s.line ≡ Grow u z = cc in
-    let ok : SFits w64 z = record { sfits = c.known_told-in-Grow-1.given.1.0.1 } in
+    let ok : SFits w64 z = search rules in
     turned_as s.b.now c.grow.result c.grow.new.b l before s.serials.now s.line is (Grow u z) q
     (subst (λ (y : ℤ). Turned s.b.now (some (G u y)) c.grow.result c.grow.new.b) (to_z-of_z {w = w64} ok) c.grow.ensures)
 
