@@ -30,7 +30,9 @@ fn is_version(word: &[u8; WORD], n: usize) -> bool {
 
 // Says it on standard output, or on standard error that it could not.
 fn say<P: Print + Eprint>(rt: &P, text: &[u8]) {
-    text_console::send(rt, text);
+    if let Err(error) = rt.write_all(text) {
+        let _ = eprintln!(rt; "standard output: {error}");
+    }
 }
 
 fn help<P: Print + Eprint>(rt: &P) {

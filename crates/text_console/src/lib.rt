@@ -23,12 +23,12 @@ pub enum Next {
 }
 
 // Says on standard error which stream failed and how; where that cannot be written, nothing is said.
-pub fn fail<E: Eprint>(rt: &E, what: &str, error: io::Error) {
+fn fail<E: Eprint>(rt: &E, what: &str, error: io::Error) {
     let _ = eprintln!(rt; "{what}: {error}");
 }
 
 // Writes all of it, or says on standard error that it could not.
-pub fn send<P: Print + Eprint>(rt: &P, out: &[u8]) -> bool {
+fn send<P: Print + Eprint>(rt: &P, out: &[u8]) -> bool {
     match rt.write_all(out) {
         Ok(()) => true,
         Err(error) => {
