@@ -55,7 +55,7 @@ loop-i-preserved c =
     let y = c.requires.1 in (
       subst (λ (x : List ℤ). AllRunning a.b.now a.file.now a.answers.now c.perform-r.new.b x (c.loop-i.i + 1)) (sym c.put.ensures)
           (turn a.file.now a.list a.count (length a.answers.now) y a.b.now a.answers.now refl c.loop-i.b c.loop-i.answers c.loop-i.i c.loop-i.invariant.0 c.loop-i-test.true c.place_in-p.result c.place_in-p.ensures c.perform-r.result c.perform-r.new.b c.perform-r.ensures),
-      (c.perform-r.auto.1.1.1.0 ∙ c.loop-i.invariant.1.0, c.perform-r.auto.1.1.1.1.0 ∙ c.loop-i.invariant.1.1),
+      (c.perform-r.auto.members ∙ c.loop-i.invariant.1.0, c.perform-r.auto.touching ∙ c.loop-i.invariant.1.1),
     )
 
 pub shape_of-answers : goal.shape_of-answers

@@ -21,9 +21,8 @@ pub returns : goal.returns
 returns c =
     let a = c.args in
     let r = a.r in
-    let t = c.struct_told-2-1.given in
-    let v : SFits w64 r.speed = record { sfits = t.1.1.0.1 } in
-    let w : SFits w64 r.sum = record { sfits = t.1.1.1.0.1 } in
-    let n : r.number < 256 = t.0.1 in
-    let k : r.serial < 4294967296 = t.1.0.1 in
+    let v : SFits w64 r.speed = search rules in
+    let w : SFits w64 r.sum = search rules in
+    let n : r.number < 256 = search rules in
+    let k : r.serial < 4294967296 = search rules in
     put_four a.answers.now a.at r.number r.serial r.speed r.sum (omega (arith, n)) (omega (arith, k)) v w
