@@ -11,20 +11,20 @@ use Rattle.link_told.specs.Answers.{told_words}
 use Rattle.link_told.specs.Circles.{growing}
 use Rattle.link_told.proofs.Writing.{grow_none, grow_more}
 use Rattle.link_told.proofs.put_grows.Goals as goal
+use Rattle.link_told.proofs.put_grows.Goals.{In-loop-i}
 
--- TODO place lemma
 -- a member's position, and how many there may be
-reached : (a : tie.At-loop invariant-loop decreases-loop) → a.loop.i < a.before.args.count → (a.loop.at < 512) × (a.loop.i < 64)
-reached a l = (omega (arith, a.before.requires.low a.loop.i l, a.loop.invariant.1), omega (arith, a.before.requires.few))
+reached : (c : In-loop-i) → (c.loop-i.at < 512) × (c.loop-i.i < 64)
+reached c = (omega (arith, c.requires.low c.loop-i.i c.loop-i-test.true, c.loop-i.invariant.1), omega (arith, c.requires.few, c.loop-i-test.true))
 
 pub loop-i-init : goal.loop-i-init
 loop-i-init c = (search rules, walk_none (node_at c.args.b.now) c.args.first, grow_none c.args.b.now c.args.first c.args.out.now)
 
 pub load_node-m-requires : goal.load_node-m-requires
-load_node-m-requires c = (reached c c.loop-i-test.true).0
+load_node-m-requires c = (reached (goal.at.load_node-m-requires c).In-loop-i).0
 
 pub overflow_cast-at : goal.overflow_cast-at
-overflow_cast-at c = omega (arith, (reached c c.loop-i-test.true).0)
+overflow_cast-at c = omega (arith, (reached (goal.at.overflow_cast-at c).In-loop-i).0)
 
 pub overflow_cast-at-in-loop-i : goal.overflow_cast-at-in-loop-i
 overflow_cast-at-in-loop-i c = omega arith

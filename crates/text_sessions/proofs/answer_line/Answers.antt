@@ -12,13 +12,12 @@ use Rattle.text_sessions.proofs.answer_line.Goals as goal
 pub returns : goal.returns
 returns c =
     let r = c.turn-r.result in
-    let t = c.struct_told-2-1.given in
-    let v : SFits w64 r.speed = record { sfits = t.1.1.0.1 } in
-    let w : SFits w64 r.sum = record { sfits = t.1.1.1.0.1 } in
-    let n : r.number < 256 = t.0.1 in
-    let k : r.serial < 4294967296 = t.1.0.1 in
+    let v : SFits w64 r.speed = search rules in
+    let w : SFits w64 r.sum = search rules in
+    let n : r.number < 256 = search rules in
+    let k : r.serial < 4294967296 = search rules in
     line_done c.args.b.now c.args.line.now r c.turn-r.new.b
-    (c.turn-r.ensures (line_of c.args.line.now) c.args.serials.now (sym c.read_line-said.auto.1.0) c.read_line-said.ensures)
+    (c.turn-r.ensures (line_of c.args.line.now) c.args.serials.now (sym c.read_line-said.auto.serials) c.read_line-said.ensures)
     n k v w
     c.args.out.now c.args.at c.write_answer.new.out c.write_answer.result
     (rw (to_z-of_z {w = w64} v, to_z-of_z {w = w64} w) at c.write_answer.ensures)

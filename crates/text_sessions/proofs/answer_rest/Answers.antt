@@ -41,7 +41,7 @@ pub loop-at-preserved-then-f : goal.loop-at-preserved-then-f
 loop-at-preserved-then-f c =
     record {
       words = c.answer_line-wrote.ensures.words;
-      same = c.answer_line-wrote.auto.1.1.0 ∙ c.loop-at.invariant.same;
+      same = c.answer_line-wrote.auto.serials ∙ c.loop-at.invariant.same;
       going = going_line (view c.args.b.now) c.args.chunk.now (drop c.args.from c.args.chunk.now) (take c.args.before c.args.buf.now) c.args.out.now c.args.written (view c.loop-at.b) c.loop-at.buf c.loop-at.out c.loop-at.held c.loop-at.wrote c.loop-at.at c.loop-at.invariant.going
           c.feed-f.new.buf c.feed-f.result.ended c.feed-f.result.held c.feed-f.result.at c.feed-f.ensures c.if-f.true
           (view c.answer_line-wrote.new.b) c.answer_line-wrote.new.out c.answer_line-wrote.result c.answer_line-wrote.ensures.answered;
