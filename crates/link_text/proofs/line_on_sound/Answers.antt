@@ -6,4 +6,4 @@ use Rattle.link_text.proofs.line_on_sound.Goals as goal
 
 pub returns : goal.returns
 returns c =
-    c.turn.ensures (line_of c.args.line.now) _ (sym c.read_line-said.auto.1.0) c.read_line-said.ensures
+    c.turn.ensures (line_of c.args.line.now) _ (sym c.read_line-said.auto.serials) c.read_line-said.ensures
