@@ -8,19 +8,15 @@ use Rattle.outcome_notices.proofs.Tells.{tells_blossom}
 use Rattle.call_told.proofs.Telling.{few_members}
 use Rattle.dual_ledger.proofs.Telling.{told_stops, told_goes}
 use borrow.Author.Rules.{rules}
-use Rattle.dual_ledger.proofs.told_calls.dual_ledger_told_create_blossom.Statement.{
 use Rattle.dual_ledger.proofs.told_calls.dual_ledger_told_create_blossom.Goals as goal
-
 
 pub returns-then-made-ne0 : goal.returns-then-made-ne0
 returns-then-made-ne0 c = told_stops c.create_blossom-made.ensures.0 c.if-made-ne0.true _ c.refused.ensures
-
 
 pub blossom-requires : goal.blossom-requires
 blossom-requires c =
     let a = c.args in
     few_members a.bench.now a.unit a.members.now (pairs_given a.touching.now) (tests_are c.create_blossom-made.ensures.0 c.if-made-ne0.false)
-
 
 pub returns : goal.returns
 unfolding node_of

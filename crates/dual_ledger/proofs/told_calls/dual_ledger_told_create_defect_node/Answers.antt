@@ -6,13 +6,10 @@ use Rattle.outcomes.proofs.Outcomes.{node_made}
 use Rattle.outcome_notices.proofs.Tells.{tells_defect}
 use Rattle.dual_ledger.proofs.Telling.{told_stops, told_goes}
 use borrow.Author.Rules.{rules}
-use Rattle.dual_ledger.proofs.told_calls.dual_ledger_told_create_defect_node.Statement.{
 use Rattle.dual_ledger.proofs.told_calls.dual_ledger_told_create_defect_node.Goals as goal
-
 
 pub returns-then-made-ne0 : goal.returns-then-made-ne0
 returns-then-made-ne0 c = told_stops c.create_defect_node-made.ensures.0 c.if-made-ne0.true _ c.refused.ensures
-
 
 pub returns : goal.returns
 unfolding node_of

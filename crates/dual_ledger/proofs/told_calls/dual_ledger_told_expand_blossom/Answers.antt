@@ -12,9 +12,7 @@ use Rattle.call_sound.proofs.Settling.{fits}
 use Rattle.call_told.proofs.Telling.{ring_of}
 use Rattle.dual_ledger.proofs.Telling.{told_stops, told_goes, told_as}
 use borrow.Author.Rules.{rules}
-use Rattle.dual_ledger.proofs.told_calls.dual_ledger_told_expand_blossom.Statement.{
 use Rattle.dual_ledger.proofs.told_calls.dual_ledger_told_expand_blossom.Goals as goal
-
 
 pub returns-then-number-ne0 : goal.returns-then-number-ne0
 unfolding tests_of
@@ -26,17 +24,14 @@ returns-then-number-ne0 c =
     told_as _ (ap (Expand c.args.unit) h.ensures)
     (told_stops (refused b (Expand c.args.unit (handle_named h.result)) c.requires b n.result q n.ensures refl).0 q _ c.refused.ensures)
 
-
 pub expanded-requires : goal.expanded-requires
 expanded-requires c =
     ring_of c.args.bench.now c.requires c.args.unit (handle_named c.hand-h.result) c.expand_number-number.result c.expand_number-number.ensures c.if-number-ne0.false
-
 
 pub remove_blossom-requires : goal.remove_blossom-requires
 remove_blossom-requires c =
     let h = handle_named c.hand-h.result in
     fits c.args.bench.now c.requires (first (expand_tests (view c.args.bench.now) c.args.unit h)) c.expand_number-number.result c.expand_number-number.ensures c.if-number-ne0.false
-
 
 pub returns : goal.returns
 unfolding tests_of deed_of node_of

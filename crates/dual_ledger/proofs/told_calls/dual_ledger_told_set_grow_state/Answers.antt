@@ -7,16 +7,13 @@ use Rattle.outcome_notices.proofs.Tells.{tells_state}
 use Rattle.dual_ledger.proofs.Settling.{same_state}
 use Rattle.dual_ledger.proofs.Telling.{told_stops, told_goes, told_as}
 use borrow.Author.Rules.{rules}
-use Rattle.dual_ledger.proofs.told_calls.dual_ledger_told_set_grow_state.Statement.{
 use Rattle.dual_ledger.proofs.told_calls.dual_ledger_told_set_grow_state.Goals as goal
-
 
 pub returns-then-made-ne0 : goal.returns-then-made-ne0
 returns-then-made-ne0 c =
     let h = c.hand-h in
     let g = c.state_given-to in
     told_as _ (same_state _ h.ensures c.ranges.state g.ensures) (told_stops c.set_grow_state-made.ensures.0 c.if-made-ne0.true _ c.refused.ensures)
-
 
 pub returns : goal.returns
 unfolding node_of
