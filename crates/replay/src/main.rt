@@ -167,12 +167,11 @@ fn run<P: Print, R: Read>(
         }
         let mut i: usize = 0;
         while i < n {
-            let c = byte(chunk, i);
-            if c == b'\n' {
+            if byte(chunk, i) == b'\n' {
                 count = line_done(rt, b, p, q, r, s, count, line, held, row, out)?;
                 held = 0;
             } else {
-                held = keep(line, held, c);
+                held = keep(line, held, byte(chunk, i));
             }
             i += 1;
         }
