@@ -367,98 +367,98 @@ static inline const char *dual_ledger_refusal_name(uint8_t number) {
  * down a nest by calling itself is counted for the deepest that a sound bench can hold. By oracle/stack; tests/linked holds
  * every row by painted stacks.
  *
- *   dual_ledger_check_ptr_belonging                     776
+ *   dual_ledger_check_ptr_belonging                     792
  *   dual_ledger_clear                                   824
- *   dual_ledger_create_blossom                          904
- *   dual_ledger_create_defect_node                      776
+ *   dual_ledger_create_blossom                          816
+ *   dual_ledger_create_defect_node                      792
  *   dual_ledger_empty_group                               8
- *   dual_ledger_expand_blossom                          776
- *   dual_ledger_fuse                                    792
- *   dual_ledger_get_all_vertices                      35912   80 a level, of 448
+ *   dual_ledger_expand_blossom                          792
+ *   dual_ledger_fuse                                    808
+ *   dual_ledger_get_all_vertices                      21576   48 a level, of 448
  *   dual_ledger_get_ancestor_blossom                    792
  *   dual_ledger_get_dual_variable                       792
- *   dual_ledger_get_node                               1544
- *   dual_ledger_get_representative_vertex               760
- *   dual_ledger_get_secondary_ancestor_blossom          776
+ *   dual_ledger_get_node                               1800
+ *   dual_ledger_get_representative_vertex               776
+ *   dual_ledger_get_secondary_ancestor_blossom          792
  *   dual_ledger_group_add                               776
  *   dual_ledger_group_extend                            776
- *   dual_ledger_group_get_none_zero_growth               56
- *   dual_ledger_group_is_active                          56
- *   dual_ledger_group_is_empty                           56
- *   dual_ledger_group_is_sound                           40
- *   dual_ledger_group_peek                               56
- *   dual_ledger_group_pop                               104
- *   dual_ledger_group_pop_sparing_stops                 104
- *   dual_ledger_grow                                   1640
- *   dual_ledger_grow_recorded                          1944
- *   dual_ledger_is_filling                              760
- *   dual_ledger_is_floored                              760
- *   dual_ledger_is_sound                                744
- *   dual_ledger_mark_filling                            760
- *   dual_ledger_mark_floored                            760
- *   dual_ledger_next_present                           1544
- *   dual_ledger_nodes_count                            1544
- *   dual_ledger_present_count                          1528
- *   dual_ledger_records_count                           176
- *   dual_ledger_records_get                             176
- *   dual_ledger_run_records                           21432
- *   dual_ledger_sanity_check                          18344
- *   dual_ledger_set_grow_state                          808
+ *   dual_ledger_group_get_none_zero_growth               40
+ *   dual_ledger_group_is_active                          40
+ *   dual_ledger_group_is_empty                           40
+ *   dual_ledger_group_is_sound                           24
+ *   dual_ledger_group_peek                               40
+ *   dual_ledger_group_pop                                88
+ *   dual_ledger_group_pop_sparing_stops                  88
+ *   dual_ledger_grow                                   1912
+ *   dual_ledger_grow_recorded                          2200
+ *   dual_ledger_is_filling                              776
+ *   dual_ledger_is_floored                              776
+ *   dual_ledger_is_sound                                760
+ *   dual_ledger_mark_filling                            776
+ *   dual_ledger_mark_floored                            776
+ *   dual_ledger_next_present                           1800
+ *   dual_ledger_nodes_count                            1800
+ *   dual_ledger_present_count                          1784
+ *   dual_ledger_records_count                           264
+ *   dual_ledger_records_get                             200
+ *   dual_ledger_run_records                           21624
+ *   dual_ledger_sanity_check                          18584
+ *   dual_ledger_set_grow_state                          824
  *   dual_ledger_set_up                                   40
  *   dual_ledger_set_up_plain                             40
- *   dual_ledger_snapshot                              26728
- *   dual_ledger_strict_check                          18344
- *   dual_ledger_sum_dual_variables                      760
- *   dual_ledger_sum_grow_speed                          760
- *   dual_ledger_text_chunk                            19304
+ *   dual_ledger_snapshot                              27032
+ *   dual_ledger_strict_check                          18584
+ *   dual_ledger_sum_dual_variables                      776
+ *   dual_ledger_sum_grow_speed                          776
+ *   dual_ledger_text_chunk                            19544
  *   dual_ledger_text_end                                  8
- *   dual_ledger_text_line                             19160
- *   dual_ledger_text_opening                          19208
- *   dual_ledger_to_records                             8480
- *   dual_ledger_to_text                                1080
- *   dual_ledger_told_create_blossom                     888
- *   dual_ledger_told_create_defect_node                 200
- *   dual_ledger_told_expand_blossom                     200
- *   dual_ledger_told_grow                              1624
- *   dual_ledger_told_set_grow_state                     136
- *   dual_ledger_trusted_check_ptr_belonging              40
- *   dual_ledger_trusted_clear                           104
- *   dual_ledger_trusted_create_blossom                  808
- *   dual_ledger_trusted_create_defect_node              200
- *   dual_ledger_trusted_expand_blossom                  184
- *   dual_ledger_trusted_fuse                             72
- *   dual_ledger_trusted_get_all_vertices              35880   80 a level, of 448
+ *   dual_ledger_text_line                             19400
+ *   dual_ledger_text_opening                          19464
+ *   dual_ledger_to_records                             8424
+ *   dual_ledger_to_text                                 760
+ *   dual_ledger_told_create_blossom                     816
+ *   dual_ledger_told_create_defect_node                 208
+ *   dual_ledger_told_expand_blossom                     184
+ *   dual_ledger_told_grow                              1896
+ *   dual_ledger_told_set_grow_state                     120
+ *   dual_ledger_trusted_check_ptr_belonging              24
+ *   dual_ledger_trusted_clear                            88
+ *   dual_ledger_trusted_create_blossom                  800
+ *   dual_ledger_trusted_create_defect_node              208
+ *   dual_ledger_trusted_expand_blossom                  168
+ *   dual_ledger_trusted_fuse                             64
+ *   dual_ledger_trusted_get_all_vertices              21528   48 a level, of 448
  *   dual_ledger_trusted_get_ancestor_blossom             24
- *   dual_ledger_trusted_get_dual_variable                72
- *   dual_ledger_trusted_get_node                       1528
+ *   dual_ledger_trusted_get_dual_variable                56
+ *   dual_ledger_trusted_get_node                       1784
  *   dual_ledger_trusted_get_representative_vertex         8
  *   dual_ledger_trusted_get_secondary_ancestor_blossom     40
  *   dual_ledger_trusted_group_add                       144
- *   dual_ledger_trusted_group_extend                    192
+ *   dual_ledger_trusted_group_extend                    176
  *   dual_ledger_trusted_group_get_none_zero_growth        8
  *   dual_ledger_trusted_group_is_active                   8
  *   dual_ledger_trusted_group_is_empty                    8
  *   dual_ledger_trusted_group_peek                        8
  *   dual_ledger_trusted_group_pop                        88
  *   dual_ledger_trusted_group_pop_sparing_stops          88
- *   dual_ledger_trusted_grow                           1608
- *   dual_ledger_trusted_grow_recorded                  1912
+ *   dual_ledger_trusted_grow                           1880
+ *   dual_ledger_trusted_grow_recorded                  2168
  *   dual_ledger_trusted_is_filling                        8
  *   dual_ledger_trusted_is_floored                        8
  *   dual_ledger_trusted_mark_filling                      8
  *   dual_ledger_trusted_mark_floored                      8
- *   dual_ledger_trusted_next_present                   1544
- *   dual_ledger_trusted_nodes_count                    1528
- *   dual_ledger_trusted_present_count                  1528
- *   dual_ledger_trusted_run_records                   21432
- *   dual_ledger_trusted_sanity_check                  18328
- *   dual_ledger_trusted_set_grow_state                  120
- *   dual_ledger_trusted_snapshot                      26680
- *   dual_ledger_trusted_strict_check                  18328
+ *   dual_ledger_trusted_next_present                   1800
+ *   dual_ledger_trusted_nodes_count                    1784
+ *   dual_ledger_trusted_present_count                  1784
+ *   dual_ledger_trusted_run_records                   21608
+ *   dual_ledger_trusted_sanity_check                  18568
+ *   dual_ledger_trusted_set_grow_state                  104
+ *   dual_ledger_trusted_snapshot                      26984
+ *   dual_ledger_trusted_strict_check                  18568
  *   dual_ledger_trusted_sum_dual_variables                8
  *   dual_ledger_trusted_sum_grow_speed                    8
- *   dual_ledger_trusted_text_chunk                    19272
- *   dual_ledger_trusted_text_line                     19160
+ *   dual_ledger_trusted_text_chunk                    19496
+ *   dual_ledger_trusted_text_line                     19416
  * ---- end of the stack's table */
 
 #ifdef __cplusplus

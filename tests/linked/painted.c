@@ -266,6 +266,8 @@ static void long_sum(void) {
     lines("K 0\n");
 }
 
+static void checked(void);
+
 /* The deepest nest with a touching handle that names no node: the check finds it, and looks for its index. */
 static void spoiled(void) {
     nest(start, DEEPEST);
@@ -274,6 +276,34 @@ static void spoiled(void) {
     calls(6, nested(DEEPEST - 1), DEEPEST);
     lines("K 6\n");
     must("a spoiled nest passes the check", dual_ledger_sanity_check(start, 6, out, out + 1) == 0 && out[0] == 4);
+    checked();
+}
+
+/* A floored tree of four interfaces above one another with a node that shrinks: a growth looks for the least value down the whole tree. The same tree made in
+ * one opening, and checked there. */
+static void tall(void) {
+    uint64_t node, b = W(bench), a = W(answer);
+    int levels = 1;
+    dual_ledger_set_up(start, 1);
+    for (uint8_t unit = 0; unit < 8; unit++) must("a floor of a tall tree", dual_ledger_trusted_mark_floored(start, unit) == 0);
+    for (uint32_t v = 0; v < 2; v++) dual_ledger_trusted_create_defect_node(start, 0, v, &node);
+    must("a tall tree", dual_ledger_trusted_fuse(start, 2, 0, 1) == 0 && dual_ledger_trusted_fuse(start, 4, 2, 3) == 0 && dual_ledger_trusted_fuse(start, 6, 4, 5) == 0);
+    must("a tall growth", dual_ledger_trusted_grow(start, 6, 3) == 0 && dual_ledger_trusted_set_grow_state(start, 6, handle(1, 0, 0), -1) == 0);
+    CALL(grow, b, 6, 2, a);
+    BOTH(grow_recorded, b, 6, 2, W(recording), sizeof recording / 8, W(out), 2, W(vertices));
+    lines("G 6 2\n");
+    lines("D 0 3\nD 1 3\nF 2 0 1\nF 4 2 3\nF 6 4 5\nK 6\n");
+}
+
+/* A run of one check, on the bench `start`. */
+static void checked(void) {
+    static const char text[] = "K 6\n";
+    static uint8_t file[64];
+    static int64_t answers[4];
+    static size_t size, wrote;
+    int levels = 1;
+    must("a check as a record", dual_ledger_to_records((const uint8_t *)text, sizeof text - 1, file, sizeof file, &size) == 0);
+    BOTH(run_records, W(bench), W(file), size, W(answers), 4, W(&wrote));
 }
 
 /* ---- the smallest stack of all */
@@ -315,6 +345,7 @@ int main(int words, char **word) {
     few(1);
     records();
     long_sum();
+    tall();
     spoiled();
     for (size_t i = 0; i < sizeof depths / sizeof *depths; i++) {
         int levels = depths[i];
