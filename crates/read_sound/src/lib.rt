@@ -18,14 +18,12 @@ use bench_orders::Spot;
 use bench_words::{Up, WORDS};
 use kinds::{Handle, MaybeNode, NodeIndex, Vertex, numbers};
 
-// A number and a weight.
 #[derive(Clone, Copy)]
 pub struct Weighed {
     pub number: u8,
     pub weight: i64,
 }
 
-// A number and a count.
 #[derive(Clone, Copy)]
 pub struct Counted {
     pub number: u8,
@@ -61,7 +59,6 @@ pub struct Second {
     pub node: Handle,
 }
 
-// A number and a vertex.
 #[derive(Clone, Copy)]
 pub struct Represented {
     pub number: u8,
