@@ -365,7 +365,7 @@ static inline const char *dual_ledger_refusal_name(uint8_t number) {
 /* ---- stack: the most bytes that a function needs below its caller's frame on x86-64, its return address included. The C library's memcpy
  * and its like are not counted, nor is binding them at the first call (link with -z now, or statically). A function that goes
  * down a nest by calling itself is counted for the deepest that a sound bench can hold. By oracle/stack; tests/linked holds
- * every row by painted stacks, dual_ledger_text_opening from above alone.
+ * every row by painted stacks, to 64 bytes; that of dual_ledger_text_opening counts a call that no text is known to take.
  *
  *   dual_ledger_check_ptr_belonging                     792
  *   dual_ledger_clear                                   824
