@@ -400,8 +400,8 @@ static inline const char *dual_ledger_refusal_name(uint8_t number) {
  *   dual_ledger_nodes_count                            1800
  *   dual_ledger_present_count                          1784
  *   dual_ledger_records_count                           264
- *   dual_ledger_records_get                             200
- *   dual_ledger_run_records                           21624
+ *   dual_ledger_records_get                             184
+ *   dual_ledger_run_records                           21640
  *   dual_ledger_sanity_check                          18584
  *   dual_ledger_set_grow_state                          824
  *   dual_ledger_set_up                                   40
@@ -414,8 +414,8 @@ static inline const char *dual_ledger_refusal_name(uint8_t number) {
  *   dual_ledger_text_end                                  8
  *   dual_ledger_text_line                             19400
  *   dual_ledger_text_opening                          19464
- *   dual_ledger_to_records                             8424
- *   dual_ledger_to_text                                 760
+ *   dual_ledger_to_records                             8408
+ *   dual_ledger_to_text                                 744
  *   dual_ledger_told_create_blossom                     816
  *   dual_ledger_told_create_defect_node                 208
  *   dual_ledger_told_expand_blossom                     184
@@ -434,7 +434,7 @@ static inline const char *dual_ledger_refusal_name(uint8_t number) {
  *   dual_ledger_trusted_get_representative_vertex         8
  *   dual_ledger_trusted_get_secondary_ancestor_blossom     40
  *   dual_ledger_trusted_group_add                       144
- *   dual_ledger_trusted_group_extend                    176
+ *   dual_ledger_trusted_group_extend                    192
  *   dual_ledger_trusted_group_get_none_zero_growth        8
  *   dual_ledger_trusted_group_is_active                   8
  *   dual_ledger_trusted_group_is_empty                    8
@@ -450,7 +450,7 @@ static inline const char *dual_ledger_refusal_name(uint8_t number) {
  *   dual_ledger_trusted_next_present                   1800
  *   dual_ledger_trusted_nodes_count                    1784
  *   dual_ledger_trusted_present_count                  1784
- *   dual_ledger_trusted_run_records                   21608
+ *   dual_ledger_trusted_run_records                   21624
  *   dual_ledger_trusted_sanity_check                  18568
  *   dual_ledger_trusted_set_grow_state                  104
  *   dual_ledger_trusted_snapshot                      26984

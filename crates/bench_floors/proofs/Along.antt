@@ -1,8 +1,8 @@
 -- Along the slots of an interface, and along the interfaces of a tree: what is lowest so far and what is left make up the whole. Assumes nothing.
+use Rattle.std.specs.Prelude.{None, Option}
 use Prim.Native.Nat.{ℕ, ◌+◌, ◌*◌, ◌/◌, ◌%◌, ◌<◌, ◌≤◌}
 use mathlib.Core.Path.{◌≡◌, refl, sym, ◌∙◌, ap, ap₂}
 use mathlib.Core.Bool.{Bool, true, false, ◌&&◌, ◌||◌}
-use mathlib.Core.Option.{Option, none}
 use mathlib.Core.List.{List, ◌∷◌}
 use native.Mathlib.Numerals.{add-one}
 use native.Mathlib.Omega.{arith}
@@ -54,7 +54,7 @@ module _ (b : List ℕ) (u m : ℕ) where
     lowering_on h k g ls low' D = record {
       is = λ l.
           ap (λ (x : Bool). x || any (sinks (pos l)) (drop (s + 1) slots)) (D.is l ∙ ap (λ (o : Option plain.Node). sunk low l || sinks (pos l) o) here)
-          ∙ or_assoc (sunk low l) (sinks (pos l) (get_or slots s none)) (any (sinks (pos l)) (drop (s + 1) slots))
+          ∙ or_assoc (sunk low l) (sinks (pos l) (get_or slots s None)) (any (sinks (pos l)) (drop (s + 1) slots))
           ∙ ap (λ (xs : List (Option plain.Node)). sunk low l || any (sinks (pos l)) xs) (sym more) ∙ L.is l;
     }
       where
@@ -67,11 +67,11 @@ module _ (b : List ℕ) (u m : ℕ) where
         slot : k % 64 ≡ s
         slot = omega arith
 
-        here : slot_of (view b) (k / 64) (k % 64) ≡ get_or slots s none
+        here : slot_of (view b) (k / 64) (k % 64) ≡ get_or slots s None
         here = ap₂ (slot_of (view b)) unit slot
 
-        more : drop s slots ≡ get_or slots s none ∷ drop (s + 1) slots
-        more = drop-cons slots s none (omega (arith, count, h)) ∙ ap (λ (j : ℕ). get_or slots s none ∷ drop j slots) (sym (add-one s))
+        more : drop s slots ≡ get_or slots s None ∷ drop (s + 1) slots
+        more = drop-cons slots s None (omega (arith, count, h)) ∙ ap (λ (j : ℕ). get_or slots s None ∷ drop j slots) (sym (add-one s))
 
 -- where a slot stands
 module _ (b : List ℕ) (F : Fit b) (u : ℕ) (lu : u < 8) (f : Interface) (e : f ≡ interface_at b u) (s : ℕ) (h : s < f.used) where
@@ -93,7 +93,7 @@ pub record Leasting (b : List ℕ) (unit i low : ℕ) : Type 0 where
 far : (l : ℕ) → l < 9223372036854775808 → sunk 18446744073709551615 l ≡ false
 far l h = le-ltb 18446744073709551615 (1152921504606846976 + l) (omega arith)
 
-module _ (b : List ℕ) (F : Fit b) (unit : ℕ) (lu : unit < 8) (free : (interface (view b) unit).parent ≡ none) (f : Interface) (e : f ≡ interface_at b unit) where
+module _ (b : List ℕ) (F : Fit b) (unit : ℕ) (lu : unit < 8) (free : (interface (view b) unit).parent ≡ None) (f : Interface) (e : f ≡ interface_at b unit) where
   mark : floored (view b) unit ≡ f.marks.floored
   mark = ap (λ (x : plain.Interface). x.marks.floored) (interface_in_lem (get_or b 0 0) (interface_at b) (node_at b) unit lu) ∙ ap (λ (x : Interface). x.marks.floored) (sym e)
 

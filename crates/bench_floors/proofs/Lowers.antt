@@ -1,9 +1,9 @@
 -- The lower of two numbers, as what a growth takes below 0; and a slot's value off its words. Assumes nothing.
+use Rattle.std.specs.Prelude.{Option, Some}
 use Prim.Native.Nat.{ℕ, suc, ◌+◌, ◌-◌, ◌*◌, ◌/◌, ◌%◌, ◌<◌, ◌≤◌}
 use mathlib.Core.Path.{◌≡◌, refl, sym, ◌∙◌, ap, ap₂}
 use mathlib.Core.Logic.{by_cases}
 use mathlib.Core.Bool.{Bool, true, false, ◌&&◌, ◌||◌, cond}
-use mathlib.Core.Option.{Option, some}
 use mathlib.Core.List.{List}
 use native.Mathlib.Decide.{dec_lt}
 use native.Mathlib.Omega.{arith}
@@ -72,7 +72,7 @@ module _ (b : List ℕ) (F : Fit b) (k : ℕ) (lu : k / 64 < 8) (ls : k % 64 < (
   lower_none q m = record { is = λ l. sym (ap (λ (o : Option plain.Node). sunk m l || sinks (pos l) o) (slot_is ∙ slot_absent n (sum_up 8 (interface_at b) (k / 64)) (circle_of (node_at b) k) (absent_yes n.class (sym a ∙ q))) ∙ or_none (sunk m l)) }
 
   module _ (q : c ≡ false) (t : ℕ) (p : t ≡ sum_up 8 (interface_at b) (k / 64)) where
-    held : slot_of (view b) (k / 64) (k % 64) ≡ some (node_seen n (sum_up 8 (interface_at b) (k / 64)) (slot_held n (sum_up 8 (interface_at b) (k / 64)) (circle_of (node_at b) k) (absent_no (sym a ∙ q))).0)
+    held : slot_of (view b) (k / 64) (k % 64) ≡ Some (node_seen n (sum_up 8 (interface_at b) (k / 64)) (slot_held n (sum_up 8 (interface_at b) (k / 64)) (circle_of (node_at b) k) (absent_no (sym a ∙ q))).0)
     held = slot_is ∙ (slot_held n (sum_up 8 (interface_at b) (k / 64)) (circle_of (node_at b) k) (absent_no (sym a ∙ q))).1
 
     bias_near : Ranged n

@@ -1,12 +1,11 @@
 -- BELOW by the slots of a tree in the order of the index: the interfaces whose top an interface is are those of its tree. Assumes nothing.
-use Prim.Native.Nat.{ℕ, suc}
+use Rattle.std.specs.Prelude.{None, Option}
+use Prim.Native.Nat.{ℕ, suc, ◌<◌}
 use mathlib.Core.Path.{◌≡◌, refl, sym, ◌∙◌, ap, ap₂, subst}
 use mathlib.Core.Logic.{◌≢◌, by_cases}
 use mathlib.Core.Bool.{Bool, true, false, ◌&&◌, ◌||◌}
-use mathlib.Core.Option.{Option, none}
 use mathlib.Core.List.{List, [], ◌∷◌, ◌++◌}
 use native.Mathlib.Decide.{ℕ_discrete}
-use Prim.Native.Nat.{◌<◌}
 use lib.Dec.{eqb}
 use borrow.Author.Tests.{eq-eqb, ne_eqb}
 use lib.IntN.{ℤ}
@@ -48,7 +47,7 @@ module _ (b : Bench) (l : ℤ) where
   sinking_gather [] = refl
   sinking_gather (u ∷ us) = any_append (λ (t : ℕ × ℕ × Option Node). sinks l t.2) (slots_from u 0 (interface b u).slots) (gather b us) ∙ ap₂ ◌||◌ (sinking_slots l u 0 (interface b u).slots) (sinking_gather us)
 
-  module _ (F : Frame b) (u : ℕ) (low : u < 8) (free : (interface b u).parent ≡ none) where
+  module _ (F : Frame b) (u : ℕ) (low : u < 8) (free : (interface b u).parent ≡ None) where
     abbrev under : ℕ → Bool
     under w = eqb (top b w) u && deep w
 

@@ -1,9 +1,9 @@
 -- In a floored tree of a sound bench no value is negative, so that the lowest stands at 2^60 or higher. Assumes nothing.
+use Rattle.std.specs.Prelude.{None, Option, Some}
 use Prim.Native.Nat.{ℕ, ◌+◌, ◌-◌, ◌<◌, ◌≤◌}
 use mathlib.Core.Path.{◌≡◌, refl, sym, ◌∙◌, ap}
 use mathlib.Core.Logic.{by_cases}
 use mathlib.Core.Bool.{Bool, true, false, ◌&&◌, true≢false}
-use mathlib.Core.Option.{Option, none, some}
 use mathlib.Core.List.{List}
 use native.Mathlib.Decide.{dec_lt}
 use native.Mathlib.Omega.{arith}
@@ -26,8 +26,8 @@ and_none true = refl
 and_none false = refl
 
 not_sunk : (o : Option Node) → afloat o ≡ true → sinks (pos 0) o ≡ false
-not_sunk none e = refl
-not_sunk (some n) e = go n.value e
+not_sunk None e = refl
+not_sunk (Some n) e = go n.value e
   where
     go : (z : ℤ) → le_z (pos 0) z ≡ true → (is_shrink n.state && lt_z z (pos 0)) ≡ false
     go (pos m) k = ap (λ (c : Bool). is_shrink n.state && c) (le-ltb m 0 (omega arith)) ∙ and_none (is_shrink n.state)

@@ -2,7 +2,6 @@
 // The least value of a shrinking node in a floored tree. On the way it stands 2^60 higher than it is, as a value stands in the words. Everything here only
 // reads. Assumes nothing.
 ghost use Rattle.std.specs.Prelude.{◌≡◌, ◌/◌, ◌%◌, ◌<◌};
-ghost use Rattle.std.proofs.Math.Option.{none};
 ghost use Rattle.bench_words.specs.Store.{interface_at};
 ghost use Rattle.ledger_spec.specs.Look.{interface};
 ghost use Rattle.ledger_spec.specs.Named.{state_named};
@@ -20,11 +19,7 @@ const NONE: u64 = 18446744073709551615;
 fn is_shrink(state: GrowState) -> bool
     ensures { result ≡ is_shrink (state_named state) }
 {
-    match state {
-        GrowState::Grow => false,
-        GrowState::Stay => false,
-        GrowState::Shrink => true,
-    }
+    state == GrowState::Shrink
 }
 
 // The lower of m and the value in a slot, if a node shrinks there.
@@ -36,15 +31,13 @@ fn lower(b: &[u64; WORDS], k: usize, t: u64, m: u64) -> u64
     ensures { Lower b.now k m result }
 {
     let n = bench_words::load_node(b, k);
-    let class = n.class;
-    if bench_links::is_absent(class) {
+    if bench_links::is_absent(n.class) {
         return m;
     }
-    let state = n.state;
-    if !is_shrink(state) {
+    if !is_shrink(n.state) {
         return m;
     }
-    let v = bench_trees::valued(state, n.bias, t);
+    let v = bench_trees::valued(n.state, n.bias, t);
     if v < m {
         return v;
     }
@@ -62,10 +55,8 @@ fn lower_in(b: &[u64; WORDS], u: usize, m: u64) -> u64
     let f = bench_words::load_interface(b, u);
     let used = f.used as usize;
     let mut low = m;
-    let mut s: usize = 0;
-    while s < used {
+    for s in 0..used {
         low = lower(b, u * 64 + s, t, low);
-        s = s + 1;
     }
     low
 }
@@ -74,7 +65,7 @@ fn lower_in(b: &[u64; WORDS], u: usize, m: u64) -> u64
 fn lowest(b: &[u64; WORDS], unit: usize) -> u64
     requires fit { Fit b.now }
     requires unit_bound { unit < 8 }
-    requires unit_value { (interface (view b.now) unit).parent ≡ none }
+    requires unit_value { (interface (view b.now) unit).parent ≡ None }
     ensures { Lowest b.now unit result }
 {
     let f = bench_words::load_interface(b, unit);
@@ -84,11 +75,9 @@ fn lowest(b: &[u64; WORDS], unit: usize) -> u64
     }
     let o = bench_orders::order_of(b, unit);
     let mut low = NONE;
-    let mut i: usize = 0;
-    while i < o.count {
+    for i in 0..o.count {
         let u = o.units[i];
         low = lower_in(b, u, low);
-        i = i + 1;
     }
     low
 }
@@ -97,7 +86,7 @@ fn lowest(b: &[u64; WORDS], unit: usize) -> u64
 pub fn least_shrinking(b: &[u64; WORDS], unit: usize) -> u64
     requires fit { Fit b.now }
     requires unit_bound { unit < 8 }
-    requires unit_value { (interface (view b.now) unit).parent ≡ none }
+    requires unit_value { (interface (view b.now) unit).parent ≡ None }
     ensures { Least b.now unit result }
 {
     let low = lowest(b, unit);

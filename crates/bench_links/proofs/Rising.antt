@@ -1,15 +1,14 @@
 -- One turn of the walk up: at a node without a parent it ends, and else it goes on at the parent with one link more, by the definitions' own steps.
 -- Assumes nothing.
+use Rattle.std.specs.Prelude.{None, Some, Option}
 use Prim.Native.Nat.{ℕ, suc, ◌+◌, ◌-◌, ◌<◌, ◌≤◌}
 use mathlib.Core.Path.{◌≡◌, refl, ap, sym, ◌∙◌}
-use mathlib.Core.Option.{Option, none, some}
 use mathlib.Core.List.{List}
 use native.Mathlib.Omega.{arith}
 use lib.ListN.{get_or}
 use Rattle.bench_words.specs.Store.{node_at, interface_at}
 use Rattle.bench_words.specs.declared.Node.{Node}
 use Rattle.kinds.specs.declared.Handle.{Handle as Code}
-use Rattle.kinds.specs.declared.Parent.TheVariants.{Outermost, Inside}
 use Rattle.ledger_spec.specs.Bench.{Handle, Bench}
 use Rattle.ledger_spec.specs.Bench as plain
 use Rattle.ledger_spec.specs.Look.{slot_of, top, node_named}
@@ -28,36 +27,36 @@ use Rattle.bench_links.proofs.Finding.{stands_by}
 
 -- no link is followed exactly from a node without a parent
 module _ (B : Bench) (h : Handle) where
-  pub no_link : links_from 512 B h ≡ 0 → parent_in (node_named B h) ≡ none
+  pub no_link : links_from 512 B h ≡ 0 → parent_in (node_named B h) ≡ None
   no_link z = go (parent_in (node_named B h)) refl
     where
-      go : (o : Option Handle) → parent_in (node_named B h) ≡ o → parent_in (node_named B h) ≡ none
-      go none e = e
-      go (some p) e = absurd (omega (arith, z, links_some B 511 h p e))
+      go : (o : Option Handle) → parent_in (node_named B h) ≡ o → parent_in (node_named B h) ≡ None
+      go None e = e
+      go (Some p) e = absurd (omega (arith, z, links_some B 511 h p e))
 
-  pub some_link : (links_from 512 B h ≡ 0 → ⊥) → (p : Handle) × (parent_in (node_named B h) ≡ some p)
+  pub some_link : (links_from 512 B h ≡ 0 → ⊥) → (p : Handle) × (parent_in (node_named B h) ≡ Some p)
   some_link z = go (parent_in (node_named B h)) refl
     where
-      go : (o : Option Handle) → parent_in (node_named B h) ≡ o → (p : Handle) × (parent_in (node_named B h) ≡ some p)
-      go none e = absurd (z (links_none B 512 h e))
-      go (some p) e = (p, e)
+      go : (o : Option Handle) → parent_in (node_named B h) ≡ o → (p : Handle) × (parent_in (node_named B h) ≡ Some p)
+      go None e = absurd (z (links_none B 512 h e))
+      go (Some p) e = (p, e)
 
 -- ---- in words
 module _ (b : List ℕ) (h : Handle) (S : Stands b h) where
   abbrev here : Node
   here = node_at b (spot h)
 
-  pub seen_node : (c : plain.Class) × (node_named (view b) h ≡ some (node_seen here (sum_up 8 (interface_at b) h.unit) c))
+  pub seen_node : (c : plain.Class) × (node_named (view b) h ≡ Some (node_seen here (sum_up 8 (interface_at b) h.unit) c))
   seen_node = let k = slot_held here (sum_up 8 (interface_at b) h.unit) (circle_of (node_at b) (spot h)) S.present in (k.0, S.seen ∙ k.1)
 
-  pub seen_some : (n : plain.Node) × (node_named (view b) h ≡ some n)
+  pub seen_some : (n : plain.Node) × (node_named (view b) h ≡ Some n)
   seen_some = (node_seen here (sum_up 8 (interface_at b) h.unit) seen_node.0, seen_node.1)
 
   pub parent_seen : parent_in (node_named (view b) h) ≡ parent_named here.parent
   parent_seen = ap parent_in seen_node.1
 
   -- a parent is present too
-  pub stands_parent : Fit b → (q : Code) → here.parent ≡ Inside q → Stands b (handle_named q)
+  pub stands_parent : Fit b → (q : Code) → here.parent ≡ Some q → Stands b (handle_named q)
   stands_parent F q e =
       let k = slot_held here (sum_up 8 (interface_at b) h.unit) (circle_of (node_at b) (spot h)) S.present in
       let n = node_seen here (sum_up 8 (interface_at b) h.unit) k.0 in
@@ -98,7 +97,7 @@ module _ (b : List ℕ) (h at under : Handle) (links : ℕ) (G : Going b h at un
     parent_now : parent_in (node_named (view b) at) ≡ parent_named n.parent
     parent_now = parent_seen b at G.stands ∙ ap (λ (x : Node). parent_named x.parent) (sym e)
 
-    pub going_ends : n.parent ≡ Outermost → (r : Outer) → handle_named r.node ≡ at → handle_named r.under ≡ under → r.links ≡ links → Outers b h r
+    pub going_ends : n.parent ≡ None → (r : Outer) → handle_named r.node ≡ at → handle_named r.under ≡ under → r.links ≡ links → Outers b h r
     going_ends q r x y z =
         let top = parent_now ∙ ap parent_named q in
         record {
@@ -109,7 +108,7 @@ module _ (b : List ℕ) (h at under : Handle) (links : ℕ) (G : Going b h at un
           stands = rw x G.stands;
         }
 
-    pub going_on : links < 512 → (q : Code) → n.parent ≡ Inside q → Going b h (handle_named q) at (links + 1)
+    pub going_on : links < 512 → (q : Code) → n.parent ≡ Some q → Going b h (handle_named q) at (links + 1)
     going_on l q p =
         let up = parent_now ∙ ap parent_named p in
         let back : suc (512 - (links + 1)) ≡ 512 - links = omega arith in

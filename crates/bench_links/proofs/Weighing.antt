@@ -1,8 +1,8 @@
 -- Numbers held higher than they are, read out: a sound bench's sums, speeds and values are small, so what stands for them fits an `i64`. Assumes nothing.
+use Rattle.std.specs.Prelude.{None}
 use Prim.Native.Nat.{ℕ, zero, suc, ◌+◌, ◌-◌, ◌<◌, ◌≤◌, ◌^◌}
 use mathlib.Core.Path.{◌≡◌, ap, sym, ◌∙◌}
 use mathlib.Core.Bool.{Bool, true, false, cond}
-use mathlib.Core.Option.{none}
 use mathlib.Core.List.{List}
 use native.Mathlib.Omega.{arith}
 use lib.Dec.{ltb}
@@ -36,7 +36,7 @@ lowered_fits x zero l h = record { sfits = omega arith }
 lowered_fits x (suc c) l h = either (ltb x (suc c)) (suc c - suc x) (x - suc c) (omega arith) (omega arith)
 
 -- ---- interfaces without a parent
-module _ (b : List ℕ) (F : Fit b) (u : ℕ) (lu : u < 8) (free : (interface (view b) u).parent ≡ none) (f : Interface) (e : f ≡ interface_at b u) where
+module _ (b : List ℕ) (F : Fit b) (u : ℕ) (lu : u < 8) (free : (interface (view b) u).parent ≡ None) (f : Interface) (e : f ≡ interface_at b u) where
   pub sum_seen : off 4611686018427387904 f.sum ≡ (interface (view b) u).sum
   sum_seen = ap (λ (x : Interface). off 4611686018427387904 x.sum) e ∙ sym (ap (λ (x : plain.Interface). x.sum) (interface_in_lem (get_or b 0 0) (interface_at b) (node_at b) u lu))
 

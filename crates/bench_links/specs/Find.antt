@@ -1,14 +1,11 @@
 -- What finding a node by its handle says. Assumes nothing.
-use Rattle.std.specs.Prelude.{ℕ, ◌+◌, ◌*◌, ◌<◌, ◌≡◌, Bool, true, false, List}
-use Rattle.std.proofs.Math.Option.{none}
+use Rattle.std.specs.Prelude.{None, Option, Some, ℕ, ◌+◌, ◌*◌, ◌<◌, ◌≡◌, Bool, true, false, List}
 use Rattle.bench_words.specs.Store.{node_at, interface_at}
 use Rattle.kinds.specs.declared.Class.{Class}
 use Rattle.kinds.specs.declared.Class.TheVariants.{Absent, Blossom, Defect}
 use Rattle.ledger_spec.specs.Bench.{Handle}
 use Rattle.ledger_spec.specs.Look.{node_named}
 use Rattle.bench_views.specs.View.{view, slot_seen, sum_up, circle_of}
-use Rattle.bench_links.specs.declared.Found.{Found}
-use Rattle.bench_links.specs.declared.Found.TheVariants.{At, Stale}
 
 abbrev pub absent_of : Class → Bool
 absent_of Absent = true
@@ -34,6 +31,6 @@ pub record Held (b : List ℕ) (h : Handle) (k : ℕ) : Type 0 where
   pub stands : Stands b h
 
 -- the ledger's node by a handle, or none
-abbrev pub Finds : List ℕ → Handle → Found → Type 0
-Finds b h (At k) = Held b h k
-Finds b h Stale = node_named (view b) h ≡ none
+abbrev pub Finds : List ℕ → Handle → Option ℕ → Type 0
+Finds b h (Some k) = Held b h k
+Finds b h None = node_named (view b) h ≡ None

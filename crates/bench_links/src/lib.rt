@@ -2,7 +2,6 @@
 // Finding nodes: a handle to its slot, up the parents to the outermost blossom, whether two nodes stand in one tree, and a node's value.
 // Everything here only reads. Positions are 64 * interface + slot. Assumes nothing.
 ghost use Rattle.std.specs.Prelude.{◌≡◌, ◌<◌};
-ghost use Rattle.std.proofs.Math.Option.{none};
 ghost use Rattle.ledger_spec.specs.Named.{handle_named};
 ghost use Rattle.ledger_spec.specs.Look.{interface, node_named};
 ghost use Rattle.ledger_spec.specs.Tests.{foreign};
@@ -16,55 +15,44 @@ ghost use Rattle.bench_links.specs.Find.{absent_of, Stands, Finds};
 ghost use Rattle.bench_links.specs.Outer.{Outers};
 
 use bench_words::{Interface, Node, WORDS};
-use kinds::{Class, Handle, Parent};
-
-// The position of the present node that a handle names.
-#[derive(Clone, Copy)]
-pub enum Found {
-    At(usize),
-    Stale,
-}
+use kinds::{Class, Handle};
 
 pub fn is_absent(c: Class) -> bool
     ensures { result ≡ absent_of c }
 {
-    match c {
-        Class::Absent => true,
-        Class::Blossom => false,
-        Class::Defect(_) => false,
-    }
+    c == Class::Absent
 }
 
 // Any handle at all: one out of range, of an empty slot or with another serial is stale.
-pub fn find(b: &[u64; WORDS], h: Handle) -> Found
+pub fn find(b: &[u64; WORDS], h: Handle) -> Option<usize>
     requires { Canon b.now }
     ensures { Finds b.now (handle_named h) result }
 {
     if 8 <= h.unit {
-        return Found::Stale;
+        return None;
     }
     if 64 <= h.slot {
-        return Found::Stale;
+        return None;
     }
     let k = (h.unit as usize) * 64 + (h.slot as usize);
     let n = bench_words::load_node(b, k);
     let class = n.class;
     if is_absent(class) {
-        return Found::Stale;
+        return None;
     }
     if n.serial.0 != h.serial.0 {
-        return Found::Stale;
+        return None;
     }
-    Found::At(k)
+    Some(k)
 }
 
 // Any word at all, as a packed handle.
-pub fn find_word(b: &[u64; WORDS], w: u64) -> Found
+pub fn find_word(b: &[u64; WORDS], w: u64) -> Option<usize>
     requires { Canon b.now }
     ensures { Finds b.now (hand_given w) result }
 {
     if bench_words::PAST_HANDLES <= w {
-        return Found::Stale;
+        return None;
     }
     find(b, bench_words::handle_of(w))
 }
@@ -85,30 +73,27 @@ pub fn outermost(b: &[u64; WORDS], h: Handle) -> Outer
 {
     let mut at = h;
     let mut under = h;
-    let mut links: u64 = 0;
-    while links < 512 {
+    for links in 0..512 {
         let k = (at.unit as usize) * 64 + (at.slot as usize);
         let n = bench_words::load_node(b, k);
-        let parent = n.parent;
-        match parent {
-            Parent::Outermost => {
+        match n.parent {
+            None => {
                 return Outer {
                     node: at,
                     under,
                     links,
                 };
             }
-            Parent::Inside(q) => {
+            Some(q) => {
                 under = at;
                 at = q;
-                links = links + 1;
             }
         }
     }
     Outer {
         node: at,
         under,
-        links,
+        links: 512,
     }
 }
 
@@ -147,7 +132,7 @@ pub fn value(b: &[u64; WORDS], h: Handle) -> i64
 pub fn sum(b: &[u64; WORDS], unit: usize) -> i64
     requires fit { Fit b.now }
     requires unit_bound { unit < 8 }
-    requires unit_value { (interface (view b.now) unit).parent ≡ none }
+    requires unit_value { (interface (view b.now) unit).parent ≡ None }
     ensures { result ≡ (interface (view b.now) unit).sum }
 {
     let f = bench_words::load_interface(b, unit);
@@ -158,7 +143,7 @@ pub fn sum(b: &[u64; WORDS], unit: usize) -> i64
 pub fn speed(b: &[u64; WORDS], unit: usize) -> i64
     requires fit { Fit b.now }
     requires unit_bound { unit < 8 }
-    requires unit_value { (interface (view b.now) unit).parent ≡ none }
+    requires unit_value { (interface (view b.now) unit).parent ≡ None }
     ensures { result ≡ (interface (view b.now) unit).speed }
 {
     let f = bench_words::load_interface(b, unit);

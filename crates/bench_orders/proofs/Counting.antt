@@ -1,8 +1,8 @@
 -- Along the interfaces of a tree: what is left of the slots is the first interface's and then the others', so a count, an index and a place fall
 -- into one interface after the other. Assumes nothing.
+use Rattle.std.specs.Prelude.{None, Option, Some}
 use Prim.Native.Nat.{ℕ, ◌+◌, ◌-◌, ◌*◌, ◌/◌, ◌%◌, ◌<◌, ◌≤◌}
 use mathlib.Core.Path.{◌≡◌, ap, ap₂, sym, ◌∙◌, subst}
-use mathlib.Core.Option.{Option, none}
 use mathlib.Core.List.{List, [], ◌∷◌}
 use native.Mathlib.Numerals.{add-one}
 use native.Mathlib.Omega.{arith}
@@ -19,9 +19,7 @@ use Rattle.bench_views.specs.View.{view}
 use Rattle.bench_views.specs.Fit.{Fit}
 use Rattle.bench_views.proofs.Views.{view_count}
 use Rattle.bench_orders.specs.declared.Order.{Order}
-use Rattle.bench_orders.specs.declared.Spot.{Spot}
-use Rattle.bench_orders.specs.declared.Spot.TheVariants.{Slot, Past}
-use Rattle.bench_orders.specs.Order.{Lists, AtIndex, Locates}
+use Rattle.bench_orders.specs.Order.{listed, Lists, AtIndex, Locates}
 use Rattle.bench_orders.proofs.Trees.{tree_low}
 
 -- ---- one turn along the order
@@ -69,18 +67,28 @@ module _ (b : List ℕ) (F : Fit b) (unit : ℕ) (lu : unit < 8) (o : Order) (L 
       length_more = ap length left_more ∙ gather_length (view b) u (drop (i + 1) (tree 8 (view b) unit)) ∙ ap (λ (x : ℕ). x + length (left (i + 1))) used_seen
 
       -- an index into this interface, and one past it
-      pub at_here : (rest : ℕ) → rest < f.used → get_or (left i) rest (0, 0, none) ≡ (u, rest, slot_of (view b) u rest)
-      at_here rest m = ap (λ (ts : List (ℕ × ℕ × Option Node)). get_or ts rest (0, 0, none)) left_more
-          ∙ gather_at (view b) u (drop (i + 1) (tree 8 (view b) unit)) (0, 0, none) rest (omega (arith, used_seen))
+      pub at_here : (rest : ℕ) → rest < f.used → get_or (left i) rest (0, 0, None) ≡ (u, rest, slot_of (view b) u rest)
+      at_here rest m = ap (λ (ts : List (ℕ × ℕ × Option Node)). get_or ts rest (0, 0, None)) left_more
+          ∙ gather_at (view b) u (drop (i + 1) (tree 8 (view b) unit)) (0, 0, None) rest (omega (arith, used_seen))
 
-      pub at_more : (rest : ℕ) → f.used ≤ rest → get_or (left i) rest (0, 0, none) ≡ get_or (left (i + 1)) (rest - f.used) (0, 0, none)
+      pub at_more : (rest : ℕ) → f.used ≤ rest → get_or (left i) rest (0, 0, None) ≡ get_or (left (i + 1)) (rest - f.used) (0, 0, None)
       at_more rest m =
           let r : rest ≡ length (interface (view b) u).slots + (rest - f.used) = omega (arith, used_seen) in
-          ap₂ (λ (ts : List (ℕ × ℕ × Option Node)) (x : ℕ). get_or ts x (0, 0, none)) left_more r ∙ gather_past (view b) u (drop (i + 1) (tree 8 (view b) unit)) (0, 0, none) (rest - f.used)
+          ap₂ (λ (ts : List (ℕ × ℕ × Option Node)) (x : ℕ). get_or ts x (0, 0, None)) left_more r ∙ gather_past (view b) u (drop (i + 1) (tree 8 (view b) unit)) (0, 0, None) (rest - f.used)
 
       pub index_more : (n : ℕ) (h : Handle) → (u ≡ h.unit → ⊥) → index_in (left i) n h ≡ index_in (left (i + 1)) (n + f.used) h
       index_more n h ne = ap (λ (ts : List (ℕ × ℕ × Option Node)). index_in ts n h) left_more ∙ index_past (view b) (drop (i + 1) (tree 8 (view b) unit)) n h u ne
           ∙ ap (λ (x : ℕ). index_in (left (i + 1)) (n + x) h) used_seen
+
+-- ---- one turn along what `Order::listed` gives
+module _ (b : List ℕ) (unit : ℕ) (o : Order) (L : Lists b unit o) (us : List ℕ) (e : us ≡ listed o) where
+  pub listed_many : length us ≡ o.count
+  listed_many = ap length e ∙ length-take-le o.count o.units (omega (arith, L.few, L.long))
+
+  pub listed_at : (i : ℕ) → i < length us → (i < o.count) × (get_or us i 0 ≡ get_or o.units i 0)
+  listed_at i l =
+      let m : i < o.count = omega (arith, l, listed_many) in
+      (m, ap (λ (xs : List ℕ). get_or xs i 0) e ∙ get_or-take o.count o.units i 0 m)
 
 -- ---- what holds at each turn
 pub record Counted (b : List ℕ) (unit i n : ℕ) : Type 0 where
@@ -89,7 +97,7 @@ pub record Counted (b : List ℕ) (unit i n : ℕ) : Type 0 where
 
 -- the index is what is left of it among the slots that are left
 pub record Sought (b : List ℕ) (unit index i rest : ℕ) : Type 0 where
-  pub at : get_or (slots_left b unit 0) index (0, 0, none) ≡ get_or (slots_left b unit i) rest (0, 0, none)
+  pub at : get_or (slots_left b unit 0) index (0, 0, None) ≡ get_or (slots_left b unit i) rest (0, 0, None)
   pub count : length (slots_left b unit 0) + rest ≡ index + length (slots_left b unit i)
 
 pub record Passed (b : List ℕ) (unit : ℕ) (h : Handle) (i n : ℕ) : Type 0 where
@@ -139,9 +147,9 @@ module _ (b : List ℕ) (F : Fit b) (unit : ℕ) (lu : unit < 8) (o : Order) (L 
   index_ends h i n l P = sym (P.index ∙ ap (λ (ts : List (ℕ × ℕ × Option Node)). index_in ts n h) (left_none b F unit lu o L i l))
 
 -- ---- by what was located
-module _ (b : List ℕ) (unit index : ℕ) {r : Spot} (f : Locates b unit index r) where
-  pub located : (k : ℕ) → r ≡ Slot k → AtIndex b unit index k
-  located k e = subst (λ (x : Spot). Locates b unit index x) e f
+module _ (b : List ℕ) (unit index : ℕ) {r : Option ℕ} (f : Locates b unit index r) where
+  pub located : (k : ℕ) → r ≡ Some k → AtIndex b unit index k
+  located k e = subst (λ (x : Option ℕ). Locates b unit index x) e f
 
-  pub located_past : r ≡ Past → length (slots_of (view b) unit) ≤ index
-  located_past e = subst (λ (x : Spot). Locates b unit index x) e f
+  pub located_past : r ≡ None → length (slots_of (view b) unit) ≤ index
+  located_past e = subst (λ (x : Option ℕ). Locates b unit index x) e f

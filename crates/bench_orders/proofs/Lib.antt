@@ -1,3 +1,4 @@
 pub mod Trees
 pub mod Listing
 pub mod Counting
+pub mod Listed

@@ -1,7 +1,7 @@
 -- An interface without halves is listed alone; else the left half's list, the right half's and itself. Assumes nothing.
+use Rattle.std.specs.Prelude.{None, Some}
 use Prim.Native.Nat.{ℕ, ◌+◌, ◌-◌, ◌<◌, ◌≤◌}
 use mathlib.Core.Path.{◌≡◌, refl, ap, sym, ◌∙◌}
-use mathlib.Core.Option.{none, some}
 use mathlib.Core.List.{List, [], ◌∷◌, ◌++◌, append_assoc}
 use native.Mathlib.Omega.{arith}
 use native.Mathlib.Numerals.{add-one}
@@ -31,7 +31,7 @@ module _ (b : List ℕ) (u : ℕ) (lu : u < 8) (f : Interface) (e : f ≡ interf
   alone z = tree_leaf 7 (view b) u (halves_seen_lem ∙ rw (eq-eqb f.left 0 z))
 
   module _ (z : f.left ≡ 0 → ⊥) (F : Fit b) where
-    forked : (interface (view b) u).halves ≡ some (f.left - 1, f.right - 1)
+    forked : (interface (view b) u).halves ≡ Some (f.left - 1, f.right - 1)
     forked = halves_seen_lem ∙ rw (ne_eqb f.left 0 z)
 
     pub right_there : 0 < f.right
@@ -66,5 +66,5 @@ list_whole b u o r l z k x = record {
   long = x.long ∙ k;
 }
 
-pub listable : (b : List ℕ) (u : ℕ) → Fit b → u < 8 → (interface (view b) u).parent ≡ none → length (tree 8 (view b) u) ≤ 8
+pub listable : (b : List ℕ) (u : ℕ) → Fit b → u < 8 → (interface (view b) u).parent ≡ None → length (tree 8 (view b) u) ≤ 8
 listable b u F l free = tree_few (view b) F.frame u l free

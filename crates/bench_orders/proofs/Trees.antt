@@ -1,9 +1,9 @@
 -- The tree under an interface: halves have lower numbers, so more steps than its number change nothing, and each interface is listed once, so that
 -- there are at most eight. Assumes nothing.
+use Rattle.std.specs.Prelude.{None, Option, Some}
 use Prim.Native.Nat.{ℕ, zero, suc, ◌+◌, ◌<◌, ◌≤◌}
 use mathlib.Core.Path.{◌≡◌, refl, ap, ap₂, sym, ◌∙◌}
 use mathlib.Core.Bool.{Bool, true, false}
-use mathlib.Core.Option.{Option, none, some}
 use mathlib.Core.List.{List, [], ◌∷◌, ◌++◌}
 use native.Mathlib.Omega.{arith}
 use lib.Dec.{eqb}
@@ -18,10 +18,10 @@ use Rattle.ledger_spec.proofs.Trees.{along, tree_leaf, tree_fork, tree_sum_lem}
 use Rattle.ledger_spec.proofs.Gathered.{in_tree}
 
 module _ (b : Bench) (F : Frame b) where
-  pub left_low : (u : ℕ) (lr : ℕ × ℕ) → (interface b u).halves ≡ some lr → lr.0 < u
+  pub left_low : (u : ℕ) (lr : ℕ × ℕ) → (interface b u).halves ≡ Some lr → lr.0 < u
   left_low u lr e = (F.rising lr.0 u (F.left u lr.0 lr.1 e)).0
 
-  pub right_low : (u : ℕ) (lr : ℕ × ℕ) → (interface b u).halves ≡ some lr → lr.1 < u
+  pub right_low : (u : ℕ) (lr : ℕ × ℕ) → (interface b u).halves ≡ Some lr → lr.1 < u
   right_low u lr e = (F.rising lr.1 u (F.right u lr.0 lr.1 e)).0
 
   -- steps enough
@@ -30,20 +30,20 @@ module _ (b : Bench) (F : Frame b) where
   tree_more zero u l = go (interface b u).halves refl
     where
       go : (q : Option (ℕ × ℕ)) → (interface b u).halves ≡ q → tree 1 b u ≡ u ∷ []
-      go none e = tree_leaf 0 b u e
-      go (some lr) e = absurd (omega (arith, l, left_low u lr e))
+      go None e = tree_leaf 0 b u e
+      go (Some lr) e = absurd (omega (arith, l, left_low u lr e))
   tree_more (suc k) u l = go (interface b u).halves refl (tree_more k)
     where
       go : (q : Option (ℕ × ℕ)) → (interface b u).halves ≡ q → ((w : ℕ) → w ≤ k → tree (suc k) b w ≡ tree k b w) → tree (suc (suc k)) b u ≡ tree (suc k) b u
-      go none e ih = tree_leaf (suc k) b u e ∙ sym (tree_leaf k b u e)
-      go (some lr) e ih =
+      go None e ih = tree_leaf (suc k) b u e ∙ sym (tree_leaf k b u e)
+      go (Some lr) e ih =
           let x = left_low u lr e in
           let y = right_low u lr e in
           tree_fork (suc k) b u lr e
           ∙ ap₂ (λ (s t : List ℕ). (s ++ t) ++ (u ∷ [])) (ih lr.0 (omega arith)) (ih lr.1 (omega arith))
           ∙ sym (tree_fork k b u lr e)
 
-  pub tree_halves : (u : ℕ) (lr : ℕ × ℕ) → u < 8 → (interface b u).halves ≡ some lr → tree 8 b u ≡ (tree 8 b lr.0 ++ tree 8 b lr.1) ++ (u ∷ [])
+  pub tree_halves : (u : ℕ) (lr : ℕ × ℕ) → u < 8 → (interface b u).halves ≡ Some lr → tree 8 b u ≡ (tree 8 b lr.0 ++ tree 8 b lr.1) ++ (u ∷ [])
   tree_halves u lr l e =
       let x = left_low u lr e in
       let y = right_low u lr e in
@@ -78,7 +78,7 @@ module _ (b : Bench) (F : Frame b) where
   pos_eq : {m n : ℕ} → pos m ≡ pos n → m ≡ n
   pos_eq e = cc
 
-  pub tree_few : (u : ℕ) → u < 8 → (interface b u).parent ≡ none → length (tree 8 b u) ≤ 8
+  pub tree_few : (u : ℕ) → u < 8 → (interface b u).parent ≡ None → length (tree 8 b u) ≤ 8
   tree_few u l free =
       let k = few 8 (λ w. eqb (top b w) u) in
       let e : length (tree 8 b u) ≡ k.0 = pos_eq (sym (along_one (tree 8 b u)) ∙ tree_sum_lem b F (λ w. pos 1) u l free ∙ k.1) in

@@ -1,13 +1,10 @@
 -- The interfaces of a tree in the order of the index, and where an index leads. Assumes nothing.
-use Rattle.std.specs.Prelude.{ℕ, ◌+◌, ◌/◌, ◌%◌, ◌<◌, ◌≤◌, ◌≡◌, List, ◌++◌, length, take, get_or}
-use Rattle.std.proofs.Math.Option.{none}
+use Rattle.std.specs.Prelude.{None, Option, Some, ℕ, ◌+◌, ◌/◌, ◌%◌, ◌<◌, ◌≤◌, ◌≡◌, List, ◌++◌, length, take, get_or}
 use Rattle.bench_words.specs.Store.{interface_at}
 use Rattle.ledger_spec.specs.Look.{slot_of, tree}
 use Rattle.ledger_spec.specs.Reads.{slots_of}
 use Rattle.bench_views.specs.View.{view}
 use Rattle.bench_orders.specs.declared.Order.{Order}
-use Rattle.bench_orders.specs.declared.Spot.{Spot}
-use Rattle.bench_orders.specs.declared.Spot.TheVariants.{Slot, Past}
 
 abbrev pub listed : Order → List ℕ
 listed o = take o.count o.units
@@ -27,10 +24,10 @@ pub record Lists (b : List ℕ) (unit : ℕ) (o : Order) : Type 0 where
 -- position k is what stands at an index of the tree
 pub record AtIndex (b : List ℕ) (unit index k : ℕ) : Type 0 where
   pub inside : index < length (slots_of (view b) unit)
-  pub at : get_or (slots_of (view b) unit) index (0, 0, none) ≡ (k / 64, k % 64, slot_of (view b) (k / 64) (k % 64))
+  pub at : get_or (slots_of (view b) unit) index (0, 0, None) ≡ (k / 64, k % 64, slot_of (view b) (k / 64) (k % 64))
   pub low : k / 64 < 8
   pub used : k % 64 < (interface_at b (k / 64)).used
 
-abbrev pub Locates : List ℕ → ℕ → ℕ → Spot → Type 0
-Locates b unit index (Slot k) = AtIndex b unit index k
-Locates b unit index Past = length (slots_of (view b) unit) ≤ index
+abbrev pub Locates : List ℕ → ℕ → ℕ → Option ℕ → Type 0
+Locates b unit index (Some k) = AtIndex b unit index k
+Locates b unit index None = length (slots_of (view b) unit) ≤ index

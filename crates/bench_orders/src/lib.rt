@@ -2,7 +2,6 @@
 // The order of the index: a tree's interfaces from its left half to its right half to itself, its slots counted, an index to its slot and back.
 // Everything here only reads. Assumes nothing.
 ghost use Rattle.std.specs.Prelude.{◌≡◌, ◌∷◌, [], ◌+◌, ◌<◌, ◌≤◌, length};
-ghost use Rattle.std.proofs.Math.Option.{none};
 ghost use Rattle.ledger_spec.specs.Look.{interface, tree};
 ghost use Rattle.ledger_spec.specs.Named.{handle_named};
 ghost use Rattle.ledger_spec.specs.Reads.{slots_of};
@@ -10,7 +9,7 @@ ghost use Rattle.ledger_spec.specs.Check.{index_in};
 ghost use Rattle.bench_views.specs.Fit.{Fit};
 ghost use Rattle.bench_views.specs.View.{view};
 ghost use Rattle.bench_links.specs.Find.{Stands};
-ghost use Rattle.bench_orders.specs.Order.{Longer, Lists, Locates};
+ghost use Rattle.bench_orders.specs.Order.{listed, Longer, Lists, Locates};
 
 use bench_words::WORDS;
 use kinds::{Handle, NodeIndex};
@@ -20,6 +19,16 @@ use kinds::{Handle, NodeIndex};
 pub struct Order {
     pub units: [usize; 8],
     pub count: usize,
+}
+
+impl Order {
+    // The interfaces in the order of the index.
+    pub fn listed(&self) -> &[usize]
+        requires { self.now.count ≤ length self.now.units }
+        ensures { result.now ≡ listed self.now }
+    {
+        &self.units[..self.count]
+    }
 }
 
 fn push(o: Order, unit: usize) -> Order
@@ -54,7 +63,7 @@ fn list(b: &[u64; WORDS], unit: usize, o: Order) -> Order
 pub fn order_of(b: &[u64; WORDS], unit: usize) -> Order
     requires fit { Fit b.now }
     requires unit_bound { unit < 8 }
-    requires unit_value { (interface (view b.now) unit).parent ≡ none }
+    requires unit_value { (interface (view b.now) unit).parent ≡ None }
     ensures { Lists b.now unit result }
 {
     let units = [0usize; 8];
@@ -65,68 +74,52 @@ pub fn order_of(b: &[u64; WORDS], unit: usize) -> Order
 pub fn count(b: &[u64; WORDS], unit: usize) -> u64
     requires fit { Fit b.now }
     requires unit_bound { unit < 8 }
-    requires unit_value { (interface (view b.now) unit).parent ≡ none }
+    requires unit_value { (interface (view b.now) unit).parent ≡ None }
     ensures { result ≡ length (slots_of (view b.now) unit) }
 {
     let o = order_of(b, unit);
     let mut total: u64 = 0;
-    let mut i: usize = 0;
-    while i < o.count {
-        let u = o.units[i];
-        let f = bench_words::load_interface(b, u);
-        total = total + f.used;
-        i = i + 1;
+    for u in o.listed() {
+        let f = bench_words::load_interface(b, *u);
+        total += f.used;
     }
     total
 }
 
-// The position at an index, or that the index is past the count.
-#[derive(Clone, Copy)]
-pub enum Spot {
-    Slot(usize),
-    Past,
-}
-
-pub fn locate(b: &[u64; WORDS], unit: usize, index: usize) -> Spot
+pub fn locate(b: &[u64; WORDS], unit: usize, index: usize) -> Option<usize>
     requires fit { Fit b.now }
     requires unit_bound { unit < 8 }
-    requires unit_value { (interface (view b.now) unit).parent ≡ none }
+    requires unit_value { (interface (view b.now) unit).parent ≡ None }
     ensures { Locates b.now unit index result }
 {
     let o = order_of(b, unit);
     let mut rest = index as u64;
-    let mut i: usize = 0;
-    while i < o.count {
-        let u = o.units[i];
-        let f = bench_words::load_interface(b, u);
+    for u in o.listed() {
+        let f = bench_words::load_interface(b, *u);
         if rest < f.used {
-            return Spot::Slot(u * 64 + (rest as usize));
+            return Some(*u * 64 + (rest as usize));
         }
-        rest = rest - f.used;
-        i = i + 1;
+        rest -= f.used;
     }
-    Spot::Past
+    None
 }
 
 // The index of a present node in a tree; 0 for a node of another tree.
 pub fn index_of(b: &[u64; WORDS], unit: usize, h: Handle) -> NodeIndex
     requires fit { Fit b.now }
     requires unit_bound { unit < 8 }
-    requires unit_value { (interface (view b.now) unit).parent ≡ none }
+    requires unit_value { (interface (view b.now) unit).parent ≡ None }
     requires stands { Stands b.now (handle_named h) }
     ensures { result.0 ≡ index_in (slots_of (view b.now) unit) 0 (handle_named h) }
 {
     let o = order_of(b, unit);
     let mut passed: u64 = 0;
-    let mut i: usize = 0;
-    while i < o.count {
-        let u = o.units[i];
-        if u == (h.unit as usize) {
+    for u in o.listed() {
+        if *u == (h.unit as usize) {
             return NodeIndex((passed + (h.slot as u64)) as u32);
         }
-        let f = bench_words::load_interface(b, u);
-        passed = passed + f.used;
-        i = i + 1;
+        let f = bench_words::load_interface(b, *u);
+        passed += f.used;
     }
     NodeIndex(0)
 }

@@ -1,9 +1,9 @@
 -- The ledger's node with a serial: the first slot that holds it; serials are all different, so any slot that holds it is that one. Assumes nothing.
+use Rattle.std.specs.Prelude.{None, Option, Some}
 use Prim.Native.Nat.{ℕ}
 use mathlib.Core.Path.{◌≡◌, refl, ap, sym, ◌∙◌}
 use mathlib.Core.Logic.{◌⊎◌, inl, inr}
 use mathlib.Core.Bool.{Bool, true, false}
-use mathlib.Core.Option.{Option, none, some}
 use mathlib.Core.List.{List, [], ◌∷◌}
 use lib.Dec.{eqb}
 use borrow.Author.Tests.{eq-eqb, ne_eqb, eqb-true, eqb-false}
@@ -23,15 +23,15 @@ abbrev Entry : Type 0
 Entry = ℕ × ℕ × Option Node
 
 module _ (k : ℕ) where
-  seek_empty : (t : Entry) (ts : List Entry) → t.2 ≡ none → seek k (t ∷ ts) ≡ seek k ts
+  seek_empty : (t : Entry) (ts : List Entry) → t.2 ≡ None → seek k (t ∷ ts) ≡ seek k ts
   unfolding seek
   seek_empty t ts e = rw (e, seek)
 
-  seek_here : (t : Entry) (n : Node) (ts : List Entry) → t.2 ≡ some n → n.serial ≡ k → seek k (t ∷ ts) ≡ handle t.0 t.1 k
+  seek_here : (t : Entry) (n : Node) (ts : List Entry) → t.2 ≡ Some n → n.serial ≡ k → seek k (t ∷ ts) ≡ handle t.0 t.1 k
   unfolding seek
   seek_here t n ts e q = rw (e, eq-eqb k n.serial (sym q), seek)
 
-  seek_on : (t : Entry) (n : Node) (ts : List Entry) → t.2 ≡ some n → (n.serial ≡ k → ⊥) → seek k (t ∷ ts) ≡ seek k ts
+  seek_on : (t : Entry) (n : Node) (ts : List Entry) → t.2 ≡ Some n → (n.serial ≡ k → ⊥) → seek k (t ∷ ts) ≡ seek k ts
   unfolding seek
   seek_on t n ts e q = rw (e, ne_eqb k n.serial (λ z. q (sym z)), seek)
 
@@ -40,19 +40,19 @@ module _ (k : ℕ) where
     entry : Entry
     node : Node
     among : In entry ts
-    holds : entry.2 ≡ some node
+    holds : entry.2 ≡ Some node
     serial : node.serial ≡ k
     found : seek k ts ≡ handle entry.0 entry.1 k
 
   record Miss (ts : List Entry) : Type 0 where
-    lacks : (t : Entry) (n : Node) → In t ts → t.2 ≡ some n → n.serial ≡ k → ⊥
+    lacks : (t : Entry) (n : Node) → In t ts → t.2 ≡ Some n → n.serial ≡ k → ⊥
     found : seek k ts ≡ handle 8 0 k
 
-  later : (t : Entry) (ts : List Entry) → seek k (t ∷ ts) ≡ seek k ts → ((n : Node) → t.2 ≡ some n → n.serial ≡ k → ⊥) → Hit ts ⊎ Miss ts → Hit (t ∷ ts) ⊎ Miss (t ∷ ts)
+  later : (t : Entry) (ts : List Entry) → seek k (t ∷ ts) ≡ seek k ts → ((n : Node) → t.2 ≡ Some n → n.serial ≡ k → ⊥) → Hit ts ⊎ Miss ts → Hit (t ∷ ts) ⊎ Miss (t ∷ ts)
   later t ts e w (inl h) = inl (record { entry = h.entry; node = h.node; among = there h.among; holds = h.holds; serial = h.serial; found = e ∙ h.found })
   later t ts e w (inr m) = inr (record { lacks = λ s n i. go s n (in_cases i); found = e ∙ m.found })
     where
-      go : (s : Entry) (n : Node) → (s ≡ t) ⊎ In s ts → s.2 ≡ some n → n.serial ≡ k → ⊥
+      go : (s : Entry) (n : Node) → (s ≡ t) ⊎ In s ts → s.2 ≡ Some n → n.serial ≡ k → ⊥
       go s n (inl q) f = w n (ap (λ (x : Entry). x.2) (sym q) ∙ f)
       go s n (inr i) f = m.lacks s n i f
 
@@ -62,8 +62,8 @@ module _ (k : ℕ) where
   search_all (t ∷ ts) = go t.2 refl (search_all ts)
     where
       go : (o : Option Node) → t.2 ≡ o → Hit ts ⊎ Miss ts → Hit (t ∷ ts) ⊎ Miss (t ∷ ts)
-      go none e r = later t ts (seek_empty t ts e) (λ n f q. none_some e f) r
-      go (some n) e r = test (eqb n.serial k) refl
+      go None e r = later t ts (seek_empty t ts e) (λ n f q. none_some e f) r
+      go (Some n) e r = test (eqb n.serial k) refl
         where
           test : (c : Bool) → eqb n.serial k ≡ c → Hit (t ∷ ts) ⊎ Miss (t ∷ ts)
           test true c =
@@ -74,7 +74,7 @@ module _ (k : ℕ) where
               later t ts (seek_on t n ts e q) (λ m f z. q (ap (λ (x : Node). x.serial) (some_eq e f) ∙ z)) r
 
 module _ (b : Bench) (k : ℕ) where
-  pub named_none : ((u s : ℕ) (n : Node) → slot_of b u s ≡ some n → n.serial ≡ k → ⊥) → named b k ≡ handle 8 0 k
+  pub named_none : ((u s : ℕ) (n : Node) → slot_of b u s ≡ Some n → n.serial ≡ k → ⊥) → named b k ≡ handle 8 0 k
   unfolding named
   named_none w = go (search_all k (gather b units))
     where
@@ -82,7 +82,7 @@ module _ (b : Bench) (k : ℕ) where
       go (inl h) = absurd (w h.entry.0 h.entry.1 h.node (sym (in_gather b units h.entry h.among).holds ∙ h.holds) h.serial)
       go (inr m) = m.found
 
-  pub named_one : Frame b → Knit (slot_of b) b.next (top b) → (u s : ℕ) (n : Node) → slot_of b u s ≡ some n → n.serial ≡ k → named b k ≡ handle u s k
+  pub named_one : Frame b → Knit (slot_of b) b.next (top b) → (u s : ℕ) (n : Node) → slot_of b u s ≡ Some n → n.serial ≡ k → named b k ≡ handle u s k
   unfolding named
   named_one F K u s n e q = go (search_all k (gather b units))
     where

@@ -9,7 +9,6 @@ ghost use Rattle.bench_views.specs.Fit.{Fit};
 ghost use Rattle.bench_views.specs.View.{view};
 ghost use Rattle.bench_serials.specs.Seek.{handle, Scans, ScansAll, Seeks, hints_after};
 
-use bench_links::Found;
 use bench_words::WORDS;
 use kinds::{Handle, Serial};
 
@@ -32,92 +31,64 @@ fn handle_at(k: usize, serial: Serial) -> Handle
 }
 
 // Looks through the used slots of an interface.
-fn scan_unit(b: &[u64; WORDS], unit: usize, serial: Serial) -> Found
+fn scan_unit(b: &[u64; WORDS], unit: usize, serial: Serial) -> Option<usize>
     requires canon { Canon b.now }
     requires unit_bound { unit < 8 }
     ensures { Scans b.now unit serial.0 result }
 {
     let f = bench_words::load_interface(b, unit);
-    let mut s: u64 = 0;
-    while s < f.used {
-        let found = bench_links::find(
-            b,
-            Handle {
-                unit: unit as u8,
-                slot: s as u8,
-                serial,
-            },
-        );
-        match found {
-            Found::At(k) => {
-                return Found::At(k);
-            }
-            Found::Stale => {
-                s = s + 1;
-            }
+    for s in 0..f.used {
+        let h = Handle {
+            unit: unit as u8,
+            slot: s as u8,
+            serial,
+        };
+        if let Some(k) = bench_links::find(b, h) {
+            return Some(k);
         }
     }
-    Found::Stale
+    None
 }
 
 // Looks through all used slots; a serial that was not given out yet is in none.
-fn scan(b: &[u64; WORDS], serial: Serial) -> Found
+fn scan(b: &[u64; WORDS], serial: Serial) -> Option<usize>
     requires { Fit b.now }
     ensures { ScansAll b.now serial.0 result }
 {
     let next = bench_words::load_next(b);
     if next <= (serial.0 as u64) {
-        return Found::Stale;
+        return None;
     }
-    let mut u: usize = 0;
-    while u < 8 {
-        let found = scan_unit(b, u, serial);
-        match found {
-            Found::At(k) => {
-                return Found::At(k);
-            }
-            Found::Stale => {
-                u = u + 1;
-            }
+    for u in 0..8 {
+        if let Some(k) = scan_unit(b, u, serial) {
+            return Some(k);
         }
     }
-    Found::Stale
+    None
 }
 
 // Looks at position k first.
-fn look(b: &[u64; WORDS], serial: Serial, k: usize) -> Found
+fn look(b: &[u64; WORDS], serial: Serial, k: usize) -> Option<usize>
     requires fit { Fit b.now }
     requires k_bound { k < 512 }
     ensures { Seeks b.now serial.0 result }
 {
-    let hinted = bench_links::find(b, handle_at(k, serial));
-    match hinted {
-        Found::At(p) => Found::At(p),
-        Found::Stale => {
-            let found = scan(b, serial);
-            match found {
-                Found::At(p) => Found::At(p),
-                Found::Stale => Found::Stale,
-            }
-        }
+    if let Some(p) = bench_links::find(b, handle_at(k, serial)) {
+        return Some(p);
     }
+    scan(b, serial)
 }
 
 // The position of the present node with a serial. What is found is the next hint.
-pub fn seek(b: &[u64; WORDS], serial: Serial, hints: &mut [u16; HINTS]) -> Found
+pub fn seek(b: &[u64; WORDS], serial: Serial, hints: &mut [u16; HINTS]) -> Option<usize>
     requires { Fit b.now }
     ensures seeks { Seeks b.now serial.0 result }
     ensures hints_after { hints.new ≡ hints_after hints.old serial.0 result }
 {
     let i = (serial.0 % 512) as usize;
-    let found = look(b, serial, wide(hints[i]) % 512);
-    match found {
-        Found::At(p) => {
-            hints[i] = p as u16;
-            Found::At(p)
-        }
-        Found::Stale => Found::Stale,
-    }
+    let p = look(b, serial, wide(hints[i]) % 512)?;
+    hints[i] = p as u16;
+    Some(p)
 }
 
 // Hints that a node made with this serial stands at position k.
@@ -133,10 +104,9 @@ pub fn named(b: &[u64; WORDS], serial: Serial, hints: &mut [u16; HINTS]) -> Hand
     requires { Fit b.now }
     ensures { handle_named result ≡ named (view b.now) serial.0 }
 {
-    let found = seek(b, serial, hints);
-    match found {
-        Found::At(k) => handle_at(k, serial),
-        Found::Stale => Handle {
+    match seek(b, serial, hints) {
+        Some(k) => handle_at(k, serial),
+        None => Handle {
             unit: 8,
             slot: 0,
             serial,

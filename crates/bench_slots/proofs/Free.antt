@@ -1,17 +1,15 @@
 -- The free slot of the plain ledger, off the words: the used count, or the lowest bit that the map has not; and that the words hold nothing there.
 -- Assumes nothing.
+use Rattle.std.specs.Prelude.{None, Option, Some}
 use Prim.Native.Nat.{ℕ, ◌+◌, ◌*◌, ◌<◌, ◌≤◌}
 use mathlib.Core.Path.{◌≡◌, refl, ap, sym, ◌∙◌, subst}
 use mathlib.Core.Logic.{by_cases}
 use mathlib.Core.Bool.{Bool, true, false, not, true≢false}
-use mathlib.Core.Option.{Option, none}
 use mathlib.Core.List.{List}
 use native.Mathlib.Decide.{dec_lt}
 use native.Mathlib.Omega.{arith}
 use lib.ListN.{length, get_or}
 use Rattle.slot_map.specs.Slots.{bit_at, first_from}
-use Rattle.slot_map.specs.declared.Found.{Found}
-use Rattle.slot_map.specs.declared.Found.TheVariants.{At, Nothing}
 use Rattle.slot_map.proofs.Firsts.{First, first_found, first_lacks, clear_map}
 use Rattle.kinds.specs.declared.Class.{Class}
 use Rattle.kinds.specs.declared.Class.TheVariants.{Absent, Blossom, Defect}
@@ -65,7 +63,7 @@ module _ (b : List ℕ) (C : Canon b) (u : ℕ) (lu : u < 8) where
   few : length slots ≤ 64
   few = subst (λ (n : ℕ). n ≤ 64) (sym count) (C.steady.slots u lu)
 
-  held : (s : ℕ) → s < 64 → is_some (get_or slots s none) ≡ held_in A u s
+  held : (s : ℕ) → s < 64 → is_some (get_or slots s None) ≡ held_in A u s
   held s ls = by_cases (dec_lt s (interface_at b u).used)
       (λ (h : s < (interface_at b u).used). ap (λ (o : Option plain.Node). is_some o) (view_slot (get_or b 0 0) (interface_at b) A u s lu h) ∙ held_seen (A (u * 64 + s)) (sum_up 8 (interface_at b) u) (circle_of A (u * 64 + s)))
       (λ (q : s < (interface_at b u).used → ⊥).
@@ -99,7 +97,7 @@ module _ (b : List ℕ) (C : Canon b) (u : ℕ) (lu : u < 8) where
     bare : free_slot (view b) u < 64 → held_in A u (free_slot (view b) u) ≡ false
     bare l = held_absent (free_bare l)
 
-    free_lowest : (s : ℕ) → At s ≡ first_from (λ s. not (bit_at (map_at b u) s)) 0 64 → s ≡ free_slot (view b) u
+    free_lowest : (s : ℕ) → Some s ≡ first_from (λ s. not (bit_at (map_at b u) s)) 0 64 → s ≡ free_slot (view b) u
     free_lowest s q = by_cases (dec_lt s (free_slot (view b) u))
         (λ (h : s < free_slot (view b) u). absurd (true≢false (sym (below s low h) ∙ not_true (held_in A u s) G.there)))
         (λ (h : s < free_slot (view b) u → ⊥). by_cases (dec_lt (free_slot (view b) u) s)
@@ -112,7 +110,7 @@ module _ (b : List ℕ) (C : Canon b) (u : ℕ) (lu : u < 8) where
         low : s < 64
         low = G.below
 
-    free_nothing : Nothing ≡ first_from (λ s. not (bit_at (map_at b u) s)) 0 64 → 64 ≡ free_slot (view b) u
+    free_nothing : None ≡ first_from (λ s. not (bit_at (map_at b u) s)) 0 64 → 64 ≡ free_slot (view b) u
     free_nothing q = by_cases (dec_lt (free_slot (view b) u) 64)
         (λ (h : free_slot (view b) u < 64).
         absurd (true≢false (sym (not_false (held_in A u (free_slot (view b) u)) (first_lacks (λ t. not (held_in A u t)) 64 0 (sym (q ∙ clear)) (free_slot (view b) u) (omega arith) (omega (arith, h)))) ∙ bare h)))
@@ -126,15 +124,15 @@ module _ (b : List ℕ) (C : Canon b) (u : ℕ) (lu : u < 8) where
     pub next_slot : not f.marks.fills ≡ true → f.used ≡ free_slot (view b) u
     next_slot t = ap (λ (x : Interface). x.used) ef ∙ free_next (ap (λ (x : Interface). x.marks.fills) (sym ef) ∙ not_true f.marks.fills t)
 
-    module _ (t : not f.marks.fills ≡ false) (w : ℕ) (ew : w ≡ map_at b u) (r : Found) (er : r ≡ first_from (λ s. not (bit_at w s)) 0 64) where
+    module _ (t : not f.marks.fills ≡ false) (w : ℕ) (ew : w ≡ map_at b u) (r : Option ℕ) (er : r ≡ first_from (λ s. not (bit_at w s)) 0 64) where
       fills : (interface_at b u).marks.fills ≡ true
       fills = ap (λ (x : Interface). x.marks.fills) (sym ef) ∙ not_false f.marks.fills t
 
       by_map : r ≡ first_from (λ s. not (bit_at (map_at b u) s)) 0 64
       by_map = er ∙ ap (λ (x : ℕ). first_from (λ s. not (bit_at x s)) 0 64) ew
 
-      pub lowest_slot : (s : ℕ) → r ≡ At s → s ≡ free_slot (view b) u
+      pub lowest_slot : (s : ℕ) → r ≡ Some s → s ≡ free_slot (view b) u
       lowest_slot s e = free_lowest fills s (sym e ∙ by_map)
 
-      pub no_slot : r ≡ Nothing → 64 ≡ free_slot (view b) u
+      pub no_slot : r ≡ None → 64 ≡ free_slot (view b) u
       no_slot e = free_nothing fills (sym e ∙ by_map)

@@ -6,7 +6,6 @@ ghost use Rattle.bench_views.specs.Canon.{Canon};
 ghost use Rattle.bench_views.specs.View.{view};
 
 use bench_words::WORDS;
-use slot_map::Found;
 
 // The lowest empty slot where the interface fills, else the one after the used ones; 64 where there is no room.
 pub fn free_slot(b: &[u64; WORDS], unit: usize) -> u8
@@ -22,7 +21,7 @@ pub fn free_slot(b: &[u64; WORDS], unit: usize) -> u8
     let map = bench_words::load_map(b, unit);
     let found = slot_map::lowest_clear(map);
     match found {
-        Found::At(s) => s,
-        Found::Nothing => 64,
+        Some(s) => s,
+        None => 64,
     }
 }

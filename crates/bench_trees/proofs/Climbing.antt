@@ -1,4 +1,5 @@
 -- One turn of the climb: at an interface without a parent it ends, and else it goes on at the parent with one step less. Assumes nothing.
+use Rattle.std.specs.Prelude.{None, Option, Some}
 use Prim.Native.Nat.{ℕ, suc, ◌+◌, ◌-◌, ◌*◌, ◌<◌, ◌≤◌}
 use mathlib.Core.Path.{◌≡◌, refl, ap, sym, ◌∙◌}
 use mathlib.Core.List.{List}
@@ -6,8 +7,6 @@ use native.Mathlib.Omega.{arith}
 use lib.ListN.{get_or}
 use Rattle.bench_words.specs.Store.{node_at, interface_at}
 use Rattle.bench_words.specs.declared.Interface.{Interface}
-use Rattle.bench_words.specs.declared.Up.{Up}
-use Rattle.bench_words.specs.declared.Up.TheVariants.{Top, Under}
 use Rattle.ledger_spec.specs.Look.{interface, climb}
 use Rattle.ledger_spec.proofs.Tops.{climb_none, climb_some}
 use Rattle.bench_views.specs.View.{sum_up, lag_of, view, up_seen}
@@ -25,16 +24,15 @@ pub record Rising (b : List ℕ) (unit u n : ℕ) : Type 0 where
   pub top : climb n (view b) u ≡ climb 8 (view b) unit
 
 module _ (b : List ℕ) (unit u n : ℕ) (R : Rising b unit u n) (f : Interface) (e : f ≡ interface_at b u) where
-  seen : {p : Up} → f.parent ≡ p → (interface (view b) u).parent ≡ up_seen p
+  seen : {p : Option ℕ} → f.parent ≡ p → (interface (view b) u).parent ≡ up_seen p
   seen q = view_parent (get_or b 0 0) (interface_at b) (node_at b) u R.low ∙ ap (λ (x : Interface). up_seen x.parent) (sym e) ∙ ap up_seen q
 
-  pub rising_ends : f.parent ≡ Top → u ≡ climb 8 (view b) unit
+  pub rising_ends : f.parent ≡ None → u ≡ climb 8 (view b) unit
   rising_ends q = sym (climb_none n (view b) u (seen q)) ∙ R.top
 
-  pub rising_on : 0 < n → (p : ℕ) → f.parent ≡ Under p → Rising b unit p (n - 1)
-  rising_on more p q =
-      let back : suc (n - 1) ≡ n = omega arith in
-      record { low = under_eight b u e q; left = omega (arith, R.left); top = sym (climb_some (n - 1) (view b) u p (seen q)) ∙ ap (λ (k : ℕ). climb k (view b) u) back ∙ R.top }
+  pub rising_on : (m : ℕ) → suc m ≡ n → (p : ℕ) → f.parent ≡ Some p → Rising b unit p m
+  rising_on m back p q =
+      record { low = under_eight b u e q; left = omega (arith, R.left); top = sym (climb_some m (view b) u p (seen q)) ∙ ap (λ (k : ℕ). climb k (view b) u) back ∙ R.top }
 
 pub rising_starts : (b : List ℕ) (unit : ℕ) → unit < 8 → Rising b unit unit 8
 rising_starts b unit l = record { low = l; left = omega arith; top = refl }
@@ -56,7 +54,7 @@ module _ (b : List ℕ) (unit t u n : ℕ) (G : Going b unit t u n) (more : 0 < 
   pub little : lag_of f ≤ 1099511627776
   little = omega (arith, bounded u G.steady G.rising.low e, lag_le f)
 
-  pub going_ends : {x : ℕ} → x ≡ lag_of f → f.parent ≡ Top → Climbs b unit u (t + x)
+  pub going_ends : {x : ℕ} → x ≡ lag_of f → f.parent ≡ None → Climbs b unit u (t + x)
   going_ends {x} ex q =
       let m = little in
       record {
@@ -66,13 +64,14 @@ module _ (b : List ℕ) (unit t u n : ℕ) (G : Going b unit t u n) (more : 0 < 
         small = omega (arith, G.small, m, ex, more);
       }
 
-  pub going_on : {x : ℕ} → x ≡ lag_of f → (p : ℕ) → f.parent ≡ Under p → Going b unit (t + x) p (n - 1)
-  going_on {x} ex p q =
-      let m = little in
+  pub going_on : {x : ℕ} → x ≡ lag_of f → (m : ℕ) → suc m ≡ n → (p : ℕ) → f.parent ≡ Some p → Going b unit (t + x) p m
+  going_on {x} ex m back p q =
+      let d = little in
+      let one : m ≡ n - 1 = omega arith in
       record {
-        rising = rising_on b unit u n G.rising f e more p q;
-        small = omega (arith, G.small, m, ex, more);
-        sum = ap (λ (y : ℕ). t + y + sum_up (n - 1) (interface_at b) p) ex ∙ goes_on n t u (interface_at b) G.sum more e q;
+        rising = rising_on b unit u n G.rising f e m back p q;
+        small = omega (arith, G.small, d, ex, back);
+        sum = rw (ex, one) (goes_on n t u (interface_at b) G.sum more e q);
         steady = G.steady;
       }
 

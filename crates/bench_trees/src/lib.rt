@@ -1,5 +1,5 @@
 #![tactic(auto)]
-// Up the tree of fused interfaces: its top, and T, the progress of an interface and of all above it (0 in the plain engine); and a node's value by its bias and T.
+// Option<u8> the tree of fused interfaces: its top, and T, the progress of an interface and of all above it (0 in the plain engine); and a node's value by its bias and T.
 // Everything here only reads. Assumes nothing.
 ghost use Rattle.std.specs.Prelude.{◌≡◌, ◌+◌, ◌<◌, ◌≤◌};
 ghost use Rattle.bench_words.specs.Codec.{pick};
@@ -8,7 +8,7 @@ ghost use Rattle.bench_views.specs.Records.{rate_of, Steady};
 ghost use Rattle.bench_views.specs.View.{value_by, bias_of, view};
 ghost use Rattle.bench_trees.specs.Climb.{Climbs};
 
-use bench_words::{Up, WORDS};
+use bench_words::WORDS;
 use kinds::GrowState;
 
 // The value of a node, 2^60 higher than it is.
@@ -71,17 +71,14 @@ pub fn climb(b: &[u64; WORDS], unit: usize) -> Climbed
 {
     let mut t: u64 = 0;
     let mut u = unit;
-    let mut n: usize = 8;
-    while 0 < n {
+    for _step in 0..8usize {
         let f = bench_words::load_interface(b, u);
-        t = t + lag(f.marks.plain, f.progress);
-        n = n - 1;
-        let up = f.parent;
-        match up {
-            Up::Top => {
+        t += lag(f.marks.plain, f.progress);
+        match f.parent {
+            None => {
                 return Climbed { top: u, total: t };
             }
-            Up::Under(p) => {
+            Some(p) => {
                 u = p as usize;
             }
         }
@@ -95,16 +92,13 @@ pub fn top_of(b: &[u64; WORDS], unit: usize) -> usize
     ensures { (result ≡ top (view b.now) unit) × (result < 8) }
 {
     let mut u = unit;
-    let mut left: usize = 8;
-    while 0 < left {
+    for _level in 0..8usize {
         let f = bench_words::load_interface(b, u);
-        left = left - 1;
-        let up = f.parent;
-        match up {
-            Up::Top => {
+        match f.parent {
+            None => {
                 return u;
             }
-            Up::Under(p) => {
+            Some(p) => {
                 u = p as usize;
             }
         }

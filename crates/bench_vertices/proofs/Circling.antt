@@ -1,8 +1,8 @@
 -- The circle of a blossom in words: its members stand where the links lead, present and older; what is left of the circle is written after what is
 -- written already. Assumes nothing.
+use Rattle.std.specs.Prelude.{Some}
 use Prim.Native.Nat.{ℕ, suc, ◌+◌, ◌-◌, ◌*◌, ◌/◌, ◌%◌, ◌<◌, ◌≤◌}
 use mathlib.Core.Path.{◌≡◌, refl, ap, ap₂, sym, ◌∙◌, subst}
-use mathlib.Core.Option.{some}
 use mathlib.Core.List.{List, [], ◌∷◌, ◌++◌}
 use native.Mathlib.Omega.{arith}
 use lib.ListN.{length, get_or, set, length-append}
@@ -61,7 +61,7 @@ module _ (b : List ℕ) (F : Fit b) where
         (shown ∙ slot_defect (A k) (sum_up 8 (interface_at b) (k / 64)) (circle_of A k) v e) refl
 
     module _ (e : (A k).class ≡ Blossom) where
-      blossom_there : node_named (view b) (handle_at A k) ≡ some (node_seen (A k) (sum_up 8 (interface_at b) (k / 64)) (blossom (circle_of A k)))
+      blossom_there : node_named (view b) (handle_at A k) ≡ Some (node_seen (A k) (sum_up 8 (interface_at b) (k / 64)) (blossom (circle_of A k)))
       blossom_there = shown ∙ slot_ring (A k) (sum_up 8 (interface_at b) (k / 64)) (circle_of A k) e
 
       pub under_blossom : under b k ≡ each (λ g. vertices_of (view b) g) (circle_of A k)
@@ -170,14 +170,14 @@ module _ (b : List ℕ) (F : Fit b) (k : ℕ) (P : Placed b k) (at : ℕ) (out�
     pub next_room : at + length (under b k) ≤ length out₀ → i + length (under b p) ≤ length out
     next_room h = omega (arith, h, lengths, G.room, G.long)
 
-    pub going_on : (out' : List ℕ) (i' p' : ℕ) → Wrote (under b p) i out out' i' → p' ≡ (node_at b p).next → Going b k at out₀ i' p' (m - 1) out'
-    going_on out' i' p' W z =
+    pub going_on : (out' : List ℕ) (i' p' m' : ℕ) → Wrote (under b p) i out out' i' → p' ≡ (node_at b p).next → m' ≡ m - 1 → Going b k at out₀ i' p' m' out'
+    going_on out' i' p' m' W z e =
         let s : rest b (m - 1) p' ≡ rest b (m - 1) (node_at b p).next = ap (rest b (m - 1)) z in
-        record {
+        rw e (record {
           ring = G.ring;
           list = ap (sets out' i') s ∙ ap₂ (λ (o : List ℕ) (j : ℕ). sets o j (rest b (m - 1) (node_at b p).next)) W.list W.place
               ∙ sym (ap (sets out i) more ∙ sets_append (under b p) (rest b (m - 1) (node_at b p).next) out i) ∙ G.list;
           room = omega (arith, W.place, lengths, G.room, ap length s);
           long = ap length W.list ∙ length-sets out i (under b p) ∙ G.long;
           inside = λ x j. G.inside x (rw (follow_more (node_at b) m p l) (there (subst (λ (y : ℕ). In (handle_at (node_at b) x) (nodes (follow (m - 1) (node_at b) y))) z j)));
-        }
+        })

@@ -16,10 +16,10 @@ pub fn first_vertex(b: &[u64; WORDS], k: usize) -> Vertex
     ensures { result.0 ≡ get_or (under b.now k) 0 0 }
 {
     let mut p = k;
+    // How deep the defect stands is not known beforehand: the serials on the way down fall, and no count does.
     loop {
         let n = bench_words::load_node(b, p);
-        let class = n.class;
-        match class {
+        match n.class {
             Class::Absent => {
                 return Vertex(0);
             }
@@ -51,13 +51,11 @@ pub fn all_vertices(b: &[u64; WORDS], k: usize, out: &mut [u32], at: usize) -> u
         Class::Blossom => {
             let mut i = at;
             let mut p = n.first;
-            let mut m = n.count;
-            while 0 < m {
+            for _ in 0..n.count {
                 let q = p as usize;
                 i = all_vertices(b, q, out, i);
                 let x = bench_words::load_node(b, q);
                 p = x.next;
-                m = m - 1;
             }
             i
         }

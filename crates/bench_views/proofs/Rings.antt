@@ -1,7 +1,7 @@
 -- Where the members of a circle stand, in a bench whose nodes are knit together. Assumes nothing.
+use Rattle.std.specs.Prelude.{None, Some}
 use Prim.Native.Nat.{ℕ, ◌+◌, ◌*◌, ◌/◌, ◌%◌, ◌<◌}
 use mathlib.Core.Path.{◌≡◌, refl, ap, ap₂, sym, ◌∙◌, subst}
-use mathlib.Core.Option.{none, some}
 use mathlib.Core.List.{List}
 use native.Mathlib.Decide.{dec_lt}
 use native.Mathlib.Omega.{arith}
@@ -27,12 +27,12 @@ pub record Shows (n : Node) (m : plain.Node) : Type 0 where
   pub parent : m.parent ≡ parent_named n.parent
   pub size : m.size ≡ n.size
 
-pub slot_shows : (n : Node) (t : ℕ) (ms : List Member) (m : plain.Node) → slot_seen n t ms ≡ some m → Shows n m
+pub slot_shows : (n : Node) (t : ℕ) (ms : List Member) (m : plain.Node) → slot_seen n t ms ≡ Some m → Shows n m
 unfolding slot_seen
 slot_shows n t ms m h = go n.class refl
   where
     go : (c : Class) → n.class ≡ c → Shows n m
-    go Absent e = absurd (let h2 : none ≡ some m = rw e at h in none_some refl h2)
+    go Absent e = absurd (let h2 : None ≡ Some m = rw e at h in none_some refl h2)
     go Blossom e =
         let h2 = rw e at h in
         record {
@@ -51,18 +51,18 @@ slot_shows n t ms m h = go n.class refl
         }
 
 -- a slot that is not empty shows its node
-pub slot_held : (n : Node) (t : ℕ) (ms : List Member) → (n.class ≡ Absent → ⊥) → (c : plain.Class) × (slot_seen n t ms ≡ some (node_seen n t c))
+pub slot_held : (n : Node) (t : ℕ) (ms : List Member) → (n.class ≡ Absent → ⊥) → (c : plain.Class) × (slot_seen n t ms ≡ Some (node_seen n t c))
 unfolding slot_seen
 slot_held n t ms p = go n.class refl
   where
-    go : (c : Class) → n.class ≡ c → (d : plain.Class) × (slot_seen n t ms ≡ some (node_seen n t d))
+    go : (c : Class) → n.class ≡ c → (d : plain.Class) × (slot_seen n t ms ≡ Some (node_seen n t d))
     go Absent e = absurd (p e)
     go Blossom e = (blossom ms, rw e)
     go (Defect v) e = (plain.defect v.0, rw e)
 
 pub record Blossoms (n : Node) (t : ℕ) (ms : List Member) : Type 0 where
   pub node : plain.Node
-  pub shown : slot_seen n t ms ≡ some node
+  pub shown : slot_seen n t ms ≡ Some node
   pub class : node.class ≡ blossom ms
   pub serial : node.serial ≡ n.serial.0
 
@@ -76,10 +76,10 @@ module _ (b : List ℕ) (S : Sewn (view b)) where
     pub unit : p / 64 < 8
     pub slot : p % 64 < (interface_at b (p / 64)).used
     pub present : (node_at b p).class ≡ Absent → ⊥
-    pub parent : parent_named (node_at b p).parent ≡ some (record { unit = v; slot = r; serial = (node_at b (v * 64 + r)).serial.0 })
+    pub parent : parent_named (node_at b p).parent ≡ Some (record { unit = v; slot = r; serial = (node_at b (v * 64 + r)).serial.0 })
     pub node : plain.Node
-    pub stands : slot_of (view b) (p / 64) (p % 64) ≡ some node
-    pub above : node.parent ≡ some (record { unit = v; slot = r; serial = (node_at b (v * 64 + r)).serial.0 })
+    pub stands : slot_of (view b) (p / 64) (p % 64) ≡ Some node
+    pub above : node.parent ≡ Some (record { unit = v; slot = r; serial = (node_at b (v * 64 + r)).serial.0 })
     pub own : node.serial ≡ (node_at b p).serial.0
 
   pub ringed : (v r : ℕ) → v < 8 → r < (interface_at b v).used → (node_at b (v * 64 + r)).class ≡ Blossom → (p : ℕ) → In (handle_at (node_at b) p) (nodes (circle_of (node_at b) (v * 64 + r))) → Ringed v r p
@@ -105,10 +105,10 @@ module _ (b : List ℕ) (S : Sewn (view b)) where
             unit = q;
             slot = w;
             present = s2.present;
-            parent = sym s2.parent ∙ D.parent ∙ ap (λ (x : ℕ). some (record { unit = v; slot = r; serial = x })) B.serial;
+            parent = sym s2.parent ∙ D.parent ∙ ap (λ (x : ℕ). Some (record { unit = v; slot = r; serial = x })) B.serial;
             node = D.node;
             stands = D.has.stands;
-            above = D.parent ∙ ap (λ (x : ℕ). some (record { unit = v; slot = r; serial = x })) B.serial;
+            above = D.parent ∙ ap (λ (x : ℕ). Some (record { unit = v; slot = r; serial = x })) B.serial;
             own = s2.serial;
           }
 

@@ -1,7 +1,7 @@
 -- What a slot shows by its class, and a circle followed by one member or none: by the definitions. Assumes nothing.
+use Rattle.std.specs.Prelude.{None, Some}
 use Prim.Native.Nat.{ℕ, zero, suc, ◌-◌, ◌<◌}
 use mathlib.Core.Path.{◌≡◌, sym, ap}
-use mathlib.Core.Option.{none, some}
 use mathlib.Core.List.{List, [], ◌∷◌}
 use native.Mathlib.Omega.{arith}
 use Rattle.kinds.specs.declared.Class.TheVariants.{Absent, Blossom, Defect}
@@ -10,15 +10,15 @@ use Rattle.bench_words.specs.declared.Node.{Node}
 use Rattle.ledger_spec.specs.Bench.{Member, defect, blossom}
 use Rattle.bench_views.specs.View.{member_at, follow, slot_seen, node_seen}
 
-pub slot_absent : (n : Node) (t : ℕ) (ms : List Member) → n.class ≡ Absent → slot_seen n t ms ≡ none
+pub slot_absent : (n : Node) (t : ℕ) (ms : List Member) → n.class ≡ Absent → slot_seen n t ms ≡ None
 unfolding slot_seen
 slot_absent n t ms e = rw e
 
-pub slot_defect : (n : Node) (t : ℕ) (ms : List Member) (v : Vertex) → n.class ≡ Defect v → slot_seen n t ms ≡ some (node_seen n t (defect v.0))
+pub slot_defect : (n : Node) (t : ℕ) (ms : List Member) (v : Vertex) → n.class ≡ Defect v → slot_seen n t ms ≡ Some (node_seen n t (defect v.0))
 unfolding slot_seen
 slot_defect n t ms v e = rw e
 
-pub slot_ring : (n : Node) (t : ℕ) (ms : List Member) → n.class ≡ Blossom → slot_seen n t ms ≡ some (node_seen n t (blossom ms))
+pub slot_ring : (n : Node) (t : ℕ) (ms : List Member) → n.class ≡ Blossom → slot_seen n t ms ≡ Some (node_seen n t (blossom ms))
 unfolding slot_seen
 slot_ring n t ms e = rw e
 

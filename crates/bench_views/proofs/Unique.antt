@@ -1,8 +1,8 @@
 -- Canonical words with the same view are the same words. Assumes nothing.
+use Rattle.std.specs.Prelude.{None, Option, Some}
 use Prim.Native.Nat.{ℕ, zero, suc, ◌+◌, ◌-◌, ◌*◌, ◌/◌, ◌%◌, ◌<◌, ◌≤◌}
 use mathlib.Core.Path.{◌≡◌, refl, ap, sym, ◌∙◌, subst}
 use mathlib.Core.Logic.{by_cases, ◌⊎◌, inl, inr}
-use mathlib.Core.Option.{Option, none, some}
 use mathlib.Core.List.{List}
 use native.Mathlib.Decide.{ℕ_discrete, dec_lt}
 use native.Mathlib.Omega.{arith}
@@ -18,12 +18,8 @@ use Rattle.kinds.specs.declared.Class.{Class}
 use Rattle.kinds.specs.declared.Class.TheVariants.{Absent, Blossom, Defect}
 use Rattle.kinds.specs.declared.Handle.{Handle as Packed}
 use Rattle.kinds.specs.declared.Vertex.{Vertex}
-use Rattle.kinds.specs.declared.Parent.{Parent}
-use Rattle.kinds.specs.declared.Parent.TheVariants.{Outermost, Inside}
 use Rattle.bench_words.specs.declared.Node.{Node}
 use Rattle.bench_words.specs.declared.Interface.{Interface}
-use Rattle.bench_words.specs.declared.Up.{Up}
-use Rattle.bench_words.specs.declared.Up.TheVariants.{Top, Under}
 use Rattle.ledger_spec.specs.Bench.{Member, blossom, defect, Bench}
 use Rattle.ledger_spec.specs.Bench as plain
 use Rattle.ledger_spec.specs.Look.{interface, slot_of}
@@ -45,11 +41,11 @@ off_inj : (c m n : ℕ) → off c m ≡ off c n → m ≡ n
 unfolding off
 off_inj c m n e = pos_inj (sym (-ℤ-+ℤ_cancel (pos m) (pos c)) ∙ ap (λ (z : ℤ). z +ℤ pos c) e ∙ -ℤ-+ℤ_cancel (pos n) (pos c))
 
-up_inj : (p q : Up) → up_seen p ≡ up_seen q → p ≡ q
-up_inj Top Top e = refl
-up_inj Top (Under q) e = absurd (let z : ◌≡◌ {A = ℕ} 0 1 = cc in omega arith)
-up_inj (Under p) Top e = absurd (let z : ◌≡◌ {A = ℕ} 0 1 = cc in omega arith)
-up_inj (Under p) (Under q) e = let z : p ≡ q = cc in ap Under z
+up_inj : (p q : Option ℕ) → up_seen p ≡ up_seen q → p ≡ q
+up_inj None None e = refl
+up_inj None (Some q) e = absurd (let z : ◌≡◌ {A = ℕ} 0 1 = cc in omega arith)
+up_inj (Some p) None e = absurd (let z : ◌≡◌ {A = ℕ} 0 1 = cc in omega arith)
+up_inj (Some p) (Some q) e = let z : p ≡ q = cc in ap Some z
 
 state_inj : (g h : GrowState) → state_named g ≡ state_named h → g ≡ h
 state_inj Growing Growing e = refl
@@ -65,24 +61,24 @@ state_inj Shrink Shrink e = refl
 hand_inj : (g h : Packed) → handle_named g ≡ handle_named h → g ≡ h
 hand_inj g h e = λ i. record { unit = (e i).unit; slot = (e i).slot; serial = record { 0 = (e i).serial } }
 
-some_inj : {A : Type 0} {x y : A} → some x ≡ some y → x ≡ y
+some_inj : {A : Type 0} {x y : A} → Some x ≡ Some y → x ≡ y
 some_inj e = cc
 
-link_inj : (p q : Parent) → parent_named p ≡ parent_named q → p ≡ q
-link_inj Outermost Outermost e = refl
-link_inj Outermost (Inside q) e = absurd (let z : ◌≡◌ {A = ℕ} 0 1 = cc in omega arith)
-link_inj (Inside p) Outermost e = absurd (let z : ◌≡◌ {A = ℕ} 0 1 = cc in omega arith)
-link_inj (Inside p) (Inside q) e = ap Inside (hand_inj p q (some_inj e))
+link_inj : (p q : Option Packed) → parent_named p ≡ parent_named q → p ≡ q
+link_inj None None e = refl
+link_inj None (Some q) e = absurd (let z : ◌≡◌ {A = ℕ} 0 1 = cc in omega arith)
+link_inj (Some p) None e = absurd (let z : ◌≡◌ {A = ℕ} 0 1 = cc in omega arith)
+link_inj (Some p) (Some q) e = ap Some (hand_inj p q (some_inj e))
 
 bias_inj : (g : GrowState) (a b t : ℕ) → t ≤ a → t ≤ b → value_by g a t ≡ value_by g b t → a ≡ b
 bias_inj Growing a b t l m e = omega arith
 bias_inj Stay a b t l m e = e
 bias_inj Shrink a b t l m e = omega arith
 
-halves_some : (l r : ℕ) → (l ≡ 0 → ⊥) → halves_seen l r ≡ some (l - 1, r - 1)
+halves_some : (l r : ℕ) → (l ≡ 0 → ⊥) → halves_seen l r ≡ Some (l - 1, r - 1)
 halves_some l r q = rw (ne_eqb l 0 q)
 
-halves_none : (l r : ℕ) → l ≡ 0 → halves_seen l r ≡ none
+halves_none : (l r : ℕ) → l ≡ 0 → halves_seen l r ≡ None
 halves_none l r q = rw (eq-eqb l 0 q)
 
 left_inj : (l r l' r' : ℕ) → (l ≡ 0 → r ≡ 0) → ((l ≡ 0 → ⊥) → 0 < r) → (l' ≡ 0 → r' ≡ 0) → ((l' ≡ 0 → ⊥) → 0 < r') → halves_seen l r ≡ halves_seen l' r' → (l ≡ l') × (r ≡ r')
@@ -182,7 +178,7 @@ unfolding slot_seen
 seen_inj n n' t ms ms' e = go n.class refl n'.class refl
   where
     S : Node → List Member → (c : Class) → Option plain.Node
-    S m l c = by_class c none (some (node_seen m t (blossom l))) (λ v. some (node_seen m t (defect v.0)))
+    S m l c = by_class c None (Some (node_seen m t (blossom l))) (λ v. Some (node_seen m t (defect v.0)))
 
     eq : (c : Class) → n.class ≡ c → (c' : Class) → n'.class ≡ c' → S n ms c ≡ S n' ms' c'
     eq c p c' p' = sym (ap (S n ms) p) ∙ e ∙ ap (S n' ms') p'
@@ -248,13 +244,13 @@ module _ (b b' : List ℕ) (C : Canon b) (C' : Canon b') (near : Within (view b)
     pub left : (node_at b k).left ≡ (node_at b' k).left
     pub right : (node_at b k).right ≡ (node_at b' k).right
 
-  links_free : (k : ℕ) → k < 512 → (node_at b k).parent ≡ Outermost → (node_at b' k).parent ≡ Outermost → Links k
+  links_free : (k : ℕ) → k < 512 → (node_at b k).parent ≡ None → (node_at b' k).parent ≡ None → Links k
   links_free k lk p p' =
       let x = C.alone k lk p in
       let y = C'.alone k lk p' in
       record { place = x.place ∙ sym y.place; next = x.next ∙ sym y.next; left = x.left ∙ sym y.left; right = x.right ∙ sym y.right }
 
-  links_ring : (k : ℕ) (q : Packed) → k < 512 → (node_at b k).parent ≡ Inside q → (node_at b' k).parent ≡ Inside q → Links k
+  links_ring : (k : ℕ) (q : Packed) → k < 512 → (node_at b k).parent ≡ Some q → (node_at b' k).parent ≡ Some q → Links k
   links_ring k q lk p p' =
       record {
         place = at;
@@ -302,9 +298,9 @@ module _ (b b' : List ℕ) (C : Canon b) (C' : Canon b') (near : Within (view b)
       same : member_at A k ≡ member_at A' k
       same = ap (member_at A) (sym S.seat) ∙ member A A' (A j).count (A j).first (A' j).count (A' j).first R (A k).place S.within ∙ ap (member_at A') there
 
-  links : (k : ℕ) → k < 512 → (p : Parent) → (node_at b k).parent ≡ p → (node_at b' k).parent ≡ p → Links k
-  links k lk Outermost p p' = links_free k lk p p'
-  links k lk (Inside q) p p' = links_ring k q lk p p'
+  links : (k : ℕ) → k < 512 → (p : Option Packed) → (node_at b k).parent ≡ p → (node_at b' k).parent ≡ p → Links k
+  links k lk None p p' = links_free k lk p p'
+  links k lk (Some q) p p' = links_ring k q lk p p'
 
   heads : (v s : ℕ) → v < 8 → s < (interface_at b v).used → v * 64 + s < 512 → (c : Class) → (node_at b (v * 64 + s)).class ≡ c → (node_at b' (v * 64 + s)).class ≡ c → (c ≡ Absent → ⊥)
       → ((node_at b (v * 64 + s)).first ≡ (node_at b' (v * 64 + s)).first) × ((node_at b (v * 64 + s)).count ≡ (node_at b' (v * 64 + s)).count)

@@ -1,8 +1,8 @@
 -- The view over units and nodes as functions: its parts, and what makes it the bench that a step of the ledger gives. Assumes nothing.
+use Rattle.std.specs.Prelude.{None, Option, Some}
 use Prim.Native.Nat.{ℕ, zero, suc, ◌+◌, ◌*◌, ◌<◌, ◌≤◌, max}
 use mathlib.Core.Path.{◌≡◌, refl, ap, ap₂, sym, ◌∙◌}
 use mathlib.Core.Logic.{◌≢◌, by_cases}
-use mathlib.Core.Option.{Option, none, some}
 use mathlib.Core.List.{List, map}
 use mathlib.Core.Bool.{Bool, true, false}
 use native.Mathlib.Decide.{ℕ_discrete}
@@ -19,8 +19,6 @@ use Rattle.kinds.specs.declared.Class.TheVariants.{Absent, Blossom, Defect}
 use Rattle.bench_words.specs.declared.Node.{Node}
 use Rattle.bench_words.specs.declared.Interface.{Interface}
 use Rattle.bench_words.specs.declared.Marks.{Marks}
-use Rattle.bench_words.specs.declared.Up.{Up}
-use Rattle.bench_words.specs.declared.Up.TheVariants.{Top, Under}
 use Rattle.ledger_spec.specs.Bench.{rate, Member, Bench, fresh}
 use Rattle.ledger_spec.specs.Bench as plain
 use Rattle.ledger_spec.specs.Look.{interface, slot_of, top, climb}
@@ -58,17 +56,17 @@ module _ (n : ℕ) (U : ℕ → Interface) (A : ℕ → Node) where
   view_count v l = ap (λ (f : plain.Interface). length f.slots) (interface_in_lem v l) ∙ length_tab (slot_in U A v) 0 (U v).used
 
   pub view_slot : (v s : ℕ) → v < 8 → s < (U v).used → slot_of (view_in n U A) v s ≡ slot_in U A v s
-  view_slot v s l k = ap (λ (f : plain.Interface). get_or f.slots s none) (interface_in_lem v l) ∙ get_d_tab (slot_in U A v) (U v).used s none k
+  view_slot v s l k = ap (λ (f : plain.Interface). get_or f.slots s None) (interface_in_lem v l) ∙ get_d_tab (slot_in U A v) (U v).used s None k
 
-  pub view_past : (v s : ℕ) → v < 8 → (U v).used ≤ s → slot_of (view_in n U A) v s ≡ none
+  pub view_past : (v s : ℕ) → v < 8 → (U v).used ≤ s → slot_of (view_in n U A) v s ≡ None
   view_past v s l k =
       let e : length (interface (view_in n U A) v).slots ≤ s = omega (arith, view_count v l) in
-      get_or-eq_default (interface (view_in n U A) v).slots none e
+      get_or-eq_default (interface (view_in n U A) v).slots None e
 
-  pub view_out : (v s : ℕ) → 8 ≤ v → slot_of (view_in n U A) v s ≡ none
+  pub view_out : (v s : ℕ) → 8 ≤ v → slot_of (view_in n U A) v s ≡ None
   view_out v s l =
       let e : length (view_in n U A).interfaces ≤ v = omega (arith, view_eight) in
-      ap (λ (f : plain.Interface). get_or f.slots s none) (get_or-eq_default (view_in n U A).interfaces fresh e)
+      ap (λ (f : plain.Interface). get_or f.slots s None) (get_or-eq_default (view_in n U A).interfaces fresh e)
 
   pub view_parent : (v : ℕ) → v < 8 → (interface (view_in n U A) v).parent ≡ up_seen (U v).parent
   view_parent v l = ap (λ (f : plain.Interface). f.parent) (interface_in_lem v l)
@@ -105,9 +103,9 @@ module _ (n : ℕ) (U U' : ℕ → Interface) (A A' : ℕ → Node) (u s t sp : 
     slots_now : (v : ℕ) → v < 8 → tab (slot_in U' A' v) 0 (U' v).used ≡ (interface (place B₀ u s y) v).slots
     slots_now v lv = ap (λ (k : ℕ). tab (slot_in U' A' v) 0 k) (unit_kept (λ x. x.used) (λ x z. refl) v lv)
         ∙ by_cases (ℕ_discrete v u)
-        (λ (e : v ≡ u). rw e (tab_set (slot_in U A u) (slot_in U' A' u) (U u).used s y none ls slot-here (λ r lr ne. slot_there u r lu lr (λ a b. ne b))
+        (λ (e : v ≡ u). rw e (tab_set (slot_in U A u) (slot_in U' A' u) (U u).used s y None ls slot-here (λ r lr ne. slot_there u r lu lr (λ a b. ne b))
         ∙ sym (place_here B₀ u s y (omega (arith, view_eight n U A)) ∙ ap (λ (f : plain.Interface). set f.slots s y) (interface_in_lem n U A u lu))))
-        (λ (ne : v ≡ u → ⊥). tab_same (slot_in U' A' v) (slot_in U A v) (U v).used none (λ r lr. slot_there v r lv lr (λ a b. ne a))
+        (λ (ne : v ≡ u → ⊥). tab_same (slot_in U' A' v) (slot_in U A v) (U v).used None (λ r lr. slot_there v r lv lr (λ a b. ne a))
         ∙ sym (place_else B₀ u s y v ne ∙ ap (λ (f : plain.Interface). f.slots) (interface_in_lem n U A v lv)))
 
     speed_now : (v : ℕ) → v < 8 → off 1024 (U' v).speed ≡ (interface (place B₀ u s y) v).speed
@@ -137,15 +135,15 @@ module _ (n : ℕ) (U U' : ℕ → Interface) (A A' : ℕ → Node) (u s t sp : 
         (ap marks_seen (unit_kept (λ x. x.marks) (λ x z. refl) v lv) ∙ field (λ f. f.marks) v lv (λ f l. refl) (λ f x. refl)))
 
 -- ---- a slot filled: one of those used, or the next
-slots_put : (f g : ℕ → Option plain.Node) (m s : ℕ) (x : plain.Node) → s ≤ m → g s ≡ some x → ((r : ℕ) → r < m → r ≢ s → g r ≡ f r) → tab g 0 (max m (suc s)) ≡ put (tab f 0 m) s x
+slots_put : (f g : ℕ → Option plain.Node) (m s : ℕ) (x : plain.Node) → s ≤ m → g s ≡ Some x → ((r : ℕ) → r < m → r ≢ s → g r ≡ f r) → tab g 0 (max m (suc s)) ≡ put (tab f 0 m) s x
 slots_put f g m s x low here there =
-    ext_get_or none (tab g 0 (max m (suc s))) (put (tab f 0 m) s x) (length_tab g 0 (max m (suc s)) ∙ sym (put_count (tab f 0 m) s x low' ∙ ap (λ (k : ℕ). max k (suc s)) (length_tab f 0 m)))
+    ext_get_or None (tab g 0 (max m (suc s))) (put (tab f 0 m) s x) (length_tab g 0 (max m (suc s)) ∙ sym (put_count (tab f 0 m) s x low' ∙ ap (λ (k : ℕ). max k (suc s)) (length_tab f 0 m)))
     (λ r lr.
     let l2 : r < max m (suc s) = rw (length_tab g 0 (max m (suc s))) at lr in
-    get_d_tab g (max m (suc s)) r none l2
+    get_d_tab g (max m (suc s)) r None l2
     ∙ by_cases (ℕ_discrete r s)
-    (λ (e : r ≡ s). ap g e ∙ here ∙ sym (ap (λ (k : ℕ). get_or (put (tab f 0 m) s x) k none) e ∙ put_at (tab f 0 m) s x low'))
-    (λ (ne : r ≡ s → ⊥). let l3 : r < m = omega (arith, l2, ne, low) in there r l3 ne ∙ sym (put_off (tab f 0 m) s x low' r ne ∙ get_d_tab f m r none l3)))
+    (λ (e : r ≡ s). ap g e ∙ here ∙ sym (ap (λ (k : ℕ). get_or (put (tab f 0 m) s x) k None) e ∙ put_at (tab f 0 m) s x low'))
+    (λ (ne : r ≡ s → ⊥). let l3 : r < m = omega (arith, l2, ne, low) in there r l3 ne ∙ sym (put_off (tab f 0 m) s x low' r ne ∙ get_d_tab f m r None l3)))
   where
     low' : s ≤ length (tab f 0 m)
     low' = rw (length_tab f 0 m) low
@@ -156,7 +154,7 @@ module _ (n : ℕ) (U U' : ℕ → Interface) (A A' : ℕ → Node) (u s sp : �
   unit_held φ e v lv = by_cases (ℕ_discrete v u) (λ (q : v ≡ u). rw (q, here) (e (U u) (max (U u).used (suc s)) sp)) (λ (q : v ≡ u → ⊥). rw (there v lv q))
 
   module _ (low : s ≤ (U u).used) (fast : off 1024 sp ≡ off 1024 (U u).speed +ℤ rate x.state)
-      (slot-new : slot_in U' A' u s ≡ some x)
+      (slot-new : slot_in U' A' u s ≡ Some x)
       (slot_old : (v r : ℕ) → v < 8 → r < (U v).used → (v ≡ u → r ≡ s → ⊥) → slot_in U' A' v r ≡ slot_in U A v r) where
     abbrev W : Bench
     W = view_in n U A
@@ -167,7 +165,7 @@ module _ (n : ℕ) (U U' : ℕ → Interface) (A A' : ℕ → Node) (u s sp : �
         (slots_put (slot_in U A u) (slot_in U' A' u) (U u).used s x low slot-new (λ r lr ne. slot_old u r lu lr (λ a b. ne b))
         ∙ sym (push_here W u s x (omega (arith, view_eight n U A)) ∙ ap (λ (f : plain.Interface). put f.slots s x) (interface_in_lem n U A u lu))))
         (λ (ne : v ≡ u → ⊥). ap (λ (y : Interface). tab (slot_in U' A' v) 0 y.used) (there v lv ne)
-        ∙ tab_same (slot_in U' A' v) (slot_in U A v) (U v).used none (λ r lr. slot_old v r lv lr (λ a b. ne a))
+        ∙ tab_same (slot_in U' A' v) (slot_in U A v) (U v).used None (λ r lr. slot_old v r lv lr (λ a b. ne a))
         ∙ sym (push_else W u s x v ne ∙ ap (λ (f : plain.Interface). f.slots) (interface_in_lem n U A v lv)))
 
     speed_more : (v : ℕ) → v < 8 → off 1024 (U' v).speed ≡ (interface (push W u s x) v).speed
@@ -251,11 +249,11 @@ module _ (n : ℕ) (U U' : ℕ → Interface) (A A' : ℕ → Node) (u l s' : �
     slots_grown v lv = ap (λ (k : ℕ). tab (slot_in U' A' v) 0 k) (unit_grown (λ x. x.used) (λ x p z. refl) v lv)
         ∙ by_cases (ℕ_discrete (climb 8 G v) u)
         (λ (e : climb 8 G v ≡ u).
-        tab_same (slot_in U' A' v) (λ r. grow_slot (pos l) (slot_in U A v r)) (U v).used none (λ r lr. under v r lv lr e)
+        tab_same (slot_in U' A' v) (λ r. grow_slot (pos l) (slot_in U A v r)) (U v).used None (λ r lr. under v r lv lr e)
         ∙ sym (tab_map (grow_slot (pos l)) (slot_in U A v) (U v).used)
         ∙ sym (grow_under G u (pos l) v (omega (arith, view_eight n U A)) e ∙ ap (λ (f : plain.Interface). map (grow_slot (pos l)) f.slots) (interface_in_lem n U A v lv)))
         (λ (ne : climb 8 G v ≡ u → ⊥).
-        tab_same (slot_in U' A' v) (slot_in U A v) (U v).used none (λ r lr. apart v r lv lr ne)
+        tab_same (slot_in U' A' v) (slot_in U A v) (U v).used None (λ r lr. apart v r lv lr ne)
         ∙ sym (grow_else G u (pos l) v (omega (arith, view_eight n U A)) ne ∙ ap (λ (f : plain.Interface). f.slots) (interface_in_lem n U A v lv)))
 
     sum_now : (v : ℕ) → v < 8 → off 4611686018427387904 (U' v).sum ≡ (interface (grow_by G u (pos l)) v).sum
@@ -286,8 +284,8 @@ module _ (n : ℕ) (U U' : ℕ → Interface) (A A' : ℕ → Node) (u l s' : �
 
 -- ---- growth where values are behind: one unit's progress
 module _ (n : ℕ) (U U' : ℕ → Interface) (A : ℕ → Node) (u l s' : ℕ) (lu : u < 8)
-    (root : (U u).parent ≡ Top) (lazy : (U u).marks.plain ≡ false)
-    (good : (v : ℕ) → v < 8 → GoodUp (U v).parent) (rising : (v p : ℕ) → v < 8 → (U v).parent ≡ Under p → v < p)
+    (root : (U u).parent ≡ None) (lazy : (U u).marks.plain ≡ false)
+    (good : (v : ℕ) → v < 8 → GoodUp (U v).parent) (rising : (v p : ℕ) → v < 8 → (U v).parent ≡ Some p → v < p)
     (here : U' u ≡ with_growth (U u) ((U u).progress + l) s') (there : (v : ℕ) → v < 8 → v ≢ u → U' v ≡ U v) where
   abbrev L : Bench
   L = view_in n U A
@@ -303,14 +301,14 @@ module _ (n : ℕ) (U U' : ℕ → Interface) (A : ℕ → Node) (u l s' : ℕ) 
       rw (e, here, root, lazy, c, eq-eqb u u refl) (omega arith))
       (λ (ne : v ≡ u → ⊥). rw (there v lv ne) (go (U v).parent refl ne (sums_grow m)))
     where
-      go : (p : Up) → (U v).parent ≡ p → (v ≡ u → ⊥) → ((w : ℕ) → w < 8 → 8 ≤ m + w → sum_up m U' w ≡ sum_up m U w + pick (eqb (climb m L w) u) l 0)
+      go : (p : Option ℕ) → (U v).parent ≡ p → (v ≡ u → ⊥) → ((w : ℕ) → w < 8 → 8 ≤ m + w → sum_up m U' w ≡ sum_up m U w + pick (eqb (climb m L w) u) l 0)
           → lag_of (U v) + over (U v).parent 0 (sum_up m U') ≡ lag_of (U v) + over (U v).parent 0 (sum_up m U) + pick (eqb (climb (suc m) L v) u) l 0
-      go Top e ne ih =
+      go None e ne ih =
           let c : climb (suc m) L v ≡ v = climb_none (suc m) L v (view_parent n U A v lv ∙ ap up_seen e) in
           rw (e, c, ne_eqb v u ne) (omega arith)
-      go (Under p) e ne ih =
+      go (Some p) e ne ih =
           let c : climb (suc m) L v ≡ climb m L p = climb_some m L v p (view_parent n U A v lv ∙ ap up_seen e) in
-          let g : GoodUp (Under p) = rw e at (good v lv) in
+          let g : GoodUp (Some p) = rw e at (good v lv) in
           let r : v < p = rising v p lv e in
           rw (e, c) (omega (arith, ih p g (omega arith)))
 

@@ -1,5 +1,5 @@
 -- Words of which each has exactly one meaning. Assumes nothing.
-use Rattle.std.specs.Prelude.{ℕ, zero, suc, ◌+◌, ◌-◌, ◌*◌, ◌%◌, ◌<◌, ◌≤◌, ◌≡◌, Bool, true, false, List, get_or, nat_abs}
+use Rattle.std.specs.Prelude.{None, Some, ℕ, zero, suc, ◌+◌, ◌-◌, ◌*◌, ◌%◌, ◌<◌, ◌≤◌, ◌≡◌, Bool, true, false, List, get_or, nat_abs}
 use Rattle.bench_words.specs.Codec.{marks_word}
 use Rattle.bench_words.specs.Store.{node_at, interface_at, map_at, base, ibase, interface_words, node_words}
 use Rattle.slot_map.specs.Slots.{map_of}
@@ -7,10 +7,8 @@ use Rattle.kinds.specs.declared.Class.{Class}
 use Rattle.kinds.specs.declared.Class.TheVariants.{Absent, Blossom, Defect}
 use Rattle.kinds.specs.declared.Handle.{Handle as Packed}
 use Rattle.kinds.specs.declared.Vertex.{Vertex}
-use Rattle.kinds.specs.declared.Parent.TheVariants.{Outermost, Inside}
 use Rattle.bench_words.specs.declared.Node.{Node}
 use Rattle.kinds.specs.Names.{no_code}
-use Rattle.std.proofs.Math.Option.{some}
 use Rattle.ledger_spec.specs.Bench.{Bench}
 use Rattle.ledger_spec.specs.Bench as plain
 use Rattle.ledger_spec.specs.Look.{slot_of}
@@ -19,7 +17,7 @@ use Rattle.bench_views.specs.View.{by_class}
 
 -- every value within 8 times the progress limit, as in a sound bench: then no bias is out of the way of T
 abbrev pub Within : Bench → Type 0
-Within B = (u s : ℕ) (n : plain.Node) → slot_of B u s ≡ some n → nat_abs n.value ≤ 8796093022208
+Within B = (u s : ℕ) (n : plain.Node) → slot_of B u s ≡ Some n → nat_abs n.value ≤ 8796093022208
 
 -- i steps along a circle
 unfoldable pub walk : ℕ → (ℕ → Node) → ℕ → ℕ
@@ -69,5 +67,5 @@ pub record Canon (b : List ℕ) : Type 0 where
   pub defect : (k : ℕ) (v : Vertex) → k < 512 → (node_at b k).class ≡ Defect v → ((node_at b k).first ≡ 0) × ((node_at b k).count ≡ 0)
   pub ring : (k : ℕ) → k < 512 → (node_at b k).class ≡ Blossom → 0 < (node_at b k).count
   pub chain : (k i : ℕ) → k < 512 → (node_at b k).class ≡ Blossom → i < (node_at b k).count → (node_at b (walk i (node_at b) (node_at b k).first)).place ≡ i
-  pub alone : (k : ℕ) → k < 512 → (node_at b k).parent ≡ Outermost → Alone (node_at b k)
-  pub inside : (k : ℕ) (q : Packed) → k < 512 → (node_at b k).parent ≡ Inside q → Seated b k q
+  pub alone : (k : ℕ) → k < 512 → (node_at b k).parent ≡ None → Alone (node_at b k)
+  pub inside : (k : ℕ) (q : Packed) → k < 512 → (node_at b k).parent ≡ Some q → Seated b k q

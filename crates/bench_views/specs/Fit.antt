@@ -1,7 +1,6 @@
 -- What a call on lent words may rely on, and what it owes: words that encode a sound bench, and words whose view is the bench that the ledger says.
 -- Assumes nothing.
-use Rattle.std.specs.Prelude.{ℕ, ◌<◌, ◌≤◌, ◌≡◌, true, List, length, get_or, nat_abs}
-use Rattle.std.proofs.Math.Option.{none, some}
+use Rattle.std.specs.Prelude.{ℕ, ◌<◌, ◌≤◌, ◌≡◌, true, List, length, get_or, nat_abs, None, Some}
 use Rattle.ledger_spec.specs.Bench.{Member, blossom, Bench}
 use Rattle.ledger_spec.specs.Bench as plain
 use Rattle.ledger_spec.specs.Look.{interface, slot_of}
@@ -31,7 +30,7 @@ pub record Fit (b : List ℕ) : Type 0 where
   pub within : Within (view b)
   pub begun : 1 ≤ get_or b 0 0
   pub next : get_or b 0 0 ≤ 4294967296
-  pub speed : (u : ℕ) → u < 8 → (interface (view b) u).parent ≡ none → nat_abs (interface (view b) u).speed ≤ 512
-  pub sum : (u : ℕ) → u < 8 → (interface (view b) u).parent ≡ none → nat_abs (interface (view b) u).sum ≤ 4503599627370496
-  pub size : (u s : ℕ) (n : plain.Node) → slot_of (view b) u s ≡ some n → n.size ≤ 512
-  pub circle : (u s : ℕ) (n : plain.Node) (ms : List Member) → slot_of (view b) u s ≡ some n → n.class ≡ blossom ms → (1 ≤ length ms) × (length ms ≤ 64)
+  pub speed : (u : ℕ) → u < 8 → (interface (view b) u).parent ≡ None → nat_abs (interface (view b) u).speed ≤ 512
+  pub sum : (u : ℕ) → u < 8 → (interface (view b) u).parent ≡ None → nat_abs (interface (view b) u).sum ≤ 4503599627370496
+  pub size : (u s : ℕ) (n : plain.Node) → slot_of (view b) u s ≡ Some n → n.size ≤ 512
+  pub circle : (u s : ℕ) (n : plain.Node) (ms : List Member) → slot_of (view b) u s ≡ Some n → n.class ≡ blossom ms → (1 ≤ length ms) × (length ms ≤ 64)

@@ -1,15 +1,13 @@
 -- Records of the words with two fields changed, an empty slot, and the ranges that words of a bench keep. Assumes nothing.
-use Rattle.std.specs.Prelude.{ℕ, ◌<◌, ◌≤◌, ◌≡◌, List, length}
+use Rattle.std.specs.Prelude.{None, Some, ℕ, ◌<◌, ◌≤◌, ◌≡◌, List, length}
 use Rattle.kinds.specs.Names.{no_code}
 use Rattle.kinds.specs.declared.GrowState.{GrowState}
 use Rattle.kinds.specs.declared.GrowState.TheVariants.{Grow as Growing, Stay, Shrink}
 use Rattle.kinds.specs.declared.Class.TheVariants.{Absent}
-use Rattle.kinds.specs.declared.Parent.TheVariants.{Outermost}
 use Rattle.ledger_spec.specs.Numbers.{progress_limit}
 use Rattle.bench_words.specs.Store.{interface_at, set_used, set_progress, set_sum, set_speed}
 use Rattle.bench_words.specs.declared.Node.{Node}
 use Rattle.bench_words.specs.declared.Interface.{Interface}
-use Rattle.bench_words.specs.declared.Up.TheVariants.{Under}
 
 -- a share of the speed, one higher than it is
 abbrev pub rate_of : GrowState → ℕ
@@ -31,7 +29,7 @@ no_node =
       serial = record { 0 = 0 };
       class = Absent;
       state = Stay;
-      parent = Outermost;
+      parent = None;
       place = 0;
       next = 0;
       left = no_code;
@@ -47,7 +45,7 @@ pub record Steady (b : List ℕ) : Type 0 where
   pub len : length b ≡ 6273
   pub slots : (u : ℕ) → u < 8 → (interface_at b u).used ≤ 64
   pub progress : (u : ℕ) → u < 8 → (interface_at b u).progress ≤ progress_limit
-  pub rising : (u p : ℕ) → u < 8 → (interface_at b u).parent ≡ Under p → u < p
+  pub rising : (u p : ℕ) → u < 8 → (interface_at b u).parent ≡ Some p → u < p
 
 pub record Ranged (n : Node) : Type 0 where
   pub least : 576460752303423488 ≤ n.bias

@@ -1,6 +1,5 @@
 -- The plain ledger's own bench, read off the words. Assumes nothing.
-use Rattle.std.specs.Prelude.{ℕ, zero, suc, ◌+◌, ◌-◌, ◌*◌, ◌/◌, ◌%◌, List, [], ◌∷◌, eqb, get_or, ℤ, pos, ◌-ℤ◌}
-use Rattle.std.proofs.Math.Option.{Option, none, some}
+use Rattle.std.specs.Prelude.{None, Option, Some, ℕ, zero, suc, ◌+◌, ◌-◌, ◌*◌, ◌/◌, ◌%◌, List, [], ◌∷◌, eqb, get_or, ℤ, pos, ◌-ℤ◌}
 use Rattle.bench_words.specs.Codec.{value_offset, sum_offset, speed_offset, pick}
 use Rattle.bench_words.specs.Store.{node_at, interface_at, set_bias}
 use Rattle.kinds.specs.declared.GrowState.{GrowState}
@@ -11,8 +10,6 @@ use Rattle.kinds.specs.declared.Vertex.{Vertex}
 use Rattle.bench_words.specs.declared.Node.{Node}
 use Rattle.bench_words.specs.declared.Interface.{Interface}
 use Rattle.bench_words.specs.declared.Marks.{Marks}
-use Rattle.bench_words.specs.declared.Up.{Up}
-use Rattle.bench_words.specs.declared.Up.TheVariants.{Top, Under}
 use Rattle.ledger_spec.specs.Bench.{Handle, Member, defect, blossom, Bench}
 use Rattle.ledger_spec.specs.Bench as plain
 use Rattle.ledger_spec.specs.Named.{handle_named, state_named, parent_named}
@@ -22,12 +19,12 @@ use Rattle.bench_views.specs.Tab.{tab}
 unfoldable pub off : ℕ → ℕ → ℤ
 off c n = pos n -ℤ pos c
 
-abbrev pub up_seen : Up → Option ℕ
-up_seen Top = none
-up_seen (Under p) = some p
+abbrev pub up_seen : Option ℕ → Option ℕ
+up_seen None = None
+up_seen (Some p) = Some p
 
 abbrev pub halves_seen : ℕ → ℕ → Option (ℕ × ℕ)
-halves_seen l r = pick (eqb l 0) none (some (l - 1, r - 1))
+halves_seen l r = pick (eqb l 0) None (Some (l - 1, r - 1))
 
 abbrev pub marks_seen : Marks → plain.Marks
 marks_seen m = record { fills = m.fills; floored = m.floored }
@@ -47,9 +44,9 @@ bias_of Shrink v t = v + t
 abbrev pub raised : ℕ → Node → Node
 raised l n = set_bias n (value_by n.state n.bias l)
 
-abbrev pub over : {A : Type 0} → Up → A → (ℕ → A) → A
-over Top a f = a
-over (Under p) a f = f p
+abbrev pub over : {A : Type 0} → Option ℕ → A → (ℕ → A) → A
+over None a f = a
+over (Some p) a f = f p
 
 -- what the values in a unit's tree are behind by: its progress, or nothing in the plain engine
 abbrev pub lag_of : Interface → ℕ
@@ -85,7 +82,7 @@ by_class Blossom a b d = b
 by_class (Defect v) a b d = d v
 
 unfoldable pub slot_seen : Node → ℕ → List Member → Option plain.Node
-slot_seen n t ms = by_class n.class none (some (node_seen n t (blossom ms))) (λ v. some (node_seen n t (defect v.0)))
+slot_seen n t ms = by_class n.class None (Some (node_seen n t (blossom ms))) (λ v. Some (node_seen n t (defect v.0)))
 
 abbrev pub slot_in : (ℕ → Interface) → (ℕ → Node) → ℕ → ℕ → Option plain.Node
 slot_in U A u s = slot_seen (A (u * 64 + s)) (sum_up 8 U u) (circle_of A (u * 64 + s))

@@ -1,4 +1,5 @@
 -- The laws of nodes in words: what a store gives back, what it leaves, and that codes read back.
+use Rattle.std.specs.Prelude.{None, Option, Some}
 use Prim.Native.Nat.{ℕ, zero, suc, ◌+◌, ◌-◌, ◌*◌, ◌%◌, ◌<◌, ◌≤◌}
 use mathlib.Core.Path.{◌≡◌, refl, ap, ◌∙◌}
 use mathlib.Core.Bool.{Bool, true, false}
@@ -17,13 +18,9 @@ use Rattle.kinds.specs.declared.GrowState.TheVariants.{Grow, Stay, Shrink}
 use Rattle.kinds.specs.declared.Class.{Class}
 use Rattle.kinds.specs.declared.Class.TheVariants.{Absent, Blossom, Defect}
 use Rattle.kinds.specs.declared.Handle.{Handle}
-use Rattle.kinds.specs.declared.Parent.{Parent}
-use Rattle.kinds.specs.declared.Parent.TheVariants.{Outermost, Inside}
 use Rattle.bench_words.specs.declared.Node.{Node}
 use Rattle.bench_words.specs.declared.Interface.{Interface}
 use Rattle.bench_words.specs.declared.Marks.{Marks}
-use Rattle.bench_words.specs.declared.Up.{Up}
-use Rattle.bench_words.specs.declared.Up.TheVariants.{Top, Under}
 
 pub length_writes : (ws b : List ℕ) (at f : ℕ) → length (writes b at f ws) ≡ length b
 length_writes [] b at f = refl
@@ -53,9 +50,9 @@ abbrev ⊤₀ : Type 0
 abbrev pub GoodHandle : Handle → Type 0
 GoodHandle h = (h.unit < 8) × (h.slot < 64) × (h.serial.0 < 4294967296)
 
-abbrev pub GoodParent : Parent → Type 0
-GoodParent Outermost = ⊤₀
-GoodParent (Inside h) = GoodHandle h
+abbrev pub GoodParent : Option Handle → Type 0
+GoodParent None = ⊤₀
+GoodParent (Some h) = GoodHandle h
 
 abbrev pub GoodClass : Class → Type 0
 GoodClass Absent = ⊤₀
@@ -85,9 +82,9 @@ class_back (Defect v) g =
     let a : (v.0 + 2 - 2) % 4294967296 ≡ v.0 = omega arith in
     simp (ne_eqb (v.0 + 2) 0 (λ e. omega arith), ne_eqb (v.0 + 2) 1 (λ e. omega arith), a)
 
-pub parent_back : (l : Parent) → GoodParent l → parent_of (parent_word l) ≡ l
-parent_back Outermost g = refl
-parent_back (Inside h) g =
+pub parent_back : (l : Option Handle) → GoodParent l → parent_of (parent_word l) ≡ l
+parent_back None g = refl
+parent_back (Some h) g =
     let a : handle_word h + 1 - 1 ≡ handle_word h = omega arith in
     simp (ne_eqb (handle_word h + 1) 0 (λ e. omega arith), a, handle_back h g)
 
@@ -166,7 +163,7 @@ good_class true q v l = tt
 good_class false true v l = tt
 good_class false false v l = l
 
-good_parent : (p : Bool) (w : ℕ) → GoodParent (pick p Outermost (Inside (handle_of w)))
+good_parent : (p : Bool) (w : ℕ) → GoodParent (pick p None (Some (handle_of w)))
 good_parent true w = tt
 good_parent false w = good_handle w
 
@@ -183,13 +180,13 @@ good_node b k =
 
 -- ---- units
 
-abbrev pub GoodUp : Up → Type 0
-GoodUp Top = ⊤₀
-GoodUp (Under p) = p < 8
+abbrev pub GoodUp : Option ℕ → Type 0
+GoodUp None = ⊤₀
+GoodUp (Some p) = p < 8
 
-pub up_back : (u : Up) → GoodUp u → up_of (up_word u) ≡ u
-up_back Top g = refl
-up_back (Under p) g =
+pub up_back : (u : Option ℕ) → GoodUp u → up_of (up_word u) ≡ u
+up_back None g = refl
+up_back (Some p) g =
     let a : (p + 1 - 1) % 8 ≡ p = omega arith in
     simp (ne_eqb (p + 1) 0 (λ e. omega arith), a)
 
@@ -206,7 +203,7 @@ marks_back m = bits_back m.fills m.floored m.plain
     bits_back false false true = refl
     bits_back false false false = refl
 
-good_up : (p : Bool) (w : ℕ) → w < 8 → GoodUp (pick p Top (Under w))
+good_up : (p : Bool) (w : ℕ) → w < 8 → GoodUp (pick p None (Some w))
 good_up true w l = tt
 good_up false w l = l
 

@@ -1,14 +1,10 @@
 -- How a state, a class, a handle, a parent and an interface's parent are written as words. Assumes nothing.
-use Rattle.std.specs.Prelude.{ℕ, ◌+◌, ◌-◌, ◌*◌, ◌/◌, ◌%◌, Bool, true, false, eqb, ltb}
+use Rattle.std.specs.Prelude.{None, Option, Some, ℕ, ◌+◌, ◌-◌, ◌*◌, ◌/◌, ◌%◌, Bool, true, false, eqb, ltb}
 use Rattle.kinds.specs.declared.GrowState.{GrowState}
 use Rattle.kinds.specs.declared.GrowState.TheVariants.{Grow, Stay, Shrink}
 use Rattle.kinds.specs.declared.Class.{Class}
 use Rattle.kinds.specs.declared.Class.TheVariants.{Absent, Blossom, Defect}
 use Rattle.kinds.specs.declared.Handle.{Handle}
-use Rattle.kinds.specs.declared.Parent.{Parent}
-use Rattle.kinds.specs.declared.Parent.TheVariants.{Outermost, Inside}
-use Rattle.bench_words.specs.declared.Up.{Up}
-use Rattle.bench_words.specs.declared.Up.TheVariants.{Top, Under}
 use Rattle.bench_words.specs.declared.Marks.{Marks}
 
 -- ---- limits by name: the first word that is no handle's; how much higher than they are a value, a sum and a speed stand in the words
@@ -61,19 +57,19 @@ class_word Absent = 0
 class_word Blossom = 1
 class_word (Defect v) = v.0 + 2
 
-abbrev pub parent_of : ℕ → Parent
-parent_of w = pick (eqb w 0) Outermost (Inside (handle_of (w - 1)))
+abbrev pub parent_of : ℕ → Option Handle
+parent_of w = pick (eqb w 0) None (Some (handle_of (w - 1)))
 
-abbrev pub parent_word : Parent → ℕ
-parent_word Outermost = 0
-parent_word (Inside h) = handle_word h + 1
+abbrev pub parent_word : Option Handle → ℕ
+parent_word None = 0
+parent_word (Some h) = handle_word h + 1
 
-abbrev pub up_of : ℕ → Up
-up_of w = pick (eqb w 0) Top (Under ((w - 1) % 8))
+abbrev pub up_of : ℕ → Option ℕ
+up_of w = pick (eqb w 0) None (Some ((w - 1) % 8))
 
-abbrev pub up_word : Up → ℕ
-up_word Top = 0
-up_word (Under p) = p + 1
+abbrev pub up_word : Option ℕ → ℕ
+up_word None = 0
+up_word (Some p) = p + 1
 
 -- the marks of an interface, a bit each: 1 fills, 2 floored, 4 plain
 abbrev pub marks_of : ℕ → Marks

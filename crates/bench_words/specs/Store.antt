@@ -1,11 +1,9 @@
 -- Where a node and an interface lie in the bench's words, and what a load and a store of one is. Assumes nothing.
-use Rattle.std.specs.Prelude.{ℕ, suc, ◌+◌, ◌*◌, ◌%◌, Bool, false, List, [], ◌∷◌, get_or, set}
+use Rattle.std.specs.Prelude.{None, Option, ℕ, suc, ◌+◌, ◌*◌, ◌%◌, Bool, false, List, [], ◌∷◌, get_or, set}
 use Rattle.bench_words.specs.Codec.{sum_offset, speed_offset, state_of, state_word, handle_of, handle_word, class_of, class_word, parent_of, parent_word, up_of, up_word, marks_of, marks_word}
 use Rattle.bench_words.specs.declared.Node.{Node}
 use Rattle.bench_words.specs.declared.Interface.{Interface}
 use Rattle.bench_words.specs.declared.Marks.{Marks}
-use Rattle.bench_words.specs.declared.Up.{Up}
-use Rattle.bench_words.specs.declared.Up.TheVariants.{Top}
 
 -- fields stand at base + 1 and on
 abbrev pub base : ℕ → ℕ
@@ -105,7 +103,7 @@ set_sum f x = record { used = f.used; progress = f.progress; sum = x; speed = f.
 abbrev pub set_speed : Interface → ℕ → Interface
 set_speed f x = record { used = f.used; progress = f.progress; sum = f.sum; speed = x; parent = f.parent; left = f.left; right = f.right; marks = f.marks }
 
-abbrev pub set_parent : Interface → Up → Interface
+abbrev pub set_parent : Interface → Option ℕ → Interface
 set_parent f x = record { used = f.used; progress = f.progress; sum = f.sum; speed = f.speed; parent = x; left = f.left; right = f.right; marks = f.marks }
 
 abbrev pub set_halves : Interface → ℕ → ℕ → Interface
@@ -122,7 +120,7 @@ abbrev pub no_marks : Bool → Marks
 no_marks plain = record { fills = false; floored = false; plain = plain }
 
 abbrev pub no_interface : Bool → Interface
-no_interface plain = record { used = 0; progress = 0; sum = sum_offset; speed = speed_offset; parent = Top; left = 0; right = 0; marks = no_marks plain }
+no_interface plain = record { used = 0; progress = 0; sum = sum_offset; speed = speed_offset; parent = None; left = 0; right = 0; marks = no_marks plain }
 
 unfoldable pub store_interface : List ℕ → ℕ → Interface → List ℕ
 store_interface b u n = set (writes b (ibase u) 1 (interface_words n)) (ibase u + 9) (marks_word n.marks)

@@ -2,23 +2,23 @@
 ghost use Rattle.std.specs.Prelude.{◌≡◌, ◌≤◌};
 ghost use Rattle.bench_words.specs.Codec.{pick, up_of, up_word, marks_of, marks_word};
 
-use crate::{Marks, Up};
+use crate::Marks;
 
-pub fn up_of(w: u64) -> Up
+pub fn up_of(w: u64) -> Option<u8>
     ensures { result ≡ up_of w }
 {
     if w == 0 {
-        return Up::Top;
+        return None;
     }
-    Up::Under(((w - 1) % 8) as u8)
+    Some(((w - 1) % 8) as u8)
 }
 
-pub fn up_word(u: Up) -> u64
+pub fn up_word(u: Option<u8>) -> u64
     ensures { result ≡ up_word u }
 {
     match u {
-        Up::Top => 0,
-        Up::Under(p) => (p as u64) + 1,
+        None => 0,
+        Some(p) => (p as u64) + 1,
     }
 }
 

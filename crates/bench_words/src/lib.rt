@@ -18,7 +18,7 @@ ghost use Rattle.std.specs.Prelude.{◌≡◌, length, get_or, set, ◌+◌, ◌
 ghost use Rattle.bench_words.specs.Codec.{state_of, state_word, handle_of, hand_of, handle_word, class_of, class_word, parent_of, parent_word};
 ghost use Rattle.bench_words.specs.Store.{node_at, store_node, interface_at, store_interface, map_at, store_map};
 
-use kinds::{Class, GrowState, Handle, Parent, Serial, Vertex};
+use kinds::{Class, GrowState, Handle, Serial, Vertex};
 
 pub const WORDS: usize = 6273;
 
@@ -32,7 +32,7 @@ pub struct Node {
     pub serial: Serial,
     pub class: Class,
     pub state: GrowState,
-    pub parent: Parent,
+    pub parent: Option<Handle>,
     pub place: u64,
     pub next: u64,
     pub left: Handle,
@@ -45,13 +45,6 @@ pub struct Node {
 
 impl Node {
     pub const OFFSET: u64 = 1152921504606846976; // so much higher than it is a value stands in the words
-}
-
-// The interface that an interface is a half of, if any.
-#[derive(Clone, Copy)]
-pub enum Up {
-    Top,
-    Under(u8),
 }
 
 // What an interface was marked with while it was empty. One that `fills` gives a new node its lowest empty slot; in the tree of one that is
@@ -70,7 +63,7 @@ pub struct Interface {
     pub progress: u64,
     pub sum: u64,
     pub speed: u64,
-    pub parent: Up,
+    pub parent: Option<u8>,
     pub left: u64,
     pub right: u64,
     pub marks: Marks,
@@ -155,21 +148,21 @@ pub fn class_word(c: Class) -> u64
     }
 }
 
-pub fn parent_of(w: u64) -> Parent
+pub fn parent_of(w: u64) -> Option<Handle>
     ensures { result ≡ parent_of w }
 {
     if w == 0 {
-        return Parent::Outermost;
+        return None;
     }
-    Parent::Inside(handle_of(w - 1))
+    Some(handle_of(w - 1))
 }
 
-pub fn parent_word(l: Parent) -> u64
+pub fn parent_word(l: Option<Handle>) -> u64
     ensures { result ≡ parent_word l }
 {
     match l {
-        Parent::Outermost => 0,
-        Parent::Inside(h) => handle_word(h) + 1,
+        None => 0,
+        Some(h) => handle_word(h) + 1,
     }
 }
 

@@ -1,15 +1,14 @@
 -- Up from a node by its parents: at the member the walk ends with 0, at a node without a parent with 6, and else it goes on at the parent, by the
 -- definition's own steps. Assumes nothing.
+use Rattle.std.specs.Prelude.{None, Some}
 use Prim.Native.Nat.{ℕ, zero, suc, ◌+◌, ◌-◌, ◌<◌, ◌≤◌}
 use mathlib.Core.Path.{◌≡◌, refl, ap, sym, ◌∙◌, subst}
 use mathlib.Core.Bool.{Bool, true, false}
-use mathlib.Core.Option.{none, some}
 use mathlib.Core.List.{List}
 use native.Mathlib.Omega.{arith}
 use Rattle.bench_words.specs.Store.{node_at}
 use Rattle.bench_words.specs.declared.Node.{Node as Words}
 use Rattle.kinds.specs.declared.Handle.{Handle as Code}
-use Rattle.kinds.specs.declared.Parent.TheVariants.{Outermost, Inside}
 use Rattle.ledger_spec.specs.Bench.{Handle, Node, Bench}
 use Rattle.ledger_spec.specs.Look.{same_handle, node_named}
 use Rattle.ledger_spec.specs.Named.{handle_named, parent_named}
@@ -38,12 +37,12 @@ module _ (b : Bench) (m : Handle) where
     unfolding arrives
     arrives_spent = e
 
-    arrives_none : (k : ℕ) → parent_in (node_named b t) ≡ none → arrives k b t m ≡ false
+    arrives_none : (k : ℕ) → parent_in (node_named b t) ≡ None → arrives k b t m ≡ false
     unfolding arrives
     arrives_none zero f = e
     arrives_none (suc k) f = rw (e, f, arrives)
 
-    arrives_up : (k : ℕ) (p : Handle) → parent_in (node_named b t) ≡ some p → arrives (suc k) b t m ≡ arrives k b p m
+    arrives_up : (k : ℕ) (p : Handle) → parent_in (node_named b t) ≡ Some p → arrives (suc k) b t m ≡ arrives k b p m
     unfolding arrives
     arrives_up k p f = rw (e, f, arrives)
 
@@ -60,12 +59,12 @@ module _ (b : Bench) (m : Handle) where
     pub under_self : same_handle t m ≡ true → 0 ≡ under_verdict b m t
     under_self e = verdict_yes (arrives_here 512 t e)
 
-    pub under_gone : same_handle t m ≡ false → node_named b t ≡ none → 6 ≡ under_verdict b m t
+    pub under_gone : same_handle t m ≡ false → node_named b t ≡ None → 6 ≡ under_verdict b m t
     under_gone e f = verdict_no (arrives_none t e 512 (ap parent_in f))
 
 -- ---- where parents lead, the walk arrives
 module _ (b : Bench) (m : Handle) where
-  onward : {t top p : Handle} {j : ℕ} → Chain b t j top → parent_in (node_named b t) ≡ some p → (i : ℕ) × (j ≡ suc i) × Chain b p i top
+  onward : {t top p : Handle} {j : ℕ} → Chain b t j top → parent_in (node_named b t) ≡ Some p → (i : ℕ) × (j ≡ suc i) × Chain b p i top
   onward (end e) f = absurd (none_some e f)
   onward (link {h} {k} {t} q e c) f = (k, refl, subst (λ (x : Handle). Chain b x k t) (some_eq e f) c)
 
@@ -78,7 +77,7 @@ module _ (b : Bench) (m : Handle) where
       go true s ih = arrives_here b m (suc k) t s
       go false s ih = arrives_up b m t s k p f ∙ ih
 
-  pub under_below : Sound b → (t : Handle) (n : Node) → node_named b t ≡ some n → Descends b m t → 0 ≡ under_verdict b m t
+  pub under_below : Sound b → (t : Handle) (n : Node) → node_named b t ≡ Some n → Descends b m t → 0 ≡ under_verdict b m t
   under_below S t n e d = verdict_yes b m t (descended d (chain b S t n e) 512 (links_most b 512 t))
 
 -- ---- what holds at each turn of the walk from h: the node reached, and the links so far
@@ -112,10 +111,10 @@ module _ (b : List ℕ) (m h at : Handle) (links : ℕ) (R : Rising b m h at lin
       parent_now : parent_in (node_named (view b) at) ≡ parent_named n.parent
       parent_now = parent_seen b at R.stands ∙ ap (λ (x : Words). parent_named x.parent) (sym e)
 
-      pub rising_ends : n.parent ≡ Outermost → 6 ≡ under_verdict (view b) m h
+      pub rising_ends : n.parent ≡ None → 6 ≡ under_verdict (view b) m h
       rising_ends q = verdict_no (view b) m h (sym R.same ∙ arrives_none (view b) m at s (512 - links) (parent_now ∙ ap parent_named q))
 
-      pub rising_on : (q : Code) → n.parent ≡ Inside q → Rising b m h (handle_named q) (links + 1)
+      pub rising_on : (q : Code) → n.parent ≡ Some q → Rising b m h (handle_named q) (links + 1)
       rising_on q p = record {
         fit = R.fit;
         stands = stands_parent b at R.stands R.fit q (sym (ap (λ (x : Words). x.parent) e) ∙ p);

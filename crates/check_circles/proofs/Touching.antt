@@ -1,9 +1,8 @@
 -- A member's verdict is the larger of its two handles'. Assumes nothing.
-use Prim.Native.Nat.{ℕ, ◌<◌, ◌≤◌}
+use Rattle.std.specs.Prelude.{None, Option, Some}
+use Prim.Native.Nat.{ℕ}
 use mathlib.Core.Path.{◌≡◌, refl, ap, sym, ◌∙◌}
-use mathlib.Core.Bool.{Bool, true, false, not, ◌&&◌, ◌||◌, true≢false}
-use mathlib.Core.Option.{Option, none, some}
-use borrow.Author.Tests.{le-ltb, lt-ltb}
+use mathlib.Core.Bool.{Bool, true, false, not, ◌&&◌, ◌||◌}
 use lib.Dec.{eqb}
 use Rattle.kinds.specs.declared.Handle.{Handle as Code}
 use Rattle.kinds.specs.Names.{same_code}
@@ -24,34 +23,13 @@ and_assoc false y z = refl
 pub same_named : (g h : Code) → same_code g h ≡ same_handle (handle_named g) (handle_named h)
 same_named g h = and_assoc (eqb g.unit h.unit) (eqb g.slot h.slot) (eqb g.serial.0 h.serial.0)
 
--- ---- a defect
-module _ (m x y : Handle) where
-  pub own_strict : (s : Bool) → s ≡ true → 0 ≡ own_by s m x y
-  unfolding own_by
-  own_strict true e = refl
-  own_strict false e = absurd (true≢false (sym e))
-
-  module _ (s : Bool) (f : s ≡ false) where
-    own_plain : own_by s m x y ≡ elim (same_handle x m && same_handle y m) [ true ↦ 0 | false ↦ 2 ]
-    unfolding own_by
-    own_plain = rw (f, own_by)
-
-    pub own_first : same_handle x m ≡ false → 2 ≡ own_by s m x y
-    own_first e = sym (own_plain ∙ rw e)
-
-    pub own_second : same_handle x m ≡ true → same_handle y m ≡ false → 2 ≡ own_by s m x y
-    own_second e g = sym (own_plain ∙ rw (e, g))
-
-    pub own_both : same_handle x m ≡ true → same_handle y m ≡ true → 0 ≡ own_by s m x y
-    own_both e g = sym (own_plain ∙ rw (e, g))
-
 -- ---- a touching handle
 module _ (b : Bench) (o t : Handle) where
-  pub touch_gone : node_named b t ≡ none → 4 ≡ touch_verdict b o t
+  pub touch_gone : node_named b t ≡ None → 4 ≡ touch_verdict b o t
   unfolding touch_verdict
   touch_gone e = rw (ap (λ (x : Option Node). not (is_some x)) e, touch_verdict)
 
-  module _ (n : Node) (e : node_named b t ≡ some n) where
+  module _ (n : Node) (e : node_named b t ≡ Some n) where
     pub touch_near : same_handle (outermost b t) o ≡ true → 0 ≡ touch_verdict b o t
     unfolding touch_verdict
     touch_near f = rw (ap (λ (x : Option Node). not (is_some x)) e, f, touch_verdict)
@@ -60,23 +38,7 @@ module _ (b : Bench) (o t : Handle) where
     unfolding touch_verdict
     touch_far f = rw (ap (λ (x : Option Node). not (is_some x)) e, f, touch_verdict)
 
--- ---- either
-module _ (b : Bench) (m o t : Handle) where
-  pub by_strict : (s : Bool) → s ≡ true → touch_by s b m o t ≡ under_verdict b m t
-  unfolding touch_by
-  by_strict s e = rw (e, touch_by)
-
-  pub by_plain : (s : Bool) → s ≡ false → touch_by s b m o t ≡ touch_verdict b o t
-  unfolding touch_by
-  by_plain s e = rw (e, touch_by)
-
 -- ---- the larger of two
-pub larger_second : (x y : ℕ) → x < y → y ≡ larger x y
-larger_second x y l = rw (lt-ltb x y l, larger)
-
-pub larger_first : (x y : ℕ) → y ≤ x → x ≡ larger x y
-larger_first x y l = rw (le-ltb x y l, larger)
-
 abbrev six : Bool → ℕ
 six c = elim c [ true ↦ 0 | false ↦ 6 ]
 

@@ -14,10 +14,9 @@ ghost use Rattle.bench_vertices.specs.Under.{Placed};
 ghost use Rattle.check_nests.specs.Nest.{Nests};
 ghost use Rattle.check_circles.specs.Found.{larger, own_by, touch_verdict, under_verdict, touch_by, member_by, Circled};
 
-use bench_links::Found;
 use bench_words::WORDS;
 use check_nests::SLOTS;
-use kinds::{Class, Handle, Parent};
+use kinds::{Class, Handle};
 
 // As many as the slots of a bench, which the parents of a node are fewer than.
 const LINKS: u64 = 512;
@@ -40,17 +39,12 @@ fn larger_of(x: u8, y: u8) -> u8
 }
 
 // A defect's two touching handles.
+#[tactic(auto, unfolding(crate::specs::Found::own_by))]
 fn own_verdict(own: Handle, left: Handle, right: Handle, strict: bool) -> u8
     ensures { result ≡ own_by strict (handle_named own) (handle_named left) (handle_named right) }
 {
-    if strict {
+    if strict || (left == own && right == own) {
         return 0;
-    }
-    if left.same(own) {
-        if right.same(own) {
-            return 0;
-        }
-        return 2;
     }
     2
 }
@@ -61,45 +55,34 @@ fn touch_verdict(b: &[u64; WORDS], t: &[u64; SLOTS], outer: Handle, h: Handle) -
     requires nests { Nests b.now t.now }
     ensures { result ≡ touch_verdict (view b.now) (handle_named outer) (handle_named h) }
 {
-    let found = bench_links::find(b, h);
-    match found {
-        Found::Stale => 4,
-        Found::At(k) => {
-            let node = check_nests::outer(b, k, t);
-            if node.same(outer) {
-                return 0;
-            }
-            3
-        }
+    let Some(k) = bench_links::find(b, h) else {
+        return 4;
+    };
+    if check_nests::outer(b, k, t) == outer {
+        return 0;
     }
+    3
 }
 
-// Strictly: from a present node up by its parents, until the member is met or there is no parent. The loop's own count is the fuel of the definition.
+// Strictly: from a present node up by its parents, until the member is met or there is no parent. Each turn is one link, as many as the definition has fuel.
 fn rise(b: &[u64; WORDS], own: Handle, h: Handle) -> u8
     requires fit { Fit b.now }
     requires stands { Stands b.now (handle_named h) }
     ensures { result ≡ under_verdict (view b.now) (handle_named own) (handle_named h) }
 {
     let mut at = h;
-    let mut links: u64 = 0;
-    while links < LINKS {
-        if at.same(own) {
+    for _ in 0..LINKS {
+        if at == own {
             return 0;
         }
         let k = (at.unit as usize) * 64 + (at.slot as usize);
         let n = bench_words::load_node(b, k);
-        let parent = n.parent;
-        match parent {
-            Parent::Outermost => {
-                return 6;
-            }
-            Parent::Inside(q) => {
-                at = q;
-                links = links + 1;
-            }
-        }
+        let Some(q) = n.parent else {
+            return 6;
+        };
+        at = q;
     }
-    if at.same(own) {
+    if at == own {
         return 0;
     }
     6
@@ -113,13 +96,12 @@ fn under_verdict(b: &[u64; WORDS], t: &[u64; SLOTS], k: usize, h: Handle) -> u8
     ensures { result ≡ under_verdict (view b.now) (handle_at (node_at b.now) k) (handle_named h) }
 {
     let own = check_nests::handle_at(b, k);
-    if h.same(own) {
+    if h == own {
         return 0;
     }
-    let found = bench_links::find(b, h);
-    match found {
-        Found::Stale => 6,
-        Found::At(p) => {
+    match bench_links::find(b, h) {
+        None => 6,
+        Some(p) => {
             if check_nests::is_within(b, k, p, t) {
                 return 0;
             }
@@ -128,6 +110,7 @@ fn under_verdict(b: &[u64; WORDS], t: &[u64; SLOTS], k: usize, h: Handle) -> u8
     }
 }
 
+#[tactic(auto, unfolding(crate::specs::Found::touch_by))]
 fn touch(b: &[u64; WORDS], t: &[u64; SLOTS], k: usize, outer: Handle, h: Handle, strict: bool) -> u8
     requires fit { Fit b.now }
     requires nests { Nests b.now t.now }
@@ -149,21 +132,17 @@ fn member_verdict(b: &[u64; WORDS], t: &[u64; SLOTS], k: usize, outer: Handle, s
     ensures { result ≡ member_by strict (view b.now) (member_at (node_at b.now) k) }
 {
     let n = bench_words::load_node(b, k);
-    let class = n.class;
-    let serial = n.serial;
-    let left = n.left;
-    let right = n.right;
     let own = Handle {
         unit: (k / 64) as u8,
         slot: (k % 64) as u8,
-        serial,
+        serial: n.serial,
     };
-    match class {
+    match n.class {
         Class::Absent => 0,
-        Class::Defect(_) => own_verdict(own, left, right, strict),
+        Class::Defect(_) => own_verdict(own, n.left, n.right, strict),
         Class::Blossom => {
-            let x = touch(b, t, k, outer, left, strict);
-            let y = touch(b, t, k, outer, right, strict);
+            let x = touch(b, t, k, outer, n.left, strict);
+            let y = touch(b, t, k, outer, n.right, strict);
             larger_of(x, y)
         }
     }
@@ -180,8 +159,7 @@ pub fn circle_verdict(b: &[u64; WORDS], k: usize, t: &[u64; SLOTS], strict: bool
     let n = bench_words::load_node(b, k);
     let outer = check_nests::outer(b, k, t);
     let mut p = n.first;
-    let mut m = n.count;
-    while 0 < m {
+    for _ in 0..n.count {
         let q = p as usize;
         let verdict = member_verdict(b, t, q, outer, strict);
         if verdict != 0 {
@@ -190,7 +168,6 @@ pub fn circle_verdict(b: &[u64; WORDS], k: usize, t: &[u64; SLOTS], strict: bool
         }
         let x = bench_words::load_node(b, q);
         p = x.next;
-        m = m - 1;
     }
     Finding {
         verdict: 0,

@@ -1,9 +1,9 @@
 -- One member more of a circle is noted: it lies behind the vertices of the members before it, and all words stay true. Assumes nothing.
+use Rattle.std.specs.Prelude.{Some}
 use Prim.Native.Nat.{ℕ, zero, suc, ◌+◌, ◌-◌, ◌*◌, ◌/◌, ◌%◌, ◌<◌, ◌≤◌}
 use mathlib.Core.Path.{◌≡◌, refl, ap, sym, ◌∙◌, subst}
 use mathlib.Core.Logic.{by_cases}
 use mathlib.Core.Bool.{Bool, true, false, true≢false}
-use mathlib.Core.Option.{some}
 use mathlib.Core.List.{List, [], ◌∷◌}
 use native.Mathlib.Decide.{ℕ_discrete}
 use native.Mathlib.Omega.{arith}
@@ -117,13 +117,13 @@ module _ {b : List ℕ} {k w root x p m : ℕ} {t : List ℕ} (G : Going b k w r
   B : Blossoms (A k) (sum_up 8 (interface_at b) (k / 64)) (circle_of A k)
   B = slot_blossom (A k) (sum_up 8 (interface_at b) (k / 64)) (circle_of A k) ring
 
-  is : node_named (view b) (handle_at A k) ≡ some B.node
+  is : node_named (view b) (handle_at A k) ≡ Some B.node
   is = shown b F k G.own.here ∙ B.shown
 
   listed : members (node_named (view b) (handle_at A k)) ≡ circle b k
   listed = rw (is, B.class, members)
 
-  parent : (g : Handle) → In g (circle b k) → parent_in (node_named (view b) g) ≡ some (handle_at A k)
+  parent : (g : Handle) → In g (circle b k) → parent_in (node_named (view b) g) ≡ Some (handle_at A k)
   parent g i =
       let m = map_in (λ (y : Member). y.node) (circle_of A k) i in
       let N : Inner (view b) (handle_at A k) m.0.node = inner_of (view b) F.facts (handle_at A k) B.node (circle_of A k) is B.class m.0 m.1 in

@@ -1,10 +1,10 @@
 -- Two nodes of one outermost blossom that share a vertex stand one under the other, and the one with the lower serial is the one below: circles split
 -- a blossom's vertices among its members, in circle order. Assumes nothing.
+use Rattle.std.specs.Prelude.{None, Option, Some}
 use Prim.Native.Nat.{ℕ, ◌+◌, ◌-◌, ◌≤◌, ◌<◌}
 use mathlib.Core.Path.{◌≡◌, refl, sym, ◌∙◌, ap, subst}
 use mathlib.Core.Logic.{◌⊎◌, inl, inr}
 use mathlib.Core.Bool.{Bool, true, false, true≢false}
-use mathlib.Core.Option.{Option, none, some}
 use mathlib.Core.List.{List, [], ◌∷◌}
 use native.Mathlib.Omega.{arith}
 use Rattle.ledger_spec.specs.Bench.{Handle, Node, Bench}
@@ -77,12 +77,12 @@ pub record Part (b : Bench) (h p : Handle) : Type 0 where
   pub older : h.serial < p.serial
 
 module _ (b : Bench) (S : Sound b) where
-  pub part : (h p : Handle) → parent_in (node_named b h) ≡ some p → Part b h p
+  pub part : (h p : Handle) → parent_in (node_named b h) ≡ Some p → Part b h p
   part h p f = go (node_named b h) refl
     where
       go : (o : Option Node) → node_named b h ≡ o → Part b h p
-      go none e = absurd (none_some (ap parent_in e) f)
-      go (some n) e = record {
+      go None e = absurd (none_some (ap parent_in e) f)
+      go (Some n) e = record {
         listed = tally_in h (members (node_named b p)) 0 once;
         once = once;
         within = omega (arith, before_in b h (members (node_named b p)) (tally_in h (members (node_named b p)) 0 once), ap (sizes b) circle, ap size_of over, ((S.rings p.unit p.slot U.over U.has.stands).circle U.ms U.ring).size);
@@ -95,7 +95,7 @@ module _ (b : Bench) (S : Sound b) where
           U : Up (slot_of b) (top b) h.unit h.slot n p
           U = S.sewn.knit.up h.unit h.slot n p H.stands (sym (ap parent_in e) ∙ f)
 
-          over : node_named b p ≡ some U.over
+          over : node_named b p ≡ Some U.over
           over = has_node b p U.over U.has
 
           circle : members (node_named b p) ≡ nodes U.ms
@@ -129,14 +129,14 @@ module _ (b : Bench) (S : Sound b) where
   lies_outer (inner {h} p f L e) = up (node_named b h) refl ∙ lies_outer L
     where
       up : (o : Option Node) → node_named b h ≡ o → outermost b h ≡ outermost b p
-      up none q = absurd (none_some (ap parent_in q) f)
-      up (some n) q = sym (outer_more b S h n q 513 (omega arith)) ∙ outer_some b 512 h p f
+      up None q = absurd (none_some (ap parent_in q) f)
+      up (Some n) q = sym (outer_more b S h n q 513 (omega arith)) ∙ outer_some b 512 h p f
 
   -- ---- t under p by the member c, with the vertex z
   record Through (r p t : Handle) (z : ℕ) : Type 0 where
     c : Handle
     at : ℕ
-    parent : parent_in (node_named b c) ≡ some p
+    parent : parent_in (node_named b c) ≡ Some p
     lies : Lies b r c at
     low : at ≤ z
     high : z < at + size_of (node_named b c)
@@ -154,7 +154,7 @@ module _ (b : Bench) (S : Sound b) where
       lies = subst (λ (k : Handle). Lies b r k y) w L
 
       go : (q ≡ p) ⊎ Through r p q z → (t ≡ p) ⊎ Through r p t z
-      go (inl k) = inr (record { c = t; at = x; parent = f ∙ ap some k; lies = inner s g L e; low = l; high = h; under = itself })
+      go (inl k) = inr (record { c = t; at = x; parent = f ∙ ap Some k; lies = inner s g L e; low = l; high = h; under = itself })
       go (inr T) = inr (record { c = T.c; at = T.at; parent = T.parent; lies = T.lies; low = T.low; high = T.high; under = inside q f T.under })
 
   -- ---- nodes that share the vertex z
@@ -165,7 +165,7 @@ module _ (b : Bench) (S : Sound b) where
       P : Part b m p
       P = part m p f
 
-      ring : {c : Handle} {a : ℕ} → parent_in (node_named b c) ≡ some p → Lies b r c a → a ≤ z → z < a + size_of (node_named b c) → c ≡ m
+      ring : {c : Handle} {a : ℕ} → parent_in (node_named b c) ≡ Some p → Lies b r c a → a ≤ z → z < a + size_of (node_named b c) → c ≡ m
       ring q (outer g d) k n = absurd (none_some g q)
       ring {c} q (inner {y = u} s g K d) k n =
           let w : s ≡ p = some_eq g q in
@@ -190,7 +190,7 @@ module _ (b : Bench) (S : Sound b) where
       go (inl q) = omega (arith, (part m p f).older, ap (λ (k : Handle). k.serial) q)
       go (inr l) = omega (arith, (part m p f).older, l)
 
-  pub lies_under : {r m t : Handle} {x y : ℕ} (n : Node) → node_named b t ≡ some n → Lies b r m y → Lies b r t x → y ≤ x → x < y + size_of (node_named b m) → t.serial ≤ m.serial → Descends b m t
+  pub lies_under : {r m t : Handle} {x y : ℕ} (n : Node) → node_named b t ≡ Some n → Lies b r m y → Lies b r t x → y ≤ x → x < y + size_of (node_named b m) → t.serial ≤ m.serial → Descends b m t
   lies_under {r} {m} {t} {x} {y} n e M L l h s = go (shared x M L (omega arith) (omega (arith, ap size_of e, size_least b S t n e)) l h)
     where
       go : Descends b m t ⊎ Descends b t m → Descends b m t

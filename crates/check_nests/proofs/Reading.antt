@@ -1,8 +1,8 @@
 -- What the words of a table say: a node without a parent starts a nest, a word names the outermost blossom, and two words tell that a node is under
 -- another. Assumes nothing.
+use Rattle.std.specs.Prelude.{None}
 use Prim.Native.Nat.{ℕ, ◌+◌, ◌-◌, ◌/◌, ◌%◌, ◌<◌, ◌≤◌}
 use mathlib.Core.Path.{◌≡◌, ap, sym, ◌∙◌, subst}
-use mathlib.Core.Option.{none}
 use mathlib.Core.List.{List}
 use native.Mathlib.Omega.{arith}
 use lib.ListN.{get_or, replicate, length-replicate, get_or-replicate}
@@ -40,7 +40,7 @@ held_back b h k H = ap (handle_at (node_at b)) H.place ∙ handle_back b h H.sta
 
 module _ (b : List ℕ) (F : Fit b) where
   -- ---- a node without a parent
-  pub root_noted : (k : ℕ) → Placed b k → parent_in (node_named (view b) (handle_at (node_at b) k)) ≡ none → Noted b k (k + 1)
+  pub root_noted : (k : ℕ) → Placed b k → parent_in (node_named (view b) (handle_at (node_at b) k)) ≡ None → Noted b k (k + 1)
   root_noted k P f =
       let l = P.low in
       let e : (k + 1 - 1) % 512 ≡ k = omega arith in
@@ -54,7 +54,7 @@ module _ (b : List ℕ) (F : Fit b) where
   -- the outermost blossom is one
   pub record Root (o : Handle) : Type 0 where
     pub placed : Placed b (spot o)
-    pub free : parent_in (node_named (view b) (handle_at (node_at b) (spot o))) ≡ none
+    pub free : parent_in (node_named (view b) (handle_at (node_at b) (spot o))) ≡ None
 
   pub root_of : (h o : Handle) → Stands b h → Stands b o → o ≡ outermost (view b) h → Root o
   root_of h o S T e =

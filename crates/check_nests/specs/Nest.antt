@@ -1,7 +1,6 @@
 -- Where a node lies in its outermost blossom: how many vertices come before its own, circle by circle. And what a table of that says of a bench.
 -- Assumes nothing.
-use Rattle.std.specs.Prelude.{ℕ, ◌+◌, ◌-◌, ◌/◌, ◌%◌, ◌<◌, ◌≡◌, true, false, List, [], ◌∷◌, length, get_or}
-use Rattle.std.proofs.Math.Option.{none, some}
+use Rattle.std.specs.Prelude.{ℕ, ◌+◌, ◌-◌, ◌/◌, ◌%◌, ◌<◌, ◌≡◌, true, false, List, [], ◌∷◌, length, get_or, None, Some}
 use Rattle.bench_words.specs.Store.{node_at}
 use Rattle.ledger_spec.specs.Bench.{Handle, Bench}
 use Rattle.ledger_spec.specs.Look.{node_named, same_handle}
@@ -17,8 +16,8 @@ before b h (g ∷ gs) = elim (same_handle h g) [ true ↦ 0 | false ↦ size_of 
 
 -- parents lead from h to r, which has none, and x vertices of r come before those of h
 pub data Lies (b : Bench) (r : Handle) : Handle → ℕ → Type 0 where
-  outer : {x : ℕ} → parent_in (node_named b r) ≡ none → x ≡ 0 → Lies b r r x
-  inner : {h : Handle} {x y : ℕ} (p : Handle) → parent_in (node_named b h) ≡ some p → Lies b r p y → x ≡ y + before b h (members (node_named b p)) → Lies b r h x
+  outer : {x : ℕ} → parent_in (node_named b r) ≡ None → x ≡ 0 → Lies b r r x
+  inner : {h : Handle} {x y : ℕ} (p : Handle) → parent_in (node_named b h) ≡ Some p → Lies b r p y → x ≡ y + before b h (members (node_named b p)) → Lies b r h x
 
 -- the word of a slot that has one: the position of its node's outermost blossom, 512 times the vertices before the node's own, and one
 pub record Noted (b : List ℕ) (k w : ℕ) : Type 0 where

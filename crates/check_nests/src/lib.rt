@@ -3,7 +3,6 @@
 // outermost blossom is a word that is read, and whether a node is under another is told by two words, where a walk up would pass a link a level.
 // Only the lent table is written. A slot's word is 0 where nothing is noted, and then the walk up tells. Assumes nothing.
 ghost use Rattle.std.specs.Prelude.{◌≡◌, true, ◌<◌, ◌≤◌};
-ghost use Rattle.std.proofs.Math.Option.{none};
 ghost use Rattle.bench_words.specs.Store.{node_at};
 ghost use Rattle.ledger_spec.specs.Look.{node_named};
 ghost use Rattle.ledger_spec.specs.Named.{handle_named};
@@ -16,7 +15,7 @@ ghost use Rattle.bench_vertices.specs.Under.{Placed};
 ghost use Rattle.check_nests.specs.Nest.{Nests};
 
 use bench_words::WORDS;
-use kinds::{Handle, Parent};
+use kinds::Handle;
 
 // As many as the slots of eight interfaces.
 pub const SLOTS: usize = 512;
@@ -30,11 +29,10 @@ pub fn handle_at(b: &[u64; WORDS], k: usize) -> Handle
     ensures { handle_named result ≡ handle_at (node_at b.now) k }
 {
     let n = bench_words::load_node(b, k);
-    let serial = n.serial;
     Handle {
         unit: (k / 64) as u8,
         slot: (k % 64) as u8,
-        serial,
+        serial: n.serial,
     }
 }
 
@@ -53,14 +51,12 @@ fn fill(b: &[u64; WORDS], k: usize, t: &mut [u64; SLOTS])
     let root = (w - 1) % SPAN;
     let mut x = (w - 1) / SPAN;
     let mut p = n.first;
-    let mut m = n.count;
-    while 0 < m {
+    for _ in 0..n.count {
         let q = p as usize;
         let y = bench_words::load_node(b, q);
         t[q] = x * SPAN + root + 1;
-        x = x + y.size;
+        x += y.size;
         p = y.next;
-        m = m - 1;
     }
 }
 
@@ -75,22 +71,15 @@ fn after(b: &[u64; WORDS], k: usize) -> usize
         return (n.first % SPAN) as usize;
     }
     let mut at = k;
-    let mut links: u64 = 0;
-    while links < SPAN {
+    for _ in 0..SPAN {
         let x = bench_words::load_node(b, at);
-        let parent = x.parent;
-        match parent {
-            Parent::Outermost => {
-                return SLOTS;
-            }
-            Parent::Inside(q) => {
-                at = ((q.unit % 8) as usize) * 64 + ((q.slot % 64) as usize);
-                let y = bench_words::load_node(b, at);
-                if x.place % SPAN + 1 < y.count {
-                    return (x.next % SPAN) as usize;
-                }
-                links = links + 1;
-            }
+        let Some(q) = x.parent else {
+            return SLOTS;
+        };
+        at = ((q.unit % 8) as usize) * 64 + ((q.slot % 64) as usize);
+        let y = bench_words::load_node(b, at);
+        if x.place % SPAN + 1 < y.count {
+            return (x.next % SPAN) as usize;
         }
     }
     SLOTS
@@ -100,20 +89,18 @@ fn after(b: &[u64; WORDS], k: usize) -> usize
 fn spread(b: &[u64; WORDS], k: usize, t: &mut [u64; SLOTS])
     requires fit { Fit b.now }
     requires placed { Placed b.now k }
-    requires k_value { parent_in (node_named (view b.now) (handle_at (node_at b.now) k)) ≡ none }
+    requires k_value { parent_in (node_named (view b.now) (handle_at (node_at b.now) k)) ≡ None }
     requires nests { Nests b.now t.old }
     ensures { Nests b.now t.new }
 {
     t[k] = (k as u64) + 1;
     let mut at = k;
-    let mut turns: u64 = 0;
-    while turns < SPAN {
+    for _ in 0..SPAN {
         fill(b, at, t);
         at = after(b, at);
         if SLOTS <= at {
             return;
         }
-        turns = turns + 1;
     }
 }
 
@@ -132,8 +119,7 @@ pub fn note(b: &[u64; WORDS], k: usize, t: &mut [u64; SLOTS])
     if o.links == 0 {
         return;
     }
-    let node = o.node;
-    spread(b, (node.unit as usize) * 64 + (node.slot as usize), t);
+    spread(b, (o.node.unit as usize) * 64 + (o.node.slot as usize), t);
 }
 
 // The outermost blossom of a node.
@@ -145,8 +131,7 @@ pub fn outer(b: &[u64; WORDS], k: usize, t: &[u64; SLOTS]) -> Handle
 {
     let w = t[k];
     if w == 0 {
-        let o = bench_links::outermost(b, handle_at(b, k));
-        return o.node;
+        return bench_links::outermost(b, handle_at(b, k)).node;
     }
     handle_at(b, ((w - 1) % SPAN) as usize)
 }
@@ -161,19 +146,10 @@ pub fn is_within(b: &[u64; WORDS], m: usize, k: usize, t: &[u64; SLOTS]) -> bool
 {
     let v = t[m];
     let w = t[k];
-    if v == 0 {
-        return false;
-    }
-    if w < v {
-        return false;
-    }
-    if (w - 1) % SPAN != (v - 1) % SPAN {
+    if v == 0 || w < v || (w - 1) % SPAN != (v - 1) % SPAN {
         return false;
     }
     let above = bench_words::load_node(b, m);
     let below = bench_words::load_node(b, k);
-    if (w - 1) / SPAN - (v - 1) / SPAN < above.size {
-        return below.serial.0 <= above.serial.0;
-    }
-    false
+    (w - 1) / SPAN - (v - 1) / SPAN < above.size && below.serial.0 <= above.serial.0
 }

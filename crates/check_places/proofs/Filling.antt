@@ -1,8 +1,8 @@
 -- Numbers written one after the other, and interfaces' slots one after the other: what stands so far is right. Assumes nothing.
+use Rattle.std.specs.Prelude.{None}
 use Prim.Native.Nat.{ℕ, ◌+◌, ◌-◌, ◌*◌, ◌<◌, ◌≤◌}
 use mathlib.Core.Path.{◌≡◌, refl, ap, sym, ◌∙◌, subst}
 use mathlib.Core.Logic.{by_cases}
-use mathlib.Core.Option.{none}
 use mathlib.Core.List.{List}
 use native.Mathlib.Decide.{ℕ_discrete, dec_lt}
 use native.Mathlib.Omega.{arith}
@@ -37,14 +37,14 @@ module _ (was : List ℕ) (n from : ℕ) where
 pub record Listing (b : List ℕ) (unit i n : ℕ) (ps : List ℕ) : Type 0 where
   pub counted : Counted b unit i n
   pub long : length ps ≡ 512
-  pub past : (r : ℕ) → get_or (slots_left b unit 0) (n + r) (0, 0, none) ≡ get_or (slots_left b unit i) r (0, 0, none)
+  pub past : (r : ℕ) → get_or (slots_left b unit 0) (n + r) (0, 0, None) ≡ get_or (slots_left b unit i) r (0, 0, None)
   pub at : (k : ℕ) → k < n → AtIndex b unit k (get_or ps k 0)
 
 pub listing_starts : (b : List ℕ) (unit : ℕ) (ps : List ℕ) → length ps ≡ 512 → Listing b unit 0 0 ps
 listing_starts b unit ps l = record {
   counted = record { sum = omega arith; small = omega arith };
   long = l;
-  past = λ r. let e : 0 + r ≡ r = omega arith in ap (λ (x : ℕ). get_or (slots_left b unit 0) x (0, 0, none)) e;
+  past = λ r. let e : 0 + r ≡ r = omega arith in ap (λ (x : ℕ). get_or (slots_left b unit 0) x (0, 0, None)) e;
   at = λ k h. absurd (omega arith);
 }
 
@@ -65,8 +65,8 @@ module _ (b : List ℕ) (F : Fit b) (unit : ℕ) (lu : unit < 8) (o : Order) (L 
           past = λ s.
               let x : r + s ≡ n + (f.used + s) = omega (arith, W.count) in
               let y : f.used + s - f.used ≡ s = omega arith in
-              ap (λ (z : ℕ). get_or (slots_left b unit 0) z (0, 0, none)) x ∙ G.past (f.used + s)
-              ∙ at_more b F unit lu o L i u l e f g (f.used + s) (omega arith) ∙ ap (λ (z : ℕ). get_or (slots_left b unit (i + 1)) z (0, 0, none)) y;
+              ap (λ (z : ℕ). get_or (slots_left b unit 0) z (0, 0, None)) x ∙ G.past (f.used + s)
+              ∙ at_more b F unit lu o L i u l e f g (f.used + s) (omega arith) ∙ ap (λ (z : ℕ). get_or (slots_left b unit (i + 1)) z (0, 0, None)) y;
           at = λ k h. by_cases (dec_lt k n)
               (λ (q : k < n). rw (W.old k q) (G.at k q))
               (λ (q : k < n → ⊥). new k (omega (arith, W.count, h)) (omega arith));
@@ -79,5 +79,10 @@ module _ (b : List ℕ) (F : Fit b) (unit : ℕ) (lu : unit < 8) (o : Order) (L 
             (seek_ends b F unit lu o L i u l e f g (n + (k - n)) (k - n) (get_or qs (n + (k - n)) 0)
             (record { at = G.past (k - n); count = omega (arith, G.counted.sum) }) (omega arith) (W.new (k - n) (omega arith)))
 
-  pub listing_ends : (i n : ℕ) (ps : List ℕ) → o.count ≤ i → i ≤ 8 → Listing b unit i n ps → Places b unit ps n
-  listing_ends i n ps l h G = record { count = count_ends b F unit lu o L i n l G.counted; few = omega (arith, G.counted.small); long = G.long; at = G.at }
+  pub listing_ends : (i n : ℕ) (ps : List ℕ) → i ≡ o.count → Listing b unit i n ps → Places b unit ps n
+  listing_ends i n ps l G = record {
+    count = count_ends b F unit lu o L i n (omega arith) G.counted;
+    few = omega (arith, G.counted.small, L.few);
+    long = G.long;
+    at = G.at;
+  }

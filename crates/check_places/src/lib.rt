@@ -2,7 +2,6 @@
 // The slots of a tree in the order of the index, listed once as positions, so that a walk along them costs a step a slot and no search.
 // Only the lent list is written. Assumes nothing.
 ghost use Rattle.std.specs.Prelude.{◌≡◌, ◌+◌, ◌<◌, ◌≤◌, length};
-ghost use Rattle.std.proofs.Math.Option.{none};
 ghost use Rattle.ledger_spec.specs.Look.{interface};
 ghost use Rattle.bench_views.specs.Fit.{Fit};
 ghost use Rattle.bench_views.specs.View.{view};
@@ -20,10 +19,8 @@ fn fill(out: &mut [usize; SLOTS], n: usize, from: usize, many: usize) -> usize
     requires many_bound_2 { from + many ≤ 512 }
     ensures { Filled out.old n from many out.new result }
 {
-    let mut j: usize = 0;
-    while j < many {
+    for j in 0..many {
         out[n + j] = from + j;
-        j = j + 1;
     }
     n + many
 }
@@ -32,18 +29,15 @@ fn fill(out: &mut [usize; SLOTS], n: usize, from: usize, many: usize) -> usize
 pub fn list(b: &[u64; WORDS], unit: usize, out: &mut [usize; SLOTS]) -> usize
     requires fit { Fit b.now }
     requires unit_bound { unit < 8 }
-    requires unit_value { (interface (view b.now) unit).parent ≡ none }
+    requires unit_value { (interface (view b.now) unit).parent ≡ None }
     requires out_len { length out.old ≡ 512 }
     ensures { Places b.now unit out.new result }
 {
     let o = bench_orders::order_of(b, unit);
     let mut n: usize = 0;
-    let mut i: usize = 0;
-    while i < o.count {
-        let u = o.units[i];
-        let f = bench_words::load_interface(b, u);
-        n = fill(out, n, u * 64, f.used as usize);
-        i = i + 1;
+    for u in &o.units[..o.count] {
+        let f = bench_words::load_interface(b, *u);
+        n = fill(out, n, *u * 64, f.used as usize);
     }
     n
 }

@@ -24,13 +24,14 @@ pub fn meet(t: &mut [u32; WORDS], n: usize, v: u32) -> bool
     let mut cell = (v % BUCKETS) as usize;
     let mut rest = v / BUCKETS;
     let mut p = t[cell];
+    // How deep the tree is at this vertex is not known beforehand: the walk ends at an empty link.
     while 0 < p {
         let at = BASE + 3 * (p as usize);
         if t[at] == v {
             return true;
         }
         cell = at + 1 + ((rest % 2) as usize);
-        rest = rest / 2;
+        rest /= 2;
         p = t[cell];
     }
     t[cell] = (n + 1) as u32;

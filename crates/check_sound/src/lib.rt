@@ -2,7 +2,6 @@
 // The check and the strict check (docs/MANUAL.md, The check) on words that hold a sound bench: a refusal number, and where that is 0 a verdict and an index.
 // Neither changes the bench; UNIT (3) and CHILD (4) refuse. Assumes nothing.
 ghost use Rattle.std.specs.Prelude.{◌≡◌, ◌<◌};
-ghost use Rattle.std.proofs.Math.Option.{none};
 ghost use Rattle.ledger_spec.specs.Look.{interface};
 ghost use Rattle.ledger_spec.specs.Check.{check_of, strict_of};
 ghost use Rattle.bench_views.specs.Fit.{Fit};
@@ -25,7 +24,7 @@ pub struct Checked {
 fn judge(b: &[u64; WORDS], unit: usize, strict: bool) -> Judged
     requires fit { Fit b.now }
     requires unit_bound { unit < 8 }
-    requires unit_value { (interface (view b.now) unit).parent ≡ none }
+    requires unit_value { (interface (view b.now) unit).parent ≡ None }
     ensures { Judges b.now unit strict result }
 {
     let mut places = [0usize; check_places::SLOTS];

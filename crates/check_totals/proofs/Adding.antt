@@ -1,8 +1,8 @@
 -- A slot's value is its node's, or nothing; what is added so far and what is left is the whole total. Assumes nothing.
+use Rattle.std.specs.Prelude.{None, Option, Some}
 use Prim.Native.Nat.{ℕ, ◌+◌, ◌-◌, ◌*◌, ◌/◌, ◌%◌, ◌<◌, ◌≤◌}
 use mathlib.Core.Path.{◌≡◌, ap, ap₂, sym, ◌∙◌, subst}
 use mathlib.Core.Bool.{Bool, true, false}
-use mathlib.Core.Option.{Option, none, some}
 use mathlib.Core.List.{List, ◌∷◌}
 use native.Mathlib.Numerals.{add-one}
 use native.Mathlib.Omega.{arith}
@@ -50,7 +50,7 @@ module _ (b : List ℕ) (F : Fit b) (k : ℕ) (lu : k / 64 < 8) (ls : k % 64 < (
   }
 
   module _ (q : c ≡ false) (t : ℕ) (p : t ≡ sum_up 8 (interface_at b) (k / 64)) where
-    held : slot_of (view b) (k / 64) (k % 64) ≡ some (node_seen n (sum_up 8 (interface_at b) (k / 64)) (slot_held n (sum_up 8 (interface_at b) (k / 64)) (circle_of (node_at b) k) (absent_no (sym a ∙ q))).0)
+    held : slot_of (view b) (k / 64) (k % 64) ≡ Some (node_seen n (sum_up 8 (interface_at b) (k / 64)) (slot_held n (sum_up 8 (interface_at b) (k / 64)) (circle_of (node_at b) k) (absent_no (sym a ∙ q))).0)
     held = slot_is ∙ (slot_held n (sum_up 8 (interface_at b) (k / 64)) (circle_of (node_at b) k) (absent_no (sym a ∙ q))).1
 
     bias_near : Ranged n
@@ -99,7 +99,7 @@ module _ (b : List ℕ) (unit : ℕ) where
         ∙ A.whole
 
     module _ (l : i < count) where
-      pub place_at : AtIndex b unit i (get_or ps i 0)
+      place_at : AtIndex b unit i (get_or ps i 0)
       place_at = P.at i l
 
       pub adding_on : (t' sum' : ℕ) → t' ≡ sum_up 8 (interface_at b) (get_or ps i 0 / 64) → Added b (get_or ps i 0) sum sum' → Adding b unit (i + 1) (get_or ps i 0 / 64) t' sum'
@@ -108,7 +108,7 @@ module _ (b : List ℕ) (unit : ℕ) where
           let W = slots_of (view b) unit in
           let I = place_at in
           let more : drop i W ≡ (k / 64, k % 64, slot_of (view b) (k / 64) (k % 64)) ∷ drop (i + 1) W =
-          drop-cons W i (0, 0, none) (omega (arith, P.count)) ∙ ap₂ (λ (x : Entry) (j : ℕ). x ∷ drop j W) I.at (sym (add-one i)) in
+          drop-cons W i (0, 0, None) (omega (arith, P.count)) ∙ ap₂ (λ (x : Entry) (j : ℕ). x ∷ drop j W) I.at (sym (add-one i)) in
           record {
             whole = ap (λ (z : ℤ). z +ℤ total_of (drop (i + 1) W)) D.value ∙ +ℤ_assoc (off 4611686018427387904 sum) (worth (slot_of (view b) (k / 64) (k % 64))) (total_of (drop (i + 1) W))
                 ∙ sym (ap (λ (z : ℤ). off 4611686018427387904 sum +ℤ z) (ap total_of more ∙ total_more (k / 64, k % 64, slot_of (view b) (k / 64) (k % 64)) (drop (i + 1) W))) ∙ A.whole;

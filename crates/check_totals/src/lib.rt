@@ -61,13 +61,10 @@ pub fn total(
     let mut t = top.total;
     let mut last = unit;
     let mut sum: u64 = Interface::OFFSET;
-    let mut i: usize = 0;
-    while i < count {
-        let k = places[i];
-        t = progress(b, k / 64, last, t);
-        last = k / 64;
-        sum = add(b, k, t, sum);
-        i = i + 1;
+    for k in &places[..count] {
+        t = progress(b, *k / 64, last, t);
+        last = *k / 64;
+        sum = add(b, *k, t, sum);
     }
     sum
 }

@@ -1,8 +1,8 @@
 -- One slot of the walk, by what its words hold: nothing, a vertex met or new, a circle with a finding or without. Assumes nothing.
+use Rattle.std.specs.Prelude.{None, Some}
 use Prim.Native.Nat.{ℕ, zero, suc, ◌+◌, ◌/◌, ◌%◌, ◌*◌, ◌<◌}
 use mathlib.Core.Path.{◌≡◌, refl, ap, ap₂, sym, ◌∙◌}
 use mathlib.Core.Bool.{Bool, true, false, true≢false}
-use mathlib.Core.Option.{none, some}
 use mathlib.Core.List.{List, [], ◌∷◌}
 use native.Mathlib.Omega.{arith}
 use lib.Dec.{eqb}
@@ -43,8 +43,8 @@ plain_circle b (m ∷ ms) = go (member_verdict b m) refl (plain_circle b ms)
 
 -- 6, or nothing
 pub record Strictly (b : Bench) (ms : List Member) : Type 0 where
-  pub none_found : (circle_by true b ms).0 ≡ 0 → strict_circle b ms ≡ none
-  pub six_found : ((circle_by true b ms).0 ≡ 0 → ⊥) → ((circle_by true b ms).0 ≡ 6) × (strict_circle b ms ≡ some (circle_by true b ms).1)
+  pub none_found : (circle_by true b ms).0 ≡ 0 → strict_circle b ms ≡ None
+  pub six_found : ((circle_by true b ms).0 ≡ 0 → ⊥) → ((circle_by true b ms).0 ≡ 6) × (strict_circle b ms ≡ Some (circle_by true b ms).1)
 
 six : Bool → ℕ
 six c = elim c [ true ↦ 0 | false ↦ 6 ]
@@ -59,23 +59,23 @@ strictly b (m ∷ ms) = go (strict_member b m) refl (strictly b ms)
         let x : circle_by true b (m ∷ ms) ≡ circle_by true b ms = rw (e, circle_by, member_by) in
         record {
           none_found = λ z. strict_on b m ms e ∙ S.none_found (sym (ap (λ (r : ℕ × Handle). r.0) x) ∙ z);
-          six_found = λ z. let r = S.six_found (λ q. z (ap (λ (r : ℕ × Handle). r.0) x ∙ q)) in (ap (λ (r : ℕ × Handle). r.0) x ∙ r.0, strict_on b m ms e ∙ r.1 ∙ sym (ap (λ (r : ℕ × Handle). some r.1) x));
+          six_found = λ z. let r = S.six_found (λ q. z (ap (λ (r : ℕ × Handle). r.0) x ∙ q)) in (ap (λ (r : ℕ × Handle). r.0) x ∙ r.0, strict_on b m ms e ∙ r.1 ∙ sym (ap (λ (r : ℕ × Handle). Some r.1) x));
         }
     go false e S =
         let x : circle_by true b (m ∷ ms) ≡ (6, m.node) = rw (e, circle_by, member_by) in
         record {
           none_found = λ z. absurd (omega (arith, z, ap (λ (r : ℕ × Handle). r.0) x));
-          six_found = λ z. (ap (λ (r : ℕ × Handle). r.0) x, strict_bad b m ms e ∙ sym (ap (λ (r : ℕ × Handle). some r.1) x));
+          six_found = λ z. (ap (λ (r : ℕ × Handle). r.0) x, strict_bad b m ms e ∙ sym (ap (λ (r : ℕ × Handle). Some r.1) x));
         }
 
 -- ---- one slot, by the flag
 module _ (b : Bench) (whole : List Entry) (t : Entry) (ts : List Entry) (seen : List ℕ) (k : ℕ) where
-  by_empty : (s : Bool) → t.2 ≡ none → walk_by s b whole (t ∷ ts) seen k ≡ walk_by s b whole ts seen (suc k)
+  by_empty : (s : Bool) → t.2 ≡ None → walk_by s b whole (t ∷ ts) seen k ≡ walk_by s b whole ts seen (suc k)
   unfolding walk_by
   by_empty true e = strict_empty b whole t ts e
   by_empty false e = walk_empty b whole t ts seen k e
 
-  module _ (n : plain.Node) (e : t.2 ≡ some n) where
+  module _ (n : plain.Node) (e : t.2 ≡ Some n) where
     by_vertex : (s : Bool) → s ≡ true → (v : ℕ) → n.class ≡ defect v → walk_by s b whole (t ∷ ts) seen k ≡ walk_by s b whole ts seen (suc k)
     unfolding walk_by
     by_vertex true q v c = strict_vertex b whole t ts n e v c
@@ -111,7 +111,7 @@ module _ (b : Bench) (whole : List Entry) (t : Entry) (ts : List Entry) (seen : 
 -- ---- in words
 module _ (b : List ℕ) (unit k p : ℕ) (I : AtIndex b unit k p) (x : Node) (e : x ≡ node_at b p) where
   abbrev here : Entry
-  here = get_or (slots_of (view b) unit) k (0, 0, none)
+  here = get_or (slots_of (view b) unit) k (0, 0, None)
 
   split : p / 64 * 64 + p % 64 ≡ p
   split = omega arith
@@ -137,7 +137,7 @@ module _ (b : List ℕ) (unit k p : ℕ) (I : AtIndex b unit k p) (x : Node) (e 
     }
 
     module _ (v : Vertex) (c : x.class ≡ Defect v) where
-      there : here.2 ≡ some (node_seen x (sum_up 8 (interface_at b) (p / 64)) (defect v.0))
+      there : here.2 ≡ Some (node_seen x (sum_up 8 (interface_at b) (p / 64)) (defect v.0))
       there = seen ∙ slot_defect x (sum_up 8 (interface_at b) (p / 64)) (circle_of (node_at b) p) v c
 
       pub look_strict : s ≡ true → Steps b unit s k met n met passed
@@ -176,7 +176,7 @@ module _ (b : List ℕ) (unit k p : ℕ) (I : AtIndex b unit k p) (x : Node) (e 
       pub ring_is : (node_at b p).class ≡ Blossom
       ring_is = ap (λ (y : Node). y.class) (sym e) ∙ c
 
-      around : here.2 ≡ some (node_seen x (sum_up 8 (interface_at b) (p / 64)) (blossom (circle_of (node_at b) p)))
+      around : here.2 ≡ Some (node_seen x (sum_up 8 (interface_at b) (p / 64)) (blossom (circle_of (node_at b) p)))
       around = seen ∙ slot_ring x (sum_up 8 (interface_at b) (p / 64)) (circle_of (node_at b) p) c
 
       pub look_ring : (r : Judged) → Ringed b unit p s r → Steps b unit s k met n met (record { verdict = r.verdict; index = r.index; count = n })

@@ -1,8 +1,8 @@
 -- At each turn the walk along the slots left, from the vertices met, is the whole walk. Assumes nothing.
+use Rattle.std.specs.Prelude.{None}
 use Prim.Native.Nat.{ℕ, suc, ◌+◌, ◌<◌, ◌≤◌}
 use mathlib.Core.Path.{◌≡◌, refl, ap, sym, ◌∙◌}
 use mathlib.Core.Bool.{Bool, true, false}
-use mathlib.Core.Option.{none}
 use mathlib.Core.List.{List, [], ◌∷◌}
 use native.Mathlib.Numerals.{add-one}
 use native.Mathlib.Omega.{arith}
@@ -39,8 +39,8 @@ module _ (b : List ℕ) (unit : ℕ) (s : Bool) (ps : List ℕ) (count : ℕ) (P
       ∙ sym (ap (λ (ts : List Entry). walk_by s (view b) (slots_of (view b) unit) ts (known met n) k) (drop_of_length-le (slots_of (view b) unit) {i = k} (omega (arith, P.count)))) ∙ W.whole
 
   module _ (l : k < count) (met' : List ℕ) (r : Step) (T : Steps b unit s k met n met' r) where
-    opened : walk_by s (view b) (slots_of (view b) unit) (get_or (slots_of (view b) unit) k (0, 0, none) ∷ drop (suc k) (slots_of (view b) unit)) (known met n) k ≡ walk_by s (view b) (slots_of (view b) unit) (slots_of (view b) unit) [] 0
-    opened = sym (ap (λ (ts : List Entry). walk_by s (view b) (slots_of (view b) unit) ts (known met n) k) (drop-cons (slots_of (view b) unit) k (0, 0, none) (omega (arith, P.count)))) ∙ W.whole
+    opened : walk_by s (view b) (slots_of (view b) unit) (get_or (slots_of (view b) unit) k (0, 0, None) ∷ drop (suc k) (slots_of (view b) unit)) (known met n) k ≡ walk_by s (view b) (slots_of (view b) unit) (slots_of (view b) unit) [] 0
+    opened = sym (ap (λ (ts : List Entry). walk_by s (view b) (slots_of (view b) unit) ts (known met n) k) (drop-cons (slots_of (view b) unit) k (0, 0, None) (omega (arith, P.count)))) ∙ W.whole
 
     pub walking_found : (r.verdict ≡ 0 → ⊥) → (r.verdict, r.index.0) ≡ walk_by s (view b) (slots_of (view b) unit) (slots_of (view b) unit) [] 0
     walking_found z = sym (T.found z (drop (suc k) (slots_of (view b) unit))) ∙ opened

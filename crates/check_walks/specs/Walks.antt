@@ -1,6 +1,5 @@
 -- The check's walk and the strict one, by a flag: what one slot does to it, and what it finds. Assumes nothing.
-use Rattle.std.specs.Prelude.{ℕ, suc, ◌+◌, ◌≤◌, ◌≡◌, Bool, true, false, List, [], ◌∷◌, get_or}
-use Rattle.std.proofs.Math.Option.{none}
+use Rattle.std.specs.Prelude.{ℕ, suc, ◌+◌, ◌≤◌, ◌≡◌, Bool, true, false, List, [], ◌∷◌, get_or, None}
 use Rattle.ledger_spec.specs.Bench.{Bench}
 use Rattle.ledger_spec.specs.Reads.{slots_of}
 use Rattle.ledger_spec.specs.Named.{handle_named}
@@ -28,8 +27,8 @@ pub record Ringed (b : List ℕ) (unit p : ℕ) (s : Bool) (r : Judged) : Type 0
 pub record Steps (b : List ℕ) (unit : ℕ) (s : Bool) (k : ℕ) (met : List ℕ) (n : ℕ) (met' : List ℕ) (r : Step) : Type 0 where
   pub few : r.count ≤ n + 1
   pub kept : r.verdict ≡ 0 → Keeps met' r.count
-  pub on : r.verdict ≡ 0 → (ts : List Entry) → walk_by s (view b) (slots_of (view b) unit) (get_or (slots_of (view b) unit) k (0, 0, none) ∷ ts) (known met n) k ≡ walk_by s (view b) (slots_of (view b) unit) ts (known met' r.count) (suc k)
-  pub found : (r.verdict ≡ 0 → ⊥) → (ts : List Entry) → walk_by s (view b) (slots_of (view b) unit) (get_or (slots_of (view b) unit) k (0, 0, none) ∷ ts) (known met n) k ≡ (r.verdict, r.index.0)
+  pub on : r.verdict ≡ 0 → (ts : List Entry) → walk_by s (view b) (slots_of (view b) unit) (get_or (slots_of (view b) unit) k (0, 0, None) ∷ ts) (known met n) k ≡ walk_by s (view b) (slots_of (view b) unit) ts (known met' r.count) (suc k)
+  pub found : (r.verdict ≡ 0 → ⊥) → (ts : List Entry) → walk_by s (view b) (slots_of (view b) unit) (get_or (slots_of (view b) unit) k (0, 0, None) ∷ ts) (known met n) k ≡ (r.verdict, r.index.0)
 
 abbrev pub Walks : List ℕ → ℕ → Bool → Judged → Type 0
 Walks b unit s r = (r.verdict, r.index.0) ≡ walk_by s (view b) (slots_of (view b) unit) (slots_of (view b) unit) [] 0

@@ -2,7 +2,6 @@
 // The check's walk along a tree's slots by index, plainly or strictly: the first finding, a verdict and an index. Everything here only reads the bench;
 // where nodes lie in their nests is noted in a lent table, for this walk and a later one. Assumes nothing.
 ghost use Rattle.std.specs.Prelude.{◌≡◌, ◌<◌, ◌≤◌};
-ghost use Rattle.std.proofs.Math.Option.{none};
 ghost use Rattle.bench_words.specs.Store.{node_at};
 ghost use Rattle.kinds.specs.declared.Class.TheVariants.{Blossom};
 ghost use Rattle.ledger_spec.specs.Look.{interface};
@@ -55,7 +54,7 @@ fn look_circle(
 ) -> Judged
     requires fit { Fit b.now }
     requires unit_bound { unit < 8 }
-    requires unit_value { (interface (view b.now) unit).parent ≡ none }
+    requires unit_value { (interface (view b.now) unit).parent ≡ None }
     requires placed { Placed b.now p }
     requires p_value { (node_at b.now p).class ≡ Blossom }
     requires nests { Nests b.now t.old }
@@ -69,11 +68,9 @@ fn look_circle(
             index: NodeIndex(0),
         };
     }
-    let node = f.node;
-    let index = bench_orders::index_of(b, unit, node);
     Judged {
         verdict: f.verdict,
-        index,
+        index: bench_orders::index_of(b, unit, f.node),
     }
 }
 
@@ -90,16 +87,14 @@ fn look(
 ) -> Step
     requires fit { Fit b.now }
     requires unit_bound { unit < 8 }
-    requires unit_value { (interface (view b.now) unit).parent ≡ none }
+    requires unit_value { (interface (view b.now) unit).parent ≡ None }
     requires at_index { AtIndex b.now unit k p }
     requires k_bound { (k < 512) × (n ≤ k) }
     requires keeps { Keeps met.old n }
     requires nests { Nests b.now t.old }
     ensures { Steps b.now unit strict k met.old n met.new result × Nests b.now t.new }
 {
-    let x = bench_words::load_node(b, p);
-    let class = x.class;
-    match class {
+    match bench_words::load_node(b, p).class {
         Class::Absent => told(0, NodeIndex(0), n),
         Class::Defect(v) => {
             if strict {
@@ -112,8 +107,7 @@ fn look(
         }
         Class::Blossom => {
             let j = look_circle(b, unit, p, t, strict);
-            let index = j.index;
-            told(j.verdict, index, n)
+            told(j.verdict, j.index, n)
         }
     }
 }
@@ -129,26 +123,22 @@ pub fn walk(
 ) -> Judged
     requires fit { Fit b.now }
     requires unit_bound { unit < 8 }
-    requires unit_value { (interface (view b.now) unit).parent ≡ none }
+    requires unit_value { (interface (view b.now) unit).parent ≡ None }
     requires places { Places b.now unit places.now count }
     requires nests { Nests b.now t.old }
     ensures { Walks b.now unit strict result × Nests b.now t.new }
 {
     let mut met = [0u32; check_seen::WORDS];
     let mut n: usize = 0;
-    let mut k: usize = 0;
-    while k < count {
-        let p = places[k];
-        let s = look(b, unit, p, k, &mut met, n, t, strict);
+    for (k, p) in places[..count].iter().enumerate() {
+        let s = look(b, unit, *p, k, &mut met, n, t, strict);
         if s.verdict != 0 {
-            let index = s.index;
             return Judged {
                 verdict: s.verdict,
-                index,
+                index: s.index,
             };
         }
         n = s.count;
-        k = k + 1;
     }
     Judged {
         verdict: 0,

@@ -1,10 +1,10 @@
 -- Add blossom, done: the members are taken in and the blossom is pushed. Every node is the new one, a member, or as it was; the new circle is the one
 -- given, and every other circle is as it was. Assumes nothing.
+use Rattle.std.specs.Prelude.{None, Option, Some}
 use Prim.Native.Nat.{ℕ, suc, max, ◌+◌, ◌-◌, ◌*◌, ◌/◌, ◌%◌, ◌<◌, ◌≤◌}
 use mathlib.Core.Path.{◌≡◌, refl, ap, ap₂, sym, ◌∙◌, subst}
 use mathlib.Core.Logic.{◌≢◌, by_cases}
 use mathlib.Core.Bool.{true}
-use mathlib.Core.Option.{none, some}
 use mathlib.Core.List.{List}
 use native.Mathlib.Decide.{ℕ_discrete}
 use native.Mathlib.Omega.{arith}
@@ -14,8 +14,6 @@ use Rattle.kinds.specs.declared.GrowState.TheVariants.{Stay}
 use Rattle.kinds.specs.declared.Class.{Class}
 use Rattle.kinds.specs.declared.Class.TheVariants.{Absent, Blossom, Defect}
 use Rattle.kinds.specs.declared.Handle.{Handle as Packed}
-use Rattle.kinds.specs.declared.Parent.{Parent}
-use Rattle.kinds.specs.declared.Parent.TheVariants.{Outermost, Inside}
 use Rattle.kinds.specs.declared.Vertex.{Vertex}
 use Rattle.slot_map.specs.Slots.{put}
 use Rattle.bench_words.specs.Store.{node_at, interface_at, map_at}
@@ -52,7 +50,7 @@ use Rattle.deed_circles.proofs.Links.{Linked, next_last, whole_ring, ring_walk}
 use Rattle.deed_circles.proofs.Taking.{taking, speed_to, size_to, Taking, q₀, loose, circles, taken_view, taken_size}
 
 blossom_seen : (s f c z t : ℕ) (ns : List Member) → t ≤ 8796093022208
-    → slot_seen (blossom_node s f c z t) t ns ≡ some (record { serial = s; class = blossom ns; state = grows; parent = none; value = pos 0; size = z })
+    → slot_seen (blossom_node s f c z t) t ns ≡ Some (record { serial = s; class = blossom ns; state = grows; parent = None; value = pos 0; size = z })
 unfolding slot_seen
 blossom_seen s f c z t ns l =
     let e : 1152921504606846976 - t + t ≡ 1152921504606846976 = omega arith in
@@ -64,10 +62,10 @@ not_absent p q = not_blossom q p
 not_defect : {c : Class} {v : Vertex} → c ≡ Blossom → c ≡ Defect v → ⊥
 not_defect {v = v} p q = let z : Defect v ≡ Blossom = sym q ∙ p in let z2 : ◌≡◌ {A = ℕ} 0 1 = cc in omega arith
 
-pub not_inside : {p : Parent} {q : Packed} → p ≡ Outermost → p ≡ Inside q → ⊥
-not_inside {q = q} x y = let z : Outermost ≡ Inside q = sym x ∙ y in let z2 : ◌≡◌ {A = ℕ} 0 1 = cc in omega arith
+pub not_inside : {p : Option Packed} {q : Packed} → p ≡ None → p ≡ Some q → ⊥
+not_inside {q = q} x y = let z : None ≡ Some q = sym x ∙ y in let z2 : ◌≡◌ {A = ℕ} 0 1 = cc in omega arith
 
-inside_same : {x y : Packed} → Inside x ≡ Inside y → x ≡ y
+inside_same : {x y : Packed} → Some x ≡ Some y → x ≡ y
 inside_same e = cc
 
 module _ (b : List ℕ) (u : ℕ) (ms ts : List ℕ) (F : Fit b) (R : Ringable b u ms ts) (b₁ : List ℕ) (G : Taking b u ms ts (q₀ b u ms ts F R) b₁ (size_to b ms ts (q₀ b u ms ts F R) (length ms)) (speed_to b u ms ts (q₀ b u ms ts F R) (length ms)) (length ms)) where
@@ -166,13 +164,13 @@ module _ (b : List ℕ) (u : ℕ) (ms ts : List ℕ) (F : Fit b) (R : Ringable b
   U₁ = pacing (interface_at b) u sp
 
   abbrev x₁ : plain.Node
-  x₁ = record { serial = get_or b 0 0; class = blossom (circle (hands_given ms) (pairs_given ts)); state = grows; parent = none; value = pos 0; size = size_to b ms ts q₁ (length ms) }
+  x₁ = record { serial = get_or b 0 0; class = blossom (circle (hands_given ms) (pairs_given ts)); state = grows; parent = None; value = pos 0; size = size_to b ms ts q₁ (length ms) }
 
-  x_is : x₁ ≡ record { serial = (view b).next; class = blossom (circle (hands_given ms) (pairs_given ts)); state = grows; parent = none; value = pos 0; size = sizes (view b) (hands_given ms) }
+  x_is : x₁ ≡ record { serial = (view b).next; class = blossom (circle (hands_given ms) (pairs_given ts)); state = grows; parent = None; value = pos 0; size = sizes (view b) (hands_given ms) }
   x_is =
       let s : get_or b 0 0 ≡ (view b).next = sym (view_next (get_or b 0 0) (interface_at b) (node_at b)) in
       let z = taken_size b u ms ts F R in
-      λ j. record { serial = s j; class = blossom (circle (hands_given ms) (pairs_given ts)); state = grows; parent = none; value = pos 0; size = z j }
+      λ j. record { serial = s j; class = blossom (circle (hands_given ms) (pairs_given ts)); state = grows; parent = None; value = pos 0; size = z j }
 
   parents : (v : ℕ) → (U₁ v).parent ≡ (interface_at b v).parent
   parents = pacing_part (interface_at b) u sp (λ x. x.parent) (λ x z. refl)
@@ -203,9 +201,9 @@ module _ (b : List ℕ) (u : ℕ) (ms ts : List ℕ) (F : Fit b) (R : Ringable b
       node_off circles₂ refl
       (ap₂ (λ (n : Node) (t : ℕ). slot_seen n t (circle_of A₂ K)) node_new total
       ∙ blossom_seen (get_or b 0 0) (spot_at ms 0) (length ms) (size_to b ms ts q₁ (length ms)) (lag_of (interface_at b u)) (circle_of A₂ K) (omega (arith, F.canon.steady.progress u lu, lag_le (interface_at b u)))
-      ∙ ap (λ (ns : List Member). some (record { serial = get_or b 0 0; class = blossom ns; state = grows; parent = none; value = pos 0; size = size_to b ms ts q₁ (length ms) })) circle_new)
+      ∙ ap (λ (ns : List Member). Some (record { serial = get_or b 0 0; class = blossom ns; state = grows; parent = None; value = pos 0; size = size_to b ms ts q₁ (length ms) })) circle_new)
       ∙ ap₂ (λ (B : Bench) (x : plain.Node). push B u s₀ x)
-      (taken_view b u ms ts F R ∙ ap (λ (h : Handle). mark_all (view b) (hands_given ms) stays (some h)) new_is) x_is
+      (taken_view b u ms ts F R ∙ ap (λ (h : Handle). mark_all (view b) (hands_given ms) stays (Some h)) new_is) x_is
 
   -- ---- the words stay canonical
   intact : (k : ℕ) → k < 512 → (node_at b k).class ≡ Blossom → k ≢ K → Intact b b₂ F.canon k
@@ -220,7 +218,7 @@ module _ (b : List ℕ) (u : ℕ) (ms ts : List ℕ) (F : Fit b) (R : Ringable b
         members = λ i l. kept (k / 64) (k % 64) (walk i (node_at b) (node_at b k).first) (ringed_walk b F.canon F.sewn k i lk e l);
       }
 
-  seat_new : (k j : ℕ) (q : Packed) → j < length ms → k ≡ spot_at ms j → (A₂ k).parent ≡ Inside q → Seated b₂ k q
+  seat_new : (k j : ℕ) (q : Packed) → j < length ms → k ≡ spot_at ms j → (A₂ k).parent ≡ Some q → Seated b₂ k q
   seat_new k j q l e p =
       let here : A₂ k ≡ remarked (node_at b (spot_at ms j)) (sum_up 8 (interface_at b) (spot_at ms j / 64)) Stay (seat_of ms ts q₁ j) = ap A₂ e ∙ node_member j l in
       let mine : q₁ ≡ q = inside_same (sym (ap (λ (n : Node). n.parent) here) ∙ p) in
@@ -291,11 +289,11 @@ module _ (b : List ℕ) (u : ℕ) (ms ts : List ℕ) (F : Fit b) (R : Ringable b
           let l0 : i < length ms = omega (arith, l, ap (λ (j : ℕ). (A₂ j).count) q, ap (λ (n : Node). n.count) node_new) in
           ap (λ (j : ℕ). (A₂ (walk i A₂ (A₂ j).first)).place) q ∙ ap (λ (p : ℕ). (A₂ p).place) (walk_new i l0) ∙ ap (λ (n : Node). n.place) (node_member i l0)
 
-      alone_old : (k : ℕ) → k < 512 → k ≢ K → (A₂ k).parent ≡ Outermost → Among (spot_at ms) k (length ms) → Alone (A₂ k)
+      alone_old : (k : ℕ) → k < 512 → k ≢ K → (A₂ k).parent ≡ None → Among (spot_at ms) k (length ms) → Alone (A₂ k)
       alone_old k lk q e (yes_at j l z) = absurd (not_inside e (ap (λ (x : ℕ). (A₂ x).parent) z ∙ ap (λ (n : Node). n.parent) (node_member j l)))
       alone_old k lk q e (not_at f) = subst Alone (sym (node_old k q f)) (C.alone k lk (ap (λ (n : Node). n.parent) (sym (node_old k q f)) ∙ e))
 
-      inside_old : (k : ℕ) (q : Packed) → k < 512 → k ≢ K → (A₂ k).parent ≡ Inside q → Among (spot_at ms) k (length ms) → Seated b₂ k q
+      inside_old : (k : ℕ) (q : Packed) → k < 512 → k ≢ K → (A₂ k).parent ≡ Some q → Among (spot_at ms) k (length ms) → Seated b₂ k q
       inside_old k q lk z e (yes_at j l y) = seat_new k j q l y e
       inside_old k q lk z e (not_at f) =
           let st = C.steady in

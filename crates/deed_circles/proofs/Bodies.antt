@@ -128,18 +128,16 @@ module _ {b : List ℕ} {u : ℕ} {ms ts : List ℕ} {q : Packed} {b₁ : List �
   pub loop_ready : (s : ℕ) → s ≡ free_slot (view b) u → (s < 64) × (get_or b₁ 0 0 < 4294967296)
   loop_ready s es = (rw es L.ring.slot.room, rw L.taking.next L.ring.next)
 
-  pub loop_ends : (f : Interface) {s x k y : ℕ} {n : Node} {b' : List ℕ} → length ms ≤ i → f ≡ interface_at b u → s ≡ free_slot (view b) u → x ≡ get_or b 0 0 → k ≡ spot_of (get_or ms 0 0) → y ≡ lag_of f → n ≡ blossom_node x k i size y
+  pub loop_ends : (f : Interface) {s x k y : ℕ} {n : Node} {b' : List ℕ} → i ≡ length ms → f ≡ interface_at b u → s ≡ free_slot (view b) u → x ≡ get_or b 0 0 → k ≡ spot_of (get_or ms 0 0) → y ≡ lag_of f → n ≡ blossom_node x k (length ms) size y
       → b' ≡ pushed b₁ u s n (speed + 1) → Done b' (add_blossom (view b) u (hands_given ms) (pairs_given ts)) × (handle_named q ≡ new_handle (view b) u)
-  loop_ends f {s} {x} {k} {b' = b'} l ef es ex ek ey en e' =
+  loop_ends f {s} {x} {k} {b' = b'} all ef es ex ek ey en e' =
       let F = L.fit in
       let R = L.ring in
       let Q = q₀ b u ms ts F R in
       let G = L.taking in
-      let w = G.within in
-      let all : i ≡ length ms = omega arith in
       let z : size ≡ size_to b ms ts Q (length ms) = G.sized ∙ ap (size_to b ms ts Q) all in
       let p : speed ≡ speed_to b u ms ts Q (length ms) = G.paced ∙ ap (speed_to b u ms ts Q) all in
-      let e : b' ≡ pushed b₁ u (free_slot (view b) u) (blossom_node (get_or b 0 0) (spot_at ms 0) (length ms) (size_to b ms ts Q (length ms)) (lag_of (interface_at b u))) (speed_to b u ms ts Q (length ms) + 1) = simp (e', en, ey, es, ex, ek, ef, z, p, all) in
+      let e : b' ≡ pushed b₁ u (free_slot (view b) u) (blossom_node (get_or b 0 0) (spot_at ms 0) (length ms) (size_to b ms ts Q (length ms)) (lag_of (interface_at b u))) (speed_to b u ms ts Q (length ms) + 1) = simp (e', en, ey, es, ex, ek, ef, z, p) in
       let G' : Taking b u ms ts Q b₁ (size_to b ms ts Q (length ms)) (speed_to b u ms ts Q (length ms)) (length ms) = taking_at G z p all in
       (rw e (blossomed b u ms ts F R b₁ G'), ap handle_named L.mine ∙ new_handle_lem b u Q refl refl refl)
 

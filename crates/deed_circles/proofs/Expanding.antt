@@ -1,5 +1,6 @@
 -- Expand, done: the members are let out, the blossom's slot is emptied and the speed set. Every node is the empty slot, a member let out, or as it was;
 -- a node that was seated in the blossom is one of its members, so every seat that is left is in a circle that is left. Assumes nothing.
+use Rattle.std.specs.Prelude.{None, Some}
 use Prim.Native.Nat.{ℕ, ◌+◌, ◌*◌, ◌/◌, ◌%◌, ◌<◌, ◌≤◌}
 use mathlib.Core.Path.{◌≡◌, refl, ap, ap₂, sym, ◌∙◌, subst, fun_ext}
 use mathlib.Core.Logic.{◌≢◌, by_cases}
@@ -12,7 +13,6 @@ use Rattle.kinds.specs.declared.GrowState.TheVariants.{Grow as Growing}
 use Rattle.kinds.specs.declared.Class.{Class}
 use Rattle.kinds.specs.declared.Class.TheVariants.{Absent, Blossom, Defect}
 use Rattle.kinds.specs.declared.Handle.{Handle as Packed}
-use Rattle.kinds.specs.declared.Parent.TheVariants.{Outermost, Inside}
 use Rattle.kinds.specs.declared.Vertex.{Vertex}
 use Rattle.slot_map.specs.Slots.{put}
 use Rattle.bench_words.specs.Store.{node_at, interface_at, store_node, map_at, store_map, set_speed}
@@ -217,11 +217,11 @@ module _ (b : List ℕ) (t : ℕ) (h : Handle) (F : Fit b) (X : Expandable b t h
       empty_old j lj q e (yes_at i l z) = absurd ((member b t h F X i l).present (ap (λ (x : ℕ). (node_at b x).class) (sym z) ∙ sym (head j q).class ∙ e))
       empty_old j lj q e (not_at f) = node_old j q f ∙ C.empty j lj (sym (head j q).class ∙ e)
 
-      alone_old : (j : ℕ) → j < 512 → j ≢ k → (A₂ j).parent ≡ Outermost → Among at j m → Alone (A₂ j)
+      alone_old : (j : ℕ) → j < 512 → j ≢ k → (A₂ j).parent ≡ None → Among at j m → Alone (A₂ j)
       alone_old j lj q e (yes_at i l z) = rw (z, node_member i l) (record { place = refl; next = refl; left = refl; right = refl })
       alone_old j lj q e (not_at f) = subst Alone (sym (node_old j q f)) (C.alone j lj (ap (λ (n : Node). n.parent) (sym (node_old j q f)) ∙ e))
 
-      inside_old : (j : ℕ) (q : Packed) → j < 512 → j ≢ k → (A₂ j).parent ≡ Inside q → Among at j m → Seated b₂ j q
+      inside_old : (j : ℕ) (q : Packed) → j < 512 → j ≢ k → (A₂ j).parent ≡ Some q → Among at j m → Seated b₂ j q
       inside_old j q lj z e (yes_at i l y) = absurd (not_inside (ap (λ (x : ℕ). (A₂ x).parent) y ∙ ap (λ (n : Node). n.parent) (node_member i l)) e)
       inside_old j q lj z e (not_at f) =
           let sd : Seated b j q = C.inside j q lj (ap (λ (n : Node). n.parent) (sym (node_old j z f)) ∙ e) in

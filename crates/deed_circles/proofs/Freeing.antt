@@ -1,9 +1,9 @@
 -- The loop that lets members out, turn by turn. Members stand in one circle, each at a place of its own, and stay; the blossom itself is in no circle,
 -- and another blossom's members are other nodes. Assumes nothing.
+use Rattle.std.specs.Prelude.{None, Option, Some}
 use Prim.Native.Nat.{ℕ, zero, suc, ◌+◌, ◌*◌, ◌/◌, ◌%◌, ◌<◌, ◌≤◌}
 use mathlib.Core.Path.{◌≡◌, refl, ap, ap₂, sym, ◌∙◌, subst}
 use mathlib.Core.Logic.{◌≢◌, by_cases}
-use mathlib.Core.Option.{Option, none, some}
 use mathlib.Core.List.{List}
 use native.Mathlib.Decide.{ℕ_discrete}
 use native.Mathlib.Omega.{arith}
@@ -12,7 +12,6 @@ use Rattle.kinds.specs.declared.GrowState.{GrowState}
 use Rattle.kinds.specs.declared.GrowState.TheVariants.{Grow as Growing, Stay, Shrink}
 use Rattle.kinds.specs.declared.Class.{Class}
 use Rattle.kinds.specs.declared.Class.TheVariants.{Absent, Blossom, Defect}
-use Rattle.kinds.specs.declared.Parent.TheVariants.{Outermost}
 use Rattle.bench_words.specs.Store.{node_at, interface_at, store_node, map_at}
 use Rattle.bench_words.proofs.Laws.{Good, good_node, good_interface, load_same, load_other, store_node_interface}
 use Rattle.bench_words.proofs.Maps.{store_node_map}
@@ -21,11 +20,9 @@ use Rattle.bench_words.specs.declared.Interface.{Interface}
 use Rattle.ledger_spec.specs.Bench.{Handle, stays, Member}
 use Rattle.ledger_spec.specs.Bench as plain
 use Rattle.ledger_spec.specs.Look.{climb}
-use Rattle.ledger_spec.specs.Change.{place}
 use Rattle.ledger_spec.specs.Tests.{first}
 use Rattle.ledger_spec.specs.Refuse.{expand_tests}
 use Rattle.ledger_spec.specs.Named.{state_named, parent_named}
-use Rattle.ledger_spec.specs.Knit.{nodes}
 use Rattle.ledger_spec.proofs.Knit.{none_some, some_eq}
 use Rattle.ledger_spec.proofs.Passed.{Open}
 use Rattle.ledger_spec.proofs.Accepted.{expand_passed}
@@ -53,7 +50,7 @@ pub record Expandable (b : List ℕ) (t : ℕ) (h : Handle) : Type 0 where
   pub stands : Stands b h
   pub under : climb 8 (view b) h.unit ≡ t
   pub class : (node_at b (h.unit * 64 + h.slot)).class ≡ Blossom
-  pub free : (node_at b (h.unit * 64 + h.slot)).parent ≡ Outermost
+  pub free : (node_at b (h.unit * 64 + h.slot)).parent ≡ None
 
 pub expandable : (b : List ℕ) (t : ℕ) (h : Handle) → Fit b → first (expand_tests (view b) t h) ≡ 0 → Expandable b t h
 expandable b t h F e =
@@ -80,12 +77,12 @@ unfolding walk turned
 freeing_begins b f F = record { at = refl; steady = F.canon.steady; coded = F.canon.coded; next = refl; interfaces = λ v l. refl; maps = λ v l. refl; nodes = λ k. refl }
 
 -- ---- what a slot shows of a state
-slot_state : (n : Node) (t : ℕ) (ms : List Member) (m : plain.Node) → slot_seen n t ms ≡ some m → m.state ≡ state_named n.state
+slot_state : (n : Node) (t : ℕ) (ms : List Member) (m : plain.Node) → slot_seen n t ms ≡ Some m → m.state ≡ state_named n.state
 unfolding slot_seen
 slot_state n t ms m h = go n.class refl
   where
     go : (c : Class) → n.class ≡ c → m.state ≡ state_named n.state
-    go Absent e = absurd (let h2 : none ≡ some m = rw e at h in none_some refl h2)
+    go Absent e = absurd (let h2 : None ≡ Some m = rw e at h in none_some refl h2)
     go Blossom e = let h2 = rw e at h in cc
     go (Defect v) e = let h2 = rw e at h in cc
 
@@ -99,7 +96,7 @@ unfolding follow
 length_follow zero A k = refl
 length_follow (suc n) A k = ap suc (length_follow n A (A k).next)
 
-same_place : {v r s v' r' s' : ℕ} {o : Option Handle} → o ≡ some (record { unit = v; slot = r; serial = s }) → o ≡ some (record { unit = v'; slot = r'; serial = s' }) → (v ≡ v') × (r ≡ r')
+same_place : {v r s v' r' s' : ℕ} {o : Option Handle} → o ≡ Some (record { unit = v; slot = r; serial = s }) → o ≡ Some (record { unit = v'; slot = r'; serial = s' }) → (v ≡ v') × (r ≡ r')
 same_place {v} {r} {s} {v'} {r'} {s'} p q =
     let e : ◌≡◌ {A = Handle} (record { unit = v; slot = r; serial = s }) (record { unit = v'; slot = r'; serial = s' }) = some_eq p q in
     (ap (λ (h : Handle). h.unit) e, ap (λ (h : Handle). h.slot) e)

@@ -1,10 +1,10 @@
 -- What the passed tests of add blossom say of the words given: each is a packed handle of a node that stands, in the tree and without a parent, at a
 -- place of its own; touching handles come two a member or not at all, since one left over would be stale. Assumes nothing.
+use Rattle.std.specs.Prelude.{None}
 use Prim.Native.Nat.{ℕ, zero, suc, ◌+◌, ◌*◌, ◌/◌, ◌%◌, ◌<◌, ◌≤◌}
 use mathlib.Core.Path.{◌≡◌, refl, ap, sym, ◌∙◌, subst}
 use mathlib.Core.Logic.{◌≢◌, by_cases, ⊎_elim}
 use mathlib.Core.Bool.{Bool, true, false}
-use mathlib.Core.Option.{some}
 use mathlib.Core.List.{List, [], ◌∷◌}
 use native.Mathlib.Decide.{ℕ_discrete, dec_lt}
 use native.Mathlib.Omega.{arith}
@@ -12,7 +12,6 @@ use borrow.Author.Tests.{eq-eqb, ne_eqb, lt-ltb, le-ltb}
 use lib.ListN.{length, get_or, length-map}
 use Rattle.bench_words.specs.Codec.{handle_of}
 use Rattle.bench_words.specs.Store.{node_at, interface_at}
-use Rattle.kinds.specs.declared.Parent.TheVariants.{Outermost}
 use Rattle.ledger_spec.specs.Bench.{Handle}
 use Rattle.ledger_spec.specs.Look.{same_handle, climb, free_slot}
 use Rattle.ledger_spec.specs.Look as look
@@ -106,7 +105,7 @@ pub record Ringable (b : List ℕ) (u : ℕ) (ms ts : List ℕ) : Type 0 where
   pub sure : (i : ℕ) → i < length ms → get_or ms i 0 < 2199023255552
   pub stands : (i : ℕ) → i < length ms → Stands b (handle_named (handle_of (get_or ms i 0)))
   pub under : (i : ℕ) → i < length ms → climb 8 (view b) (get_or ms i 0 % 8) ≡ u
-  pub free : (i : ℕ) → i < length ms → (node_at b (spot_at ms i)).parent ≡ Outermost
+  pub free : (i : ℕ) → i < length ms → (node_at b (spot_at ms i)).parent ≡ None
   pub apart : (i j : ℕ) → i < length ms → j < length ms → i ≢ j → spot_at ms i ≢ spot_at ms j
   pub touch : (i d : ℕ) → i < length ms → d < 2 → touch_word ms ts i d < 2199023255552
 

@@ -1,8 +1,8 @@
 -- The bench that the loop shows: the blossom's slot empty, and then its members let out, each a step of the ledger's own. Assumes nothing.
+use Rattle.std.specs.Prelude.{None, Some}
 use Prim.Native.Nat.{ℕ, suc, ◌+◌, ◌-◌, ◌*◌, ◌/◌, ◌<◌, ◌≤◌}
 use mathlib.Core.Path.{◌≡◌, refl, ap, ap₂, sym, ◌∙◌}
 use mathlib.Core.Logic.{◌≢◌}
-use mathlib.Core.Option.{none, some}
 use mathlib.Core.List.{List, [], ◌∷◌}
 use native.Mathlib.Omega.{arith}
 use lib.IntN.{ℤ, pos, ◌-ℤ◌, ◌+ℤ◌}
@@ -17,7 +17,6 @@ use Rattle.ledger_spec.specs.Bench as plain
 use Rattle.ledger_spec.specs.Look as look
 use Rattle.ledger_spec.specs.Change.{place, mark_all}
 use Rattle.ledger_spec.specs.Deeds.{members, remove_blossom}
-use Rattle.ledger_spec.specs.Tests.{first}
 use Rattle.ledger_spec.specs.Knit.{nodes}
 use Rattle.ledger_spec.proofs.Knit.{some_eq}
 use Rattle.bench_views.specs.Records.{rate_of, no_node}
@@ -30,7 +29,7 @@ use Rattle.bench_views.proofs.Rings.{ring_near, slot_blossom}
 use Rattle.deed_raises.proofs.Kept.{climb_in}
 use Rattle.deed_nodes.specs.Steps.{no_seat}
 use Rattle.deed_nodes.proofs.Puts.{value_low, rate_small, slot_share, speed_turns, put_in}
-use Rattle.deed_nodes.proofs.Needs.{stands, open_paced}
+use Rattle.deed_nodes.proofs.Needs.{open_paced}
 use Rattle.deed_nodes.proofs.Keeps.{not_blossom}
 use Rattle.deed_circles.proofs.Rounds.{instead, instead_here, instead_else, pacing, pacing_here, pacing_else, turned, turn_off, turn_head, turns_view}
 use Rattle.deed_circles.proofs.Freeing.{Expandable, k₁, f₁, m₁, at₁, T₁, lu, ls, member, apart, member_ranged, still, not_top, ring_kept}
@@ -77,7 +76,7 @@ module _ (b : List ℕ) (t : ℕ) (h : Handle) (F : Fit b) (X : Expandable b t h
       let same = gone_else (v * 64 + r) ne in
       ring_kept b t h F X A₁ (λ p q off. gone_else p q) v r lv lr ne (ap (λ (n : Node). n.class) (sym same) ∙ e) (ap (λ (n : Node). n.count) same) (ap (λ (n : Node). n.first) same)
 
-  no_slot : (u : ℕ) (ms : List Member) → slot_seen no_node u ms ≡ none
+  no_slot : (u : ℕ) (ms : List Member) → slot_seen no_node u ms ≡ None
   unfolding slot_seen
   no_slot u ms = refl
 
@@ -87,11 +86,11 @@ module _ (b : List ℕ) (t : ℕ) (h : Handle) (F : Fit b) (X : Expandable b t h
       let r = rate_small (node_at b k).state in
       omega arith
 
-  gone_view : view_in (get_or b 0 0) (pacing (interface_at b) t s₁) A₁ ≡ place (view b) h.unit h.slot none
+  gone_view : view_in (get_or b 0 0) (pacing (interface_at b) t s₁) A₁ ≡ place (view b) h.unit h.slot None
   gone_view =
       let l = slow in
       put_in (get_or b 0 0) (interface_at b) (pacing (interface_at b) t s₁) (node_at b) A₁ h.unit h.slot t s₁ (λ v lv. good_interface b v) F.canon.steady.slots (lu b t h F X) (ls b t h F X) X.root.low X.under
-      (pacing_here (interface_at b) t s₁) (λ v lv ne. pacing_else (interface_at b) t s₁ v ne) gone_else gone_circles none
+      (pacing_here (interface_at b) t s₁) (λ v lv ne. pacing_else (interface_at b) t s₁ v ne) gone_else gone_circles None
       (speed_turns (interface_at b t).speed s₁ 1 (rate_of (node_at b k).state) (omega arith)
       ∙ ap (λ (z : ℤ). off 1024 (interface_at b t).speed +ℤ z)
       (rates Stay (node_at b k).state ∙ ap (λ (z : ℤ). pos 0 -ℤ z) (sym (slot_share (node_at b k) (sum_up 8 (interface_at b) h.unit) (circle_of (node_at b) k) X.stands.shows.present))))
@@ -135,7 +134,7 @@ module _ (b : List ℕ) (t : ℕ) (h : Handle) (F : Fit b) (X : Expandable b t h
       let n : X.stands.node ≡ B.node = some_eq X.stands.seen B.shown in
       ap members X.stands.named ∙ of_class X.stands.node (circle_of (node_at b) k) (ap (λ (x : plain.Node). x.class) n ∙ B.class)
     where
-      of_class : (n : plain.Node) (ms : List Member) → n.class ≡ blossom ms → members (some n) ≡ nodes ms
+      of_class : (n : plain.Node) (ms : List Member) → n.class ≡ blossom ms → members (Some n) ≡ nodes ms
       of_class n ms e = rw e
 
   pub freed_view : view_in (get_or b 0 0) (pacing (interface_at b) t (s₁ + m)) (to₁ m) ≡ remove_blossom (view b) h
@@ -149,6 +148,6 @@ module _ (b : List ℕ) (t : ℕ) (h : Handle) (F : Fit b) (X : Expandable b t h
       (λ i l. refl) (λ i l. rw (gone_member i l) (member b t h F X i l).present)
       (λ i l. rw (gone_member i l) (value_low (node_at b (at i)).state (node_at b (at i)).bias (T i) (member_ranged b t h F X i l).least (omega (arith, sum_up_le b st 8 (at i / 64) (member b t h F X i l).unit))))
       (λ i l. rw (gone_member i l, still b t h F X i l) (omega arith))
-      turn_circles none (λ i l. refl) (λ i. (node_at b (at i)).serial.0) (λ i. nodes (follow (m - i) (node_at b) (at i))) follow_more follow_end
-      ∙ ap₂ (λ (s : ℕ) (l : List Handle). mark_all (view_in (get_or b 0 0) (pacing (interface_at b) t s) A₁) l grows none) z (sym (all_of (nodes (follow (m - 0) (node_at b) (at 0))) refl))
-      ∙ ap₂ (λ (B : plain.Bench) (l : List Handle). mark_all B l grows none) gone_view (sym members_seen)
+      turn_circles None (λ i l. refl) (λ i. (node_at b (at i)).serial.0) (λ i. nodes (follow (m - i) (node_at b) (at i))) follow_more follow_end
+      ∙ ap₂ (λ (s : ℕ) (l : List Handle). mark_all (view_in (get_or b 0 0) (pacing (interface_at b) t s) A₁) l grows None) z (sym (all_of (nodes (follow (m - 0) (node_at b) (at 0))) refl))
+      ∙ ap₂ (λ (B : plain.Bench) (l : List Handle). mark_all B l grows None) gone_view (sym members_seen)

@@ -1,9 +1,9 @@
 -- The loop that takes members in, turn by turn, and the bench that it shows: each turn stores one node, and the speed and the size are kept aside.
 -- Members had no parent, so none is in a circle of the bench as it was, and every circle stays. Assumes nothing.
+use Rattle.std.specs.Prelude.{Some}
 use Prim.Native.Nat.{ℕ, zero, suc, ◌+◌, ◌-◌, ◌*◌, ◌/◌, ◌%◌, ◌<◌, ◌≤◌}
 use mathlib.Core.Path.{◌≡◌, refl, ap, ap₂, sym, ◌∙◌, subst}
 use mathlib.Core.Logic.{◌≢◌, by_cases}
-use mathlib.Core.Option.{some}
 use mathlib.Core.List.{List, ◌∷◌}
 use native.Mathlib.Decide.{ℕ_discrete}
 use native.Mathlib.Omega.{arith}
@@ -201,7 +201,7 @@ module _ (b : List ℕ) (u : ℕ) (ms ts : List ℕ) (F : Fit b) (R : Ringable b
   unfolding speed_to
   speed_start = refl
 
-  pub taken_view : view_in (get_or b 0 0) (pacing (interface_at b) u (speed_to b u ms ts q₀ (length ms))) (to (length ms)) ≡ mark_all (view b) (hands_given ms) stays (some (handle_named q₀))
+  pub taken_view : view_in (get_or b 0 0) (pacing (interface_at b) u (speed_to b u ms ts q₀ (length ms))) (to (length ms)) ≡ mark_all (view b) (hands_given ms) stays (Some (handle_named q₀))
   taken_view =
       let st = F.canon.steady in
       turns_view (spot_at ms) T₀ Stay (seat_of ms ts q₀) (node_at b) (length ms) R.apart (get_or b 0 0) (interface_at b) u (speed_to b u ms ts q₀)
@@ -209,10 +209,10 @@ module _ (b : List ℕ) (u : ℕ) (ms ts : List ℕ) (F : Fit b) (R : Ringable b
       (λ i l. rw (home i l) (R.stands i l).unit) (λ i l. rw (home i l, place i l) (R.stands i l).slot) (λ i l. rw (home i l) (R.under i l))
       (λ i l. refl) (λ i l. (R.stands i l).shows.present)
       (λ i l. value_low (node_at b (spot_at ms i)).state (node_at b (spot_at ms i)).bias (T₀ i) (R.stands i l).ranged.least (omega (arith, sum_up_le b st 8 (spot_at ms i / 64) (rw (home i l) (R.stands i l).unit))))
-      speed_step circles (some (handle_named q₀)) (λ i l. refl) (λ i. get_or ms i 0 / 8 / 64 % 4294967296) (λ i. hands_given (drop i ms))
+      speed_step circles (Some (handle_named q₀)) (λ i l. refl) (λ i. get_or ms i 0 / 8 / 64 % 4294967296) (λ i. hands_given (drop i ms))
       (λ i l. ap hands_given (drop-cons ms i 0 l) ∙ ap (λ (h : Handle). h ∷ hands_given (drop (suc i) ms)) (hand_is i l))
       (ap hands_given (drop_of_length-le ms {i = length ms} (omega arith)))
-      ∙ ap (λ (W : ℕ → Interface). mark_all (view_in (get_or b 0 0) W (node_at b)) (hands_given ms) stays (some (handle_named q₀))) (speed_start ∙ pacing_self (interface_at b) u)
+      ∙ ap (λ (W : ℕ → Interface). mark_all (view_in (get_or b 0 0) W (node_at b)) (hands_given ms) stays (Some (handle_named q₀))) (speed_start ∙ pacing_self (interface_at b) u)
 
   -- ---- and their sizes
   size_step : (i : ℕ) → i < length ms → sizes (view b) (hands_given (drop i ms)) ≡ (node_at b (spot_at ms i)).size + sizes (view b) (hands_given (drop (suc i) ms))

@@ -1,9 +1,8 @@
 -- A node as it is taken into a circle, and as it is let out of one; and a new blossom. Assumes nothing.
-use Rattle.std.specs.Prelude.{ℕ, ◌/◌, List}
+use Rattle.std.specs.Prelude.{Some, ℕ, ◌/◌, List}
 use Rattle.kinds.specs.declared.GrowState.TheVariants.{Grow as Growing, Stay}
 use Rattle.kinds.specs.declared.Class.TheVariants.{Blossom}
 use Rattle.kinds.specs.declared.Handle.{Handle as Packed}
-use Rattle.kinds.specs.declared.Parent.TheVariants.{Inside}
 use Rattle.bench_words.specs.Codec.{handle_of}
 use Rattle.bench_words.specs.declared.Node.{Node}
 use Rattle.bench_words.specs.declared.Interface.{Interface}
@@ -14,7 +13,7 @@ use Rattle.deed_circles.specs.Given.{next_spot, touch_word}
 
 -- member i in the circle of q
 abbrev pub seat_of : List ℕ → List ℕ → Packed → ℕ → Seat
-seat_of ms ts q i = record { parent = Inside q; place = i; next = next_spot ms i; left = handle_of (touch_word ms ts i 0); right = handle_of (touch_word ms ts i 1) }
+seat_of ms ts q i = record { parent = Some q; place = i; next = next_spot ms i; left = handle_of (touch_word ms ts i 0); right = handle_of (touch_word ms ts i 1) }
 
 -- the node at position k stays, in a seat
 abbrev pub taken_node : (ℕ → Interface) → (ℕ → Node) → ℕ → Seat → Node

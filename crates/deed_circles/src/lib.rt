@@ -17,7 +17,7 @@ ghost use Rattle.deed_circles.specs.Members.{seat_of, taken_node, freed_node};
 
 use bench_words::WORDS;
 use deed_nodes::Seat;
-use kinds::{Class, GrowState, Handle, Parent, Serial};
+use kinds::{Class, GrowState, Handle, Serial};
 
 // What a member adds to its blossom: its size, and its share of the speed, one higher than it is.
 #[derive(Clone, Copy)]
@@ -64,7 +64,7 @@ fn seat(members: &[u64], touching: &[u64], i: usize, q: Handle) -> Seat
     let left = touch(members, touching, i, 0);
     let right = touch(members, touching, i, 1);
     Seat {
-        parent: Parent::Inside(q),
+        parent: Some(q),
         place: i as u64,
         next,
         left,
@@ -116,15 +116,13 @@ pub fn add_blossom(b: &mut [u64; WORDS], unit: usize, members: &[u64], touching:
     };
     let mut size: u64 = 0;
     let mut speed = f.speed;
-    let mut i: usize = 0;
-    while i < members.len() {
-        let s = take_in(b, members[i], unit, t, seat(members, touching, i, q));
-        size = size + s.size;
+    for (i, w) in members.iter().enumerate() {
+        let s = take_in(b, *w, unit, t, seat(members, touching, i, q));
+        size += s.size;
         speed = speed + 1 - s.rate;
-        i = i + 1;
     }
     let first = spot(members[0]) as u64;
-    let n = deed_nodes::new_node(serial, Class::Blossom, size, first, i as u64, t);
+    let n = deed_nodes::new_node(serial, Class::Blossom, size, first, members.len() as u64, t);
     deed_nodes::push(b, unit, slot, n, speed + 1);
     q
 }
@@ -160,16 +158,12 @@ pub fn remove_blossom(b: &mut [u64; WORDS], unit: usize, h: Handle)
     let n = bench_words::load_node(b, k);
     let f = bench_words::load_interface(b, unit);
     let t = bench_trees::lag(f.marks.plain, f.progress);
-    let count = n.count;
     let mut at = n.first;
-    let mut i: u64 = 0;
-    while i < count {
+    for _ in 0..n.count {
         at = release(b, at, unit, t);
-        i = i + 1;
     }
-    let old = n.state;
-    let loss = bench_trees::rate_of(old);
+    let loss = bench_trees::rate_of(n.state);
     bench_words::store_node(b, k, deed_nodes::no_node());
-    deed_nodes::pace(b, unit, f.speed + 1 + count - loss);
+    deed_nodes::pace(b, unit, f.speed + 1 + n.count - loss);
     unmark(b, h.unit as usize, h.slot);
 }

@@ -1,9 +1,9 @@
 -- Add defect: one node in a slot that was empty, in no circle and without links. Assumes nothing.
+use Rattle.std.specs.Prelude.{None, Some}
 use Prim.Native.Nat.{ℕ, suc, max, ◌+◌, ◌-◌, ◌*◌, ◌/◌, ◌%◌, ◌<◌, ◌≤◌}
 use mathlib.Core.Path.{◌≡◌, refl, ap, ap₂, sym, ◌∙◌, subst}
 use mathlib.Core.Logic.{◌≢◌, by_cases}
 use mathlib.Core.Bool.{true}
-use mathlib.Core.Option.{none, some}
 use mathlib.Core.List.{List}
 use native.Mathlib.Decide.{ℕ_discrete}
 use native.Mathlib.Omega.{arith}
@@ -12,7 +12,6 @@ use lib.ListN.{get_or}
 use Rattle.kinds.specs.declared.Class.{Class}
 use Rattle.kinds.specs.declared.Class.TheVariants.{Absent, Blossom, Defect}
 use Rattle.kinds.specs.declared.Handle.{Handle as Packed}
-use Rattle.kinds.specs.declared.Parent.TheVariants.{Outermost, Inside}
 use Rattle.kinds.specs.declared.Vertex.{Vertex}
 use Rattle.bench_words.specs.Store.{node_at, interface_at}
 use Rattle.bench_words.proofs.Laws.{Good, good_interface}
@@ -47,7 +46,7 @@ new_handle_lem b u h eu es en =
     λ i. record { unit = eu i; slot = es i; serial = n i }
 
 defect_seen : (s t : ℕ) (v : Vertex) (ms : List Member) → t ≤ 8796093022208
-    → slot_seen (defect_node s v t) t ms ≡ some (record { serial = s; class = plain.defect v.0; state = grows; parent = none; value = pos 0; size = 1 })
+    → slot_seen (defect_node s v t) t ms ≡ Some (record { serial = s; class = plain.defect v.0; state = grows; parent = None; value = pos 0; size = 1 })
 unfolding slot_seen
 defect_seen s t v ms l =
     let e : 1152921504606846976 - t + t ≡ 1152921504606846976 = omega arith in
@@ -59,7 +58,7 @@ not_defect {v = v} p q = let z : Defect v ≡ Blossom = sym p ∙ q in let z2 : 
 not_absent : {c : Class} {v : Vertex} → c ≡ Defect v → c ≡ Absent → ⊥
 not_absent {v = v} p q = let z : Defect v ≡ Absent = sym p ∙ q in let z2 : ◌≡◌ {A = ℕ} 0 1 = cc in omega arith
 
-not_inside : {q : Packed} → Outermost ≡ Inside q → ⊥
+not_inside : {q : Packed} → None ≡ Some q → ⊥
 not_inside {q} e = let z2 : ◌≡◌ {A = ℕ} 0 1 = cc in omega arith
 
 module _ (b : List ℕ) (u : ℕ) (v : Vertex) (F : Fit b) (P : Pushable b u) (fits : v.0 < 4294967296) where
@@ -115,10 +114,10 @@ module _ (b : List ℕ) (u : ℕ) (v : Vertex) (F : Fit b) (P : Pushable b u) (f
       let short = sum_up_le b st 8 u P.root.low in
       ap (λ (m : ℕ). view_in m (interface_at b₁) (node_at b₁)) (push_next b u s₀ n₁ ((interface_at b u).speed + 1) st P.root.low P.slot.room good₁)
       ∙ push_in (get_or b 0 0) (interface_at b) (interface_at b₁) (node_at b) (node_at b₁) u s₀ K
-      (record { serial = get_or b 0 0; class = plain.defect v.0; state = grows; parent = none; value = pos 0; size = 1 })
+      (record { serial = get_or b 0 0; class = plain.defect v.0; state = grows; parent = None; value = pos 0; size = 1 })
       (λ w lw. good_interface b w) st.slots P.root.low P.slot.room P.slot.low refl unit_here unit_there node_there circles refl
       (ap₂ (λ (n : Node) (t : ℕ). slot_seen n t (circle_of (node_at b₁) K)) node_here (open_total b F u P.root) ∙ defect_seen (get_or b 0 0) t₀ v (circle_of (node_at b₁) K) (omega (arith, open_total b F u P.root)))
-      ∙ ap (λ (m : ℕ). push (view b) u s₀ (record { serial = m; class = plain.defect v.0; state = grows; parent = none; value = pos 0; size = 1 })) (sym (view_next (get_or b 0 0) (interface_at b) (node_at b)))
+      ∙ ap (λ (m : ℕ). push (view b) u s₀ (record { serial = m; class = plain.defect v.0; state = grows; parent = None; value = pos 0; size = 1 })) (sym (view_next (get_or b 0 0) (interface_at b) (node_at b)))
 
   -- ---- the words stay canonical
   intact : (k : ℕ) → k < 512 → (node_at b k).class ≡ Blossom → k ≢ K → Intact b b₁ F.canon k

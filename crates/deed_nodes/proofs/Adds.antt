@@ -1,9 +1,9 @@
 -- A node added in an empty slot, over interfaces and nodes as functions. No circle goes through a slot that is empty, so the other slots show what
 -- they showed; and the ledger's own readings of `push` say the same of every part. Assumes nothing.
+use Rattle.std.specs.Prelude.{Some}
 use Prim.Native.Nat.{ℕ, suc, max, ◌+◌, ◌*◌, ◌<◌, ◌≤◌}
 use mathlib.Core.Path.{◌≡◌, refl, ap, ap₂, sym, ◌∙◌}
 use mathlib.Core.Logic.{◌≢◌}
-use mathlib.Core.Option.{some}
 use mathlib.Core.List.{List}
 use native.Mathlib.Omega.{arith}
 use lib.IntN.{◌+ℤ◌}
@@ -42,7 +42,7 @@ module _ (n : ℕ) (U U' : ℕ → Interface) (A A' : ℕ → Node) (u s k : ℕ
     (here : U' u ≡ with_used (U u) (max (U u).used (suc s)) ((U u).speed + 1)) (there : (v : ℕ) → v < 8 → v ≢ u → U' v ≡ U v)
     (others : (j : ℕ) → j ≢ k → A' j ≡ A j)
     (circles : (v r : ℕ) → v < 8 → r < (U v).used → (A (v * 64 + r)).class ≡ Blossom → circle_of A' (v * 64 + r) ≡ circle_of A (v * 64 + r))
-    (growing : x.state ≡ grows) (new : slot_seen (A' k) (sum_up 8 U u) (circle_of A' k) ≡ some x) where
+    (growing : x.state ≡ grows) (new : slot_seen (A' k) (sum_up 8 U u) (circle_of A' k) ≡ Some x) where
   kept : {X : Type 0} (φ : Interface → X) → ((y : Interface) (m z : ℕ) → φ (with_used y m z) ≡ φ y) → (v : ℕ) → v < 8 → φ (U' v) ≡ φ (U v)
   kept = unit_held n U U' A A' u s ((U u).speed + 1) x lu here there
 

@@ -1,8 +1,8 @@
 -- What the calls of a function's body come to, over plain variables: each follows by putting the callees' results in. Assumes nothing.
+use Rattle.std.specs.Prelude.{None}
 use Prim.Native.Nat.{ℕ, suc, max, ◌+◌, ◌-◌, ◌*◌, ◌<◌, ◌≤◌}
 use mathlib.Core.Path.{◌≡◌, refl}
 use mathlib.Core.Bool.{true}
-use mathlib.Core.Option.{none}
 use mathlib.Core.List.{List}
 use native.Mathlib.Numerals.{add-one}
 use native.Mathlib.Omega.{arith}
@@ -73,7 +73,7 @@ module _ (b : List ℕ) (u : ℕ) (h : Packed) (g : GrowState) (F : Fit b) (t : 
 
   pub set_by : (n : Node) (U : Interface) (m : Node) {w top gain loss : ℕ} {seat : Seat} {b₁ b₂ : List ℕ} → Climbs b h.unit top w → n ≡ node_at b (h.unit * 64 + h.slot) → U ≡ interface_at b u → seat ≡ no_seat
       → m ≡ remarked n w g seat → b₁ ≡ store_node b (h.unit * 64 + h.slot) m → gain ≡ rate_of g → loss ≡ rate_of n.state → b₂ ≡ paced b₁ u (U.speed + gain - loss)
-      → Done b₂ (mark (view b) (handle_named h) (state_named g) none)
+      → Done b₂ (mark (view b) (handle_named h) (state_named g) None)
   set_by n U m {b₂ = b₂} ec en eU es em e₁ eg el e₂ =
       let N = node_at b (h.unit * 64 + h.slot) in
       let sp = (interface_at b u).speed + rate_of g - rate_of N.state in

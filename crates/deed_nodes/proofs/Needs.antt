@@ -1,9 +1,10 @@
 -- What a call's passed tests say of the words: a handle that is not stale names a node in a used slot, whose words are in range; an interface that
 -- may be named has its speed and sum in range. The ledger's own readings of the tests, carried through the view. Assumes nothing.
+use Rattle.std.specs.Prelude.{None, Option, Some}
+use Rattle.kinds.specs.declared.Handle.{Handle as Packed}
 use Prim.Native.Nat.{ℕ, ◌+◌, ◌*◌, ◌<◌, ◌≤◌}
 use mathlib.Core.Path.{◌≡◌, refl, ap, sym, ◌∙◌, subst}
 use mathlib.Core.Bool.{false}
-use mathlib.Core.Option.{none, some}
 use mathlib.Core.List.{List}
 use native.Mathlib.Decide.{dec_lt}
 use native.Mathlib.Omega.{arith}
@@ -14,12 +15,8 @@ use borrow.Author.Tests.{ltb-false}
 use Rattle.bench_words.specs.Store.{node_at, interface_at}
 use Rattle.kinds.specs.declared.Class.{Class}
 use Rattle.kinds.specs.declared.Class.TheVariants.{Absent, Blossom, Defect}
-use Rattle.kinds.specs.declared.Parent.{Parent}
-use Rattle.kinds.specs.declared.Parent.TheVariants.{Outermost, Inside}
 use Rattle.bench_words.specs.declared.Node.{Node}
 use Rattle.bench_words.specs.declared.Interface.{Interface}
-use Rattle.bench_words.specs.declared.Up.{Up}
-use Rattle.bench_words.specs.declared.Up.TheVariants.{Top, Under}
 use Rattle.ledger_spec.specs.Bench.{Handle, Member, defect, blossom}
 use Rattle.ledger_spec.specs.Bench as plain
 use Rattle.ledger_spec.specs.Look.{climb, free_slot}
@@ -52,12 +49,12 @@ pub record Vacant (b : List ℕ) (u s : ℕ) : Type 0 where
   pub low : s ≤ (interface_at b u).used
   pub bare : (node_at b (u * 64 + s)).class ≡ Absent
 
-up_none : (p : Up) → up_seen p ≡ none → p ≡ Top
-up_none Top e = refl
-up_none (Under p) e = absurd (none_some e refl)
+up_none : (p : Option ℕ) → up_seen p ≡ None → p ≡ None
+up_none None e = refl
+up_none (Some p) e = absurd (none_some e refl)
 
 module _ (b : List ℕ) (F : Fit b) (u : ℕ) (o : Open (view b) u) where
-  pub open_top : (interface_at b u).parent ≡ Top
+  pub open_top : (interface_at b u).parent ≡ None
   open_top = up_none (interface_at b u).parent (sym (view_parent (get_or b 0 0) (interface_at b) (node_at b) u o.low) ∙ o.free)
 
   -- T of a top is its own progress
@@ -86,8 +83,8 @@ pub record Stands (b : List ℕ) (h : Handle) : Type 0 where
   pub slot : h.slot < (interface_at b h.unit).used
   pub low : h.unit * 64 + h.slot < 512
   pub node : plain.Node
-  pub named : look.node_named (view b) h ≡ some node
-  pub seen : slot_in (interface_at b) (node_at b) h.unit h.slot ≡ some node
+  pub named : look.node_named (view b) h ≡ Some node
+  pub seen : slot_in (interface_at b) (node_at b) h.unit h.slot ≡ Some node
   pub shows : Shows (node_at b (h.unit * 64 + h.slot)) node
   pub serial : (node_at b (h.unit * 64 + h.slot)).serial.0 ≡ h.serial
   pub size : (node_at b (h.unit * 64 + h.slot)).size ≤ 512
@@ -103,7 +100,7 @@ module _ (b : List ℕ) (F : Fit b) {u : ℕ} (h : Handle) where
       go (yes q) (yes w) =
           let k = h.unit * 64 + h.slot in
           let n = N.node in
-          let seen : slot_in (interface_at b) (node_at b) h.unit h.slot ≡ some n = sym (view_slot (get_or b 0 0) (interface_at b) (node_at b) h.unit h.slot q w) ∙ N.has.stands in
+          let seen : slot_in (interface_at b) (node_at b) h.unit h.slot ≡ Some n = sym (view_slot (get_or b 0 0) (interface_at b) (node_at b) h.unit h.slot q w) ∙ N.has.stands in
           let sh : Shows (node_at b k) n = slot_shows (node_at b k) (sum_up 8 (interface_at b) h.unit) (circle_of (node_at b) k) n seen in
           record {
             unit = q;
@@ -118,17 +115,17 @@ module _ (b : List ℕ) (F : Fit b) {u : ℕ} (h : Handle) where
             ranged = ranged b F.canon.steady F.within h.unit h.slot q w sh.present;
           }
 
-parent_none : (p : Parent) → parent_named p ≡ none → p ≡ Outermost
-parent_none Outermost e = refl
-parent_none (Inside q) e = absurd (none_some e refl)
+parent_none : (p : Option Packed) → parent_named p ≡ None → p ≡ None
+parent_none None e = refl
+parent_none (Some q) e = absurd (none_some e refl)
 
-pub stands_free : {b : List ℕ} {h : Handle} {n : plain.Node} → Stands b h → look.node_named (view b) h ≡ some n → n.parent ≡ none → (node_at b (h.unit * 64 + h.slot)).parent ≡ Outermost
+pub stands_free : {b : List ℕ} {h : Handle} {n : plain.Node} → Stands b h → look.node_named (view b) h ≡ Some n → n.parent ≡ None → (node_at b (h.unit * 64 + h.slot)).parent ≡ None
 stands_free {b} {h} s e o = parent_none (node_at b (h.unit * 64 + h.slot)).parent (sym s.shows.parent ∙ ap (λ (x : plain.Node). x.parent) (some_eq s.named e) ∙ o)
 
 not_both : {c : plain.Class} {v : ℕ} {ms : List Member} → c ≡ defect v → c ≡ blossom ms → ⊥
 not_both {v = v} {ms = ms} p q = let z : defect v ≡ blossom ms = sym p ∙ q in let z2 : ◌≡◌ {A = ℕ} 0 1 = cc in omega arith
 
-kind : (n : Node) (t : ℕ) (ms ns : List Member) (m : plain.Node) → slot_seen n t ms ≡ some m → m.class ≡ blossom ns → n.class ≡ Blossom
+kind : (n : Node) (t : ℕ) (ms ns : List Member) (m : plain.Node) → slot_seen n t ms ≡ Some m → m.class ≡ blossom ns → n.class ≡ Blossom
 unfolding slot_seen
 kind n t ms ns m h q = go n.class refl
   where
@@ -140,7 +137,7 @@ kind n t ms ns m h q = go n.class refl
         let d : m.class ≡ defect v.0 = cc in
         absurd (not_both d q)
 
-pub stands_blossom : {b : List ℕ} {h : Handle} {n : plain.Node} {ms : List Member} → Stands b h → look.node_named (view b) h ≡ some n → n.class ≡ blossom ms → (node_at b (h.unit * 64 + h.slot)).class ≡ Blossom
+pub stands_blossom : {b : List ℕ} {h : Handle} {n : plain.Node} {ms : List Member} → Stands b h → look.node_named (view b) h ≡ Some n → n.class ≡ blossom ms → (node_at b (h.unit * 64 + h.slot)).class ≡ Blossom
 stands_blossom {b} {h} {ms = ms} s e r =
     kind (node_at b (h.unit * 64 + h.slot)) (sum_up 8 (interface_at b) h.unit) (circle_of (node_at b) (h.unit * 64 + h.slot)) ms s.node s.seen (ap (λ (x : plain.Node). x.class) (some_eq s.named e) ∙ r)
 
@@ -162,7 +159,7 @@ pub record Settable (b : List ℕ) (u : ℕ) (h : Handle) : Type 0 where
   pub root : Open (view b) u
   pub stands : Stands b h
   pub under : climb 8 (view b) h.unit ≡ u
-  pub free : (node_at b (h.unit * 64 + h.slot)).parent ≡ Outermost
+  pub free : (node_at b (h.unit * 64 + h.slot)).parent ≡ None
 
 pub settable : (b : List ℕ) (u : ℕ) (h : Handle) → Fit b → first (state_tests (view b) u h) ≡ 0 → Settable b u h
 settable b u h F e =

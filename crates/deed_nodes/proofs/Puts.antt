@@ -1,9 +1,9 @@
 -- A slot changed, over interfaces and nodes as functions. The other slots show what they showed, since no circle changes; the changed one shows
 -- what it is said to; and the ledger's own readings of `place` say the same of every part. Assumes nothing.
+use Rattle.std.specs.Prelude.{None, Option}
 use Prim.Native.Nat.{ℕ, ◌+◌, ◌-◌, ◌*◌, ◌<◌, ◌≤◌}
 use mathlib.Core.Path.{◌≡◌, refl, ap, ap₂, sym, ◌∙◌}
 use mathlib.Core.Logic.{◌≢◌}
-use mathlib.Core.Option.{Option, none}
 use mathlib.Core.List.{List}
 use native.Mathlib.Omega.{arith}
 use lib.IntN.{ℤ, pos, ◌+ℤ◌, ◌-ℤ◌}
@@ -91,7 +91,7 @@ module _ (n : ℕ) (U U' : ℕ → Interface) (A A' : ℕ → Node) (u s t sp : 
     (others : (j : ℕ) → j ≢ u * 64 + s → A' j ≡ A j)
     (circles : (v r : ℕ) → v < 8 → r < (U v).used → (A' (v * 64 + r)).class ≡ Blossom → circle_of A' (v * 64 + r) ≡ circle_of A (v * 64 + r)) where
   kept : {X : Type 0} (φ : Interface → X) → ((x : Interface) (z : ℕ) → φ (set_speed x z) ≡ φ x) → (v : ℕ) → v < 8 → φ (U' v) ≡ φ (U v)
-  kept = unit_kept n U U' A A' u s t sp none lu ls lt tops here there
+  kept = unit_kept n U U' A A' u s t sp None lu ls lt tops here there
 
   sums : (v : ℕ) → v < 8 → sum_up 8 U' v ≡ sum_up 8 U v
   sums v lv = sum_up_same U U' good (kept (λ x. x.parent) (λ x z. refl)) (kept (λ x. lag_of x) (λ x z. refl)) 8 v lv

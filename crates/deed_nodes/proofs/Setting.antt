@@ -1,8 +1,8 @@
 -- Set state: one node without a parent gets another state and keeps its value; its links stay as they were, so every circle does. Assumes nothing.
+use Rattle.std.specs.Prelude.{None}
 use Prim.Native.Nat.{ℕ, ◌+◌, ◌*◌, ◌<◌}
 use mathlib.Core.Path.{◌≡◌, refl, ap, sym, ◌∙◌}
 use mathlib.Core.Logic.{◌≢◌, by_cases}
-use mathlib.Core.Option.{none}
 use mathlib.Core.List.{List}
 use native.Mathlib.Decide.{ℕ_discrete}
 use native.Mathlib.Omega.{arith}
@@ -76,7 +76,7 @@ module _ (b : List ℕ) (u : ℕ) (h : Handle) (g : GrowState) (s : ℕ) (F : Fi
   circles j = circle_same (node_at b) (node_at b₁) j (sim j).count (sim j).first (λ p i. same p)
 
   module _ (speed : s + rate_of n₀.state ≡ (interface_at b u).speed + rate_of g) where
-    seen : view b₁ ≡ mark (view b) h (state_named g) none
+    seen : view b₁ ≡ mark (view b) h (state_named g) None
     seen =
         let st = F.canon.steady in
         ap (λ (m : ℕ). view_in m (interface_at b₁) (node_at b₁)) (put_next b k₀ n₁ u s st S.stands.low S.root.low good₁)
@@ -86,7 +86,7 @@ module _ (b : List ℕ) (u : ℕ) (h : Handle) (g : GrowState) (s : ℕ) (F : Fi
         node_there (λ v r lv lr e. circles (v * 64 + r)) g no_seat h.serial node_here S.stands.shows.present
         (value_low n₀.state n₀.bias t₀ S.stands.ranged.least (omega (arith, sum_up_le b st 8 h.unit S.stands.unit))) speed
 
-    pub set_done : Done b₁ (mark (view b) h (state_named g) none)
+    pub set_done : Done b₁ (mark (view b) h (state_named g) None)
     set_done =
         let C = F.canon in
         let hv = halves_kept b b₁ C (part (λ x. x.left) (λ x z. refl)) (part (λ x. x.right) (λ x z. refl)) in

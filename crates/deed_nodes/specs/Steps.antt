@@ -1,5 +1,5 @@
 -- What the calls' work does to a node and to the words. Assumes nothing.
-use Rattle.std.specs.Prelude.{ℕ, suc, max, ◌+◌, ◌-◌, ◌*◌, ◌≤◌, true, List, get_or, set}
+use Rattle.std.specs.Prelude.{None, ℕ, suc, max, ◌+◌, ◌-◌, ◌*◌, ◌≤◌, true, List, get_or, set}
 use Rattle.slot_map.specs.Slots.{put}
 use Rattle.bench_words.specs.Codec.{value_offset}
 use Rattle.kinds.specs.Names.{no_code}
@@ -7,7 +7,6 @@ use Rattle.kinds.specs.declared.GrowState.{GrowState}
 use Rattle.kinds.specs.declared.GrowState.TheVariants.{Grow as Growing}
 use Rattle.kinds.specs.declared.Class.{Class}
 use Rattle.kinds.specs.declared.Class.TheVariants.{Defect}
-use Rattle.kinds.specs.declared.Parent.TheVariants.{Outermost}
 use Rattle.kinds.specs.declared.Vertex.{Vertex}
 use Rattle.bench_words.specs.Store.{interface_at, store_node, store_interface, map_at, store_map, set_speed}
 use Rattle.bench_words.specs.declared.Node.{Node}
@@ -18,7 +17,7 @@ use Rattle.deed_nodes.specs.declared.Seat.{Seat}
 
 -- the seat of a node without a parent
 abbrev pub no_seat : Seat
-no_seat = record { parent = Outermost; place = 0; next = 0; left = no_code; right = no_code }
+no_seat = record { parent = None; place = 0; next = 0; left = no_code; right = no_code }
 
 -- a node with another state and seat, of the same value at T = t
 abbrev pub remarked : Node → ℕ → GrowState → Seat → Node
@@ -45,7 +44,7 @@ new_node serial class size first count t =
       serial = record { 0 = serial };
       class = class;
       state = Growing;
-      parent = Outermost;
+      parent = None;
       place = 0;
       next = 0;
       left = no_code;

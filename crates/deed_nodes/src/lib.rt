@@ -2,7 +2,6 @@
 // The work of grow, set state and add defect, over the words that the caller lends, against the plain ledger's own definitions; and the steps
 // that blossoms need too. No refusal is left: each asks that its tests pass on words that fit. Assumes nothing.
 ghost use Rattle.std.specs.Prelude.{◌≡◌, suc, max, ◌+◌, ◌-◌, ◌*◌, ◌<◌, ◌≤◌, pos, length, get_or};
-ghost use Rattle.std.proofs.Math.Option.{none};
 ghost use Rattle.bench_words.specs.Store.{interface_at};
 ghost use Rattle.ledger_spec.specs.Tests.{first};
 ghost use Rattle.ledger_spec.specs.Refuse.{defect_tests, state_tests, grow_tests};
@@ -15,12 +14,12 @@ ghost use Rattle.bench_views.specs.Fit.{Fit, Done};
 ghost use Rattle.deed_nodes.specs.Steps.{no_seat, new_node, remarked, paced, noted, Room, pushed};
 
 use bench_words::{Node, WORDS};
-use kinds::{Class, GrowState, Handle, Parent, Serial, Vertex};
+use kinds::{Class, GrowState, Handle, Serial, Vertex};
 
 // Where a node stands: the blossom that it is a member of, its place in the circle, the position of the next member, its two touching handles.
 #[derive(Clone, Copy)]
 pub struct Seat {
-    pub parent: Parent,
+    pub parent: Option<Handle>,
     pub place: u64,
     pub next: u64,
     pub left: Handle,
@@ -33,7 +32,7 @@ pub fn no_seat() -> Seat
 {
     let nobody = Handle::nobody();
     Seat {
-        parent: Parent::Outermost,
+        parent: None,
         place: 0,
         next: 0,
         left: nobody,
@@ -50,7 +49,7 @@ pub fn no_node() -> Node
         serial: Serial(0),
         class: Class::Absent,
         state: GrowState::Stay,
-        parent: Parent::Outermost,
+        parent: None,
         place: 0,
         next: 0,
         left: nobody,
@@ -72,7 +71,7 @@ pub fn new_node(serial: Serial, class: Class, size: u64, first: u64, count: u64,
         serial,
         class,
         state: GrowState::Grow,
-        parent: Parent::Outermost,
+        parent: None,
         place: 0,
         next: 0,
         left: nobody,
@@ -178,7 +177,7 @@ pub fn grow_by(b: &mut [u64; WORDS], unit: usize, length: u64)
 // Sets the state of a node without a parent; the speed of its tree, whose top is `unit`, follows.
 pub fn set_state(b: &mut [u64; WORDS], unit: usize, h: Handle, state: GrowState)
     requires { Fit b.old × (first (state_tests (view b.old) unit (handle_named h)) ≡ 0) }
-    ensures { Done b.new (mark (view b.old) (handle_named h) (state_named state) none) }
+    ensures { Done b.new (mark (view b.old) (handle_named h) (state_named state) None) }
 {
     let home = h.unit as usize;
     let k = home * 64 + (h.slot as usize);

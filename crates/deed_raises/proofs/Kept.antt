@@ -1,7 +1,7 @@
 -- What a deed leaves as it was: words are steady after a node is stored, and a climb goes by parents alone. Assumes nothing.
+use Rattle.std.specs.Prelude.{None}
 use Prim.Native.Nat.{ℕ, ◌<◌}
 use mathlib.Core.Path.{◌≡◌, ap, sym, ◌∙◌}
-use mathlib.Core.Option.{none}
 use mathlib.Core.List.{List}
 use native.Mathlib.Decide.{dec_lt}
 use native.Mathlib.Omega.{arith}
@@ -33,7 +33,7 @@ module _ (n n' : ℕ) (U U' : ℕ → Interface) (A A' : ℕ → Node) where
   pub parent_in : (v : ℕ) → (v < 8 → (U' v).parent ≡ (U v).parent) → (interface (view_in n' U' A') v).parent ≡ (interface (view_in n U A) v).parent
   parent_in v same = go (dec_lt v 8)
     where
-      out : (m : ℕ) (W : ℕ → Interface) (B : ℕ → Node) → (v < 8 → ⊥) → (interface (view_in m W B) v).parent ≡ none
+      out : (m : ℕ) (W : ℕ → Interface) (B : ℕ → Node) → (v < 8 → ⊥) → (interface (view_in m W B) v).parent ≡ None
       out m W B q = ap (λ (f : plain.Interface). f.parent) (get_or-eq_default (view_in m W B).interfaces fresh (omega (arith, view_eight m W B, q)))
 
       go : Dec (v < 8) → (interface (view_in n' U' A') v).parent ≡ (interface (view_in n U A) v).parent

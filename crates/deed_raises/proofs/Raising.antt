@@ -63,9 +63,6 @@ module _ (b : List ℕ) (v l : ℕ) (lv : v < 8) (b₁ : List ℕ) (n : ℕ) (R 
   pub raised_more : {b₂ : List ℕ} → b₂ ≡ store_bias b₁ k₁ (value_by (node_at b₁ k₁).state (node_at b₁ k₁).bias l) → RaisedIn b v l b₂ (n + 1)
   raised_more e = rw (e ∙ bias_stored b₁ k₁ _ R.steady.len (omega arith) R.coded) stored
 
-pub raised_all : {b : List ℕ} {v l : ℕ} {b₁ : List ℕ} {n m : ℕ} → RaisedIn b v l b₁ n → n ≡ m → RaisedIn b v l b₁ m
-raised_all R e = rw (← e) R
-
 -- ---- one interface
 pub begun : (b : List ℕ) (u l : ℕ) → Steady b → Coded b → Raised b u l b 0
 begun b u l st co = record { steady = st; coded = co; next = refl; interfaces = λ v lv. refl; maps = λ v lv. refl; done = λ k lk. absurd (omega arith); kept = λ k lk. refl }

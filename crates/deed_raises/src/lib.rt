@@ -43,11 +43,8 @@ fn raise_interface(b: &mut [u64; WORDS], unit: usize, length: u64)
     ensures { RaisedIn b.old unit length b.new (interface_at b.old unit).used }
 {
     let f = bench_words::load_interface(b, unit);
-    let used = f.used as usize;
-    let mut s: usize = 0;
-    while s < used {
+    for s in 0..f.used as usize {
         raise_slot(b, unit * 64 + s, length);
-        s = s + 1;
     }
 }
 
@@ -74,9 +71,7 @@ pub fn raise_tree(b: &mut [u64; WORDS], top: usize, length: u64)
     requires tree_movable { TreeMovable b.old length }
     ensures { Raised b.old top length b.new 512 }
 {
-    let mut v: usize = 0;
-    while v < 8 {
+    for v in 0..8 {
         raise_under(b, top, v, length);
-        v = v + 1;
     }
 }

@@ -1,14 +1,15 @@
 -- Set-up: all words zero are empty slots, and then each interface is stored as empty. Zero is its own code, so the words are canonical. Assumes nothing.
+use Rattle.std.specs.Prelude.{None, Option, Some}
 use Prim.Native.Nat.{ℕ, zero, suc, ◌+◌, ◌*◌, ◌<◌, ◌≤◌}
 use mathlib.Core.Path.{◌≡◌, refl, ap, sym, ◌∙◌}
 use mathlib.Core.Logic.{by_cases}
 use mathlib.Core.Bool.{Bool}
 use mathlib.Core.List.{List}
-use native.Mathlib.Decide.{ℕ_discrete, dec_lt}
+use native.Mathlib.Decide.{ℕ_discrete}
 use native.Mathlib.Omega.{arith}
 use lib.IntN.{pos}
-use lib.ListN.{length, get_or, set, length-set, replicate, length-replicate, get_or-replicate, get_or-eq_default}
-use lib.Seq.{get_or-set_same, get_or-set_other}
+use lib.ListN.{length, get_or, set, length-set, replicate, length-replicate, get_or-replicate}
+use lib.Seq.{get_or-set_same}
 use Rattle.kinds.specs.declared.Class.TheVariants.{Absent}
 use Rattle.bench_words.specs.Codec.{marks_word}
 use Rattle.bench_words.specs.Store.{base, ibase, node_at, interface_at, store_interface, map_at, interface_of, interface_words, node_words, no_interface}
@@ -16,8 +17,6 @@ use Rattle.bench_words.proofs.Laws.{interface_same, interface_other, store_inter
 use Rattle.bench_words.proofs.Maps.{store_interface_map, map_first}
 use Rattle.bench_words.specs.declared.Node.{Node}
 use Rattle.bench_words.specs.declared.Interface.{Interface}
-use Rattle.bench_words.specs.declared.Up.{Up}
-use Rattle.bench_words.specs.declared.Up.TheVariants.{Top, Under}
 use Rattle.ledger_spec.specs.Bench.{fresh, set_up_in}
 use Rattle.bench_views.specs.Records.{no_node}
 use Rattle.bench_views.specs.Tab.{tab}
@@ -30,30 +29,6 @@ use Rattle.bench_views.proofs.Codes.{coded_interface, coded_first}
 use Rattle.bench_views.proofs.Maps.{map_bare}
 use Rattle.deed_nodes.proofs.Keeps.{not_blossom}
 use Rattle.deed_trees.proofs.Cleared.{not_inside}
-
--- ---- words erased one by one
-pub record Erasing (b : List ℕ) (n : ℕ) : Type 0 where
-  pub len : length b ≡ 6273
-  pub within : n ≤ 6273
-  pub zeros : (m : ℕ) → m < n → get_or b m 0 ≡ 0
-
-pub erasing_more : (b b' : List ℕ) (n : ℕ) → Erasing b n → n < 6273 → b' ≡ set b n 0 → Erasing b' (n + 1)
-erasing_more b b' n E l e =
-    rw e
-    (record {
-      len = length-set b n 0 ∙ E.len;
-      within = omega arith;
-      zeros = λ m lm. by_cases (ℕ_discrete m n)
-          (λ (q : m ≡ n). rw q (get_or-set_same b n 0 0 (omega (arith, E.len))))
-          (λ (ne : m ≡ n → ⊥). get_or-set_other b n m 0 0 ne ∙ E.zeros m (omega arith));
-    })
-
-pub erased : (b : List ℕ) (n : ℕ) → Erasing b n → 6273 ≤ n → (length b ≡ 6273) × ((m : ℕ) → get_or b m 0 ≡ 0)
-erased b n E l = (E.len, λ m. go m (dec_lt m 6273))
-  where
-    go : (m : ℕ) → Dec (m < 6273) → get_or b m 0 ≡ 0
-    go m (yes z) = E.zeros m (omega arith)
-    go m (no z) = get_or-eq_default b 0 (omega (arith, z, E.len))
 
 -- ---- zero words
 blank : (n j : ℕ) → ◌≡◌ {A = ℕ} (get_or (replicate n 0) j 0) 0
@@ -92,14 +67,13 @@ module _ (b : List ℕ) (zeros : (m : ℕ) → get_or b m 0 ≡ 0) where
 -- ---- interfaces stored one by one
 pub record Filling (m : Bool) (b : List ℕ) (n : ℕ) : Type 0 where
   pub len : length b ≡ 6273
-  pub within : n ≤ 8
   pub coded : Coded b
   pub interfaces : (u : ℕ) → u < n → interface_at b u ≡ no_interface m
   pub maps : (u : ℕ) → map_at b u ≡ 0
   pub nodes : (k : ℕ) → node_at b k ≡ no_node
 
 pub filling_begins : (m : Bool) (b : List ℕ) → (length b ≡ 6273) × ((m : ℕ) → get_or b m 0 ≡ 0) → Filling m b 0
-filling_begins m b z = record { len = z.0; within = omega arith; coded = zero_coded b z.1; interfaces = λ u l. absurd (omega arith); maps = zero_map b z.1; nodes = zero_node b z.1 }
+filling_begins m b z = record { len = z.0; coded = zero_coded b z.1; interfaces = λ u l. absurd (omega arith); maps = zero_map b z.1; nodes = zero_node b z.1 }
 
 pub filling_more : (m : Bool) (b b' : List ℕ) (n : ℕ) {f : Interface} → Filling m b n → n < 8 → f ≡ no_interface m → b' ≡ store_interface b n f → Filling m b' (n + 1)
 filling_more m b b' n I l ef e =
@@ -108,7 +82,6 @@ filling_more m b b' n I l ef e =
     rw q
     (record {
       len = length_store_interface b n none I.len l;
-      within = omega arith;
       coded = coded_interface b n none I.len l tt I.coded;
       interfaces = λ u lu. by_cases (ℕ_discrete u n)
           (λ (z : u ≡ n). rw z (interface_same b n none I.len l tt))
@@ -118,8 +91,8 @@ filling_more m b b' n I l ef e =
     })
 
 -- ---- the empty bench
-not_under : {o : Up} {p : ℕ} → o ≡ Top → o ≡ Under p → ⊥
-not_under {p = p} z e = let y : Under p ≡ Top = sym e ∙ z in let y2 : ◌≡◌ {A = ℕ} 0 1 = cc in omega arith
+not_under : {o : Option ℕ} {p : ℕ} → o ≡ None → o ≡ Some p → ⊥
+not_under {p = p} z e = let y : Some p ≡ None = sym e ∙ z in let y2 : ◌≡◌ {A = ℕ} 0 1 = cc in omega arith
 
 module _ (m : Bool) (b : List ℕ) (first : ℕ) (next : get_or b 0 0 ≡ first) (len : length b ≡ 6273) (coded : Coded b)
     (interfaces : (u : ℕ) → u < 8 → interface_at b u ≡ no_interface m) (maps : (u : ℕ) → map_at b u ≡ 0) (bare : (k : ℕ) → node_at b k ≡ no_node) where

@@ -1,9 +1,9 @@
 -- Clear, done: every interface of the tree is reset, and the others are as they were. A circle lies in one tree, so a blossom that is left keeps its
 -- members, and a member that is left keeps its blossom. Assumes nothing.
+use Rattle.std.specs.Prelude.{None, Option, Some}
 use Prim.Native.Nat.{ℕ, zero, suc, ◌+◌, ◌*◌, ◌/◌, ◌%◌, ◌<◌}
 use mathlib.Core.Path.{◌≡◌, refl, ap, ap₂, sym, ◌∙◌, subst}
 use mathlib.Core.Logic.{◌≢◌, by_cases}
-use mathlib.Core.Option.{none}
 use mathlib.Core.List.{List}
 use native.Mathlib.Decide.{ℕ_discrete}
 use native.Mathlib.Omega.{arith}
@@ -11,18 +11,13 @@ use lib.IntN.{pos}
 use lib.ListN.{get_or}
 use Rattle.kinds.specs.declared.Class.TheVariants.{Absent, Blossom}
 use Rattle.kinds.specs.declared.Handle.{Handle as Packed}
-use Rattle.kinds.specs.declared.Parent.{Parent}
-use Rattle.kinds.specs.declared.Parent.TheVariants.{Outermost, Inside}
 use Rattle.slot_map.specs.Slots.{map_of}
 use Rattle.bench_words.specs.Store.{node_at, interface_at, map_at, no_interface}
 use Rattle.bench_words.proofs.Laws.{GoodUp, good_interface}
 use Rattle.bench_words.specs.declared.Node.{Node}
 use Rattle.bench_words.specs.declared.Interface.{Interface}
-use Rattle.bench_words.specs.declared.Up.{Up}
-use Rattle.bench_words.specs.declared.Up.TheVariants.{Top, Under}
 use Rattle.ledger_spec.specs.Bench.{Bench, fresh}
 use Rattle.ledger_spec.specs.Look.{top}
-use Rattle.ledger_spec.specs.Tests.{first}
 use Rattle.ledger_spec.specs.Deeds.{wipe}
 use Rattle.ledger_spec.specs.Named.{handle_named, parent_named}
 use Rattle.ledger_spec.proofs.Tops.{top_parent}
@@ -42,8 +37,8 @@ use Rattle.deed_nodes.proofs.Puts.{slot_like}
 use Rattle.deed_nodes.proofs.Keeps.{modes_kept, not_blossom, used_slot, ringed_walk, Intact, intact_chain, intact_seat}
 use Rattle.deed_trees.proofs.Wiping.{climb_up, Wiping}
 
-pub not_inside : {p : Parent} {q : Packed} → p ≡ Outermost → p ≡ Inside q → ⊥
-not_inside {q = q} x y = let z : Outermost ≡ Inside q = sym x ∙ y in let z2 : ◌≡◌ {A = ℕ} 0 1 = cc in omega arith
+pub not_inside : {p : Option Packed} {q : Packed} → p ≡ None → p ≡ Some q → ⊥
+not_inside {q = q} x y = let z : None ≡ Some q = sym x ∙ y in let z2 : ◌≡◌ {A = ℕ} 0 1 = cc in omega arith
 
 module _ (b : List ℕ) (u : ℕ) (F : Fit b) (b₁ : List ℕ) (w : ℕ) (G : Wiping b u b₁ w) (all : u < w) where
   abbrev B : Bench
@@ -97,10 +92,10 @@ module _ (b : List ℕ) (u : ℕ) (F : Fit b) (b₁ : List ℕ) (w : ℕ) (G : W
   sums zero v lv ne = refl
   sums (suc n) v lv ne = rw (interface_kept v lv ne) (ap (λ (x : ℕ). lag_of (U v) + x) (go (U v).parent refl (sums n)))
     where
-      go : (q : Up) → (U v).parent ≡ q → ((p : ℕ) → p < 8 → top B p ≢ u → sum_up n U₁ p ≡ sum_up n U p) → over q 0 (sum_up n U₁) ≡ over q 0 (sum_up n U)
-      go Top e ih = refl
-      go (Under p) e ih =
-          let g : GoodUp (Under p) = rw e at (good_interface b v) in
+      go : (q : Option ℕ) → (U v).parent ≡ q → ((p : ℕ) → p < 8 → top B p ≢ u → sum_up n U₁ p ≡ sum_up n U p) → over q 0 (sum_up n U₁) ≡ over q 0 (sum_up n U)
+      go None e ih = refl
+      go (Some p) e ih =
+          let g : GoodUp (Some p) = rw e at (good_interface b v) in
           ih p g (λ z. ne (top_parent B F.frame v p (view_parent (get_or b 0 0) U A v lv ∙ ap up_seen e) ∙ z))
 
   slot_kept : (v r : ℕ) → v < 8 → r < (U v).used → top B v ≢ u → slot_in U₁ A₁ v r ≡ slot_in U A v r
@@ -117,7 +112,7 @@ module _ (b : List ℕ) (u : ℕ) (F : Fit b) (b₁ : List ℕ) (w : ℕ) (G : W
   seen_kept v lv ne =
       let e = interface_kept v lv ne in
       interface_is (interface_in U₁ A₁ v) (interface_in U A v)
-      (ap (λ (f : Interface). tab (slot_in U₁ A₁ v) 0 f.used) e ∙ tab_same (slot_in U₁ A₁ v) (slot_in U A v) (U v).used none (λ r lr. slot_kept v r lv lr ne))
+      (ap (λ (f : Interface). tab (slot_in U₁ A₁ v) 0 f.used) e ∙ tab_same (slot_in U₁ A₁ v) (slot_in U A v) (U v).used None (λ r lr. slot_kept v r lv lr ne))
       (ap (λ (f : Interface). pos f.progress) e) (ap (λ (f : Interface). off 4611686018427387904 f.sum) e) (ap (λ (f : Interface). off 1024 f.speed) e)
       (ap (λ (f : Interface). up_seen f.parent) e) (ap (λ (f : Interface). halves_seen f.left f.right) e) (ap (λ (f : Interface). marks_seen f.marks) e)
 
@@ -161,7 +156,7 @@ module _ (b : List ℕ) (u : ℕ) (F : Fit b) (b₁ : List ℕ) (w : ℕ) (G : W
       }
 
   -- a node that is left has its parent left
-  parent_near : (k : ℕ) (q : Packed) → k < 512 → (A k).parent ≡ Inside q → top B (k / 64) ≡ top B q.unit
+  parent_near : (k : ℕ) (q : Packed) → k < 512 → (A k).parent ≡ Some q → top B (k / 64) ≡ top B q.unit
   parent_near k q lk e =
       let back : k / 64 * 64 + k % 64 ≡ k = omega arith in
       let C = F.canon in
@@ -209,7 +204,7 @@ module _ (b : List ℕ) (u : ℕ) (F : Fit b) (b₁ : List ℕ) (w : ℕ) (G : W
       C : Canon b
       C = F.canon
 
-      inside_kept : (k : ℕ) (q : Packed) → k < 512 → top B (k / 64) ≢ u → (A k).parent ≡ Inside q → Seated b₁ k q
+      inside_kept : (k : ℕ) (q : Packed) → k < 512 → top B (k / 64) ≢ u → (A k).parent ≡ Some q → Seated b₁ k q
       inside_kept k q lk ne e =
           let s : Seated b k q = C.inside k q lk e in
           let few = C.steady.slots q.unit s.unit in

@@ -1,4 +1,5 @@
 -- Slots emptied one by one, and an interface reset: each turn stores one empty node, and the other words stay. Assumes nothing.
+use Rattle.std.specs.Prelude.{None, Option, Some}
 use Prim.Native.Nat.{ℕ, ◌+◌, ◌*◌, ◌<◌}
 use mathlib.Core.Path.{◌≡◌, refl, ap, sym, ◌∙◌}
 use mathlib.Core.Logic.{by_cases}
@@ -10,8 +11,6 @@ use Rattle.bench_words.proofs.Laws.{Good, load_same, load_other, store_node_inte
 use Rattle.bench_words.proofs.Maps.{map_same, map_other, store_map_interface, store_map_node, store_node_map, store_interface_map}
 use Rattle.bench_words.specs.declared.Node.{Node}
 use Rattle.bench_words.specs.declared.Interface.{Interface}
-use Rattle.bench_words.specs.declared.Up.{Up}
-use Rattle.bench_words.specs.declared.Up.TheVariants.{Top, Under}
 use Rattle.bench_views.specs.Records.{Steady, no_node}
 use Rattle.bench_views.specs.Canon.{Coded}
 use Rattle.bench_views.proofs.Codes.{coded_node, coded_interface, coded_map}
@@ -80,5 +79,5 @@ reset_by b u U {b₁} {b₂} {b₃} lu eU E e₂ ef e₃ =
       kept = λ k off. store_interface_node c u none len lu k ∙ store_map_node b₁ u 0 long lu k ∙ E.kept k (λ s l. off s (rw n at l));
     })
   where
-    not_under : {o : Up} {p : ℕ} → o ≡ Under p → o ≡ Top → ⊥
-    not_under {p = p} e z = let y : Under p ≡ Top = sym e ∙ z in let y2 : ◌≡◌ {A = ℕ} 0 1 = cc in omega arith
+    not_under : {o : Option ℕ} {p : ℕ} → o ≡ Some p → o ≡ None → ⊥
+    not_under {p = p} e z = let y : Some p ≡ None = sym e ∙ z in let y2 : ◌≡◌ {A = ℕ} 0 1 = cc in omega arith

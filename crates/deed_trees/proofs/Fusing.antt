@@ -1,9 +1,9 @@
 -- Fuse: three interfaces' words change and no node's. The parent has grown nothing, so every T stays and with it every value; no class and no link of a
 -- node changes. Assumes nothing.
+use Rattle.std.specs.Prelude.{Some}
 use Prim.Native.Nat.{ℕ, ◌+◌, ◌-◌, ◌*◌, ◌<◌, ◌≤◌}
 use mathlib.Core.Path.{◌≡◌, refl, ap, ap₂, sym, ◌∙◌, fun_ext}
 use mathlib.Core.Logic.{◌≢◌, by_cases}
-use mathlib.Core.Option.{some}
 use mathlib.Core.Bool.{Bool}
 use mathlib.Core.List.{List}
 use native.Mathlib.Decide.{ℕ_discrete}
@@ -16,10 +16,9 @@ use Rattle.bench_words.proofs.Laws.{interface_same, interface_other, store_inter
 use Rattle.bench_words.proofs.Maps.{store_interface_map}
 use Rattle.bench_words.specs.declared.Node.{Node}
 use Rattle.bench_words.specs.declared.Interface.{Interface}
-use Rattle.bench_words.specs.declared.Up.TheVariants.{Under}
 use Rattle.ledger_spec.specs.Bench as plain
 use Rattle.ledger_spec.specs.Look.{interface}
-use Rattle.ledger_spec.specs.Tests.{first, used}
+use Rattle.ledger_spec.specs.Tests.{first}
 use Rattle.ledger_spec.specs.Refuse.{fuse_tests}
 use Rattle.ledger_spec.specs.Deeds.{join}
 use Rattle.ledger_spec.proofs.Passed.{Open, Fusable, fusable}
@@ -174,7 +173,7 @@ module _ (b : List ℕ) (p l r : ℕ) (F : Fit b) (T : first (fuse_tests (view b
       ∙ sym (join_slots B p l r joining v ∙ is (λ f. f.slots) v lv)
 
   -- a field of the ledger's that shows a part of the words'
-  field : {X Y : Type 0} (φ : Interface → Y) (show : Y → X) (ψ : plain.Interface → X) → ((f : Interface) (q : ℕ) → φ (with_up f q) ≡ φ f) → ((f : plain.Interface) (q : ℕ) → ψ (plain.with_parent f (some q)) ≡ ψ f)
+  field : {X Y : Type 0} (φ : Interface → Y) (show : Y → X) (ψ : plain.Interface → X) → ((f : Interface) (q : ℕ) → φ (with_up f q) ≡ φ f) → ((f : plain.Interface) (q : ℕ) → ψ (plain.with_parent f (Some q)) ≡ ψ f)
       → ((v : ℕ) → v < 8 → ψ (interface B v) ≡ show (φ (U v))) → show (φ f₀) ≡ ψ (interface J p) → (v : ℕ) → v < 8 → show (φ (U₃ v)) ≡ ψ (interface J v)
   field φ show ψ e e' seen at_p v lv = by_cases (ℕ_discrete v p)
       (λ (q : v ≡ p). rw (q, here_p) at_p)
@@ -193,7 +192,7 @@ module _ (b : List ℕ) (p l r : ℕ) (F : Fit b) (T : first (fuse_tests (view b
       (off_join 1024 (U l).speed (U r).speed (let x = both_paced.0.slow in let y = both_paced.1.slow in omega arith)
       ∙ ap₂ (λ (x y : ℤ). x +ℤ y) (sym (is (λ f. f.speed) l l<8)) (sym (is (λ f. f.speed) r r<8)) ∙ sym (ap (λ (f : plain.Interface). f.speed) (join_p B p l r joining)))
 
-  halves_new : halves_seen (l + 1) (r + 1) ≡ some (l, r)
+  halves_new : halves_seen (l + 1) (r + 1) ≡ Some (l, r)
   halves_new =
       let x : l + 1 - 1 ≡ l = omega arith in
       let y : r + 1 - 1 ≡ r = omega arith in
@@ -238,7 +237,7 @@ module _ (b : List ℕ) (p l r : ℕ) (F : Fit b) (T : first (fuse_tests (view b
             (λ (nr : v ≡ r → ⊥). st.rising v q lv (sym (parent₃ v nl nr) ∙ e)));
       }
     where
-      under_is : {x y : ℕ} → Under x ≡ Under y → x ≡ y
+      under_is : {x y : ℕ} → Some x ≡ Some y → x ≡ y
       under_is e = cc
 
   coded₃ : Coded b₃

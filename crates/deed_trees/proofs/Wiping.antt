@@ -1,9 +1,9 @@
 -- Clear, turn by turn: each interface of the tree is reset, from the lowest number up. A parent has a higher number, so a climb meets interfaces as
 -- they were. Assumes nothing.
+use Rattle.std.specs.Prelude.{None, Option, Some}
 use Prim.Native.Nat.{ℕ, zero, suc, ◌+◌, ◌*◌, ◌<◌, ◌≤◌}
 use mathlib.Core.Path.{◌≡◌, refl, ap, sym, ◌∙◌}
 use mathlib.Core.Logic.{◌≢◌, by_cases}
-use mathlib.Core.Option.{Option, none, some}
 use mathlib.Core.List.{List}
 use native.Mathlib.Decide.{ℕ_discrete, dec_lt}
 use native.Mathlib.Omega.{arith}
@@ -18,7 +18,7 @@ use Rattle.ledger_spec.specs.Frame.{Frame}
 use Rattle.ledger_spec.proofs.Tops.{climb_none, climb_some}
 use Rattle.ledger_spec.proofs.Accepted.{clear_passed}
 use Rattle.bench_views.specs.Records.{Steady, no_node}
-use Rattle.bench_views.specs.View.{off, view}
+use Rattle.bench_views.specs.View.{view}
 use Rattle.bench_views.specs.Canon.{Coded}
 use Rattle.bench_views.specs.Fit.{Fit}
 use Rattle.bench_trees.specs.Climb.{Climbs}
@@ -33,8 +33,8 @@ climb_up B F zero u = omega arith
 climb_up B F (suc k) u = go (interface B u).parent refl (climb_up B F k)
   where
     go : (q : Option ℕ) → (interface B u).parent ≡ q → ((p : ℕ) → p ≤ climb k B p) → u ≤ climb (suc k) B u
-    go none e ih = omega (arith, climb_none (suc k) B u e)
-    go (some p) e ih = omega (arith, climb_some k B u p e, ih p, (F.rising u p e).0)
+    go None e ih = omega (arith, climb_none (suc k) B u e)
+    go (Some p) e ih = omega (arith, climb_some k B u p e, ih p, (F.rising u p e).0)
 
 -- and depends on what is above alone
 climb_above : (B B' : Bench) → Frame B → (w : ℕ) → ((v : ℕ) → w ≤ v → (interface B' v).parent ≡ (interface B v).parent) → (k u : ℕ) → w ≤ u → climb k B' u ≡ climb k B u
@@ -43,8 +43,8 @@ climb_above B B' F w same zero u l = refl
 climb_above B B' F w same (suc k) u l = go (interface B u).parent refl (climb_above B B' F w same k)
   where
     go : (q : Option ℕ) → (interface B u).parent ≡ q → ((p : ℕ) → w ≤ p → climb k B' p ≡ climb k B p) → climb (suc k) B' u ≡ climb (suc k) B u
-    go none e ih = climb_none (suc k) B' u (same u l ∙ e) ∙ sym (climb_none (suc k) B u e)
-    go (some p) e ih = climb_some k B' u p (same u l ∙ e) ∙ ih p (let r = (F.rising u p e).0 in omega arith) ∙ sym (climb_some k B u p e)
+    go None e ih = climb_none (suc k) B' u (same u l ∙ e) ∙ sym (climb_none (suc k) B u e)
+    go (Some p) e ih = climb_some k B' u p (same u l ∙ e) ∙ ih p (let r = (F.rising u p e).0 in omega arith) ∙ sym (climb_some k B u p e)
 
 below : (v w : ℕ) → v < w + 1 → v ≢ w → v < w
 below v w l ne = omega arith

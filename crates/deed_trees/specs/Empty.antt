@@ -1,15 +1,14 @@
 -- An interface put under a parent, the parent of a fuse, and what emptying slots does to the words. Assumes nothing.
-use Rattle.std.specs.Prelude.{ℕ, ◌+◌, ◌-◌, ◌*◌, ◌<◌, ◌≡◌, ◌≢◌, false, List, get_or}
+use Rattle.std.specs.Prelude.{Some, ℕ, ◌+◌, ◌-◌, ◌*◌, ◌<◌, ◌≡◌, ◌≢◌, false, List, get_or}
 use Rattle.bench_words.specs.Codec.{sum_offset, speed_offset}
 use Rattle.bench_words.specs.Store.{node_at, interface_at, map_at, set_sum, set_speed, set_parent, set_halves, set_marks, set_floored, no_interface}
 use Rattle.bench_words.specs.declared.Interface.{Interface}
 use Rattle.bench_words.specs.declared.Marks.{Marks}
-use Rattle.bench_words.specs.declared.Up.TheVariants.{Under}
 use Rattle.bench_views.specs.Records.{Steady, no_node}
 use Rattle.bench_views.specs.Canon.{Coded}
 
 abbrev pub with_up : Interface → ℕ → Interface
-with_up f p = set_parent f (Under p)
+with_up f p = set_parent f (Some p)
 
 -- the parent of a fuse, whose marks were m, from its halves l and r, whose interfaces are L and R: it is floored as they are
 abbrev pub fused_words : Marks → Interface → Interface → ℕ → ℕ → Interface

@@ -13,7 +13,7 @@ ghost use Rattle.bench_views.specs.Canon.{Coded};
 ghost use Rattle.bench_views.specs.Fit.{Fit, Done};
 ghost use Rattle.deed_trees.specs.Empty.{with_up, Emptied, Reset};
 
-use bench_words::{Interface, Marks, Up, WORDS};
+use bench_words::{Interface, Marks, WORDS};
 
 // An interface as set-up leaves it, in either engine.
 fn no_interface(plain: bool) -> Interface
@@ -24,7 +24,7 @@ fn no_interface(plain: bool) -> Interface
         progress: 0,
         sum: Interface::OFFSET,
         speed: 1024,
-        parent: Up::Top,
+        parent: None,
         left: 0,
         right: 0,
         marks: Marks {
@@ -50,7 +50,7 @@ fn put_under(b: &mut [u64; WORDS], unit: usize, parent: usize)
             progress: f.progress,
             sum: f.sum,
             speed: f.speed,
-            parent: Up::Under(parent as u8),
+            parent: Some(parent as u8),
             left: f.left,
             right: f.right,
             marks,
@@ -78,7 +78,7 @@ pub fn join(b: &mut [u64; WORDS], parent: usize, left: usize, right: usize)
             progress: 0,
             sum: l.sum + r.sum - Interface::OFFSET,
             speed: l.speed + r.speed - 1024,
-            parent: Up::Top,
+            parent: None,
             left: (left as u64) + 1,
             right: (right as u64) + 1,
             marks: Marks {
@@ -95,10 +95,8 @@ fn empty_slots(b: &mut [u64; WORDS], unit: usize, used: usize)
     requires { (unit < 8) × (used ≤ 64) × Steady b.old × Coded b.old }
     ensures { Emptied b.old unit b.new used }
 {
-    let mut s: usize = 0;
-    while s < used {
+    for s in 0..used {
         bench_words::store_node(b, unit * 64 + s, deed_nodes::no_node());
-        s = s + 1;
     }
 }
 
@@ -119,13 +117,11 @@ pub fn wipe(b: &mut [u64; WORDS], unit: usize)
     requires { Fit b.old × (number_of (unit_tests (view b.old) unit) ≡ 0) }
     ensures { Done b.new (wiped (view b.old) unit) }
 {
-    let mut w: usize = 0;
-    while w < unit {
+    for w in 0..unit {
         let up = bench_trees::climb(b, w);
         if up.top == unit {
             reset(b, w);
         }
-        w = w + 1;
     }
     reset(b, unit);
 }
@@ -135,11 +131,7 @@ fn erase(b: &mut [u64; WORDS])
     requires { length b.old ≡ 6273 }
     ensures { (length b.new ≡ 6273) × ((m : ℕ) → get_or b.new m 0 ≡ 0) }
 {
-    let mut i: usize = 0;
-    while i < 6273 {
-        b[i] = 0;
-        i = i + 1;
-    }
+    b.fill(0);
 }
 
 // Makes any words the empty bench of an engine, whose first node will have serial `first`.
@@ -148,10 +140,8 @@ pub fn set_up_in(b: &mut [u64; WORDS], plain: bool, first: u32)
 {
     bench_words::full(b);
     erase(b);
-    let mut u: usize = 0;
-    while u < 8 {
+    for u in 0..8 {
         bench_words::store_interface(b, u, no_interface(plain));
-        u = u + 1;
     }
     bench_words::store_next(b, first as u64);
 }

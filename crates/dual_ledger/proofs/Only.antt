@@ -1,10 +1,10 @@
 -- No second answer, by name, for each exported function (include/dual_ledger.h): two results that meet its contract are one, with every word that it wrote.
 -- Where the contract is an equation with a definition, by its form; else by the theorem of its form: Once, here, of group_lent_any, and of link_text for
 -- chunks and the input's end; the exported text lines stand in OnlyText. Assumes nothing.
+use Rattle.std.specs.Prelude.{None}
 use Prim.Native.Nat.{ℕ}
 use mathlib.Core.Path.{◌≡◌, sym, ◌∙◌}
 use mathlib.Core.Bool.{Bool, false}
-use mathlib.Core.Option.{none}
 use mathlib.Core.List.{List}
 use lib.IntN.{ℤ}
 use Rattle.ledger_spec.specs.Bench.{Handle, State, filling, floor}
@@ -263,8 +263,8 @@ module _ (ws : List ℕ) where
   pub only_trusted_group_is_active : Only (worded flag_word (is_active (group_in ws)))
   only_trusted_group_is_active = one (worded flag_word (is_active (group_in ws)))
 
-  pub only_group_get_none_zero_growth : Only (worded length_words (asked_of ws none growth_of))
-  only_group_get_none_zero_growth = one (worded length_words (asked_of ws none growth_of))
+  pub only_group_get_none_zero_growth : Only (worded length_words (asked_of ws None growth_of))
+  only_group_get_none_zero_growth = one (worded length_words (asked_of ws None growth_of))
 
   pub only_trusted_group_get_none_zero_growth : Only (worded length_words (growth_of (group_in ws)))
   only_trusted_group_get_none_zero_growth = one (worded length_words (growth_of (group_in ws)))

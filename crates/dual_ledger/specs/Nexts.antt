@@ -1,6 +1,5 @@
 -- The next present node as words: its index and its handle, no node as 2^41, both 0 where the read is refused. Assumes nothing.
-use Rattle.std.specs.Prelude.{ℕ}
-use Rattle.std.proofs.Math.Option.{Option}
+use Rattle.std.specs.Prelude.{ℕ, Option}
 use Rattle.ledger_spec.specs.Bench.{Handle}
 use Rattle.link_answers.specs.Forms.{indexed_word}
 

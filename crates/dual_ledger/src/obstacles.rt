@@ -1,7 +1,6 @@
 // Groups of obstacles over words: any words may be lent, and BROKEN (2) is the answer where they hold no sound group, no sound bench or no obstacle.
 // Assumes nothing.
 ghost use Rattle.std.specs.Prelude.{◌≡◌, false};
-ghost use Rattle.std.proofs.Math.Option.{none};
 ghost use Rattle.ledger_spec.specs.GroupCalls.{is_empty, is_active, growth_of};
 ghost use Rattle.group_lent_takes.specs.Made.{Emptied};
 ghost use Rattle.group_lent_sound.specs.Test.{sound_in};
@@ -47,7 +46,7 @@ pub fn dual_ledger_group_get_none_zero_growth(
     asked: &mut u64,
     length: &mut u64,
 ) -> u8
-    ensures { (result, (asked.new, length.new)) ≡ worded length_words (asked_of group.now none growth_of) }
+    ensures { (result, (asked.new, length.new)) ≡ worded length_words (asked_of group.now None growth_of) }
 {
     let a = group_lent_any::get_none_zero_growth(group);
     let l = a.length;

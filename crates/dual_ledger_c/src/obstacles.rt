@@ -1,6 +1,5 @@
 // The exports of dual_ledger::obstacles, groups of obstacles: each has the clauses of the function that it calls. Assumes nothing.
 ghost use Rattle.std.specs.Prelude.{◌≡◌, false};
-ghost use Rattle.std.proofs.Math.Option.{none};
 ghost use Rattle.ledger_spec.specs.GroupCalls.{is_empty, is_active, growth_of};
 ghost use Rattle.group_lent_takes.specs.Made.{Emptied};
 ghost use Rattle.group_lent_sound.specs.Test.{sound_in};
@@ -44,7 +43,7 @@ pub extern "C" fn dual_ledger_group_get_none_zero_growth(
     asked: &mut u64,
     length: &mut u64,
 ) -> u8
-    ensures { (result, (asked.new, length.new)) ≡ worded length_words (asked_of group.now none growth_of) }
+    ensures { (result, (asked.new, length.new)) ≡ worded length_words (asked_of group.now None growth_of) }
 {
     dual_ledger::obstacles::dual_ledger_group_get_none_zero_growth(group, asked, length)
 }

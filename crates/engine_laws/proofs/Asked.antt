@@ -1,8 +1,8 @@
 -- THEOREM. Every question is answered the same in either engine, of any bench, sound or not, BROKEN among the numbers. Assumes nothing.
+use Rattle.std.specs.Prelude.{None}
 use Prim.Native.Nat.{ℕ}
 use mathlib.Core.Path.{◌≡◌, refl}
 use mathlib.Core.Bool.{Bool, true, false, not, ◌&&◌}
-use mathlib.Core.Option.{none}
 use mathlib.Core.List.{List, [], ◌∷◌, ◌++◌, map}
 use lib.Dec.{eqb, leb, ltb}
 use lib.ListN.{length, get_or, drop}
@@ -54,7 +54,7 @@ module _ (m : Bool) (b : Bench) where
 
   index_in_lem : (u k : ℕ) → handle_at_index (in_engine m b) u k ≡ handle_at_index b u k
   unfolding handle_at_index
-  index_in_lem u k = λ i. said (first (index_tests_lem u k i)) (as_handle (get_or (slots_in m b u i) k (0, 0, none))) none
+  index_in_lem u k = λ i. said (first (index_tests_lem u k i)) (as_handle (get_or (slots_in m b u i) k (0, 0, None))) None
 
   -- ---- reads of a node
   belongs_in : (u : ℕ) (h : Handle) → belongs (in_engine m b) u h ≡ belongs b u h

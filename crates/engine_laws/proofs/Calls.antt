@@ -1,8 +1,8 @@
 -- A call answers the same number, node and notices in either engine, and leaves the same bench in the engine. Assumes nothing.
+use Rattle.std.specs.Prelude.{None}
 use Prim.Native.Nat.{ℕ, zero, suc}
 use mathlib.Core.Path.{◌≡◌, refl, ◌∙◌}
 use mathlib.Core.Bool.{Bool}
-use mathlib.Core.Option.{none}
 use mathlib.Core.List.{List}
 use Rattle.ledger_spec.specs.Bench.{Handle, Bench}
 use Rattle.ledger_spec.specs.Look.{free_slot, node_named}
@@ -32,7 +32,7 @@ module _ (m : Bool) (b : Bench) where
   perform_engine (Defect u v) = settled (add_defect b u v) (defect_tests_lem m b u) (defect_in m b u v) (handle_in m b u)
   perform_engine (Blossom u hs ts) = settled (add_blossom b u hs ts) (blossom_tests_lem m b u hs ts) (blossom_in m b u hs ts) (handle_in m b u)
   perform_engine (Expand u h) = settled (remove_blossom b h) (expand_tests_lem m b u h) (expand_in m b h) refl
-  perform_engine (SetState u h s) = settled (mark b h s none) (state_tests_lem m b u h) (mark_in m b h s none) refl
+  perform_engine (SetState u h s) = settled (mark b h s None) (state_tests_lem m b u h) (mark_in m b h s None) refl
   perform_engine (Grow u l) = settled (grow_by b u l) (grow_tests_lem m b u l) (grow_in m b u l) refl
   perform_engine (Fuse p l r) = settled (join b p l r) (fuse_tests_lem m b p l r) (fuse_in m b p l r) refl
   perform_engine (Clear u) = settled (wipe b u) (unit_tests_lem m b u) (clear_in m b u) refl

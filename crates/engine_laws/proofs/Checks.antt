@@ -1,8 +1,8 @@
 -- Both checks find the same in either engine: verdict and index. Assumes nothing.
+use Rattle.std.specs.Prelude.{None, Option, Some}
 use Prim.Native.Nat.{ℕ, zero, suc}
 use mathlib.Core.Path.{◌≡◌, refl, ◌∙◌}
 use mathlib.Core.Bool.{Bool, true, false, ◌||◌, ◌&&◌}
-use mathlib.Core.Option.{Option, none, some}
 use mathlib.Core.List.{List, [], ◌∷◌}
 use lib.Dec.{eqb}
 use lib.IntN.{◌-ℤ◌, nat_abs}
@@ -42,8 +42,8 @@ module _ (m : Bool) (b : Bench) where
   unfolding finding
   finding_in whole [] seen k = refl
   finding_in whole (t ∷ ts) seen k = λ i. elim t.2 [
-    | none ↦ finding_in whole ts seen (suc k) i
-    | some n ↦ elim n.class [
+    | None ↦ finding_in whole ts seen (suc k) i
+    | Some n ↦ elim n.class [
       | defect v ↦ elim (any (eqb v) seen) [ true ↦ (1, k) | false ↦ finding_in whole ts (v ∷ seen) (suc k) i ]
       | blossom ms ↦ elim (circle_in ms i).0 [ zero ↦ finding_in whole ts seen (suc k) i | suc w ↦ (suc w, index_in whole 0 (circle_in ms i).1) ]
     ]
@@ -61,7 +61,7 @@ module _ (m : Bool) (b : Bench) where
   arrives_in : (k : ℕ) (t g : Handle) → arrives k (in_engine m b) t g ≡ arrives k b t g
   unfolding arrives node_named
   arrives_in zero t g = refl
-  arrives_in (suc k) t g = λ i. same_handle t g || elim (parent_in (node_named b t)) [ none ↦ false | some p ↦ arrives_in k p g i ]
+  arrives_in (suc k) t g = λ i. same_handle t g || elim (parent_in (node_named b t)) [ None ↦ false | Some p ↦ arrives_in k p g i ]
 
   under_in : (t g : Handle) → is_under (in_engine m b) t g ≡ is_under b t g
   unfolding is_under
@@ -74,16 +74,16 @@ module _ (m : Bool) (b : Bench) where
   strict_circle_lem : (ms : List Member) → strict_circle (in_engine m b) ms ≡ strict_circle b ms
   unfolding strict_circle
   strict_circle_lem [] = refl
-  strict_circle_lem (x ∷ ms) = λ i. elim (strict_member_lem x i) [ true ↦ strict_circle_lem ms i | false ↦ some x.node ]
+  strict_circle_lem (x ∷ ms) = λ i. elim (strict_member_lem x i) [ true ↦ strict_circle_lem ms i | false ↦ Some x.node ]
 
   strict_finding_lem : (whole ts : Slots) → strict_finding (in_engine m b) whole ts ≡ strict_finding b whole ts
   unfolding strict_finding
   strict_finding_lem whole [] = refl
   strict_finding_lem whole (t ∷ ts) = λ i. elim t.2 [
-    | none ↦ strict_finding_lem whole ts i
-    | some n ↦ elim n.class [
+    | None ↦ strict_finding_lem whole ts i
+    | Some n ↦ elim n.class [
       | defect v ↦ strict_finding_lem whole ts i
-      | blossom ms ↦ elim (strict_circle_lem ms i) [ none ↦ strict_finding_lem whole ts i | some h ↦ (6, index_in whole 0 h) ]
+      | blossom ms ↦ elim (strict_circle_lem ms i) [ None ↦ strict_finding_lem whole ts i | Some h ↦ (6, index_in whole 0 h) ]
     ]
   ]
 

@@ -1,8 +1,8 @@
 -- Every deed does the same in either engine, and leaves the engine as it was. Assumes nothing.
+use Rattle.std.specs.Prelude.{None, Option, Some}
 use Prim.Native.Nat.{ℕ, suc}
 use mathlib.Core.Path.{◌≡◌, refl, ap, ◌∙◌}
 use mathlib.Core.Bool.{Bool, true, false}
-use mathlib.Core.Option.{Option, none, some}
 use mathlib.Core.List.{List, [], ◌∷◌, map}
 use lib.Dec.{eqb}
 use lib.ListN.{set}
@@ -54,16 +54,16 @@ module _ (m : Bool) (b : Bench) where
 
   pub blossom_in : (u : ℕ) (hs : List Handle) (ts : List (Handle × Handle)) → add_blossom (in_engine m b) u hs ts ≡ in_engine m (add_blossom b u hs ts)
   unfolding add_blossom free_slot
-  blossom_in u hs ts = (λ i. push (mark_all_in m b hs stays (some (new_handle b u)) i) u (free_slot b u) (made (sizes_in m b hs i)))
-      ∙ push_in m (mark_all b hs stays (some (new_handle b u))) u (free_slot b u) (made (sizes b hs))
+  blossom_in u hs ts = (λ i. push (mark_all_in m b hs stays (Some (new_handle b u)) i) u (free_slot b u) (made (sizes_in m b hs i)))
+      ∙ push_in m (mark_all b hs stays (Some (new_handle b u))) u (free_slot b u) (made (sizes b hs))
     where
       made : ℕ → Node
-      made n = record { serial = b.next; class = blossom (circle hs ts); state = grows; parent = none; value = pos 0; size = n }
+      made n = record { serial = b.next; class = blossom (circle hs ts); state = grows; parent = None; value = pos 0; size = n }
 
   pub expand_in : (h : Handle) → remove_blossom (in_engine m b) h ≡ in_engine m (remove_blossom b h)
   unfolding remove_blossom
-  expand_in h = (λ i. mark_all (place_in m b h.unit h.slot none i) (members (node_in m b h i)) grows none)
-      ∙ mark_all_in m (place b h.unit h.slot none) (members (node_named b h)) grows none
+  expand_in h = (λ i. mark_all (place_in m b h.unit h.slot None i) (members (node_in m b h i)) grows None)
+      ∙ mark_all_in m (place b h.unit h.slot None) (members (node_named b h)) grows None
 
   pub grow_in : (u : ℕ) (l : ℤ) → grow_by (in_engine m b) u l ≡ in_engine m (grow_by b u l)
   unfolding grow_by

@@ -1,8 +1,8 @@
 -- THEOREM. Lines of the text program have the same answers, byte for byte, in either engine. Assumes nothing.
+use Rattle.std.specs.Prelude.{None, Some}
 use Prim.Native.Nat.{ℕ}
 use mathlib.Core.Path.{◌≡◌, refl, ap, ◌∙◌}
 use mathlib.Core.Bool.{Bool}
-use mathlib.Core.Option.{none, some}
 use mathlib.Core.List.{List, [], ◌∷◌, map}
 use Rattle.ledger_spec.specs.Bench.{Bench}
 use Rattle.ledger_spec.specs.Calls.{Call, Defect, Blossom, Expand, SetState, Grow, Fuse, Clear}
@@ -41,15 +41,15 @@ module _ (m : Bool) where
 
     pub says_engine : (l : Line) → says (in_engine m b) l ≡ line_in m (says b l)
     unfolding says
-    says_engine (some (D u v)) = calls_in u (Defect u v) (Defect u v) refl
-    says_engine (some (B u ks)) = calls_in u (Blossom u (map (named (in_engine m b)) ks) []) (Blossom u (map (named b) ks) []) (λ i. Blossom u (map (λ k. named_in k i) ks) [])
-    says_engine (some (E u k)) = calls_in u (Expand u (named (in_engine m b) k)) (Expand u (named b k)) (λ i. Expand u (named_in k i))
-    says_engine (some (S u k s)) = calls_in u (SetState u (named (in_engine m b) k) s) (SetState u (named b k) s) (λ i. SetState u (named_in k i) s)
-    says_engine (some (G u l)) = calls_in u (Grow u l) (Grow u l) refl
-    says_engine (some (F p l r)) = calls_in p (Fuse p l r) (Fuse p l r) refl
-    says_engine (some (C u)) = calls_in u (Clear u) (Clear u) refl
-    says_engine (some (K u)) = checks_in u
-    says_engine none = refl
+    says_engine (Some (D u v)) = calls_in u (Defect u v) (Defect u v) refl
+    says_engine (Some (B u ks)) = calls_in u (Blossom u (map (named (in_engine m b)) ks) []) (Blossom u (map (named b) ks) []) (λ i. Blossom u (map (λ k. named_in k i) ks) [])
+    says_engine (Some (E u k)) = calls_in u (Expand u (named (in_engine m b) k)) (Expand u (named b k)) (λ i. Expand u (named_in k i))
+    says_engine (Some (S u k s)) = calls_in u (SetState u (named (in_engine m b) k) s) (SetState u (named b k) s) (λ i. SetState u (named_in k i) s)
+    says_engine (Some (G u l)) = calls_in u (Grow u l) (Grow u l) refl
+    says_engine (Some (F p l r)) = calls_in p (Fuse p l r) (Fuse p l r) refl
+    says_engine (Some (C u)) = calls_in u (Clear u) (Clear u) refl
+    says_engine (Some (K u)) = checks_in u
+    says_engine None = refl
 
   -- the four numbers of each line, and the bench after all
   pub lines_engine : (b : Bench) (ls : List Line) → answers (in_engine m b) ls ≡ answers b ls

@@ -1,8 +1,8 @@
 -- Looking into a bench finds the same in either engine: tops, trees, nodes, slots. Assumes nothing.
+use Rattle.std.specs.Prelude.{None, Some}
 use Prim.Native.Nat.{ℕ, zero, suc, ◌+◌}
 use mathlib.Core.Path.{◌≡◌, refl, ap, ◌∙◌}
 use mathlib.Core.Bool.{Bool}
-use mathlib.Core.Option.{none, some}
 use mathlib.Core.List.{List, [], ◌∷◌, ◌++◌}
 use Rattle.ledger_spec.specs.Bench.{Handle, Bench}
 use Rattle.ledger_spec.specs.Look.{interface, free_slot, node_named, climb, top, tree}
@@ -14,7 +14,7 @@ module _ (m : Bool) (b : Bench) where
   climb_in : (k u : ℕ) → climb k (in_engine m b) u ≡ climb k b u
   unfolding climb
   climb_in zero u = refl
-  climb_in (suc k) u = λ i. elim (interface b u).parent [ none ↦ u | some p ↦ climb_in k p i ]
+  climb_in (suc k) u = λ i. elim (interface b u).parent [ None ↦ u | Some p ↦ climb_in k p i ]
 
   pub top_in : (u : ℕ) → top (in_engine m b) u ≡ top b u
   top_in u = climb_in 8 u
@@ -22,7 +22,7 @@ module _ (m : Bool) (b : Bench) where
   pub tree_in : (k u : ℕ) → tree k (in_engine m b) u ≡ tree k b u
   unfolding tree
   tree_in zero u = refl
-  tree_in (suc k) u = λ i. elim (interface b u).halves [ none ↦ u ∷ [] | some lr ↦ (tree_in k lr.0 i ++ tree_in k lr.1 i) ++ (u ∷ []) ]
+  tree_in (suc k) u = λ i. elim (interface b u).halves [ None ↦ u ∷ [] | Some lr ↦ (tree_in k lr.0 i ++ tree_in k lr.1 i) ++ (u ∷ []) ]
 
   pub free_in : (u : ℕ) → free_slot (in_engine m b) u ≡ free_slot b u
   unfolding free_slot

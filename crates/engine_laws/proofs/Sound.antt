@@ -1,8 +1,8 @@
 -- A bench is sound in either engine or in none. Assumes nothing.
+use Rattle.std.specs.Prelude.{None, Option, Some}
 use Prim.Native.Nat.{ℕ, ◌+◌, ◌*◌}
 use mathlib.Core.Path.{◌≡◌, refl, ap, ◌∙◌}
 use mathlib.Core.Bool.{Bool, true, ◌&&◌}
-use mathlib.Core.Option.{Option, none, some}
 use mathlib.Core.List.{List, [], ◌∷◌, map}
 use lib.ListN.{length}
 use lib.Dec.{eqb, leb, ltb}
@@ -26,8 +26,8 @@ module _ (m : Bool) (b : Bench) where
   parent_in : (h : Handle) (n : Node) → sound_parent (in_engine m b) h n ≡ sound_parent b h n
   unfolding sound_parent node_named
   parent_in h n = λ i. elim n.parent [
-    | none ↦ true
-    | some q ↦ ((is_stay n.state && ltb n.serial q.serial) && eqb (top_in m b q.unit i) (top_in m b h.unit i)) && eqb (tally (same_handle h) (members (node_named b q))) 1
+    | None ↦ true
+    | Some q ↦ ((is_stay n.state && ltb n.serial q.serial) && eqb (top_in m b q.unit i) (top_in m b h.unit i)) && eqb (tally (same_handle h) (members (node_named b q))) 1
   ]
 
   abbrev at : ℕ × ℕ × Option Node → Node → Handle
@@ -36,8 +36,8 @@ module _ (m : Bool) (b : Bench) where
   slot_in : (w : ℕ) (t : ℕ × ℕ × Option Node) → sound_slot (in_engine m b) w t ≡ sound_slot b w t
   unfolding sound_slot
   slot_in w t = λ i. elim t.2 [
-    | none ↦ true
-    | some n ↦ ((leb 1 n.serial && ltb n.serial b.next) && leb (nat_abs n.value) w) && (parent_in (at t n) n i && class_in (at t n) n.class n.size i)
+    | None ↦ true
+    | Some n ↦ ((leb 1 n.serial && ltb n.serial b.next) && leb (nat_abs n.value) w) && (parent_in (at t n) n i && class_in (at t n) n.class n.size i)
   ]
 
   reach_in : (us : List ℕ) → reach (in_engine m b) us ≡ reach b us
@@ -51,8 +51,8 @@ module _ (m : Bool) (b : Bench) where
   top_sound : (u : ℕ) → sound_top (in_engine m b) u ≡ sound_top b u
   unfolding sound_top
   top_sound u = λ i. elim (interface b u).parent [
-    | some p ↦ true
-    | none ↦ all (λ t. slot_in (reached u i) t i) (slots_in m b u i) && (leb (nat_abs (interface b u).sum) (512 * reached u i) && eqb (nat_abs ((interface b u).speed -ℤ rates (slots_in m b u i))) 0)
+    | Some p ↦ true
+    | None ↦ all (λ t. slot_in (reached u i) t i) (slots_in m b u i) && (leb (nat_abs (interface b u).sum) (512 * reached u i) && eqb (nat_abs ((interface b u).speed -ℤ rates (slots_in m b u i))) 0)
   ]
 
   interface_in_lem : (u : ℕ) → sound_interface (in_engine m b) u ≡ sound_interface b u

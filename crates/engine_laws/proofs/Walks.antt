@@ -1,8 +1,8 @@
 -- Walks from a node go the same way in either engine, and so do their reads. Assumes nothing.
+use Rattle.std.specs.Prelude.{None, Some}
 use Prim.Native.Nat.{ℕ, zero, suc}
 use mathlib.Core.Path.{◌≡◌, refl}
 use mathlib.Core.Bool.{Bool}
-use mathlib.Core.Option.{none, some}
 use mathlib.Core.List.{List, [], ◌∷◌, ◌++◌}
 use lib.ListN.{length, get_or, drop}
 use Rattle.ledger_spec.specs.Bench.{Handle, defect, blossom, Bench}
@@ -17,23 +17,23 @@ module _ (m : Bool) (b : Bench) where
   outer_from_lem : (k : ℕ) (h : Handle) → outer_from k (in_engine m b) h ≡ outer_from k b h
   unfolding outer_from node_named
   outer_from_lem zero h = refl
-  outer_from_lem (suc k) h = λ i. elim (parent_in (node_named b h)) [ none ↦ h | some p ↦ outer_from_lem k p i ]
+  outer_from_lem (suc k) h = λ i. elim (parent_in (node_named b h)) [ None ↦ h | Some p ↦ outer_from_lem k p i ]
 
   links_from_lem : (k : ℕ) (h : Handle) → links_from k (in_engine m b) h ≡ links_from k b h
   unfolding links_from node_named
   links_from_lem zero h = refl
-  links_from_lem (suc k) h = λ i. elim (parent_in (node_named b h)) [ none ↦ 0 | some p ↦ suc (links_from_lem k p i) ]
+  links_from_lem (suc k) h = λ i. elim (parent_in (node_named b h)) [ None ↦ 0 | Some p ↦ suc (links_from_lem k p i) ]
 
   below_from_lem : (k : ℕ) (g h : Handle) → below_from k (in_engine m b) g h ≡ below_from k b g h
   unfolding below_from node_named
   below_from_lem zero g h = refl
-  below_from_lem (suc k) g h = λ i. elim (parent_in (node_named b h)) [ none ↦ g | some p ↦ below_from_lem k h p i ]
+  below_from_lem (suc k) g h = λ i. elim (parent_in (node_named b h)) [ None ↦ g | Some p ↦ below_from_lem k h p i ]
 
   vertices_from_lem : (k : ℕ) (h : Handle) → vertices_from k (in_engine m b) h ≡ vertices_from k b h
   unfolding vertices_from node_named
   vertices_from_lem zero h = refl
   vertices_from_lem (suc k) h = λ i.
-      elim (node_named b h) [ none ↦ [] | some n ↦ elim n.class [ defect v ↦ v ∷ [] | blossom ms ↦ each (λ g. vertices_from_lem k g i) ms ] ]
+      elim (node_named b h) [ None ↦ [] | Some n ↦ elim n.class [ defect v ↦ v ∷ [] | blossom ms ↦ each (λ g. vertices_from_lem k g i) ms ] ]
 
   pub outermost_in : (h : Handle) → outermost (in_engine m b) h ≡ outermost b h
   outermost_in h = outer_from_lem 512 h

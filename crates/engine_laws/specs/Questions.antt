@@ -1,7 +1,6 @@
 -- Everything that a bench can be asked and that leaves it as it is, as one thing: reads, both checks, the picture, and the two calls on groups that are
 -- lent a bench. (The present nodes of a tree are asked in crate read_present.) Assumes nothing.
-use Rattle.std.specs.Prelude.{ℕ, Bool, List, ℤ}
-use Rattle.std.proofs.Math.Option.{Option}
+use Rattle.std.specs.Prelude.{ℕ, Bool, List, ℤ, Option}
 use Rattle.kinds.specs.declared.Obstacle.{Obstacle}
 use Rattle.ledger_spec.specs.Bench.{Handle, Bench}
 use Rattle.ledger_spec.specs.Groups.{Group}

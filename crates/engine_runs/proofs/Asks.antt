@@ -1,8 +1,8 @@
 -- Words whose benches differ in the engine alone answer every question the same. Assumes nothing.
+use Rattle.std.specs.Prelude.{None, Option}
 use Prim.Native.Nat.{ℕ}
 use mathlib.Core.Path.{◌≡◌, sym, ap, ◌∙◌}
 use mathlib.Core.Bool.{Bool}
-use mathlib.Core.Option.{Option, none}
 use mathlib.Core.List.{List}
 use Rattle.bench_words.specs.Codec.{pick}
 use Rattle.ledger_spec.specs.Bench.{Handle, Bench}
@@ -27,12 +27,12 @@ module _ (m : Bool) (b : Bench) where
 
   next_in : (u k : ℕ) → next_of (in_engine m b) u k ≡ next_of b u k
   unfolding next_of
-  next_in u k = λ i. said (first (index_tests_lem m b u k i)) (next_from 0 k (slots_in m b u i)) (0, none)
+  next_in u k = λ i. said (first (index_tests_lem m b u k i)) (next_from 0 k (slots_in m b u i)) (0, None)
 
   pub asking_in : (q : Question) → asking (in_engine m b) q ≡ asking b q
   asking_in (plainly q) = asking_engine m b q
   asking_in (Present u) = ap (λ (r : ℕ × ℕ). record { own = r; zero = 0 }) (present_in_lem u)
-  asking_in (Next u k) = ap (λ (r : ℕ × (ℕ × Option Handle)). record { own = r; zero = (0, none) }) (next_in u k)
+  asking_in (Next u k) = ap (λ (r : ℕ × (ℕ × Option Handle)). record { own = r; zero = (0, None) }) (next_in u k)
 
 pub asked_alike : {m : Bool} {p l : List ℕ} → Twins m p l → (q : Question) → asked p q ≡ asked l q
 unfolding lent.asked

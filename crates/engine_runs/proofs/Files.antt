@@ -1,9 +1,9 @@
 -- THEOREM. A run over a file of records, on words whose benches differ in the engine alone: the same number, count and answers, and such words again.
 -- Assumes nothing.
+use Rattle.std.specs.Prelude.{None, Option, Some}
 use Prim.Native.Nat.{ℕ, ◌*◌}
 use mathlib.Core.Path.{◌≡◌, refl, sym, ap, subst, ◌∙◌}
 use mathlib.Core.Bool.{Bool, true, false}
-use mathlib.Core.Option.{Option, none, some}
 use mathlib.Core.List.{List, [], ◌∷◌, ◌++◌, map}
 use lib.Dec.{leb}
 use lib.ListN.{length, drop}
@@ -75,9 +75,9 @@ module _ (m : Bool) where
     unfolding run_file
     file_engine file = go (file_ops file)
       where
-        go : (o : Option (List Op)) → elim o [ none ↦ refused FILE (in_engine m b) slice | some ops ↦ run_ops (in_engine m b) ops slice ] ≡ run_in (elim o [ none ↦ refused FILE b slice | some ops ↦ run_ops b ops slice ])
-        go none = refl
-        go (some ops) = ops_in ops
+        go : (o : Option (List Op)) → elim o [ None ↦ refused FILE (in_engine m b) slice | Some ops ↦ run_ops (in_engine m b) ops slice ] ≡ run_in (elim o [ None ↦ refused FILE b slice | Some ops ↦ run_ops b ops slice ])
+        go None = refl
+        go (Some ops) = ops_in ops
 
 -- ---- over stored words
 pub record FilesAlike (m : Bool) (r s : Said) (p l : List ℕ) (o o' : List ℤ) : Type 0 where
@@ -113,5 +113,5 @@ module _ {m : Bool} {p l : List ℕ} (T : Twins m p l) (file : List ℕ) (slice 
       on {w} {A} Z W x = subst (λ (c : Bool). pick c A Z) (sound_holds w W) x
 
       go : (f : Option (List Op)) → RanOf f p file slice r p' o → RanOf f l file slice s l' o' → FilesAlike m r s p' l' o o'
-      go none x y = not_read 23 x y
-      go (some ops) x y = run_alike (on (Refused 2 p slice r p' o) T.one x) (on (Refused 2 l slice s l' o') T.other y)
+      go None x y = not_read 23 x y
+      go (Some ops) x y = run_alike (on (Refused 2 p slice r p' o) T.one x) (on (Refused 2 l slice s l' o') T.other y)

@@ -1,8 +1,8 @@
 -- THEOREM. In the plain engine the stored word of each node is its value, with its fixed offset, and an accepted growth adds L, 0 or -L to it. Assumes nothing.
+use Rattle.std.specs.Prelude.{None, Option, Some}
 use Prim.Native.Nat.{ℕ, zero, suc, ◌+◌, ◌-◌, ◌*◌, ◌<◌}
 use mathlib.Core.Path.{◌≡◌, refl, sym, ap, ◌∙◌}
 use mathlib.Core.Bool.{Bool, true}
-use mathlib.Core.Option.{Option, none, some}
 use mathlib.Core.List.{List}
 use native.Mathlib.Decide.{dec_lt}
 use native.Mathlib.Omega.{arith}
@@ -15,8 +15,6 @@ use Rattle.kinds.specs.declared.Class.TheVariants.{Absent, Blossom, Defect}
 use Rattle.bench_words.specs.Codec.{value_offset, pick}
 use Rattle.bench_words.specs.Store.{node_at, interface_at}
 use Rattle.bench_words.specs.declared.Node.{Node as Held}
-use Rattle.bench_words.specs.declared.Up.{Up}
-use Rattle.bench_words.specs.declared.Up.TheVariants.{Top, Under}
 use Rattle.bench_words.proofs.Laws.{GoodUp, good_interface}
 use Rattle.ledger_spec.specs.Bench.{Bench, Node, Member, rate}
 use Rattle.ledger_spec.specs.Look.{slot_of}
@@ -35,9 +33,9 @@ use Rattle.run_laws.proofs.Running.{number_is, shows, stays_sound}
 use Rattle.engine_runs.specs.Stored.{HeldAsNumbers, GrewAsNumbers}
 
 -- ---- T is 0
-over_none : (p : Up) (f : ℕ → ℕ) → GoodUp p → ((q : ℕ) → q < 8 → f q ≡ 0) → over p 0 f ≡ 0
-over_none Top f g h = refl
-over_none (Under q) f g h = h q g
+over_none : (p : Option ℕ) (f : ℕ → ℕ) → GoodUp p → ((q : ℕ) → q < 8 → f q ≡ 0) → over p 0 f ≡ 0
+over_none None f g h = refl
+over_none (Some q) f g h = h q g
 
 module _ (b : List ℕ) (S : SoundWords b) (plain : (view b).plain ≡ true) where
   engine : (v : ℕ) → v < 8 → (interface_at b v).marks.plain ≡ true
@@ -56,23 +54,23 @@ module _ (b : List ℕ) (S : SoundWords b) (plain : (view b).plain ≡ true) whe
   value_at_none Stay x = refl
   value_at_none Shrink x = omega arith
 
-  some_inj : {x y : Node} → some x ≡ some y → x ≡ y
-  some_inj {x} e = ap (λ (o : Option Node). elim o [ none ↦ x | some z ↦ z ]) e
+  some_inj : {x y : Node} → Some x ≡ Some y → x ≡ y
+  some_inj {x} e = ap (λ (o : Option Node). elim o [ None ↦ x | Some z ↦ z ]) e
 
-  seen_value : (k : Held) (t : ℕ) (ms : List Member) (n : Node) → slot_seen k t ms ≡ some n → n.value ≡ off value_offset (value_by k.state k.bias t)
+  seen_value : (k : Held) (t : ℕ) (ms : List Member) (n : Node) → slot_seen k t ms ≡ Some n → n.value ≡ off value_offset (value_by k.state k.bias t)
   unfolding slot_seen
   seen_value k t ms n = go k.class
     where
-      go : (c : Class) → slot_seen (record { serial = k.serial; class = c; state = k.state; parent = k.parent; place = k.place; next = k.next; left = k.left; right = k.right; bias = k.bias; size = k.size; first = k.first; count = k.count }) t ms ≡ some n → n.value ≡ off value_offset (value_by k.state k.bias t)
-      go Absent e = absurd (let z : ◌≡◌ {A = ℕ} 0 1 = ap (λ (o : Option Node). elim o [ none ↦ 0 | some x ↦ 1 ]) e in omega arith)
+      go : (c : Class) → slot_seen (record { serial = k.serial; class = c; state = k.state; parent = k.parent; place = k.place; next = k.next; left = k.left; right = k.right; bias = k.bias; size = k.size; first = k.first; count = k.count }) t ms ≡ Some n → n.value ≡ off value_offset (value_by k.state k.bias t)
+      go Absent e = absurd (let z : ◌≡◌ {A = ℕ} 0 1 = ap (λ (o : Option Node). elim o [ None ↦ 0 | Some x ↦ 1 ]) e in omega arith)
       go Blossom e = ap (λ (x : Node). x.value) (sym (some_inj e))
       go (Defect v) e = ap (λ (x : Node). x.value) (sym (some_inj e))
 
-  within : (u s : ℕ) (n : Node) → slot_of (view b) u s ≡ some n → (u < 8) × (s < (interface_at b u).used)
+  within : (u s : ℕ) (n : Node) → slot_of (view b) u s ≡ Some n → (u < 8) × (s < (interface_at b u).used)
   within u s n e = go (dec_lt u 8)
     where
-      nothing : slot_of (view b) u s ≡ none → ⊥
-      nothing q = let z : ◌≡◌ {A = ℕ} 0 1 = ap (λ (o : Option Node). elim o [ none ↦ 0 | some x ↦ 1 ]) (sym q ∙ e) in omega arith
+      nothing : slot_of (view b) u s ≡ None → ⊥
+      nothing q = let z : ◌≡◌ {A = ℕ} 0 1 = ap (λ (o : Option Node). elim o [ None ↦ 0 | Some x ↦ 1 ]) (sym q ∙ e) in omega arith
 
       used : u < 8 → Dec (s < (interface_at b u).used) → (u < 8) × (s < (interface_at b u).used)
       used lu (yes l) = (lu, l)

@@ -1,6 +1,5 @@
 -- Everything that words can be asked and that leaves them as they are: every question of a bench, and the present nodes of a tree. Assumes nothing.
-use Rattle.std.specs.Prelude.{ℕ, List}
-use Rattle.std.proofs.Math.Option.{Option}
+use Rattle.std.specs.Prelude.{ℕ, List, Option}
 use Rattle.ledger_spec.specs.Bench.{Handle, Bench}
 use Rattle.ledger_spec.specs.Answers.{Read}
 use Rattle.bench_views.specs.View.{view}

@@ -1,16 +1,15 @@
 -- What each part of an add answers: room or no room at a push, at a free place, at a meeting; and by the kinds of the group and of the obstacle.
 -- Assumes nothing.
+use Rattle.std.specs.Prelude.{Option}
 use Prim.Native.Nat.{ℕ, ◌+◌, ◌-◌, ◌≤◌, ◌<◌}
 use mathlib.Core.Path.{◌≡◌, refl, sym, ap, ◌∙◌}
 use mathlib.Core.Bool.{Bool, true, false, ◌||◌, false≢true}
-use mathlib.Core.Option.{Option}
 use mathlib.Core.List.{List, [], ◌∷◌, ◌++◌}
 use native.Mathlib.Omega.{arith}
 use lib.IntN.{ℤ}
 use lib.ListN.{length, take, set}
 use Rattle.kinds.specs.Obstacles.{listable, is_stop}
 use Rattle.kinds.specs.declared.Pair.{Pair}
-use Rattle.kinds.specs.declared.MaybePair.{MaybePair}
 use Rattle.kinds.specs.declared.Obstacle.{Obstacle}
 use Rattle.kinds.specs.declared.Obstacle.TheVariants.{NonZeroGrow, Conflicting, TouchingVirtual, BlossomNeedExpand, VertexShrinkStop}
 use Rattle.kinds.specs.declared.Entry.{Entry}
@@ -62,7 +61,7 @@ module _ (g : Code) (h : Fits g) where
     moved_done t k m f = answers_lists _ g (list_of g ++ e ∷ []) (removed_at p (stops_of g)) _ (room_yes (list_of g ++ e ∷ []) (removed_at p (stops_of g)) (omega (arith, pushed_long g h e)) (omega (arith, taken_long g h p m, h.short))) (moved g h p e t k m f)
 
   -- ---- two stops at one vertex
-  module _ (p : ℕ) (x y : Stop) (k : p < g.stopped) (stands : stops_of g ≡ take p (stops_of g) ++ y ∷ after_at p (stops_of g)) (a b : MaybePair) where
+  module _ (p : ℕ) (x y : Stop) (k : p < g.stopped) (stands : stops_of g ≡ take p (stops_of g) ++ y ∷ after_at p (stops_of g)) (a b : Option Pair) where
     abbrev met : Option Lists
     met = meet a b x y (list_of g) (take p (stops_of g)) (after_at p (stops_of g))
 

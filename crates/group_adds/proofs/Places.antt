@@ -1,5 +1,6 @@
 -- Adding a stop by the place that was found for its vertex: it comes in at a free place, or meets the stop that is pending there. The place is as long
 -- as the front of smaller vertices. Assumes nothing.
+use Rattle.std.specs.Prelude.{None, Option, Some}
 use Prim.Native.Nat.{ℕ, zero, suc, ◌+◌, ◌≤◌, ◌<◌}
 use mathlib.Core.Path.{◌≡◌, refl, sym, ap, ap₂, ◌∙◌}
 use mathlib.Core.Bool.{Bool, true, false, cond, false≢true}
@@ -12,8 +13,6 @@ use lib.Seq.{take-append_seam, drop-append_seam, drop-drop}
 use Rattle.kinds.specs.Names.{same_code}
 use Rattle.kinds.specs.Obstacles.{pair_of}
 use Rattle.kinds.specs.declared.Pair.{Pair}
-use Rattle.kinds.specs.declared.MaybePair.{MaybePair}
-use Rattle.kinds.specs.declared.MaybePair.TheVariants.{NoPair, WithPair}
 use Rattle.kinds.specs.declared.Obstacle.TheVariants.{Conflicting}
 use Rattle.kinds.specs.declared.Entry.{Entry}
 use Rattle.kinds.specs.declared.Stop.{Stop}
@@ -163,31 +162,31 @@ joined Replace e = e
 joined (Join a b) e = record { obstacle = Conflicting a b }
 
 module _ (x y : Stop) (l : List Entry) (f b : List Stop) where
-  pub keeps : (p q : MaybePair) → meeting_of p q ≡ Keep → meet p q x y l f b ≡ room_for l (f ++ y ∷ b)
+  pub keeps : (p q : Option Pair) → meeting_of p q ≡ Keep → meet p q x y l f b ≡ room_for l (f ++ y ∷ b)
   unfolding meet meeting_of
-  keeps NoPair q e = refl
-  keeps (WithPair p) NoPair e = absurd (false≢true (ap is_keep e))
-  keeps (WithPair p) (WithPair q) e = go (same_code p.node q.node) e
+  keeps None q e = refl
+  keeps (Some p) None e = absurd (false≢true (ap is_keep e))
+  keeps (Some p) (Some q) e = go (same_code p.node q.node) e
     where
       go : (c : Bool) → cond c Keep (Join p q) ≡ Keep → cond c (room_for l (f ++ y ∷ b)) (room_for (l ++ record { obstacle = Conflicting p q } ∷ []) (f ++ b)) ≡ room_for l (f ++ y ∷ b)
       go true k = refl
       go false k = absurd (false≢true (ap is_keep k))
 
-  pub replaces : (p q : MaybePair) → meeting_of p q ≡ Replace → meet p q x y l f b ≡ room_for l (f ++ x ∷ b)
+  pub replaces : (p q : Option Pair) → meeting_of p q ≡ Replace → meet p q x y l f b ≡ room_for l (f ++ x ∷ b)
   unfolding meet meeting_of
-  replaces NoPair q e = absurd (false≢true (ap is_replace e))
-  replaces (WithPair p) NoPair e = refl
-  replaces (WithPair p) (WithPair q) e = go (same_code p.node q.node) e
+  replaces None q e = absurd (false≢true (ap is_replace e))
+  replaces (Some p) None e = refl
+  replaces (Some p) (Some q) e = go (same_code p.node q.node) e
     where
       go : (c : Bool) → cond c Keep (Join p q) ≡ Replace → cond c (room_for l (f ++ y ∷ b)) (room_for (l ++ record { obstacle = Conflicting p q } ∷ []) (f ++ b)) ≡ room_for l (f ++ x ∷ b)
       go true k = absurd (false≢true (ap is_replace k))
       go false k = absurd (false≢true (ap is_replace k))
 
-  pub joins : (p q : MaybePair) (a c : Pair) → meeting_of p q ≡ Join a c → meet p q x y l f b ≡ room_for (l ++ record { obstacle = Conflicting a c } ∷ []) (f ++ b)
+  pub joins : (p q : Option Pair) (a c : Pair) → meeting_of p q ≡ Join a c → meet p q x y l f b ≡ room_for (l ++ record { obstacle = Conflicting a c } ∷ []) (f ++ b)
   unfolding meet meeting_of
-  joins NoPair q a c e = absurd (false≢true (sym (ap is_keep e)))
-  joins (WithPair p) NoPair a c e = absurd (false≢true (sym (ap is_replace e)))
-  joins (WithPair p) (WithPair q) a c e = go (same_code p.node q.node) e
+  joins None q a c e = absurd (false≢true (sym (ap is_keep e)))
+  joins (Some p) None a c e = absurd (false≢true (sym (ap is_replace e)))
+  joins (Some p) (Some q) a c e = go (same_code p.node q.node) e
     where
       none : Entry
       none = record { obstacle = Conflicting p q }

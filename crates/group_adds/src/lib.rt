@@ -54,8 +54,7 @@ fn moved(g: Group, p: usize, e: Entry) -> Changed
     }
     let mut list = g.list;
     list[n] = e;
-    let all = g.stops;
-    let stops = group_stops::taken_out(all, g.stopped, p);
+    let stops = group_stops::taken_out(g.stops, g.stopped, p);
     let group = Group {
         kind: Kind::Conflicts,
         list,
@@ -72,8 +71,7 @@ fn met(g: Group, p: usize, x: Stop, y: Stop) -> Changed
     requires p_lt_stopped { (p < g.stopped) × (stops_of g ≡ take p (stops_of g) ++ y ∷ after_at p (stops_of g)) }
     ensures { result ≡ changed (grouped (meet (pair_of x.obstacle) (pair_of y.obstacle) x y (list_of g) (take p (stops_of g)) (after_at p (stops_of g)))) g }
 {
-    let m = group_stops::meeting_of(x, y);
-    match m {
+    match group_stops::meeting_of(x, y) {
         Meeting::Keep => Changed {
             number: 0,
             group: g,
@@ -99,11 +97,8 @@ fn add_stop(g: Group, x: Stop) -> Changed
     requires { (g.kind ≡ Kind.Conflicts) × ((g.listed ≤ 128) × (g.stopped ≤ 128)) }
     ensures { result ≡ changed (grouped (add_stop x (list_of g) (stops_of g))) g }
 {
-    let v = x.vertex;
     let count = g.stopped;
-    let all = g.stops;
-    let spot = group_stops::spot_of(all, count, v);
-    match spot {
+    match group_stops::spot_of(g.stops, count, x.vertex) {
         Spot::Held(p, y) => met(g, p, x, y),
         Spot::Free(p) => {
             if Group::MOST <= count {
@@ -112,14 +107,12 @@ fn add_stop(g: Group, x: Stop) -> Changed
                     group: g,
                 };
             }
-            let list = g.list;
-            let stops = group_stops::put_in(all, count, p, x);
+            let stops = group_stops::put_in(g.stops, count, p, x);
             let group = Group {
                 kind: Kind::Conflicts,
-                list,
                 stops,
-                listed: g.listed,
                 stopped: count + 1,
+                ..g
             };
             Changed { number: 0, group }
         }
@@ -132,42 +125,35 @@ fn one_listed(g: Group, e: Entry) -> Group
 {
     let mut list = g.list;
     list[0] = e;
-    let stops = g.stops;
     Group {
         kind: Kind::Conflicts,
         list,
-        stops,
         listed: 1,
         stopped: 0,
+        ..g
     }
 }
 
 fn one_stop(g: Group, s: Stop) -> Group
     ensures { result ≡ laid (conflicts [] (s ∷ [])) g }
 {
-    let list = g.list;
     let mut stops = g.stops;
     stops[0] = s;
     Group {
         kind: Kind::Conflicts,
-        list,
         stops,
         listed: 0,
         stopped: 1,
+        ..g
     }
 }
 
 pub fn grown(g: Group, length: i64, flag: bool) -> Group
     ensures { result ≡ laid (growth length flag) g }
 {
-    let list = g.list;
-    let stops = g.stops;
     Group {
         kind: Kind::Growth(length, flag),
-        list,
-        stops,
-        listed: g.listed,
-        stopped: g.stopped,
+        ..g
     }
 }
 
@@ -183,7 +169,7 @@ fn smaller_of(a: i64, b: i64) -> i64
 fn either(a: bool, b: bool) -> bool
     ensures { result ≡ (a || b) }
 {
-    if a { true } else { b }
+    a || b
 }
 
 fn add_to_growth(g: Group, length: i64, flag: bool, o: Obstacle, first: Vertex) -> Changed
@@ -246,8 +232,7 @@ pub fn add(g: Group, o: Obstacle, first: Vertex) -> Changed
     requires { sound_group (group_of g) ≡ true }
     ensures { result ≡ changed (added (group_of g) o first.0) g }
 {
-    let kind = g.kind;
-    match kind {
+    match g.kind {
         Kind::Growth(length, flag) => add_to_growth(g, length, flag, o, first),
         Kind::Conflicts => add_to_conflicts(g, o, first),
     }

@@ -1,8 +1,8 @@
 -- The answer of add and extend by the tests that led to it: BROKEN, STALE and ROOM with the very group, else the ledger's group. Assumes nothing.
+use Rattle.std.specs.Prelude.{None, Option, Some}
 use Prim.Native.Nat.{ℕ}
 use mathlib.Core.Path.{◌≡◌, refl, sym, ap, ap₂, ◌∙◌}
 use mathlib.Core.Bool.{Bool, true, false, false≢true, not, ◌&&◌}
-use mathlib.Core.Option.{Option, none, some}
 use mathlib.Core.List.{List, [], ◌∷◌}
 use borrow.Author.Tests.{not-true, not-false}
 use Rattle.kinds.specs.declared.Obstacle.{Obstacle}
@@ -48,8 +48,8 @@ module _ (x y : Bool) (a : Option Group) (z : Group) (g h : Code) where
 -- ROOM where there is no group
 room : (a : Option Group) (z : Group) (g : Code) → changed a g ≡ whole (said_by false false a z) g g
 unfolding said first whole_by changed
-room none z g = refl
-room (some q) z g = refl
+room None z g = refl
+room (Some q) z g = refl
 
 -- ROOM only where conflicts are extended by conflicts, whose bytes are the own group's
 room_of : (z : Group) (g h : Code) (k l : Kind) → changed (extended (viewed k g) (viewed l h)) (kept_by k l g h) ≡ whole (said_by false false (extended (viewed k g) (viewed l h)) z) g (kept_by k l g h)

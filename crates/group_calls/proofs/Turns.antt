@@ -29,21 +29,21 @@ module _ (p : Handle → Bool) where
       go true = refl
       go false = refl
 
-  module _ (xs ys : List Handle) where
-    pub front_has : any p xs ≡ true → true ≡ any p (xs ++ ys)
-    front_has e = or_yes (any p ys) e ∙ sym (any_append p xs ys)
+  module _ (xs ys : List Handle) {t : Bool} (d : t ≡ any p xs) where
+    pub front_has : t ≡ true → t ≡ any p (xs ++ ys)
+    front_has e = e ∙ or_yes (any p ys) (sym d ∙ e) ∙ sym (any_append p xs ys)
 
-    pub back_has : any p xs ≡ false → any p ys ≡ any p (xs ++ ys)
-    back_has e = or_no (any p ys) e ∙ sym (any_append p xs ys)
+    pub back_has : t ≡ false → {u : Bool} → u ≡ any p ys → u ≡ any p (xs ++ ys)
+    back_has e f = f ∙ or_no (any p ys) (sym d ∙ e) ∙ sym (any_append p xs ys)
 
-  module _ (x : Handle) (ys : List Handle) where
-    pub first_has : p x ≡ true → true ≡ any p (x ∷ ys)
+  module _ (x : Handle) (ys : List Handle) {t : Bool} (d : t ≡ p x) where
+    pub first_has : t ≡ true → t ≡ any p (x ∷ ys)
     unfolding any
-    first_has e = or_yes (any p ys) e
+    first_has e = e ∙ or_yes (any p ys) (sym d ∙ e)
 
-    pub rest_has : p x ≡ false → any p ys ≡ any p (x ∷ ys)
+    pub rest_has : t ≡ false → {u : Bool} → u ≡ any p ys → u ≡ any p (x ∷ ys)
     unfolding any
-    rest_has e = or_no (any p ys) e
+    rest_has e f = f ∙ or_no (any p ys) (sym d ∙ e)
 
 -- ---- by what nodes_of finds
 pub named_has : (p : Handle → Bool) {t : Bool} (o : Obstacle) (r x : Nodes) → named_by r ≡ handles_of o → r ≡ x → t ≡ any p (named_by x) → t ≡ any p (handles_of o)

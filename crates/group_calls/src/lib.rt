@@ -21,10 +21,7 @@ use kinds::{Obstacle, numbers};
 fn is_ready(b: &[u64; WORDS], g: Group) -> bool
     ensures { Ready b.now (group_of g) result }
 {
-    if !sound_lent::is_bench(b) {
-        return false;
-    }
-    groups::group_is_sound(g)
+    sound_lent::is_bench(b) && groups::group_is_sound(g)
 }
 
 // The number, and the very group.

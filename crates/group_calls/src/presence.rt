@@ -9,7 +9,6 @@ ghost use Rattle.bench_views.specs.Fit.{Fit};
 ghost use Rattle.bench_views.specs.View.{view};
 ghost use Rattle.groups.specs.View.{group_of};
 
-use bench_links::Found;
 use bench_words::WORDS;
 use group_handles::Nodes;
 use groups::{Group, Kind};
@@ -19,44 +18,26 @@ fn is_gone(b: &[u64; WORDS], h: Handle) -> bool
     requires { Canon b.now }
     ensures { result ≡ stale_code (view b.now) h }
 {
-    let found = bench_links::find(b, h);
-    match found {
-        Found::At(_) => false,
-        Found::Stale => true,
-    }
+    bench_links::find(b, h).is_none()
 }
 
 fn either_gone(b: &[u64; WORDS], x: Handle, y: Handle) -> bool
     requires { Canon b.now }
     ensures { result ≡ any (stale_code (view b.now)) (x ∷ y ∷ []) }
 {
-    if is_gone(b, x) {
-        return true;
-    }
-    is_gone(b, y)
+    is_gone(b, x) || is_gone(b, y)
 }
 
 pub fn names_gone(b: &[u64; WORDS], o: Obstacle) -> bool
     requires { Canon b.now }
     ensures { result ≡ any (stale_code (view b.now)) (handles_of o) }
 {
-    let nodes = group_handles::nodes_of(o);
-    match nodes {
+    match group_handles::nodes_of(o) {
         Nodes::None => false,
         Nodes::One(x) => is_gone(b, x),
         Nodes::Two(x, y) => either_gone(b, x, y),
-        Nodes::Three(x, y, z) => {
-            if is_gone(b, x) {
-                return true;
-            }
-            either_gone(b, y, z)
-        }
-        Nodes::Four(x, y, z, w) => {
-            if either_gone(b, x, y) {
-                return true;
-            }
-            either_gone(b, z, w)
-        }
+        Nodes::Three(x, y, z) => is_gone(b, x) || either_gone(b, y, z),
+        Nodes::Four(x, y, z, w) => either_gone(b, x, y) || either_gone(b, z, w),
     }
 }
 
@@ -65,16 +46,7 @@ fn list_gone(b: &[u64; WORDS], list: [Entry; Group::MOST], n: usize) -> bool
     requires n_bound { n ≤ 128 }
     ensures { result ≡ any (stale_code (view b.now)) (list_handles (take n list)) }
 {
-    let mut i: usize = 0;
-    while i < n {
-        let e = list[i];
-        let o = e.obstacle;
-        if names_gone(b, o) {
-            return true;
-        }
-        i = i + 1;
-    }
-    false
+    list[..n].iter().any(|e| names_gone(b, e.obstacle))
 }
 
 fn stops_gone(b: &[u64; WORDS], stops: [Stop; Group::MOST], n: usize) -> bool
@@ -82,16 +54,7 @@ fn stops_gone(b: &[u64; WORDS], stops: [Stop; Group::MOST], n: usize) -> bool
     requires n_bound { n ≤ 128 }
     ensures { result ≡ any (stale_code (view b.now)) (stop_handles (take n stops)) }
 {
-    let mut i: usize = 0;
-    while i < n {
-        let s = stops[i];
-        let o = s.obstacle;
-        if names_gone(b, o) {
-            return true;
-        }
-        i = i + 1;
-    }
-    false
+    stops[..n].iter().any(|s| names_gone(b, s.obstacle))
 }
 
 pub fn group_gone(b: &[u64; WORDS], g: Group) -> bool
@@ -99,17 +62,9 @@ pub fn group_gone(b: &[u64; WORDS], g: Group) -> bool
     requires g_value { sound_group (group_of g) ≡ true }
     ensures { result ≡ any (stale_code (view b.now)) (group_handles (group_of g)) }
 {
-    let kind = g.kind;
-    match kind {
+    match g.kind {
         Kind::Growth(_, _) => false,
-        Kind::Conflicts => {
-            let list = g.list;
-            if list_gone(b, list, g.listed) {
-                return true;
-            }
-            let stops = g.stops;
-            stops_gone(b, stops, g.stopped)
-        }
+        Kind::Conflicts => list_gone(b, g.list, g.listed) || stops_gone(b, g.stops, g.stopped),
     }
 }
 
@@ -119,13 +74,7 @@ pub fn vertex_of(b: &[u64; WORDS], o: Obstacle) -> Vertex
     ensures { result.0 ≡ vertex_of (view b.now) o }
 {
     match o {
-        Obstacle::NonZeroGrow(_, _) => Vertex(0),
-        Obstacle::Conflicting(_, _) => Vertex(0),
-        Obstacle::TouchingVirtual(_, _, _) => Vertex(0),
-        Obstacle::BlossomNeedExpand(_) => Vertex(0),
-        Obstacle::VertexShrinkStop(n, _) => {
-            let r = read_sound::get_representative_vertex(b, n);
-            r.vertex
-        }
+        Obstacle::VertexShrinkStop(n, _) => read_sound::get_representative_vertex(b, n).vertex,
+        _ => Vertex(0),
     }
 }

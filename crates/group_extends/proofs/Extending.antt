@@ -1,8 +1,8 @@
 -- What an extend answers, by the two kinds. Assumes nothing.
+use Rattle.std.specs.Prelude.{Some}
 use Prim.Native.Nat.{◌≤◌}
 use mathlib.Core.Path.{◌≡◌, refl, sym, ap, ◌∙◌}
 use mathlib.Core.Bool.{Bool, true, false, ◌&&◌, false≢true}
-use mathlib.Core.Option.{some}
 use lib.Dec.{leb}
 use lib.IntN.{ℤ}
 use lib.ListN.{length}
@@ -37,21 +37,21 @@ module _ (g h : Code) where
   unfolding extended
   two_growths a f b i k l c j r e m =
       ap done (m ∙ ap (λ (q : Group). laid q g) e)
-      ∙ sym (by_kinds (growth a f) (growth b i) (Growth a f) (Growth b i) (view_growth g a f k) (view_growth h b i l) k l ∙ changed_some (some (least_of a f b i)) (least_of a f b i) g refl)
+      ∙ sym (by_kinds (growth a f) (growth b i) (Growth a f) (Growth b i) (view_growth g a f k) (view_growth h b i l) k l ∙ changed_some (Some (least_of a f b i)) (least_of a f b i) g refl)
 
   -- a growth by conflicts: the other group whole
   pub takes_whole : (a : ℤ) (f : Bool) → g.kind ≡ Growth a f → h.kind ≡ Conflicts → h.listed ≤ length h.list → h.stopped ≤ length h.stops → done h ≡ changed (extended (group_of g) (group_of h)) (whole_of g h)
   unfolding extended
   takes_whole a f k l m n =
       ap done (sym (laid_same h l m n))
-      ∙ sym (by_kinds (growth a f) (conflicts (list_of h) (stops_of h)) (Growth a f) Conflicts (view_growth g a f k) (view_conflicts h l) k l ∙ changed_some (some (conflicts (list_of h) (stops_of h))) (conflicts (list_of h) (stops_of h)) h refl)
+      ∙ sym (by_kinds (growth a f) (conflicts (list_of h) (stops_of h)) (Growth a f) Conflicts (view_growth g a f k) (view_conflicts h l) k l ∙ changed_some (Some (conflicts (list_of h) (stops_of h))) (conflicts (list_of h) (stops_of h)) h refl)
 
   -- conflicts by a growth: no effect
   pub unmoved : (b : ℤ) (i : Bool) → g.kind ≡ Conflicts → h.kind ≡ Growth b i → g.listed ≤ length g.list → g.stopped ≤ length g.stops → done g ≡ changed (extended (group_of g) (group_of h)) (whole_of g h)
   unfolding extended
   unmoved b i k l m n =
       ap done (sym (laid_same g k m n))
-      ∙ sym (by_kinds (conflicts (list_of g) (stops_of g)) (growth b i) Conflicts (Growth b i) (view_conflicts g k) (view_growth h b i l) k l ∙ changed_some (some (conflicts (list_of g) (stops_of g))) (conflicts (list_of g) (stops_of g)) g refl)
+      ∙ sym (by_kinds (conflicts (list_of g) (stops_of g)) (growth b i) Conflicts (Growth b i) (view_conflicts g k) (view_growth h b i l) k l ∙ changed_some (Some (conflicts (list_of g) (stops_of g))) (conflicts (list_of g) (stops_of g)) g refl)
 
   -- conflicts by conflicts
   pub two_conflicts : g.kind ≡ Conflicts → h.kind ≡ Conflicts → (r : Changed) → r ≡ changed (grouped (and_then (room_for (append_list g h) (stops_of g)) (add_stops (stops_of h)))) g → r ≡ changed (extended (group_of g) (group_of h)) (whole_of g h)

@@ -21,7 +21,7 @@ pub struct Least {
 fn both(a: bool, b: bool) -> bool
     ensures { result ≡ (a && b) }
 {
-    if a { b } else { false }
+    a && b
 }
 
 // A growth (a, f) extended by (b, h): a largest weight has no effect; else the smaller pair, length first, then no before yes.
@@ -53,11 +53,8 @@ fn extend_conflicts(g: Group, h: Group) -> Changed
             group: g,
         };
     }
-    let own = g.list;
-    let more = h.list;
-    let list = group_runs::entries_laid(own, g.listed, more, 0, h.listed);
-    let other = h.stops;
-    group_merges::merged(g, list, g.listed + h.listed, other, h.stopped)
+    let list = group_runs::entries_laid(g.list, g.listed, h.list, 0, h.listed);
+    group_merges::merged(g, list, g.listed + h.listed, h.stops, h.stopped)
 }
 
 pub fn extend(g: Group, h: Group) -> Changed

@@ -1,11 +1,11 @@
--- Whether any node of a group has a property, as a loop over its entries and then over its stops finds it: a turn looks at the nodes of one obstacle, at
--- the end nothing is left. Assumes nothing.
-use Prim.Native.Nat.{ℕ, ◌+◌, ◌≤◌, ◌<◌}
+-- Whether any node of a group has a property, as its entries and then its stops say it, each by the nodes of its obstacle. Assumes nothing.
+use Prim.Native.Nat.{◌≤◌}
 use mathlib.Core.Path.{◌≡◌, refl, sym, ap, ap₂, ◌∙◌}
 use mathlib.Core.Bool.{Bool, true, false, ◌||◌}
 use mathlib.Core.List.{List, [], ◌∷◌, ◌++◌}
 use lib.IntN.{ℤ}
-use lib.ListN.{length, take, drop, get_or}
+use lib.ListN.{length, take}
+use Rattle.std.specs.List.{list_any}
 use Rattle.kinds.specs.declared.Handle.{Handle}
 use Rattle.kinds.specs.declared.Entry.{Entry}
 use Rattle.kinds.specs.declared.Stop.{Stop}
@@ -14,7 +14,6 @@ use Rattle.ledger_spec.specs.GroupCalls.{handles_of, list_handles, stop_handles,
 use Rattle.groups.specs.View.{list_of, stops_of, group_of}
 use Rattle.groups.specs.declared.Kind.TheVariants.{Growth, Conflicts}
 use Rattle.groups.specs.declared.Group.{Group as Code}
-use Rattle.groups.proofs.Lists.{step, spent}
 use Rattle.groups.proofs.View.{view_growth, view_conflicts, list_is, stops_is}
 
 module _ (p : Handle → Bool) where
@@ -27,23 +26,16 @@ module _ (p : Handle → Bool) where
   any_append [] ys = refl
   any_append (x ∷ xs) ys = ap (λ (b : Bool). p x || b) (any_append xs ys) ∙ sym (or_assoc (p x) (any p xs) (any p ys))
 
-  -- ---- a turn, and the end
-  module _ (n i : ℕ) where
-    pub entry_turn : (l : List Entry) (d : Entry) → i < n → n ≤ length l → any p (list_handles (drop i (take n l))) ≡ (any p (handles_of (get_or l i d).obstacle) || any p (list_handles (drop (i + 1) (take n l))))
-    unfolding list_handles
-    entry_turn l d h k = ap (λ (r : List Entry). any p (list_handles r)) (step n i l d h k) ∙ any_append (handles_of (get_or l i d).obstacle) (list_handles (drop (i + 1) (take n l)))
+  -- ---- entries and stops, each for itself
+  pub entries_by_any : (l : List Entry) → list_any (λ e. any p (handles_of e.obstacle)) l ≡ any p (list_handles l)
+  unfolding any list_handles
+  entries_by_any [] = refl
+  entries_by_any (e ∷ l) = rw (entries_by_any l) (sym (any_append (handles_of e.obstacle) (list_handles l)))
 
-    pub entry_end : (l : List Entry) → n ≤ i → n ≤ length l → any p (list_handles (drop i (take n l))) ≡ false
-    unfolding list_handles any
-    entry_end l h k = ap (λ (r : List Entry). any p (list_handles r)) (spent n i l h k)
-
-    pub stop_turn : (s : List Stop) (d : Stop) → i < n → n ≤ length s → any p (stop_handles (drop i (take n s))) ≡ (any p (handles_of (get_or s i d).obstacle) || any p (stop_handles (drop (i + 1) (take n s))))
-    unfolding stop_handles
-    stop_turn s d h k = ap (λ (r : List Stop). any p (stop_handles r)) (step n i s d h k) ∙ any_append (handles_of (get_or s i d).obstacle) (stop_handles (drop (i + 1) (take n s)))
-
-    pub stop_end : (s : List Stop) → n ≤ i → n ≤ length s → any p (stop_handles (drop i (take n s))) ≡ false
-    unfolding stop_handles any
-    stop_end s h k = ap (λ (r : List Stop). any p (stop_handles r)) (spent n i s h k)
+  pub stops_by_any : (l : List Stop) → list_any (λ s. any p (handles_of s.obstacle)) l ≡ any p (stop_handles l)
+  unfolding any stop_handles
+  stops_by_any [] = refl
+  stops_by_any (s ∷ l) = rw (stops_by_any l) (sym (any_append (handles_of s.obstacle) (stop_handles l)))
 
   -- ---- of a group: a growth names none, conflicts their entries' and their stops'
   module _ (g : Code) where

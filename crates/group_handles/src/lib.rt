@@ -5,7 +5,7 @@ ghost use Rattle.std.specs.Prelude.{◌≡◌};
 ghost use Rattle.ledger_spec.specs.GroupCalls.{handles_of};
 ghost use Rattle.group_handles.specs.Named.{named_by};
 
-use kinds::{Handle, MaybePair, Obstacle};
+use kinds::{Handle, Obstacle};
 
 // Up to four nodes.
 #[derive(Clone, Copy)]
@@ -36,8 +36,8 @@ pub fn nodes_of(o: Obstacle) -> Nodes
         }
         Obstacle::BlossomNeedExpand(n) => Nodes::One(n),
         Obstacle::VertexShrinkStop(n, pair) => match pair {
-            MaybePair::NoPair => Nodes::One(n),
-            MaybePair::WithPair(p) => {
+            None => Nodes::One(n),
+            Some(p) => {
                 let a = p.node;
                 let b = p.touching;
                 Nodes::Three(n, a, b)

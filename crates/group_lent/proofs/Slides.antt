@@ -1,14 +1,14 @@
--- Words that move down by a stop's six: what stands where, and a turn of the loop that moves them. Assumes nothing.
+-- Words that move down by a stop's six: what stands where, and that std's copy moves them so. Assumes nothing.
 use Prim.Native.Nat.{ℕ, ◌+◌, ◌-◌, ◌<◌, ◌≤◌}
-use mathlib.Core.Path.{◌≡◌, refl, sym, ap, ◌∙◌}
-use mathlib.Core.List.{List, [], ◌∷◌, ◌++◌}
-use native.Mathlib.Numerals.{add-one}
+use mathlib.Core.Path.{◌≡◌, sym, ap, ◌∙◌}
+use mathlib.Core.List.{List}
 use native.Mathlib.Omega.{arith}
-use lib.ListN.{length, take, drop, get_or, set, length-drop}
-use lib.Seq.{sets, length-sets, length-take-le, take-suc, get_or-take, get_or-drop}
-use Rattle.group_lent.proofs.Stores.{sets_append}
+use lib.ListN.{length, take, drop, get_or, length-drop}
+use lib.Seq.{length-sets, length-take-le, get_or-take, get_or-drop}
+use Rattle.std.specs.List.{copy_within}
+use Rattle.std.proofs.lemmas.List.Edits.{sets-eq}
 use Rattle.group_lent.specs.Moves.{slid}
-use Rattle.group_lent.proofs.Stores.{sets_out, sets_in}
+use Rattle.group_lent.proofs.Stores.{sets_in}
 use Rattle.group_lent.proofs.Seen.{Reads, out_reads}
 
 module _ (ws : List ℕ) (at k : ℕ) (h : at + 6 + k ≤ length ws) where
@@ -35,19 +35,9 @@ module _ (ws : List ℕ) (at k : ℕ) (h : at + 6 + k ≤ length ws) where
   unfolding slid
   slid_apart m c d = out_reads ws at (take k (drop (at + 6) ws)) m c (λ l. omega (arith, rest_long, d l))
 
--- ---- the loop
-
-pub slide_begin : (ws : List ℕ) (at : ℕ) → ws ≡ slid ws at 0
-unfolding slid
-slide_begin ws at = refl
-
-pub slide_turn : (ws w : List ℕ) (at k j : ℕ) → at + 6 + k ≤ length ws → j < k → w ≡ slid ws at j → set w (at + j) (get_or w (at + 6 + j) 0) ≡ slid ws at (j + 1)
-unfolding slid
-slide_turn ws w at k j h l e =
-    let rest = drop (at + 6) ws in
-    let g : at + 6 + j ≤ length ws = omega arith in
-    let n : length (take j rest) ≡ j = rest_long ws at j g in
-    let read : get_or w (at + 6 + j) 0 ≡ get_or rest j 0 =
-    ap (λ (v : List ℕ). get_or v (at + 6 + j) 0) e ∙ sets_out ws at (take j rest) (at + 6 + j) (λ i. omega arith) ∙ sym (get_or-drop (at + 6) ws j 0) in
-    let more : take (j + 1) rest ≡ take j rest ++ get_or rest j 0 ∷ [] = ap (λ (i : ℕ). take i rest) (add-one j) ∙ take-suc rest j 0 (rw (length-drop (at + 6) ws) (omega arith)) in
-    rw (read, e) (sym (ap (sets ws at) more ∙ sets_append ws at (take j rest) (get_or rest j 0 ∷ []) ∙ ap (λ (i : ℕ). set (sets ws at (take j rest)) (at + i) (get_or rest j 0)) n))
+  pub slid_copied : copy_within ws (at + 6) (at + 6 + k) at ≡ slid ws at k
+  unfolding slid
+  slid_copied =
+      let n : at + 6 + k - (at + 6) ≡ k = omega arith in
+      let r = rest_long in
+      rw n (sym (sets-eq (take k (drop (at + 6) ws)) ws at (omega arith) ∙ rw r))

@@ -1,10 +1,9 @@
 -- Words read after a run of stores, and elements read one after the other: laws of `sets` and `run` over plain numbers. Assumes nothing.
+use Rattle.std.specs.Prelude.{Some}
 use Prim.Native.Nat.{ℕ, zero, suc, ◌+◌, ◌<◌, ◌≤◌}
-use mathlib.Core.Path.{◌≡◌, refl, sym, ap, ◌∙◌}
+use mathlib.Core.Path.{◌≡◌, refl, ap, ◌∙◌}
 use mathlib.Core.Bool.{Bool, true, false, false≢true, ◌&&◌}
-use mathlib.Core.Option.{some}
 use mathlib.Core.List.{List, [], ◌∷◌, ◌++◌, append-nil}
-use native.Mathlib.Nat.{add-zero}
 use native.Mathlib.Omega.{arith}
 use lib.ListN.{length, get_or, set, length-set, drop_of_length-le}
 use lib.Seq.{sets, sets-eq, get_or-set_same, get_or-set_other}
@@ -22,12 +21,6 @@ and_right true b e = e
 and_right false b e = absurd (false≢true e)
 
 -- ---- runs of stores
-
-pub sets_append : (l : List ℕ) (i : ℕ) (xs ys : List ℕ) → sets l i (xs ++ ys) ≡ sets (sets l i xs) (i + length xs) ys
-sets_append l i [] ys = ap (λ (k : ℕ). sets l k ys) (sym (add-zero i))
-sets_append l i (x ∷ xs) ys =
-    let e : suc i + length xs ≡ i + suc (length xs) = omega arith in
-    sets_append (set l i x) (suc i) xs ys ∙ ap (λ (k : ℕ). sets (sets (set l i x) (suc i) xs) k ys) e
 
 -- all that there is, stored over
 pub sets_all : (l vs : List ℕ) → length vs ≡ length l → sets l 0 vs ≡ vs
@@ -81,7 +74,7 @@ module _ {A : Type 0} where
   run_front f a zero = refl
   run_front f a (suc n) = ap (λ (r : List A). f a ∷ r) (run_front f (suc a) n)
 
-pub run_top : (f : ℕ → Entry) (s : List Stop) (a n k : ℕ) → k ≡ a + n → last_of (run f a (suc n)) s ≡ some (f k).obstacle
+pub run_top : (f : ℕ → Entry) (s : List Stop) (a n k : ℕ) → k ≡ a + n → last_of (run f a (suc n)) s ≡ Some (f k).obstacle
 unfolding run last_of
 run_top f s a zero k e = let z : k ≡ a = omega arith in rw z
 run_top f s a (suc n) k e = run_top f s (suc a) n k (omega arith)

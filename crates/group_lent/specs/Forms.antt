@@ -1,9 +1,8 @@
 -- An obstacle's five words, as include/dual_ledger.h has them: which five words are an obstacle's, and which one they say. In them every word of 2^41
 -- and more is one and the same handle, which names no node. Assumes nothing.
-use Rattle.std.specs.Prelude.{ℕ, ◌+◌, ◌-◌, ◌%◌, Bool, true, false, ◌&&◌, ◌||◌, List, [], ◌∷◌, eqb, leb, ltb, ℤ, pos, negsuc, get_or}
+use Rattle.std.specs.Prelude.{None, Some, ℕ, ◌+◌, ◌-◌, ◌%◌, Bool, true, false, ◌&&◌, ◌||◌, List, [], ◌∷◌, eqb, leb, ltb, ℤ, pos, negsuc, get_or}
 use Rattle.kinds.specs.Names.{no_code}
 use Rattle.kinds.specs.declared.Pair.{Pair}
-use Rattle.kinds.specs.declared.MaybePair.TheVariants.{NoPair, WithPair}
 use Rattle.kinds.specs.declared.Obstacle.{Obstacle}
 use Rattle.kinds.specs.declared.Obstacle.TheVariants.{NonZeroGrow, Conflicting, TouchingVirtual, BlossomNeedExpand, VertexShrinkStop}
 use Rattle.bench_words.specs.Codec.{past_handles, pick, hand_of}
@@ -62,8 +61,8 @@ obstacle_of f =
     (Conflicting (pair_of f.a f.b) (pair_of f.c f.d))
     (TouchingVirtual (pair_of f.a f.b) (record { 0 = f.c % 4294967296 }) (eqb f.d 1))
     (BlossomNeedExpand (hand_of f.a))
-    (VertexShrinkStop (hand_of f.a) NoPair)
-    (VertexShrinkStop (hand_of f.a) (WithPair (pair_of f.b f.c)))
+    (VertexShrinkStop (hand_of f.a) None)
+    (VertexShrinkStop (hand_of f.a) (Some (pair_of f.b f.c)))
     (BlossomNeedExpand no_code)
 
 -- the five words from place m on

@@ -139,9 +139,5 @@ pub fn slide(w: &mut [u64; GROUP], at: usize, k: usize)
     requires { (length w.old ≡ 1413) × (at + 6 + k ≤ 1413) }
     ensures { w.new ≡ slid w.old at k }
 {
-    let mut j: usize = 0;
-    while j < k {
-        w[at + j] = w[at + 6 + j];
-        j = j + 1;
-    }
+    w.copy_within(at + 6..at + 6 + k, at);
 }

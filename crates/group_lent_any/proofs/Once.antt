@@ -1,9 +1,9 @@
 -- No second answer: two results that meet the contract of a call on groups are one, and so are the words after them; on sound words and on any. (A read's
 -- contract is an equation with a definition.) Assumes nothing.
+use Rattle.std.specs.Prelude.{Option}
 use Prim.Native.Nat.{ℕ}
 use mathlib.Core.Path.{◌≡◌, sym, ap, ◌∙◌}
 use mathlib.Core.Bool.{Bool, true, false, ◌&&◌}
-use mathlib.Core.Option.{Option}
 use mathlib.Core.List.{List}
 use Rattle.kinds.specs.declared.Obstacle.{Obstacle}
 use Rattle.bench_words.specs.Codec.{pick}

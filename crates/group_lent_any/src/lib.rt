@@ -2,7 +2,6 @@
 // Every call on groups over any words (include/dual_ledger.h): tested once, then the call on sound words. BROKEN (2) where they hold no sound group, no sound
 // bench or no obstacle; refused, every word of the group stays. Assumes nothing.
 ghost use Rattle.std.specs.Prelude.{◌≡◌, false};
-ghost use Rattle.std.proofs.Math.Option.{none};
 ghost use Rattle.ledger_spec.specs.GroupCalls.{is_empty, is_active, growth_of};
 ghost use Rattle.groups.specs.Shown.{shown_told, shown_asked};
 ghost use Rattle.group_lent_any.specs.Any.{Judged, Ready, asked_of, no_obstacle, PeekedAny, PoppedAny, SparedAny, AddedAny, ExtendedAny};
@@ -10,7 +9,7 @@ ghost use Rattle.group_lent_any.specs.Any.{Judged, Ready, asked_of, no_obstacle,
 use bench_words::WORDS;
 use group_lent::{GROUP, OBSTACLE};
 use groups::{Asked, Told};
-use kinds::{MaybeLength, numbers};
+use kinds::numbers;
 
 // Whether the words hold a sound group.
 pub fn is_group(w: &[u64; GROUP]) -> bool
@@ -43,12 +42,12 @@ pub fn is_active(w: &[u64; GROUP]) -> Told
 }
 
 pub fn get_none_zero_growth(w: &[u64; GROUP]) -> Asked
-    ensures { shown_asked result ≡ asked_of w.now none growth_of }
+    ensures { shown_asked result ≡ asked_of w.now None growth_of }
 {
     if !is_group(w) {
         return Asked {
             number: numbers::BROKEN,
-            length: MaybeLength::NoLength,
+            length: None,
         };
     }
     group_lent_takes::get_none_zero_growth(w)

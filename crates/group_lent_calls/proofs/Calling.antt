@@ -1,8 +1,8 @@
 -- What the calls hand out and leave, by the tests that led there. Assumes nothing.
+use Rattle.std.specs.Prelude.{None, Option, Some}
 use Prim.Native.Nat.{ℕ}
 use mathlib.Core.Path.{◌≡◌, refl, sym, ap, ap₂, ◌∙◌}
 use mathlib.Core.Bool.{Bool, true, false, not, ◌&&◌}
-use mathlib.Core.Option.{Option, none, some}
 use mathlib.Core.List.{List, [], ◌∷◌}
 use Rattle.bench_words.specs.Codec.{pick}
 use Rattle.ledger_spec.specs.Tests.{first, any, is_some}
@@ -42,8 +42,8 @@ module _ (x y : Bool) (a : Option Group) (z : Group) where
   goes_said e f = ap₂ (λ (t u : Bool). said_by t u a z) e f ∙ by a
     where
       by : (o : Option Group) → said_by false false o z ≡ (pick (is_some o) 0 20, or_else o z)
-      by none = refl
-      by (some q) = refl
+      by None = refl
+      by (Some q) = refl
 
 -- ---- the obstacle's words are handed out
 pub pop_given : (ws : List ℕ) (t : Top) (os after : List ℕ) → made.Popped ws t after → os ≡ five_words t.obstacle → Popped ws t.number os after

@@ -1,15 +1,16 @@
--- Words copied from one group to another: what stands where, and a turn of the loop that copies them. Assumes nothing.
+-- Words copied from one group to another: what stands where, and that a part which std copies stands so. Assumes nothing.
 use Prim.Native.Nat.{ℕ, zero, suc, ◌+◌, ◌-◌, ◌*◌, ◌<◌, ◌≤◌}
 use mathlib.Core.Path.{◌≡◌, refl, sym, ap, ◌∙◌}
 use mathlib.Core.Bool.{true}
-use mathlib.Core.List.{List, [], ◌∷◌, ◌++◌}
-use native.Mathlib.Numerals.{add-one}
+use mathlib.Core.List.{List, ◌∷◌, append_assoc}
+use borrow.Rule.Slice.PartMut.{put_mid}
+use Rattle.std.proofs.lemmas.List.Edits.{sets-eq}
 use native.Mathlib.Omega.{arith}
-use lib.ListN.{length, take, drop, get_or, set, length-drop}
-use lib.Seq.{sets, length-sets, length-take-le, take-suc, get_or-take, get_or-drop}
+use lib.ListN.{length, take, drop, get_or, length-drop}
+use lib.Seq.{length-sets, length-take-le, get_or-take, get_or-drop, drop-drop}
 use Rattle.group_lent.specs.Groups.{entry_form, entry_at}
 use Rattle.group_lent.specs.Place.{run}
-use Rattle.group_lent.proofs.Stores.{sets_append, sets_in}
+use Rattle.group_lent.proofs.Stores.{sets_in}
 use Rattle.group_lent.proofs.Seen.{Reads, out_reads, five_reads}
 use Rattle.group_lent_extends.specs.Extends.{copied}
 
@@ -37,20 +38,13 @@ module _ (ws : List ℕ) (at : ℕ) (vs : List ℕ) (from k : ℕ) (h : at + k �
   unfolding copied
   copied_apart m c d = out_reads ws at (take k (drop from vs)) m c (λ l. omega (arith, rest_long, d l))
 
--- ---- the loop
-
-pub copy_begin : (ws : List ℕ) (at : ℕ) (vs : List ℕ) (from : ℕ) → ws ≡ copied ws at vs from 0
-unfolding copied
-copy_begin ws at vs from = refl
-
-pub copy_turn : (ws w : List ℕ) (at : ℕ) (vs : List ℕ) (from k j : ℕ) → at + k ≤ length ws → from + k ≤ length vs → j < k → w ≡ copied ws at vs from j → set w (at + j) (get_or vs (from + j) 0) ≡ copied ws at vs from (j + 1)
-unfolding copied
-copy_turn ws w at vs from k j h g l e =
-    let rest = drop from vs in
-    let n : length (take j rest) ≡ j = rest_long ws at vs from j (omega arith) (omega arith) in
-    let read : get_or vs (from + j) 0 ≡ get_or rest j 0 = sym (get_or-drop from vs j 0) in
-    let more : take (j + 1) rest ≡ take j rest ++ get_or rest j 0 ∷ [] = ap (λ (i : ℕ). take i rest) (add-one j) ∙ take-suc rest j 0 (rw (length-drop from vs) (omega arith)) in
-    rw (read, e) (sym (ap (sets ws at) more ∙ sets_append ws at (take j rest) (get_or rest j 0 ∷ []) ∙ ap (λ (i : ℕ). set (sets ws at (take j rest)) (at + i) (get_or rest j 0)) n))
+  pub copied_part : (r : List ℕ) → r ≡ take (from + k - from) (drop from vs) → put_mid at (at + k - at) ws r ≡ copied ws at vs from k
+  unfolding copied
+  copied_part r e =
+      let p : at + k - at ≡ k = omega arith in
+      let q : from + k - from ≡ k = omega arith in
+      let l = rest_long in
+      rw (e, p, q, drop-drop k at ws) (sym (sets-eq (take k (drop from vs)) ws at (omega arith) ∙ rw (l, append_assoc)))
 
 -- ---- entries at other places
 

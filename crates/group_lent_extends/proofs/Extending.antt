@@ -1,9 +1,9 @@
 -- THEOREM: the words that extending leaves hold the ledger's group extended by the other, and its number. By the kinds of the two. Assumes nothing.
+use Rattle.std.specs.Prelude.{None, Option, Some}
 use Prim.Native.Nat.{ℕ, ◌+◌, ◌<◌, ◌≤◌}
 use mathlib.Core.Path.{◌≡◌, refl, sym, ap, ap₂, ◌∙◌, subst}
 use mathlib.Core.Bool.{Bool, true, false, false≢true, cond}
 use mathlib.Core.Logic.{by_cases}
-use mathlib.Core.Option.{Option, none, some}
 use mathlib.Core.List.{List, ◌++◌}
 use native.Mathlib.Decide.{dec_lt}
 use native.Mathlib.Omega.{arith}
@@ -50,7 +50,7 @@ module _ (ws vs : List ℕ) (s : SoundGroup ws) (t : SoundGroup vs) where
     unfolding extended extended_words
     by_pair_lem d after w =
         let least = cond (eq_z (length_of (length_in vs)) largest) mine (smaller_pair (length_of (length_in ws)) (eqb (flag_in ws) 1) (length_of (length_in vs)) (eqb (flag_in vs) 1)) in
-        made ws vs 0 after (λ n. absurd (n refl)) (some least) (ap₂ extended (seen_growth ws d) (seen_growth vs e)) refl
+        made ws vs 0 after (λ n. absurd (n refl)) (Some least) (ap₂ extended (seen_growth ws d) (seen_growth vs e)) refl
         (w ∙ rw (eq-eqb (kind_in vs) 1 e, eq-eqb (kind_in ws) 1 d))
         (ap group_in w ∙ paired_seen ws vs s.long (is_growing ws s d) (is_growing vs t e))
         (subst SoundGroup (sym w) (paired_sound ws vs s.long (is_growing ws s d) (is_growing vs t e)))
@@ -59,7 +59,7 @@ module _ (ws vs : List ℕ) (s : SoundGroup ws) (t : SoundGroup vs) where
     unfolding extended extended_words
     by_none n =
         let l = is_listing ws s n in
-        made ws vs 0 ws (λ n. absurd (n refl)) (some (conflicts (list_in ws) (stops_in ws))) (ap₂ extended (seen_conflicts ws l.kind) (seen_growth vs e)) refl
+        made ws vs 0 ws (λ n. absurd (n refl)) (Some (conflicts (list_in ws) (stops_in ws))) (ap₂ extended (seen_conflicts ws l.kind) (seen_growth vs e)) refl
         (rw (eq-eqb (kind_in vs) 1 e, ne_eqb (kind_in ws) 1 n)) (seen_conflicts ws l.kind) s
 
   -- ---- by conflicts
@@ -70,7 +70,7 @@ module _ (ws vs : List ℕ) (s : SoundGroup ws) (t : SoundGroup vs) where
     pub by_taking : kind_in ws ≡ 1 → (after : List ℕ) → after ≡ taken_words ws vs → Extended ws vs 0 after
     unfolding extended extended_words
     by_taking d after w =
-        made ws vs 0 after (λ n. absurd (n refl)) (some (conflicts (list_in vs) (stops_in vs))) (ap₂ extended (seen_growth ws d) (seen_conflicts vs b.kind)) refl
+        made ws vs 0 after (λ n. absurd (n refl)) (Some (conflicts (list_in vs) (stops_in vs))) (ap₂ extended (seen_growth ws d) (seen_conflicts vs b.kind)) refl
         (w ∙ rw (ne_eqb (kind_in vs) 1 m, eq-eqb (kind_in ws) 1 d))
         (ap group_in w ∙ taken_seen ws vs s.long t.long b)
         (subst SoundGroup (sym w) (taken_sound ws vs s.long t.long b))
@@ -91,8 +91,8 @@ module _ (ws vs : List ℕ) (s : SoundGroup ws) (t : SoundGroup vs) where
       by_room r e f = go whole refl (sym e ∙ f)
         where
           go : (o : Option Group) → whole ≡ o → is_some whole ≡ false → Extended ws vs 20 ws
-          go none p g = made ws vs 20 ws (λ n. refl) none p refl (sym (words_are false g)) refl s
-          go (some q) p g = absurd (false≢true (sym g ∙ ap is_some p))
+          go None p g = made ws vs 20 ws (λ n. refl) None p refl (sym (words_are false g)) refl s
+          go (Some q) p g = absurd (false≢true (sym g ∙ ap is_some p))
 
       module _ (r : Bool) (e : r ≡ is_some whole) (f : r ≡ true) where
         yes : is_some whole ≡ true
@@ -131,5 +131,5 @@ module _ (ws vs : List ℕ) (s : SoundGroup ws) (t : SoundGroup vs) where
         pub by_adding : (w after : List ℕ) → w ≡ more → Ended w vs after → Extended ws vs 0 after
         by_adding w after q E =
             let end : Ended more vs after = subst (λ (u : List ℕ). Ended u vs after) q E in
-            let says : whole ≡ some (group_in after) = sym adds ∙ end.seen in
-            made ws vs 0 after (λ n. absurd (n refl)) (some (group_in after)) says refl (end.words ∙ sym (words_are true yes)) refl end.sound
+            let says : whole ≡ Some (group_in after) = sym adds ∙ end.seen in
+            made ws vs 0 after (λ n. absurd (n refl)) (Some (group_in after)) says refl (end.words ∙ sym (words_are true yes)) refl end.sound

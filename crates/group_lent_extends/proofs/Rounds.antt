@@ -1,10 +1,10 @@
 -- The other's stops come one after the other: what is left to add to the words so far is what was to be added at first. Assumes nothing.
+use Rattle.std.specs.Prelude.{None, Option, Some}
 use Prim.Native.Nat.{ℕ, suc, ◌+◌, ◌-◌, ◌<◌, ◌≤◌}
 use mathlib.Core.Path.{◌≡◌, refl, sym, ap, ap₂, ◌∙◌}
-use mathlib.Core.Bool.{true, false, false≢true, ◌&&◌}
+use mathlib.Core.Bool.{true, false≢true, ◌&&◌}
 use borrow.Author.Tests.{ltb-true}
 use mathlib.Core.Logic.{◌⊎◌, inl, inr}
-use mathlib.Core.Option.{Option, none, some}
 use mathlib.Core.List.{List, ◌∷◌}
 use native.Mathlib.Omega.{arith}
 use lib.Dec.{eqb, ltb}
@@ -78,7 +78,7 @@ module _ (ws vs : List ℕ) (b : Listing vs) where
         let z : stopped vs - j ≡ 0 = omega arith in
         record {
           words = sym (C.words ∙ ap (stops_added w vs j) z);
-          seen = ap grouped (C.rest ∙ ap (λ (n : ℕ). add_stops (run (stop_at vs) j n) (list_in w) (stops_in w)) z) ∙ sym (ap some (seen_conflicts w C.kind));
+          seen = ap grouped (C.rest ∙ ap (λ (n : ℕ). add_stops (run (stop_at vs) j n) (list_in w) (stops_in w)) z) ∙ sym (ap Some (seen_conflicts w C.kind));
           sound = C.sound;
         }
 
@@ -119,8 +119,8 @@ module _ (ws vs : List ℕ) (b : Listing vs) where
 
       module _ (r : ℕ) (after : List ℕ) (A : Added f v w (stop_out w f v).1 r after) where
         came_by : (o : Option Lists) → add_stop x (list_in w) (stops_in w) ≡ o → Coming ws vs after (j + 1)
-        came_by none e = absurd (false≢true (sym (ap is_some (goes ∙ ap (λ (p : Option Lists). and_then p (add_stops xs)) e)) ∙ room))
-        came_by (some ls) e =
+        came_by None e = absurd (false≢true (sym (ap is_some (goes ∙ ap (λ (p : Option Lists). and_then p (add_stops xs)) e)) ∙ room))
+        came_by (Some ls) e =
             let g : group_in after ≡ conflicts ls.0 ls.1 = A.seen ∙ ap (λ (p : Option Group). or_else p (group_in w)) (says ∙ ap grouped e) in
             let both = same_lists after ls.0 ls.1 A.sound g in
             record {

@@ -59,11 +59,7 @@ fn copy(w: &mut [u64; GROUP], at: usize, other: &[u64; GROUP], from: usize, k: u
     requires k_bound { (at + k ≤ 1413) × (from + k ≤ 1413) }
     ensures { w.new ≡ copied w.old at other.now from k }
 {
-    let mut j: usize = 0;
-    while j < k {
-        w[at + j] = other[from + j];
-        j = j + 1;
-    }
+    w[at..at + k].copy_from_slice(&other[from..from + k]);
 }
 
 fn take_over(w: &mut [u64; GROUP], other: &[u64; GROUP])
@@ -103,12 +99,10 @@ fn add_stops(w: &mut [u64; GROUP], other: &[u64; GROUP])
     ensures { Ended w.old other.now w.new }
 {
     let m = other[4] as usize;
-    let mut j: usize = 0;
-    while j < m {
+    for j in 0..m {
         let v = other[645 + j * 6];
         let f = group_lent::five_at(other, 645 + j * 6 + 1);
         group_lent_stops::add_stop(w, f, v);
-        j = j + 1;
     }
 }
 

@@ -11,7 +11,6 @@ ghost use Rattle.bench_words.specs.Codec.{hand_of};
 ghost use Rattle.group_lent.specs.Forms.{is_form, obstacle_of};
 ghost use Rattle.group_lent.specs.Place.{list_in, stops_in, group_in, Listing, SoundGroup};
 
-use bench_links::Found;
 use bench_words::WORDS;
 use group_lent::{Five, GROUP};
 use kinds::Handle;
@@ -20,21 +19,14 @@ fn is_gone(b: &[u64; WORDS], w: u64) -> bool
     requires { Canon b.now }
     ensures { result ≡ stale_code (view b.now) (hand_of w) }
 {
-    let found = bench_links::find_word(b, w);
-    match found {
-        Found::At(_) => false,
-        Found::Stale => true,
-    }
+    bench_links::find_word(b, w).is_none()
 }
 
 fn two_gone(b: &[u64; WORDS], x: u64, y: u64) -> bool
     requires { Canon b.now }
     ensures { result ≡ any (stale_code (view b.now)) (hand_of x ∷ hand_of y ∷ []) }
 {
-    if is_gone(b, x) {
-        return true;
-    }
-    is_gone(b, y)
+    is_gone(b, x) || is_gone(b, y)
 }
 
 pub fn names_gone(b: &[u64; WORDS], f: Five) -> bool
@@ -46,19 +38,13 @@ pub fn names_gone(b: &[u64; WORDS], f: Five) -> bool
         return false;
     }
     if f.kind == 2 {
-        if two_gone(b, f.a, f.b) {
-            return true;
-        }
-        return two_gone(b, f.c, f.d);
+        return two_gone(b, f.a, f.b) || two_gone(b, f.c, f.d);
     }
     if f.kind == 3 {
         return two_gone(b, f.a, f.b);
     }
     if f.kind == 6 {
-        if is_gone(b, f.a) {
-            return true;
-        }
-        return two_gone(b, f.b, f.c);
+        return is_gone(b, f.a) || two_gone(b, f.b, f.c);
     }
     is_gone(b, f.a)
 }
@@ -69,15 +55,7 @@ fn list_gone(b: &[u64; WORDS], w: &[u64; GROUP]) -> bool
     ensures { result ≡ any (stale_code (view b.now)) (list_handles (list_in w.now)) }
 {
     let n = w[3] as usize;
-    let mut i: usize = 0;
-    while i < n {
-        let f = group_lent::five_at(w, 5 + i * 5);
-        if names_gone(b, f) {
-            return true;
-        }
-        i = i + 1;
-    }
-    false
+    (0..n).any(|i: usize| names_gone(b, group_lent::five_at(w, 5 + i * 5)))
 }
 
 fn stops_gone(b: &[u64; WORDS], w: &[u64; GROUP]) -> bool
@@ -86,15 +64,7 @@ fn stops_gone(b: &[u64; WORDS], w: &[u64; GROUP]) -> bool
     ensures { result ≡ any (stale_code (view b.now)) (stop_handles (stops_in w.now)) }
 {
     let n = w[4] as usize;
-    let mut i: usize = 0;
-    while i < n {
-        let f = group_lent::five_at(w, 645 + i * 6 + 1);
-        if names_gone(b, f) {
-            return true;
-        }
-        i = i + 1;
-    }
-    false
+    (0..n).any(|i: usize| names_gone(b, group_lent::five_at(w, 645 + i * 6 + 1)))
 }
 
 pub fn group_gone(b: &[u64; WORDS], w: &[u64; GROUP]) -> bool
@@ -105,10 +75,7 @@ pub fn group_gone(b: &[u64; WORDS], w: &[u64; GROUP]) -> bool
     if w[0] == 1 {
         return false;
     }
-    if list_gone(b, w) {
-        return true;
-    }
-    stops_gone(b, w)
+    list_gone(b, w) || stops_gone(b, w)
 }
 
 // Of any other obstacle than a stop it says 0.
@@ -120,7 +87,6 @@ pub fn vertex_of(b: &[u64; WORDS], f: Five) -> u64
     if f.kind < 5 {
         return 0;
     }
-    let h = bench_words::hand_of(f.a);
-    let r = read_sound::get_representative_vertex(b, h);
+    let r = read_sound::get_representative_vertex(b, bench_words::hand_of(f.a));
     r.vertex.0 as u64
 }

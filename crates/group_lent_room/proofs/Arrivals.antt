@@ -1,5 +1,7 @@
 -- A stop that comes to a list and stops: there is room for it just where the counts that it makes are within 128, and the stops past its vertex stay.
 -- Assumes nothing.
+use Rattle.std.specs.Prelude.{None, Option, Some}
+use Rattle.kinds.specs.declared.Pair.{Pair}
 use Prim.Native.Nat.{ℕ, ◌+◌, ◌-◌, ◌≤◌, ◌<◌}
 use mathlib.Core.Path.{◌≡◌, refl, sym, ap, ◌∙◌}
 use mathlib.Core.Bool.{Bool, true, false, cond}
@@ -12,8 +14,6 @@ use Rattle.kinds.specs.Names.{same_code}
 use Rattle.kinds.specs.Obstacles.{pair_of}
 use Rattle.kinds.specs.declared.Entry.{Entry}
 use Rattle.kinds.specs.declared.Stop.{Stop}
-use Rattle.kinds.specs.declared.MaybePair.{MaybePair}
-use Rattle.kinds.specs.declared.MaybePair.TheVariants.{NoPair, WithPair}
 use Rattle.kinds.specs.declared.Obstacle.TheVariants.{Conflicting}
 use Rattle.ledger_spec.specs.Groups.{room_for, front_of, back_of, meet, placed, add_stop}
 use Rattle.ledger_laws.proofs.GroupSound.{front_back}
@@ -99,22 +99,22 @@ module _ (x : Stop) (l : List Entry) (s : List Stop) where
       later = λ u h. front_on u b h ∙ sym (past_y u h);
     }
 
-    here : (m n : MaybePair) → pair_of x.obstacle ≡ m → pair_of y.obstacle ≡ n → placed x l f (y ∷ b) ≡ meet m n x y l f b
+    here : (m n : Option Pair) → pair_of x.obstacle ≡ m → pair_of y.obstacle ≡ n → placed x l f (y ∷ b) ≡ meet m n x y l f b
     unfolding placed
     here m n p q = rw (same_test, p, q)
       where
         same_test : eqb y.vertex.0 x.vertex.0 ≡ true
         same_test = eq-eqb y.vertex.0 x.vertex.0 same
 
-    met : (m n : MaybePair) → pair_of x.obstacle ≡ m → pair_of y.obstacle ≡ n → Came x l s (meets m n)
+    met : (m n : Option Pair) → pair_of x.obstacle ≡ m → pair_of y.obstacle ≡ n → Came x l s (meets m n)
     unfolding meets meet
-    met NoPair n p q = stays y same (here NoPair n p q)
-    met (WithPair a) NoPair p q = stays x refl (here (WithPair a) NoPair p q)
-    met (WithPair a) (WithPair c) p q = go (same_code a.node c.node) refl
+    met None n p q = stays y same (here None n p q)
+    met (Some a) None p q = stays x refl (here (Some a) None p q)
+    met (Some a) (Some c) p q = go (same_code a.node c.node) refl
       where
         go : (t : Bool) → same_code a.node c.node ≡ t → Came x l s (cond t 0 2)
-        go true r = stays y same (here (WithPair a) (WithPair c) p q ∙ rw r)
-        go false r = joins (record { obstacle = Conflicting a c }) (here (WithPair a) (WithPair c) p q ∙ rw r)
+        go true r = stays y same (here (Some a) (Some c) p q ∙ rw r)
+        go false r = joins (record { obstacle = Conflicting a c }) (here (Some a) (Some c) p q ∙ rw r)
 
   pub came : Came x l s (comes x (back_of v s))
   unfolding comes placed

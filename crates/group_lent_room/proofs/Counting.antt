@@ -1,9 +1,9 @@
 -- The counts of each step: they are the lengths of the ledger's list and stops there, and past 128 the ledger has no room. Assumes nothing.
+use Rattle.std.specs.Prelude.{None, Option, Some}
 use Prim.Native.Nat.{ℕ, zero, suc, ◌+◌, ◌-◌, ◌<◌, ◌≤◌}
 use mathlib.Core.Path.{◌≡◌, refl, sym, ap, ap₂, ◌∙◌}
 use mathlib.Core.Bool.{Bool, true, false, cond, ◌&&◌}
 use mathlib.Core.Logic.{by_cases}
-use mathlib.Core.Option.{Option, none, some}
 use mathlib.Core.List.{List, ◌∷◌, ◌++◌}
 use native.Mathlib.Decide.{ℕ_discrete}
 use native.Mathlib.Omega.{arith}
@@ -27,25 +27,25 @@ use Rattle.group_lent_room.proofs.Words.{coming_is, other_stop, other_is}
 
 -- ---- room
 
-pub room_yes : (l : List Entry) (s : List Stop) → length l ≤ 128 → length s ≤ 128 → room_for l s ≡ some (l, s)
+pub room_yes : (l : List Entry) (s : List Stop) → length l ≤ 128 → length s ≤ 128 → room_for l s ≡ Some (l, s)
 unfolding room_for
 room_yes l s h k = rw (le-leb (length l) 128 h, le-leb (length s) 128 k)
 
-room_no : (l : List Entry) (s : List Stop) → 128 < length l → room_for l s ≡ none
+room_no : (l : List Entry) (s : List Stop) → 128 < length l → room_for l s ≡ None
 unfolding room_for
 room_no l s h = rw (lt-leb (length l) 128 h)
 
-room_short : (l : List Entry) (s : List Stop) → 128 < length s → room_for l s ≡ none
+room_short : (l : List Entry) (s : List Stop) → 128 < length s → room_for l s ≡ None
 unfolding room_for
 room_short l s h = go (leb (length l) 128)
   where
-    go : (b : Bool) → ◌≡◌ {A = Option Lists} (cond (b && leb (length s) 128) (some (l, s)) none) none
+    go : (b : Bool) → ◌≡◌ {A = Option Lists} (cond (b && leb (length s) 128) (Some (l, s)) None) None
     go true = rw (lt-leb (length s) 128 h)
     go false = refl
 
 pub given_grouped : (o : Option Lists) → is_some (grouped o) ≡ is_some o
-given_grouped none = refl
-given_grouped (some ls) = refl
+given_grouped None = refl
+given_grouped (Some ls) = refl
 
 -- ---- rising stops
 
@@ -100,7 +100,7 @@ module _ (ws vs : List ℕ) (a : Listing ws) (b : Listing vs) where
       ∙ ap (λ (p : Option Lists). is_some (and_then p (add_stops (stops_in vs)))) e
 
   pub count_full : 128 < listed ws + listed vs → false ≡ whole
-  count_full h = sym (whole_is none (room_no both (stops_in ws) (omega (arith, both_long))))
+  count_full h = sym (whole_is None (room_no both (stops_in ws) (omega (arith, both_long))))
 
   pub count_begin : listed ws + listed vs ≤ 128 → Counting ws vs whole (listed ws + listed vs) (stopped ws) 0
   count_begin h =
@@ -111,7 +111,7 @@ module _ (ws vs : List ℕ) (a : Listing ws) (b : Listing vs) where
         stops = stops_in ws;
         few = both_long;
         fewer = s;
-        rest = whole_is (some (both, stops_in ws)) (room_yes both (stops_in ws) (omega (arith, both_long)) (omega (arith, s, a.fewer)))
+        rest = whole_is (Some (both, stops_in ws)) (room_yes both (stops_in ws) (omega (arith, both_long)) (omega (arith, s, a.fewer)))
             ∙ ap (λ (n : ℕ). is_some (add_stops (run (stop_at vs) 0 n) both (stops_in ws))) z;
         later = λ i p q. refl;
       }
@@ -157,10 +157,10 @@ module _ (ws vs : List ℕ) (a : Listing ws) (b : Listing vs) where
 
       module _ (l' s' : ℕ) (p : l' ≡ listed_by d l) (q : s' ≡ stopped_by d s) where
         pub list_full : 128 < l' → false ≡ t
-        list_full g = sym (on none (room_no gone.list gone.stops (omega (arith, long, p))))
+        list_full g = sym (on None (room_no gone.list gone.stops (omega (arith, long, p))))
 
         pub stops_full : 128 < s' → false ≡ t
-        stops_full g = sym (on none (room_short gone.list gone.stops (omega (arith, short, q))))
+        stops_full g = sym (on None (room_short gone.list gone.stops (omega (arith, short, q))))
 
         pub count_turn : l' ≤ 128 → s' ≤ 128 → Counting ws vs t l' s' (j + 1)
         count_turn g k = record {
@@ -168,7 +168,7 @@ module _ (ws vs : List ℕ) (a : Listing ws) (b : Listing vs) where
           stops = gone.stops;
           few = long ∙ sym p;
           fewer = short ∙ sym q;
-          rest = on (some (gone.list, gone.stops)) (room_yes gone.list gone.stops (omega (arith, long, p)) (omega (arith, short, q)));
+          rest = on (Some (gone.list, gone.stops)) (room_yes gone.list gone.stops (omega (arith, long, p)) (omega (arith, short, q)));
           later = λ i u v.
               gone.later (stop_at vs i).vertex.0 (rising_next (stop_at vs) 0 0 (stopped vs) (fine_of (list_in vs) (stops_in vs) b.sound).rises j i (omega arith) (omega arith) (omega arith))
               ∙ C.later i (omega arith) v;

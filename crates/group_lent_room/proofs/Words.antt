@@ -1,4 +1,6 @@
 -- What a stop does to the counts, read off a group's words. Assumes nothing.
+use Rattle.std.specs.Prelude.{Option}
+use Rattle.kinds.specs.declared.Pair.{Pair}
 use Prim.Native.Nat.{ℕ, zero, suc, ◌+◌, ◌-◌, ◌<◌, ◌≤◌}
 use mathlib.Core.Path.{◌≡◌, refl, sym, ap, ap₂, ◌∙◌}
 use mathlib.Core.Bool.{Bool, true, false, cond, ◌&&◌}
@@ -10,7 +12,6 @@ use lib.ListN.{length, get_or}
 use Rattle.kinds.specs.Obstacles as kinds
 use Rattle.kinds.specs.Obstacles.{is_stop}
 use Rattle.kinds.specs.declared.Stop.{Stop}
-use Rattle.kinds.specs.declared.MaybePair.{MaybePair}
 use Rattle.bench_words.specs.Codec.{pick}
 use Rattle.ledger_spec.specs.Groups.{front_of, back_of}
 use Rattle.ledger_laws.proofs.GroupSound.{fine_of}
@@ -60,7 +61,7 @@ module _ (ws : List ℕ) (f : Five) (v : ℕ) (l : Listing ws) (stop : is_stop (
         both false = refl
 
         go : (a : Bool) → eqb f.kind 5 ≡ a → (b : Bool) → eqb y.kind 5 ≡ b → pick a 0 (pick b 0 (pick (same_hand f.b y.b) 0 2)) ≡ meets (kinds.pair_of (obstacle_of f)) (kinds.pair_of (obstacle_of y))
-        go true i b j = sym (ap (λ (m : MaybePair). meets m (kinds.pair_of (obstacle_of y))) (no_pair f (eqb-true f.kind 5 i)))
+        go true i b j = sym (ap (λ (m : Option Pair). meets m (kinds.pair_of (obstacle_of y))) (no_pair f (eqb-true f.kind 5 i)))
         go false i true j = sym (ap₂ meets (a_pair f (stop_six f stop i)) (no_pair y (eqb-true y.kind 5 j)))
         go false i false j =
             sym (ap₂ meets (a_pair f (stop_six f stop i)) (a_pair y (stop_six y held_stop j)) ∙ ap (λ (t : Bool). cond t 0 2) (same_words f.b y.b) ∙ both (same_hand f.b y.b))

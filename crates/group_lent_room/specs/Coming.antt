@@ -1,11 +1,10 @@
 -- What a stop that comes to pending stops makes of the counts: 0, nothing; 1, a stop more; 2, a stop less and an entry more. First by the ledger's
 -- lists, then by a group's words. Assumes nothing.
-use Rattle.std.specs.Prelude.{ℕ, ◌+◌, ◌-◌, cond, ◌&&◌, List, [], ◌∷◌, eqb, ltb, get_or}
+use Rattle.std.specs.Prelude.{None, Option, Some, ℕ, ◌+◌, ◌-◌, cond, ◌&&◌, List, [], ◌∷◌, eqb, ltb, get_or}
+use Rattle.kinds.specs.declared.Pair.{Pair}
 use Rattle.kinds.specs.Names.{same_code}
 use Rattle.kinds.specs.Obstacles.{pair_of}
 use Rattle.kinds.specs.declared.Stop.{Stop}
-use Rattle.kinds.specs.declared.MaybePair.{MaybePair}
-use Rattle.kinds.specs.declared.MaybePair.TheVariants.{NoPair, WithPair}
 use Rattle.bench_words.specs.Codec.{pick}
 use Rattle.group_lent.specs.Forms.{same_hand}
 use Rattle.group_lent.specs.Place.{stopped}
@@ -13,10 +12,10 @@ use Rattle.group_lent.specs.declared.Five.{Five}
 use Rattle.group_lent_stops.specs.Stops.{spot, stop_five, place_in}
 
 -- by the pairs of the new stop and of the one that is pending at its vertex
-unfoldable pub meets : MaybePair → MaybePair → ℕ
-meets NoPair q = 0
-meets (WithPair p) NoPair = 0
-meets (WithPair p) (WithPair q) = cond (same_code p.node q.node) 0 2
+unfoldable pub meets : Option Pair → Option Pair → ℕ
+meets None q = 0
+meets (Some p) None = 0
+meets (Some p) (Some q) = cond (same_code p.node q.node) 0 2
 
 -- by the stops that are not below its vertex
 unfoldable pub comes : Stop → List Stop → ℕ

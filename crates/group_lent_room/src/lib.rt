@@ -68,8 +68,7 @@ pub fn has_room(w: &[u64; GROUP], other: &[u64; GROUP]) -> bool
     if 128 < l {
         return false;
     }
-    let mut j: usize = 0;
-    while j < m {
+    for j in 0..m {
         let v = other[645 + j * 6];
         let f = group_lent::five_at(other, 645 + j * 6 + 1);
         let d = coming(w, f, v);
@@ -81,7 +80,6 @@ pub fn has_room(w: &[u64; GROUP], other: &[u64; GROUP]) -> bool
         if 128 < s {
             return false;
         }
-        j = j + 1;
     }
     true
 }

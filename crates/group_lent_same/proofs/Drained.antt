@@ -1,9 +1,9 @@
 -- THEOREM, of the exported pop that spares the stops: any run of it on words that hold a sound group answers as the ledger's pops do; so conflicts come out
 -- whole, the list from its end, then the stops by rising vertex, each once, and then none for ever. Assumes nothing.
+use Rattle.std.specs.Prelude.{Option}
 use Prim.Native.Nat.{ℕ, ◌+◌}
 use mathlib.Core.Path.{◌≡◌, refl, sym, ap, ap₂, ◌∙◌}
 use mathlib.Core.Bool.{Bool, true, false, false≢true}
-use mathlib.Core.Option.{Option}
 use mathlib.Core.List.{List, [], ◌∷◌, ◌++◌}
 use native.Mathlib.Omega.{arith}
 use lib.ListN.{length}

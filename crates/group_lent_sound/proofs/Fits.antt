@@ -1,4 +1,4 @@
--- The tests of one entry and of one stop, by the words' kind; and a turn of each loop. Assumes nothing.
+-- The tests of one entry and of one stop, by the words' kind; that each entry is tested for itself; and a turn of the stops' loop. Assumes nothing.
 use Prim.Native.Nat.{ℕ, zero, suc, ◌+◌, ◌-◌, ◌*◌, ◌%◌, ◌<◌, ◌≤◌}
 use mathlib.Core.Path.{◌≡◌, refl, sym, ap, ap₂, ◌∙◌}
 use mathlib.Core.Bool.{Bool, true, false, false≢true, not, ◌&&◌}
@@ -7,6 +7,8 @@ use native.Mathlib.Nat.{mod-eq_of_lt}
 use borrow.Author.Tests.{ne_eqb, ltb-true}
 use mathlib.Core.List.{List}
 use lib.Dec.{eqb, leb, ltb}
+use native.Mathlib.Numerals.{add-one}
+use Rattle.std.specs.List.{list_all, range_with_len}
 use lib.ListN.{get_or}
 use Rattle.kinds.specs.Obstacles.{listable, is_stop}
 use Rattle.group_lent.specs.Forms.{five, five_at, is_form, obstacle_of}
@@ -74,7 +76,14 @@ stop_fits_lem ws b i f ok e d =
     both v f true l h = ap₂ (λ (p q : Bool). p && q) (stopping f.kind f.a f.b f.c f.d h) (ap (leb b) (sym (mod-eq_of_lt (ltb-true v 4294967296 l))))
     both v f false l h = absurd (false≢true h)
 
--- ---- the loops: what is left of n decides
+-- ---- the entries, each for itself
+
+pub entries_by_all : (ws : List ℕ) (i k : ℕ) → list_all (entry_fits ws) (range_with_len i k) ≡ entries_fit ws i k
+unfolding entries_fit
+entries_by_all ws i zero = refl
+entries_by_all ws i (suc k) = rw (add-one i, entries_by_all ws (suc i) k)
+
+-- ---- the stops: what is left of n decides
 
 module _ (ws : List ℕ) (n i : ℕ) (all ok : Bool) (h : i < n) where
   next : n - i ≡ suc (n - (i + 1))
@@ -82,17 +91,6 @@ module _ (ws : List ℕ) (n i : ℕ) (all ok : Bool) (h : i < n) where
 
   up : suc i ≡ i + 1
   up = omega arith
-
-  module _ (e : all ≡ entries_fit ws i (n - i)) (d : ok ≡ entry_fits ws i) where
-    entries_step : all ≡ (ok && entries_fit ws (i + 1) (n - (i + 1)))
-    unfolding entries_fit
-    entries_step = e ∙ ap (entries_fit ws i) next ∙ ap₂ (λ (b : Bool) (k : ℕ). b && entries_fit ws k (n - (i + 1))) (sym d) up
-
-    pub entries_no : ok ≡ false → false ≡ all
-    entries_no t = sym (entries_step ∙ ap (λ (b : Bool). b && entries_fit ws (i + 1) (n - (i + 1))) t)
-
-    pub entries_on : ok ≡ true → all ≡ entries_fit ws (i + 1) (n - (i + 1))
-    entries_on t = entries_step ∙ ap (λ (b : Bool). b && entries_fit ws (i + 1) (n - (i + 1))) t
 
   module _ (b : ℕ) (e : all ≡ stops_fit ws b i (n - i)) (d : ok ≡ stop_fits ws b i) where
     stops_step : all ≡ (ok && stops_fit ws (get_or ws (645 + i * 6) 0 % 4294967296 + 1) (i + 1) (n - (i + 1)))
@@ -114,10 +112,6 @@ module _ (ws : List ℕ) (n i : ℕ) (all ok : Bool) (h : i < n) where
 module _ (ws : List ℕ) (n i : ℕ) (all : Bool) (h : n ≤ i) where
   none : n - i ≡ 0
   none = omega arith
-
-  pub entries_end : all ≡ entries_fit ws i (n - i) → true ≡ all
-  unfolding entries_fit
-  entries_end e = sym (e ∙ ap (entries_fit ws i) none)
 
   pub stops_end : (b : ℕ) → all ≡ stops_fit ws b i (n - i) → true ≡ all
   unfolding stops_fit

@@ -26,14 +26,7 @@ fn entries_fit(w: &[u64], n: usize) -> bool
     requires { (length w.now ≡ 1413) × (n ≤ 128) }
     ensures { result ≡ entries_fit w.now 0 n }
 {
-    let mut i: usize = 0;
-    while i < n {
-        if !entry_fits(w, i) {
-            return false;
-        }
-        i = i + 1;
-    }
-    true
+    (0..n).all(|i: usize| entry_fits(w, i))
 }
 
 fn stops_fit(w: &[u64], m: usize) -> bool
@@ -41,13 +34,11 @@ fn stops_fit(w: &[u64], m: usize) -> bool
     ensures { result ≡ stops_fit w.now 0 0 m }
 {
     let mut least: u64 = 0;
-    let mut i: usize = 0;
-    while i < m {
+    for i in 0..m {
         if !stop_fits(w, least, i) {
             return false;
         }
         least = w[645 + i * 6] % 4294967296 + 1;
-        i = i + 1;
     }
     true
 }

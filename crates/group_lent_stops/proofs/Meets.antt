@@ -1,4 +1,5 @@
 -- The words of a stop: its kind says whether it has a pair, and its handles' words are the same where its handles are. Assumes nothing.
+use Rattle.std.specs.Prelude.{None, Some}
 use Prim.Native.Nat.{ℕ, zero, suc, ◌%◌, ◌<◌, ◌≤◌}
 use mathlib.Core.Path.{◌≡◌, refl, sym, ap, ◌∙◌}
 use mathlib.Core.Bool.{Bool, true, false, false≢true, ◌&&◌, ◌||◌}
@@ -11,7 +12,6 @@ use Rattle.kinds.specs.Names.{same_code, no_code}
 use Rattle.kinds.specs.Obstacles as kinds
 use Rattle.kinds.specs.Obstacles.{listable, is_stop}
 use Rattle.kinds.specs.declared.Handle.{Handle}
-use Rattle.kinds.specs.declared.MaybePair.TheVariants.{NoPair, WithPair}
 use Rattle.kinds.specs.declared.Obstacle.TheVariants.{NonZeroGrow, Conflicting, TouchingVirtual, BlossomNeedExpand, VertexShrinkStop}
 use Rattle.bench_words.specs.Codec.{pick, handle_of, nowhere_code, hand_of, handle_word}
 use Rattle.group_lent.specs.Forms.{length_of, same_hand, pair_of, five, is_form, obstacle_of}
@@ -30,8 +30,8 @@ module _ (f : Five) where
           (pick q (Conflicting (pair_of f.a f.b) (pair_of f.c f.d))
           (pick r (TouchingVirtual (pair_of f.a f.b) (record { 0 = f.c % 4294967296 }) (eqb f.d 1))
           (pick s (BlossomNeedExpand (hand_of f.a))
-          (pick t (VertexShrinkStop (hand_of f.a) NoPair)
-          (pick u (VertexShrinkStop (hand_of f.a) (WithPair (pair_of f.b f.c))) (BlossomNeedExpand no_code))))))
+          (pick t (VertexShrinkStop (hand_of f.a) None)
+          (pick u (VertexShrinkStop (hand_of f.a) (Some (pair_of f.b f.c))) (BlossomNeedExpand no_code))))))
           ) ≡ true → (f.kind ≡ 5) ⊎ (f.kind ≡ 6)
       go true q r s t x u y e = absurd (false≢true e)
       go false true r s t x u y e = absurd (false≢true e)
@@ -49,11 +49,11 @@ module _ (f : Five) where
       go (inl z) = absurd (eqb-false f.kind 5 n z)
       go (inr z) = z
 
-  pub no_pair : f.kind ≡ 5 → kinds.pair_of (obstacle_of f) ≡ NoPair
+  pub no_pair : f.kind ≡ 5 → kinds.pair_of (obstacle_of f) ≡ None
   unfolding obstacle_of
   no_pair e = rw e
 
-  pub a_pair : f.kind ≡ 6 → kinds.pair_of (obstacle_of f) ≡ WithPair (pair_of f.b f.c)
+  pub a_pair : f.kind ≡ 6 → kinds.pair_of (obstacle_of f) ≡ Some (pair_of f.b f.c)
   unfolding obstacle_of
   a_pair e = rw e
 

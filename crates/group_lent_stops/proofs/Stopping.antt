@@ -1,8 +1,9 @@
 -- THEOREM: the words that a stop leaves hold the ledger's group after it is added, and its number. Assumes nothing.
+use Rattle.std.specs.Prelude.{None, Option, Some}
+use Rattle.kinds.specs.declared.Pair.{Pair}
 use Prim.Native.Nat.{ℕ, zero, suc, ◌+◌, ◌-◌, ◌<◌, ◌≤◌}
 use mathlib.Core.Path.{◌≡◌, refl, sym, ap, ap₂, ◌∙◌, subst}
 use mathlib.Core.Bool.{Bool, true, false, false≢true, cond, ◌&&◌}
-use mathlib.Core.Option.{Option, none, some}
 use mathlib.Core.List.{List, [], ◌∷◌, ◌++◌}
 use native.Mathlib.Omega.{arith}
 use borrow.Author.Tests.{eqb-true, eqb-false, eq-eqb, ltb-true, ltb-false, lt-ltb, lt-leb}
@@ -14,22 +15,18 @@ use Rattle.kinds.specs.Obstacles as kinds
 use Rattle.kinds.specs.Obstacles.{is_stop}
 use Rattle.kinds.specs.declared.Entry.{Entry}
 use Rattle.kinds.specs.declared.Stop.{Stop}
-use Rattle.kinds.specs.declared.MaybePair.{MaybePair}
-use Rattle.kinds.specs.declared.MaybePair.TheVariants.{NoPair, WithPair}
 use Rattle.kinds.specs.declared.Obstacle.{Obstacle}
 use Rattle.kinds.specs.declared.Obstacle.TheVariants.{NonZeroGrow, Conflicting, TouchingVirtual, BlossomNeedExpand, VertexShrinkStop}
 use Rattle.bench_words.specs.Codec.{pick}
 use Rattle.ledger_spec.specs.Groups.{Group, conflicts, Lists, room_for, front_of, back_of, meet, placed, add_stop, grouped, add_to_growth, add_to_conflicts, added}
 use Rattle.ledger_laws.proofs.GroupSound.{fine_of, added_sound}
 use Rattle.group_lent.specs.Forms.{length_of, same_hand, pair_of, five_words, is_form, obstacle_of}
-use Rattle.group_lent.specs.Groups.{entry_form, entry_at, stop_read, stop_form, stop_at}
+use Rattle.group_lent.specs.Groups.{entry_form, entry_at, stop_read, stop_form, stop_at, ReadStop}
 use Rattle.group_lent.specs.declared.Five.{Five}
-use Rattle.group_lent.specs.Groups.{ReadStop}
-use Rattle.group_lent.proofs.Stores.{and_left, and_right}
+use Rattle.group_lent.proofs.Stores.{and_left, and_right, sets_in, run_long}
 use Rattle.group_lent.specs.Place.{run, kind_in, length_in, flag_in, listed, stopped, list_in, stops_in, group_in, Listing, SoundGroup}
 use Rattle.group_lent_takes.specs.After.{head_words}
 use Rattle.group_lent_takes.specs.Made.{Added}
-use Rattle.group_lent.proofs.Stores.{sets_in, run_long}
 use Rattle.group_lent.proofs.Seen.{out_reads, stop_reads, seen_growth, seen_conflicts, sound_in, is_listing, to_listing}
 use Rattle.group_lent_takes.proofs.Adding.{made, has_room, no_room}
 use Rattle.group_lent_stops.specs.Stops.{spot, stop_five, place_in, one_stop, inserted, replaced, pair_five, joined, meet_out, place_out, stop_out}
@@ -39,7 +36,7 @@ use Rattle.group_lent_stops.proofs.Changes.{stop_of, entry_of, stop_put, Kept, s
 
 -- ---- the ledger's add of a stop
 
-to_growth : (a : ℤ) (f : Bool) (o : Obstacle) (v : ℕ) → is_stop o ≡ true → add_to_growth a f o v ≡ some (conflicts [] (record { vertex = record { 0 = v }; obstacle = o } ∷ []))
+to_growth : (a : ℤ) (f : Bool) (o : Obstacle) (v : ℕ) → is_stop o ≡ true → add_to_growth a f o v ≡ Some (conflicts [] (record { vertex = record { 0 = v }; obstacle = o } ∷ []))
 unfolding add_to_growth
 to_growth a f (NonZeroGrow b h) v e = absurd (false≢true e)
 to_growth a f (Conflicting p q) v e = absurd (false≢true e)
@@ -55,11 +52,11 @@ to_conflicts l s (TouchingVirtual p w m) v e = absurd (false≢true e)
 to_conflicts l s (BlossomNeedExpand n) v e = absurd (false≢true e)
 to_conflicts l s (VertexShrinkStop n p) v e = refl
 
-no_stop_room : (l : List Entry) (s : List Stop) → 128 < length s → grouped (room_for l s) ≡ none
+no_stop_room : (l : List Entry) (s : List Stop) → 128 < length s → grouped (room_for l s) ≡ None
 unfolding room_for
 no_stop_room l s h = go (leb (length l) 128)
   where
-    go : (b : Bool) → grouped (cond (b && leb (length s) 128) (some (l, s)) none) ≡ none
+    go : (b : Bool) → grouped (cond (b && leb (length s) 128) (Some (l, s)) None) ≡ None
     go true = rw (lt-leb (length s) 128 h)
     go false = refl
 
@@ -90,7 +87,7 @@ module _ (ws : List ℕ) (f : Five) (v : ℕ) (s : SoundGroup ws) (form : is_for
     unfolding run stop_at
     stops = ap (run (stop_at one) 0) (head 4 (omega arith)) ∙ ap (λ (r : ReadStop). r.stop ∷ []) came
 
-    says : added (group_in ws) (obstacle_of f) v ≡ some (conflicts [] (stop_of f v ∷ []))
+    says : added (group_in ws) (obstacle_of f) v ≡ Some (conflicts [] (stop_of f v ∷ []))
     unfolding added
     says = ap (λ (g : Group). added g (obstacle_of f) v) (seen_growth ws e) ∙ to_growth (length_of (length_in ws)) (eqb (flag_in ws) 1) (obstacle_of f) v stop
 
@@ -114,7 +111,7 @@ module _ (ws : List ℕ) (f : Five) (v : ℕ) (s : SoundGroup ws) (form : is_for
 
     one_good : Good (0, one)
     one_good =
-        made f v ws one 0 one (λ n. absurd (n refl)) (some (conflicts [] (stop_of f v ∷ []))) says refl refl
+        made f v ws one 0 one (λ n. absurd (n refl)) (Some (conflicts [] (stop_of f v ∷ []))) says refl refl
         (seen_conflicts one (head 0 (omega arith)) ∙ ap₂ conflicts list stops) one_sound
 
   -- ---- conflicts
@@ -157,12 +154,12 @@ module _ (ws : List ℕ) (f : Five) (v : ℕ) (s : SoundGroup ws) (form : is_for
     back_is = let z : 0 + length (front_of v (stops_in ws)) ≡ length (front_of v (stops_in ws)) = omega arith in split.after ∙ ap (λ (i : ℕ). run S i (stopped ws - length (front_of v (stops_in ws)))) z
 
     -- nothing changes
-    kept : (o : Option Lists) → add_stop x (list_in ws) (stops_in ws) ≡ o → grouped o ≡ some (conflicts (list_in ws) (stops_in ws)) → Good (0, ws)
-    kept o e g = made f v ws ws 0 ws (λ n. absurd (n refl)) (some (conflicts (list_in ws) (stops_in ws))) (says_add o e ∙ g) refl refl (seen_conflicts ws l.kind) s
+    kept : (o : Option Lists) → add_stop x (list_in ws) (stops_in ws) ≡ o → grouped o ≡ Some (conflicts (list_in ws) (stops_in ws)) → Good (0, ws)
+    kept o e g = made f v ws ws 0 ws (λ n. absurd (n refl)) (Some (conflicts (list_in ws) (stops_in ws))) (says_add o e ∙ g) refl refl (seen_conflicts ws l.kind) s
 
     -- no room
-    full : (o : Option Lists) → add_stop x (list_in ws) (stops_in ws) ≡ o → grouped o ≡ none → Good (20, ws)
-    full o e g = made f v ws ws 20 ws (λ n. refl) none (says_add o e ∙ g) refl refl refl s
+    full : (o : Option Lists) → add_stop x (list_in ws) (stops_in ws) ≡ o → grouped o ≡ None → Good (20, ws)
+    full o e g = made f v ws ws 20 ws (λ n. refl) None (says_add o e ∙ g) refl refl refl s
 
     -- ws' holds the list es and the stops ss
     module _ (ws' : List ℕ) (es : List Entry) (ss : List Stop) (k : Kept ws ws') (a : list_in ws' ≡ es) (b : stops_in ws' ≡ ss) (few : listed ws' ≤ 128) (fewer : stopped ws' ≤ 128)
@@ -173,7 +170,7 @@ module _ (ws : List ℕ) (f : Five) (v : ℕ) (s : SoundGroup ws) (form : is_for
           let w : length ss ≤ 128 = omega (arith, ap length b, run_long (stop_at ws') 0 (stopped ws')) in
           let says = says_add (room_for es ss) e ∙ has_room es ss u w in
           let kind = k.head 0 (omega arith) ∙ l.kind in
-          made f v ws ws' 0 ws' (λ n. absurd (n refl)) (some (conflicts es ss)) says refl refl
+          made f v ws ws' 0 ws' (λ n. absurd (n refl)) (Some (conflicts es ss)) says refl refl
           (seen_conflicts ws' kind ∙ ap₂ conflicts a b)
           (to_listing ws' (conflicts es ss) (k.long ∙ s.long) kind (k.head 1 (omega arith) ∙ l.plain) (k.head 2 (omega arith) ∙ l.blank) few fewer fs gs (ap₂ conflicts a b)
           (added_sound (group_in ws) (obstacle_of f) v (conflicts es ss) (sound_in ws s) says))
@@ -239,20 +236,20 @@ module _ (ws : List ℕ) (f : Five) (v : ℕ) (s : SoundGroup ws) (form : is_for
       unfolding stop_at stop_read
       held_stop = rising_stop S 0 0 (stopped ws) (fine_of (list_in ws) (stops_in ws) l.sound).rises p (omega arith) (omega arith)
 
-      same_room : grouped (room_for (list_in ws) (run S 0 p ++ S p ∷ run S (suc p) q)) ≡ some (conflicts (list_in ws) (stops_in ws))
+      same_room : grouped (room_for (list_in ws) (run S 0 p ++ S p ∷ run S (suc p) q)) ≡ Some (conflicts (list_in ws) (stops_in ws))
       same_room =
           ap (λ (r : List Stop). grouped (room_for (list_in ws) r)) (sym whole)
           ∙ has_room (list_in ws) (stops_in ws) (omega (arith, run_long (entry_at ws) 0 (listed ws), l.few)) (omega (arith, run_long S 0 (stopped ws), l.fewer))
 
-      module _ (a b : MaybePair) (i : kinds.pair_of (obstacle_of f) ≡ a) (j : kinds.pair_of (obstacle_of y) ≡ b) where
+      module _ (a b : Option Pair) (i : kinds.pair_of (obstacle_of f) ≡ a) (j : kinds.pair_of (obstacle_of y) ≡ b) where
         held_by : add_stop x (list_in ws) (stops_in ws) ≡ meet a b x (S p) (list_in ws) (run S 0 p) (run S (suc p) q)
         unfolding stop_at stop_read
-        held_by = held_add ∙ ap₂ (λ (c d : MaybePair). meet c d x (S p) (list_in ws) (run S 0 p) (run S (suc p) q)) i j
+        held_by = held_add ∙ ap₂ (λ (c d : Option Pair). meet c d x (S p) (list_in ws) (run S 0 p) (run S (suc p) q)) i j
 
       keeps : f.kind ≡ 5 → Good (0, ws)
       unfolding meet
       keeps e =
-          kept (room_for (list_in ws) (run S 0 p ++ S p ∷ run S (suc p) q)) (held_by NoPair (kinds.pair_of (obstacle_of y)) (no_pair f e) refl) same_room
+          kept (room_for (list_in ws) (run S 0 p ++ S p ∷ run S (suc p) q)) (held_by None (kinds.pair_of (obstacle_of y)) (no_pair f e) refl) same_room
 
       module _ (e : f.kind ≡ 6) where
         replaces : y.kind ≡ 5 → Good (0, replaced ws f v p)
@@ -269,7 +266,7 @@ module _ (ws : List ℕ) (f : Five) (v : ℕ) (s : SoundGroup ws) (form : is_for
             (omega (arith, replaced_count ws f v p s.long few fewer form low h))
             (same_forms ws (replaced ws f v p) k l.list)
             (replaced_forms ws f v p s.long few fewer form low h l.stops)
-            (held_by (WithPair (pair_of f.b f.c)) NoPair (a_pair f e) (no_pair y d))
+            (held_by (Some (pair_of f.b f.c)) None (a_pair f e) (no_pair y d))
 
         module _ (d : y.kind ≡ 6) where
           abbrev entry : Entry
@@ -280,7 +277,7 @@ module _ (ws : List ℕ) (f : Five) (v : ℕ) (s : SoundGroup ws) (form : is_for
           pairs =
               let a = pair_of f.b f.c in
               let b = pair_of y.b y.c in
-              held_by (WithPair a) (WithPair b) (a_pair f e) (a_pair y d)
+              held_by (Some a) (Some b) (a_pair f e) (a_pair y d)
               ∙ ap (λ (t : Bool). cond t (room_for (list_in ws) (run S 0 p ++ S p ∷ run S (suc p) q)) (room_for (list_in ws ++ record { obstacle = Conflicting a b } ∷ []) (run S 0 p ++ run S (suc p) q)))
               (same_words f.b y.b)
               ∙ ap (λ (o : Obstacle). cond (same_hand f.b y.b) (room_for (list_in ws) (run S 0 p ++ S p ∷ run S (suc p) q)) (room_for (list_in ws ++ record { obstacle = o } ∷ []) (run S 0 p ++ run S (suc p) q)))

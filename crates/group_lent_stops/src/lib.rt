@@ -18,14 +18,12 @@ pub fn place_of(w: &[u64; GROUP], v: u64) -> usize
     ensures { result ≡ place_in w.now v }
 {
     let m = w[4] as usize;
-    let mut p: usize = 0;
-    while p < m {
+    for p in 0..m {
         if v <= w[645 + p * 6] {
             return p;
         }
-        p = p + 1;
     }
-    p
+    m
 }
 
 // Whether stop p is pending at vertex v.
@@ -45,12 +43,7 @@ fn lift(w: &mut [u64; GROUP], at: usize, k: usize)
     requires { (length w.old ≡ 1413) × (at + 6 + k ≤ 1413) }
     ensures { w.new ≡ lifted w.old at k }
 {
-    let mut j = k;
-    while 0 < j {
-        let i = j - 1;
-        w[at + 6 + i] = w[at + i];
-        j = i;
-    }
+    w.copy_within(at..at + k, at + 6);
 }
 
 fn put_stop(w: &mut [u64; GROUP], at: usize, v: u64, f: Five)

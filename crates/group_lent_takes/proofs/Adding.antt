@@ -1,9 +1,9 @@
 -- What adding leaves: a growth to a growth or to conflicts, and what is listed to either. Assumes nothing.
+use Rattle.std.specs.Prelude.{None, Option, Some}
 use Prim.Native.Nat.{ℕ, suc, ◌+◌, ◌*◌, ◌<◌, ◌≤◌}
 use mathlib.Core.Path.{◌≡◌, refl, sym, ap, ap₂, ◌∙◌}
 use mathlib.Core.Bool.{Bool, true, false, false≢true, cond, ◌||◌}
 use mathlib.Core.Logic.{inl, by_cases}
-use mathlib.Core.Option.{Option, none, some}
 use mathlib.Core.List.{List, [], ◌∷◌, ◌++◌}
 use native.Mathlib.Numerals.{add-one}
 use native.Mathlib.Decide.{ℕ_discrete}
@@ -86,7 +86,7 @@ module _ (ws : List ℕ) (f : Five) (s : SoundGroup ws) (k : f.kind ≡ 1) (v : 
   unfolding grown_words added add_to_conflicts
   growth_kept n =
       let l = is_listing ws s n in
-      made f v ws (grown_words ws f) 0 ws (λ n. absurd (n refl)) (some (conflicts (list_in ws) (stops_in ws)))
+      made f v ws (grown_words ws f) 0 ws (λ n. absurd (n refl)) (Some (conflicts (list_in ws) (stops_in ws)))
       (ap₂ (λ (g : Group) (o : Obstacle). added g o v) (seen_conflicts ws l.kind) grows)
       refl
       (rw (ne_eqb (kind_in ws) 1 n))
@@ -105,7 +105,7 @@ module _ (ws : List ℕ) (f : Five) (s : SoundGroup ws) (k : f.kind ≡ 1) (v : 
       let flag : flag_in after ≡ y = sets_in ws 1 xs 1 2 refl (omega arith) room in
       let l : length_of (length_in after) ≡ smaller (length_of (length_in ws)) (length_of f.a) = ap length_of (long ∙ p) ∙ least_is (length_in ws) f.a in
       let h : eqb (flag_in after) 1 ≡ (eqb (flag_in ws) 1 || eqb f.b 1) = ap (λ (w : ℕ). eqb w 1) (flag ∙ q) ∙ either_is (flag_in ws) f.b in
-      made f v ws (grown_words ws f) 0 after (λ n. absurd (n refl)) (some (growth (smaller (length_of (length_in ws)) (length_of f.a)) (eqb (flag_in ws) 1 || eqb f.b 1)))
+      made f v ws (grown_words ws f) 0 after (λ n. absurd (n refl)) (Some (growth (smaller (length_of (length_in ws)) (length_of f.a)) (eqb (flag_in ws) 1 || eqb f.b 1)))
       (ap₂ (λ (g : Group) (o : Obstacle). added g o v) (seen_growth ws e) grows)
       refl
       (rw (eq-eqb (kind_in ws) 1 e, p, q))
@@ -120,7 +120,7 @@ module _ (ws : List ℕ) (f : Five) (s : SoundGroup ws) (k : f.kind ≡ 1) (v : 
 abbrev entry : Five → Entry
 entry f = record { obstacle = obstacle_of f }
 
-to_growth : (a : ℤ) (f : Bool) (o : Obstacle) (v : ℕ) → listable o ≡ true → add_to_growth a f o v ≡ some (conflicts (record { obstacle = o } ∷ []) [])
+to_growth : (a : ℤ) (f : Bool) (o : Obstacle) (v : ℕ) → listable o ≡ true → add_to_growth a f o v ≡ Some (conflicts (record { obstacle = o } ∷ []) [])
 unfolding add_to_growth
 to_growth a f (NonZeroGrow b h) v e = absurd (false≢true e)
 to_growth a f (Conflicting p q) v e = refl
@@ -136,11 +136,11 @@ to_conflicts l s (TouchingVirtual p w m) v e = refl
 to_conflicts l s (BlossomNeedExpand n) v e = refl
 to_conflicts l s (VertexShrinkStop n p) v e = absurd (false≢true e)
 
-pub has_room : (l : List Entry) (s : List Stop) → length l ≤ 128 → length s ≤ 128 → grouped (room_for l s) ≡ some (conflicts l s)
+pub has_room : (l : List Entry) (s : List Stop) → length l ≤ 128 → length s ≤ 128 → grouped (room_for l s) ≡ Some (conflicts l s)
 unfolding room_for
 has_room l s h k = rw (le-leb (length l) 128 h, le-leb (length s) 128 k)
 
-pub no_room : (l : List Entry) (s : List Stop) → 128 < length l → grouped (room_for l s) ≡ none
+pub no_room : (l : List Entry) (s : List Stop) → 128 < length l → grouped (room_for l s) ≡ None
 unfolding room_for
 no_room l s h = rw (lt-leb (length l) 128 h)
 
@@ -167,7 +167,7 @@ module _ (ws : List ℕ) (f : Five) (s : SoundGroup ws) (form : is_form f ≡ tr
     unfolding run
     stops = ap (run (stop_at one) 0) (head 4 (omega arith))
 
-    says : added (group_in ws) (obstacle_of f) v ≡ some (conflicts (entry f ∷ []) [])
+    says : added (group_in ws) (obstacle_of f) v ≡ Some (conflicts (entry f ∷ []) [])
     unfolding added
     says = ap (λ (g : Group). added g (obstacle_of f) v) (seen_growth ws e) ∙ to_growth (length_of (length_in ws)) (eqb (flag_in ws) 1) (obstacle_of f) v listing
 
@@ -192,7 +192,7 @@ module _ (ws : List ℕ) (f : Five) (s : SoundGroup ws) (form : is_form f ≡ tr
     pub listed_one : Added f v ws (listed_words ws f) 0 one
     unfolding listed_words
     listed_one =
-        made f v ws (listed_words ws f) 0 one (λ n. absurd (n refl)) (some (conflicts (entry f ∷ []) [])) says refl (rw (eq-eqb (kind_in ws) 1 e))
+        made f v ws (listed_words ws f) 0 one (λ n. absurd (n refl)) (Some (conflicts (entry f ∷ []) [])) says refl (rw (eq-eqb (kind_in ws) 1 e))
         (seen_conflicts one (head 0 (omega arith)) ∙ ap₂ conflicts list stops) one_sound
 
   -- conflicts
@@ -213,7 +213,7 @@ module _ (ws : List ℕ) (f : Five) (s : SoundGroup ws) (form : is_form f ≡ tr
     pub listed_full : 128 ≤ listed ws → Added f v ws (listed_words ws f) 20 ws
     unfolding listed_words
     listed_full h =
-        made f v ws (listed_words ws f) 20 ws (λ n. refl) none (says_more ∙ no_room longer (stops_in ws) (omega (arith, longer_by))) refl
+        made f v ws (listed_words ws f) 20 ws (λ n. refl) None (says_more ∙ no_room longer (stops_in ws) (omega (arith, longer_by))) refl
         (rw (ne_eqb (kind_in ws) 1 n, le-ltb (listed ws) 128 h)) refl s
 
     module _ (h : listed ws < 128) where
@@ -260,7 +260,7 @@ module _ (ws : List ℕ) (f : Five) (s : SoundGroup ws) (form : is_form f ≡ tr
           ap (run (stop_at more) 0) (word 4 (omega arith) (λ e. omega arith))
           ∙ run_same (stop_at more) (stop_at ws) 0 (stopped ws) (λ i a b. stop_same ws more i i (pending i))
 
-      says_it : added (group_in ws) (obstacle_of f) v ≡ some (conflicts longer (stops_in ws))
+      says_it : added (group_in ws) (obstacle_of f) v ≡ Some (conflicts longer (stops_in ws))
       says_it = says_more ∙ has_room longer (stops_in ws) (omega (arith, longer_by)) (omega (arith, run_long (stop_at ws) 0 (stopped ws), l.fewer))
 
       form_more : (i : ℕ) → i < listed ws + 1 → entry_form more i ≡ true
@@ -290,6 +290,6 @@ module _ (ws : List ℕ) (f : Five) (s : SoundGroup ws) (form : is_form f ≡ tr
       pub listed_more : Added f v ws (listed_words ws f) 0 more
       unfolding listed_words
       listed_more =
-          made f v ws (listed_words ws f) 0 more (λ n. absurd (n refl)) (some (conflicts longer (stops_in ws))) says_it refl
+          made f v ws (listed_words ws f) 0 more (λ n. absurd (n refl)) (Some (conflicts longer (stops_in ws))) says_it refl
           (rw (ne_eqb (kind_in ws) 1 n, lt-ltb (listed ws) 128 h))
           (seen_conflicts more kind_more ∙ ap₂ conflicts list_more stops_more) more_sound

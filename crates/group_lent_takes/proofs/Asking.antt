@@ -1,9 +1,9 @@
 -- The three questions, answered by the first three words. Assumes nothing.
+use Rattle.std.specs.Prelude.{None, Some}
 use Prim.Native.Nat.{ℕ, ◌<◌}
 use mathlib.Core.Path.{◌≡◌, refl, sym, ap, ap₂, ◌∙◌}
 use mathlib.Core.Bool.{Bool, true, false, not, cond, ◌&&◌, ◌||◌}
 use mathlib.Core.Logic.{◌⊎◌, inl, inr}
-use mathlib.Core.Option.{none, some}
 use mathlib.Core.List.{List, [], ◌∷◌}
 use native.Mathlib.Omega.{arith}
 use borrow.Author.Tests.{ltb-false, ne_eqb, eq-eqb}
@@ -52,19 +52,19 @@ module _ (ws : List ℕ) (s : SoundGroup ws) where
           (rw g.kind (cases (eqb (length_in ws) 9223372036854775807) (eqb (flag_in ws) 1) ∙ ap (λ (b : Bool). cond b (eqb (flag_in ws) 1) true) (sym (largest_word (length_in ws)))))
       go (inr l) = active_is (group_in ws) (conflicts (list_in ws) (stops_in ws)) (sound_in ws s) (seen_conflicts ws l.kind) _ (rw l.kind)
 
-  pub growth_none : (kind_in ws ≡ 1 → ⊥) → (0, none) ≡ growth_of (group_in ws)
+  pub growth_none : (kind_in ws ≡ 1 → ⊥) → (0, None) ≡ growth_of (group_in ws)
   growth_none n = let l = is_listing ws s n in growth_is (group_in ws) (conflicts (list_in ws) (stops_in ws)) (sound_in ws s) (seen_conflicts ws l.kind) refl _ refl
 
   module _ (k : kind_in ws ≡ 1) where
-    pub growth_nothing : length_in ws ≡ 9223372036854775807 → (21, none) ≡ growth_of (group_in ws)
+    pub growth_nothing : length_in ws ≡ 9223372036854775807 → (21, None) ≡ growth_of (group_in ws)
     growth_nothing e =
         growth_largest (group_in ws) (growth (length_of (length_in ws)) (eqb (flag_in ws) 1)) (sound_in ws s) (seen_growth ws k)
         (largest_word (length_in ws) ∙ eq-eqb (length_in ws) 9223372036854775807 e)
 
-    pub growth_some : (length_in ws ≡ 9223372036854775807 → ⊥) → (z : ℤ) → z ≡ length_of (length_in ws) → (0, some z) ≡ growth_of (group_in ws)
+    pub growth_some : (length_in ws ≡ 9223372036854775807 → ⊥) → (z : ℤ) → z ≡ length_of (length_in ws) → (0, Some z) ≡ growth_of (group_in ws)
     growth_some n z e =
         growth_is (group_in ws) (growth (length_of (length_in ws)) (eqb (flag_in ws) 1)) (sound_in ws s) (seen_growth ws k)
-        (largest_word (length_in ws) ∙ ne_eqb (length_in ws) 9223372036854775807 n) _ (ap some e)
+        (largest_word (length_in ws) ∙ ne_eqb (length_in ws) 9223372036854775807 n) _ (ap Some e)
 
 -- ---- the empty group, from any words
 

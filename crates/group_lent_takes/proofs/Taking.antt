@@ -1,8 +1,8 @@
 -- What stands on top of conflicts, and what is left when it goes: the last entry and the first stop. Assumes nothing.
+use Rattle.std.specs.Prelude.{None, Option, Some}
 use Prim.Native.Nat.{ℕ, zero, suc, ◌+◌, ◌-◌, ◌*◌, ◌<◌, ◌≤◌}
 use mathlib.Core.Path.{◌≡◌, refl, sym, ap, ap₂, ◌∙◌, subst}
 use mathlib.Core.Bool.{Bool, true, false, false≢true, not}
-use mathlib.Core.Option.{Option, none, some}
 use mathlib.Core.List.{List, [], ◌∷◌}
 use native.Mathlib.Omega.{arith}
 use borrow.Author.Tests.{ne_eqb}
@@ -21,35 +21,34 @@ use Rattle.ledger_laws.proofs.GroupSound.{popped_sound}
 use Rattle.group_lent.specs.Forms.{length_of, five, five_at, is_form, obstacle_of}
 use Rattle.group_lent.specs.Groups.{entry_form, entry_at, stop_read, stop_form, stop_at}
 use Rattle.group_lent.specs.declared.Five.{Five}
-use Rattle.group_lent.proofs.Stores.{and_right}
+use Rattle.group_lent.proofs.Stores.{and_right, sets_out, sets_in, run_same, run_next, run_front, run_top}
 use Rattle.group_lent.specs.Place.{run, kind_in, length_in, flag_in, listed, stopped, list_in, stops_in, group_in, Listing, SoundGroup}
 use Rattle.group_lent_takes.specs.After.{top_by, top_five, popped_words}
 use Rattle.group_lent.specs.Moves.{slid}
 use Rattle.group_lent_takes.specs.declared.Top.{Top}
 use Rattle.group_lent_takes.specs.Made.{maybe_seen, Popped}
-use Rattle.group_lent.proofs.Stores.{sets_out, sets_in, run_same, run_next, run_front, run_top}
 use Rattle.group_lent.proofs.Seen.{Reads, out_reads, then_reads, entry_same, entry_form_lem, stop_same, stop_form_lem, seen_growth, seen_conflicts, is_listing, to_listing}
 use Rattle.group_lent.proofs.Slides.{slid_long, slid_reads, slid_apart}
 
 -- ---- the ledger's peek and pop, by kind
 
 module _ (q : Group) (a : ℤ) (f : Bool) (k : q ≡ growth a f) where
-  pub peek_growth : (10, none) ≡ peek q
+  pub peek_growth : (10, None) ≡ peek q
   unfolding peek take_tests first said sound_group
   peek_growth = sym (ap peek k)
 
-  pub pop_growth : (10, (none, q)) ≡ pop q
+  pub pop_growth : (10, (None, q)) ≡ pop q
   unfolding pop take_tests first said sound_group
   pop_growth = rw k
 
 module _ (q : Group) (l : List Entry) (s : List Stop) (k : q ≡ conflicts l s) (sound : sound_group (conflicts l s) ≡ true) where
   pub peek_conflicts : (0, last_of l s) ≡ peek q
   unfolding peek take_tests first said
-  peek_conflicts = sym (ap peek k ∙ ap (λ (b : Bool). said (first ((not b, 2) ∷ (false, 10) ∷ [])) (last_of l s) none) sound)
+  peek_conflicts = sym (ap peek k ∙ ap (λ (b : Bool). said (first ((not b, 2) ∷ (false, 10) ∷ [])) (last_of l s) None) sound)
 
   pub pop_conflicts : (0, (last_of l s, popped l s)) ≡ pop q
   unfolding pop take_tests first said
-  pop_conflicts = sym (ap pop k ∙ ap (λ (b : Bool). said (first ((not b, 2) ∷ (false, 10) ∷ [])) (last_of l s, popped l s) (none, conflicts l s)) sound)
+  pop_conflicts = sym (ap pop k ∙ ap (λ (b : Bool). said (first ((not b, 2) ∷ (false, 10) ∷ [])) (last_of l s, popped l s) (None, conflicts l s)) sound)
 
 -- ---- on top
 
@@ -58,7 +57,7 @@ form_kind : (f : Five) → is_form f ≡ true → eqb f.kind 0 ≡ false
 unfolding is_form
 form_kind f e = ne_eqb f.kind 0 (λ z. false≢true (rw z at e))
 
-some_seen : (f : Five) → is_form f ≡ true → maybe_seen f ≡ some (obstacle_of f)
+some_seen : (f : Five) → is_form f ≡ true → maybe_seen f ≡ Some (obstacle_of f)
 some_seen f e = rw (form_kind f e)
 
 module _ (ws : List ℕ) (l : Listing ws) where

@@ -1,6 +1,5 @@
 -- What a call promises: its number, the words and the group after it, and that the words hold a sound group again. Assumes nothing.
-use Rattle.std.specs.Prelude.{ℕ, ◌≡◌, List, eqb}
-use Rattle.std.proofs.Math.Option.{Option, none, some}
+use Rattle.std.specs.Prelude.{ℕ, ◌≡◌, List, eqb, None, Option, Some}
 use Rattle.kinds.specs.declared.Obstacle.{Obstacle}
 use Rattle.bench_words.specs.Codec.{pick}
 use Rattle.ledger_spec.specs.Tests.{is_some}
@@ -27,7 +26,7 @@ pub record Added (f : Five) (v : ℕ) (ws : List ℕ) (next : List ℕ) (r : ℕ
 
 -- five words with kind 0 say that there is none
 abbrev pub maybe_seen : Five → Option Obstacle
-maybe_seen f = pick (eqb f.kind 0) none (some (obstacle_of f))
+maybe_seen f = pick (eqb f.kind 0) None (Some (obstacle_of f))
 
 pub record Popped (ws : List ℕ) (r : Top) (after : List ℕ) : Type 0 where
   pub top : r.obstacle ≡ top_five ws

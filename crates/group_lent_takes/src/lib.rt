@@ -12,7 +12,7 @@ ghost use Rattle.group_lent_takes.specs.Made.{Emptied, Added, maybe_seen, Popped
 
 use group_lent::{Five, GROUP};
 use groups::Asked;
-use kinds::{MaybeLength, numbers};
+use kinds::numbers;
 
 const LARGEST: u64 = 9223372036854775807;
 
@@ -60,19 +60,19 @@ pub fn get_none_zero_growth(w: &[u64; GROUP]) -> Asked
     if w[0] != 1 {
         return Asked {
             number: 0,
-            length: MaybeLength::NoLength,
+            length: None,
         };
     }
     if l == LARGEST {
         return Asked {
             number: numbers::NOTHING,
-            length: MaybeLength::NoLength,
+            length: None,
         };
     }
     let length = group_lent::length_of(l);
     Asked {
         number: 0,
-        length: MaybeLength::Length(length),
+        length: Some(length),
     }
 }
 

@@ -1,9 +1,9 @@
 -- Stops added one on, where the pending stops are a front below the new one's vertex and a back that is not: it comes in between, or meets the first of
 -- the back. Assumes nothing.
+use Rattle.std.specs.Prelude.{None, Option, Some}
 use Prim.Native.Nat.{ℕ, suc, ◌≤◌, ◌<◌}
 use mathlib.Core.Path.{◌≡◌, refl, sym, ap, ap₂, ◌∙◌}
 use mathlib.Core.Bool.{Bool, true, false, ◌&&◌, false≢true}
-use mathlib.Core.Option.{Option, none, some}
 use mathlib.Core.List.{List, [], ◌∷◌, ◌++◌}
 use native.Mathlib.Omega.{arith}
 use borrow.Author.Tests.{leb-true, le-leb, lt-ltb, le-ltb, eq-eqb, ne_eqb}
@@ -125,10 +125,10 @@ module _ (x : Stop) (xs : List Stop) (l : List Entry) (f b : List Stop) (p : Bel
   comes_at = adds_is x l f b p (past_ahead x.vertex.0 b a) ∙ placed_past x l f b a
 
   pub comes : length (f ++ x ∷ b) ≤ 128 → add_stops (x ∷ xs) l (f ++ b) ≡ add_stops xs l ((f ++ x ∷ []) ++ b)
-  comes k = on x l f b p xs (some (l, f ++ x ∷ b)) (comes_at ∙ room_yes l (f ++ x ∷ b) h k) ∙ ap (add_stops xs l) (sym (append_snoc f x b))
+  comes k = on x l f b p xs (Some (l, f ++ x ∷ b)) (comes_at ∙ room_yes l (f ++ x ∷ b) h k) ∙ ap (add_stops xs l) (sym (append_snoc f x b))
 
-  pub comes_full : 128 < length (f ++ x ∷ b) → add_stops (x ∷ xs) l (f ++ b) ≡ none
-  comes_full k = on x l f b p xs none (comes_at ∙ room_stops l (f ++ x ∷ b) h k)
+  pub comes_full : 128 < length (f ++ x ∷ b) → add_stops (x ∷ xs) l (f ++ b) ≡ None
+  comes_full k = on x l f b p xs None (comes_at ∙ room_stops l (f ++ x ∷ b) h k)
 
 -- ---- it meets the first of the back
 module _ (x y : Stop) (xs : List Stop) (l : List Entry) (f b : List Stop) (p : Below x.vertex.0 f) (e : y.vertex.0 ≡ x.vertex.0) where
@@ -137,16 +137,16 @@ module _ (x y : Stop) (xs : List Stop) (l : List Entry) (f b : List Stop) (p : B
 
   -- one stop stays there
   pub meets_one : (z : Stop) → meet (pair_of x.obstacle) (pair_of y.obstacle) x y l f b ≡ room_for l (f ++ z ∷ b) → length l ≤ 128 → length (f ++ z ∷ b) ≤ 128 → add_stops (x ∷ xs) l (f ++ y ∷ b) ≡ add_stops xs l ((f ++ z ∷ []) ++ b)
-  meets_one z m h k = on x l f (y ∷ b) p xs (some (l, f ++ z ∷ b)) (meets_at ∙ m ∙ room_yes l (f ++ z ∷ b) h k) ∙ ap (add_stops xs l) (sym (append_snoc f z b))
+  meets_one z m h k = on x l f (y ∷ b) p xs (Some (l, f ++ z ∷ b)) (meets_at ∙ m ∙ room_yes l (f ++ z ∷ b) h k) ∙ ap (add_stops xs l) (sym (append_snoc f z b))
 
   -- both go to the list
   module _ (c : Entry) (m : meet (pair_of x.obstacle) (pair_of y.obstacle) x y l f b ≡ room_for (l ++ c ∷ []) (f ++ b)) where
     pub meets_none : length (l ++ c ∷ []) ≤ 128 → length (f ++ b) ≤ 128 → add_stops (x ∷ xs) l (f ++ y ∷ b) ≡ add_stops xs (l ++ c ∷ []) (f ++ b)
-    meets_none h k = on x l f (y ∷ b) p xs (some (l ++ c ∷ [], f ++ b)) (meets_at ∙ m ∙ room_yes (l ++ c ∷ []) (f ++ b) h k)
+    meets_none h k = on x l f (y ∷ b) p xs (Some (l ++ c ∷ [], f ++ b)) (meets_at ∙ m ∙ room_yes (l ++ c ∷ []) (f ++ b) h k)
 
-    pub meets_full : 128 < length (l ++ c ∷ []) → add_stops (x ∷ xs) l (f ++ y ∷ b) ≡ none
-    meets_full h = on x l f (y ∷ b) p xs none (meets_at ∙ m ∙ room_list (l ++ c ∷ []) (f ++ b) h)
+    pub meets_full : 128 < length (l ++ c ∷ []) → add_stops (x ∷ xs) l (f ++ y ∷ b) ≡ None
+    meets_full h = on x l f (y ∷ b) p xs None (meets_at ∙ m ∙ room_list (l ++ c ∷ []) (f ++ b) h)
 
-pub all_added : (l : List Entry) (s : List Stop) → add_stops [] l s ≡ some (l, s)
+pub all_added : (l : List Entry) (s : List Stop) → add_stops [] l s ≡ Some (l, s)
 unfolding add_stops
 all_added l s = refl

@@ -1,10 +1,10 @@
 -- One pass over the stops of two groups. At each turn what is left to add, to the stops that are written so far and to those that are still to come, is
 -- the whole answer; and past what is written the arrays are as they were. Assumes nothing.
+use Rattle.std.specs.Prelude.{None, Option, Some}
 use Prim.Native.Nat.{ℕ, ◌+◌, ◌-◌, ◌≤◌, ◌<◌}
 use mathlib.Core.Path.{◌≡◌, refl, sym, ap, ◌∙◌, subst}
 use mathlib.Core.Bool.{Bool, true, false, cond}
 use mathlib.Core.Logic.{◌⊎◌, inl, inr}
-use mathlib.Core.Option.{Option, none, some}
 use mathlib.Core.List.{List, [], ◌∷◌, ◌++◌, append_assoc}
 use native.Mathlib.Numerals.{add-one}
 use native.Mathlib.Omega.{arith}
@@ -60,7 +60,7 @@ module _ (own other : List Stop) (own-list : List Entry) (n m : ℕ) (whole : Op
   abbrev pub After : Turn → Type 0
   After (Put z a b) = (0 < a + b) × Merging own other own-list n m whole list (set out k z) at (i + a) (j + b) (k + 1)
   After (Enter e) = Merging own other own-list n m whole (set list at e) out (at + 1) (i + 1) (j + 1) k
-  After Full = whole ≡ none
+  After Full = whole ≡ None
 
 module _ (own other : List Stop) (own-list : List Entry) (n m : ℕ) where
   pub starts : (list : List Entry) (at : ℕ) → n ≤ 128 → at ≤ 128 → length list ≡ 128 → length own ≡ 128 → drop at list ≡ drop at own-list → rising_from 0 (take m other) ≡ true →
@@ -157,7 +157,7 @@ module _ (own other : List Stop) (own-list : List Entry) (n m : ℕ) where
           (rest_x ∙ comes x xs l f (drop i (take n own)) below p l_few (omega (arith, h, back_long, both_long (drop i (take n own)) x)))
           (rise_zero x xs rising_x) (under_next x.vertex.0 f x xs (rise_rest x xs rising_x) below (omega arith))
 
-      no_room : 128 ≤ k + (n - i) → whole ≡ none
+      no_room : 128 ≤ k + (n - i) → whole ≡ None
       no_room h = rest_x ∙ comes_full x xs l f (drop i (take n own)) below p l_few (omega (arith, h, back_long, both_long (drop i (take n own)) x))
 
       -- told by a count of stops that is full where they are
@@ -213,7 +213,7 @@ module _ (own other : List Stop) (own-list : List Entry) (n m : ℕ) where
           pushed_long : length (l ++ c ∷ []) ≡ at + 1
           pushed_long = omega (arith, length-append l (c ∷ []), l_long)
 
-          list_full : 128 ≤ at → whole ≡ none
+          list_full : 128 ≤ at → whole ≡ None
           list_full z = rest_y ∙ meets_full x y xs l f t below e c (joins x y l f t (pair_of x.obstacle) (pair_of y.obstacle) a b q) (omega (arith, z, pushed_long))
 
           joined : at < 128 → Merging own other own-list n m whole (set list at c) out (at + 1) (i + 1) (j + 1) k
@@ -263,7 +263,7 @@ module _ (own other : List Stop) (own-list : List Entry) (n m : ℕ) where
   -- ---- all others are added: what is left of the own stops follows
   module _ (own-long : n ≤ length own) (other-long : m ≤ length other) (whole : Option Lists) (list : List Entry) (out : List Stop) (at i j k : ℕ)
       (M : Merging own other own-list n m whole list out at i j k) (mj : m ≤ j) where
-    pub ended : whole ≡ some (take at list, take k out ++ drop i (take n own))
+    pub ended : whole ≡ Some (take at list, take k out ++ drop i (take n own))
     ended = M.rest ∙ ap (λ (t : List Stop). add_stops t (take at list) (take k out ++ drop i (take n own))) (spent m j other mj other-long) ∙ all_added (take at list) (take k out ++ drop i (take n own))
 
     list_bytes : list ≡ over (take at list) own-list

@@ -44,8 +44,7 @@ fn turn_of(x: Stop, y: Stop, stops: usize, listed: usize) -> Turn
     if x.vertex.0 < y.vertex.0 {
         return comes_in(x, stops);
     }
-    let t = group_stops::meeting_of(x, y);
-    match t {
+    match group_stops::meeting_of(x, y) {
         Meeting::Keep => Turn::Put(y, 1, 1),
         Meeting::Replace => Turn::Put(x, 1, 1),
         Meeting::Join(a, b) => {
@@ -102,6 +101,7 @@ pub fn merged(g: Group, list: List, listed: usize, other: Stops, m: usize) -> Ch
     let mut i: usize = 0;
     let mut j: usize = 0;
     let mut k: usize = 0;
+    // Each turn ends with one of the other's stops, one of the own, or one of both: how many turns there are shows only on the way.
     while j < m {
         let x = other[j];
         let mut turn = comes_in(x, k);
@@ -112,15 +112,15 @@ pub fn merged(g: Group, list: List, listed: usize, other: Stops, m: usize) -> Ch
         match turn {
             Turn::Put(z, a, b) => {
                 out[k] = z;
-                k = k + 1;
-                i = i + a;
-                j = j + b;
+                k += 1;
+                i += a;
+                j += b;
             }
             Turn::Enter(e) => {
                 entries[at] = e;
-                at = at + 1;
-                i = i + 1;
-                j = j + 1;
+                at += 1;
+                i += 1;
+                j += 1;
             }
             Turn::Full => return refused(g),
         }

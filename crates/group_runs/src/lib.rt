@@ -18,14 +18,7 @@ pub fn entries_laid(
     ensures { result ≡ laid_at at list from n more }
 {
     let mut r = list;
-    let mut a = from;
-    let mut q = at;
-    while a < n {
-        let e = more[a];
-        r[q] = e;
-        a = a + 1;
-        q = q + 1;
-    }
+    r[at..at + (n - from)].copy_from_slice(&more[from..n]);
     r
 }
 
@@ -40,13 +33,6 @@ pub fn stops_laid(
     ensures { result ≡ laid_at at stops from n more }
 {
     let mut r = stops;
-    let mut a = from;
-    let mut q = at;
-    while a < n {
-        let s = more[a];
-        r[q] = s;
-        a = a + 1;
-        q = q + 1;
-    }
+    r[at..at + (n - from)].copy_from_slice(&more[from..n]);
     r
 }

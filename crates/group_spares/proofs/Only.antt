@@ -1,15 +1,10 @@
 -- No second answer: two results that meet the contract are one, the group byte for byte. Assumes nothing.
-use Prim.Native.Nat.{ℕ}
-use mathlib.Core.Path.{◌≡◌, sym, ap, ◌∙◌}
-use mathlib.Core.Option.{Option}
-use Rattle.kinds.specs.declared.Obstacle.{Obstacle}
-use Rattle.ledger_spec.specs.Groups.{Group}
+use mathlib.Core.Path.{◌≡◌, sym, ◌∙◌}
 use Rattle.ledger_sparing.specs.Sparing.{pop_sparing}
 use Rattle.groups.specs.View.{group_of}
 use Rattle.groups.specs.declared.Group.{Group as Code}
 use Rattle.group_takes.specs.Takes.{shown_popped, after}
 use Rattle.group_takes.specs.declared.Popped.{Popped}
-use Rattle.group_takes.proofs.Only.{maybe_same}
 
 module _ (g : Code) where
   abbrev left : Code
@@ -18,6 +13,6 @@ module _ (g : Code) where
   pub only_pop_sparing_stops : (r s : Popped) → shown_popped r ≡ pop_sparing (group_of g) → r.group ≡ left → shown_popped s ≡ pop_sparing (group_of g) → s.group ≡ left → r ≡ s
   only_pop_sparing_stops r s p a q b = λ i. record {
     number = ((p ∙ sym q) i).0;
-    obstacle = maybe_same r.obstacle s.obstacle (ap (λ (x : ℕ × (Option Obstacle × Group)). x.1.0) (p ∙ sym q)) i;
+    obstacle = ((p ∙ sym q) i).1.0;
     group = (a ∙ sym b) i;
   }

@@ -1,10 +1,10 @@
 -- What the pop that spares the stops answers and leaves of a group by value: the other pop's where the list is empty, the very group where it is refused, and
 -- else the group with one entry fewer. Assumes nothing.
+use Rattle.std.specs.Prelude.{Option}
 use Prim.Native.Nat.{ℕ, zero, suc, ◌-◌, ◌≤◌, ◌<◌}
 use mathlib.Core.Path.{◌≡◌, refl, sym, ap, ap₂, ◌∙◌}
 use mathlib.Core.Logic.{◌≢◌}
 use mathlib.Core.Bool.{true, false, true≢false}
-use mathlib.Core.Option.{Option}
 use mathlib.Core.List.{List}
 use native.Mathlib.Omega.{arith}
 use lib.ListN.{length}
@@ -21,8 +21,7 @@ use Rattle.groups.specs.declared.Kind.{Kind}
 use Rattle.groups.specs.declared.Kind.TheVariants.{Growth, Conflicts}
 use Rattle.groups.specs.declared.Group.{Group as Code}
 use Rattle.groups.proofs.View.{same, view_laid, view_conflicts, list_is, stops_over, listed_is, stopped_is, sound_counts}
-use Rattle.group_takes.specs.Takes.{maybe, after}
-use Rattle.group_takes.specs.declared.MaybeObstacle.{MaybeObstacle}
+use Rattle.group_takes.specs.Takes.{after}
 use Rattle.group_takes.proofs.Tops.{front_over, front_long}
 
 abbrev Turn : Type 0
@@ -30,8 +29,8 @@ Turn = ℕ × (Option Obstacle × Group)
 
 module _ (g : Code) where
   -- a call's number, answer and group
-  abbrev pub Spares : ℕ → MaybeObstacle → Code → Type 0
-  Spares n o r = ((n, (maybe o, group_of r)) ≡ pop_sparing (group_of g)) × (r ≡ after (pop_sparing (group_of g)).0 (pop_sparing (group_of g)).1.1 g)
+  abbrev pub Spares : ℕ → Option Obstacle → Code → Type 0
+  Spares n o r = ((n, (o, group_of r)) ≡ pop_sparing (group_of g)) × (r ≡ after (pop_sparing (group_of g)).0 (pop_sparing (group_of g)).1.1 g)
 
   abbrev leaves : Turn → Code
   leaves t = after t.0 t.1.1 g
@@ -42,7 +41,7 @@ module _ (g : Code) where
   by_kind (Growth l f) e = refl
   by_kind Conflicts e = ap (λ (n : ℕ). one_empty (conflicts (counted no_entry n g.list) (stops_of g))) e
 
-  pub spares_none : (n : ℕ) (o : MaybeObstacle) (r : Code) → g.listed ≡ 0 → (n, (maybe o, group_of r)) ≡ pop (group_of g) → r ≡ after (pop (group_of g)).0 (pop (group_of g)).1.1 g → Spares n o r
+  pub spares_none : (n : ℕ) (o : Option Obstacle) (r : Code) → g.listed ≡ 0 → (n, (o, group_of r)) ≡ pop (group_of g) → r ≡ after (pop (group_of g)).0 (pop (group_of g)).1.1 g → Spares n o r
   spares_none n o r e p q =
       let a : pop_sparing (group_of g) ≡ pop (group_of g) = agree_where (group_of g) (by_kind g.kind e) in
       (p ∙ sym a, q ∙ sym (ap leaves a))
@@ -58,11 +57,11 @@ module _ (g : Code) where
   kind_is Conflicts e = refl
 
   -- ---- what peek answered
-  module _ (n : ℕ) (o : MaybeObstacle) (p : (n, maybe o) ≡ peek (group_of g)) where
+  module _ (n : ℕ) (o : Option Obstacle) (p : (n, o) ≡ peek (group_of g)) where
     numbered : n ≡ (pop_sparing (group_of g)).0
     numbered = ap (λ (t : ℕ × Option Obstacle). t.0) (p ∙ sym (peek_serves (group_of g)))
 
-    answered : maybe o ≡ (pop_sparing (group_of g)).1.0
+    answered : o ≡ (pop_sparing (group_of g)).1.0
     answered = ap (λ (t : ℕ × Option Obstacle). t.1) (p ∙ sym (peek_serves (group_of g)))
 
     pub spares_refused : n ≢ 0 → Spares n o g

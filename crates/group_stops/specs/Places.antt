@@ -1,8 +1,7 @@
 -- A list changed at a place; where a vertex stands among stops; and what becomes of two stops at one vertex. Assumes nothing.
-use Rattle.std.specs.Prelude.{ℕ, suc, cond, List, [], ◌∷◌, ◌++◌, eqb, ltb, take, drop}
+use Rattle.std.specs.Prelude.{None, Option, Some, ℕ, suc, cond, List, [], ◌∷◌, ◌++◌, eqb, ltb, take, drop}
+use Rattle.kinds.specs.declared.Pair.{Pair}
 use Rattle.kinds.specs.Names.{same_code}
-use Rattle.kinds.specs.declared.MaybePair.{MaybePair}
-use Rattle.kinds.specs.declared.MaybePair.TheVariants.{NoPair, WithPair}
 use Rattle.kinds.specs.declared.Stop.{Stop}
 use Rattle.group_stops.specs.declared.Spot.{Spot}
 use Rattle.group_stops.specs.declared.Spot.TheVariants.{Free, Held}
@@ -24,7 +23,7 @@ unfoldable pub spot_of : ℕ → ℕ → List Stop → Spot
 spot_of i v [] = Free i
 spot_of i v (y ∷ s) = cond (ltb v y.vertex.0) (Free i) (cond (eqb v y.vertex.0) (Held i y) (spot_of (suc i) v s))
 
-unfoldable pub meeting_of : MaybePair → MaybePair → Meeting
-meeting_of NoPair q = Keep
-meeting_of (WithPair p) NoPair = Replace
-meeting_of (WithPair p) (WithPair q) = cond (same_code p.node q.node) Keep (Join p q)
+unfoldable pub meeting_of : Option Pair → Option Pair → Meeting
+meeting_of None q = Keep
+meeting_of (Some p) None = Replace
+meeting_of (Some p) (Some q) = cond (same_code p.node q.node) Keep (Join p q)

@@ -7,9 +7,9 @@ ghost use Rattle.groups.specs.View.{over};
 ghost use Rattle.group_stops.specs.Places.{inserted_at, removed_at, spot_of, meeting_of};
 
 use groups::Group;
-use kinds::{MaybePair, Pair, Stop, Vertex};
+use kinds::{Pair, Stop, Vertex};
 
-// Where a vertex stands among the pending stops: a free place, or the stop that is pending there.
+// Where a vertex stands among the pending stops: a free place, or the stop that is pending there. (A search's Result would call one of two answers an error.)
 #[derive(Clone, Copy)]
 pub enum Spot {
     Free(usize),
@@ -24,26 +24,19 @@ pub enum Meeting {
     Join(Pair, Pair),
 }
 
+#[tactic(auto, unfolding(crate::specs::Places::meeting_of))]
 pub fn meeting_of(x: Stop, y: Stop) -> Meeting
     ensures { result ≡ meeting_of (pair_of x.obstacle) (pair_of y.obstacle) }
 {
-    let o = x.obstacle;
-    let q = y.obstacle;
-    let mine = o.pair();
-    let old = q.pair();
-    match mine {
-        MaybePair::NoPair => Meeting::Keep,
-        MaybePair::WithPair(a) => match old {
-            MaybePair::NoPair => Meeting::Replace,
-            MaybePair::WithPair(b) => {
-                let m = a.node;
-                let n = b.node;
-                if m.same(n) {
-                    return Meeting::Keep;
-                }
-                Meeting::Join(a, b)
+    match (x.obstacle.pair(), y.obstacle.pair()) {
+        (None, _) => Meeting::Keep,
+        (Some(_), None) => Meeting::Replace,
+        (Some(a), Some(b)) => {
+            if a.node == b.node {
+                return Meeting::Keep;
             }
-        },
+            Meeting::Join(a, b)
+        }
     }
 }
 
@@ -51,18 +44,15 @@ pub fn spot_of(stops: [Stop; Group::MOST], n: usize, v: Vertex) -> Spot
     requires { n ≤ 128 }
     ensures { result ≡ spot_of 0 v.0 (take n stops) }
 {
-    let mut i: usize = 0;
-    while i < n {
-        let y = stops[i];
+    for (i, y) in stops[..n].iter().enumerate() {
         if v.0 < y.vertex.0 {
             return Spot::Free(i);
         }
         if v.0 == y.vertex.0 {
-            return Spot::Held(i, y);
+            return Spot::Held(i, *y);
         }
-        i = i + 1;
     }
-    Spot::Free(i)
+    Spot::Free(n)
 }
 
 // x comes in at p, and those from p on move up.
@@ -71,15 +61,8 @@ pub fn put_in(stops: [Stop; Group::MOST], n: usize, p: usize, x: Stop) -> [Stop;
     ensures { result ≡ over (inserted_at p x (take n stops)) stops }
 {
     let mut r = stops;
-    let mut carried = x;
-    let mut j = p;
-    while j < n {
-        let s = r[j];
-        r[j] = carried;
-        carried = s;
-        j = j + 1;
-    }
-    r[n] = carried;
+    r.copy_within(p..n, p + 1);
+    r[p] = x;
     r
 }
 
@@ -89,13 +72,6 @@ pub fn taken_out(stops: [Stop; Group::MOST], n: usize, p: usize) -> [Stop; Group
     ensures { result ≡ over (removed_at p (take n stops)) stops }
 {
     let mut r = stops;
-    let last = n - 1;
-    let mut j = p;
-    while j < last {
-        let up = j + 1;
-        let s = r[up];
-        r[j] = s;
-        j = up;
-    }
+    r.copy_within(p + 1..n, p);
     r
 }

@@ -1,4 +1,3 @@
-pub mod Down
 pub mod Tops
 pub mod Taking
 pub mod Only

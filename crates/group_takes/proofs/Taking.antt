@@ -1,8 +1,8 @@
 -- What peek and pop answer, once it is known whether the group is sound and of which kind it is, and the group that pop leaves. Assumes nothing.
+use Rattle.std.specs.Prelude.{Option, None}
 use Prim.Native.Nat.{ℕ, ◌-◌, ◌≤◌}
 use mathlib.Core.Path.{◌≡◌, refl, sym, ap, ap₂, ◌∙◌}
 use mathlib.Core.Bool.{Bool, true, false, not}
-use mathlib.Core.Option.{Option, none}
 use mathlib.Core.List.{List, [], ◌∷◌}
 use lib.IntN.{ℤ}
 use lib.ListN.{length, take, get_or}
@@ -17,8 +17,7 @@ use Rattle.groups.specs.View.{list_of, stops_of, group_of, laid}
 use Rattle.groups.specs.declared.Kind.TheVariants.{Growth, Conflicts}
 use Rattle.groups.specs.declared.Group.{Group as Code}
 use Rattle.groups.proofs.View.{same, view_laid, view_growth, view_conflicts, list_is, stops_is}
-use Rattle.group_takes.specs.Takes.{maybe, top_by, shifted, after}
-use Rattle.group_takes.specs.declared.MaybeObstacle.{MaybeObstacle}
+use Rattle.group_takes.specs.Takes.{top_by, shifted, after}
 use Rattle.group_takes.proofs.Tops.{top_is, front_over, front_long, rest_over, rest_long}
 
 -- ---- BROKEN, then KIND, then the answer
@@ -40,59 +39,59 @@ module _ {A : Type 0} (q : Group) (v z : A) where
   passed s k = tests_are true false s k
 
 module _ (g : Code) where
-  pub peek_broken : sound_group (group_of g) ≡ false → (2, none) ≡ peek (group_of g)
+  pub peek_broken : sound_group (group_of g) ≡ false → (2, None) ≡ peek (group_of g)
   unfolding peek
-  peek_broken s = sym (broken (group_of g) (last_in (group_of g)) none s)
+  peek_broken s = sym (broken (group_of g) (last_in (group_of g)) None s)
 
-  pop_broken : sound_group (group_of g) ≡ false → pop (group_of g) ≡ (2, (none, group_of g))
+  pop_broken : sound_group (group_of g) ≡ false → pop (group_of g) ≡ (2, (None, group_of g))
   unfolding pop
-  pop_broken s = broken (group_of g) (last_in (group_of g), after_pop (group_of g)) (none, group_of g) s
+  pop_broken s = broken (group_of g) (last_in (group_of g), after_pop (group_of g)) (None, group_of g) s
 
   -- what a pop answers and leaves, from what the ledger's pop answers
-  abbrev Pops : ℕ → MaybeObstacle → Code → Type 0
-  Pops n o r = ((n, (maybe o, group_of r)) ≡ pop (group_of g)) × (r ≡ after (pop (group_of g)).0 (pop (group_of g)).1.1 g)
+  abbrev Pops : ℕ → Option Obstacle → Code → Type 0
+  Pops n o r = ((n, (o, group_of r)) ≡ pop (group_of g)) × (r ≡ after (pop (group_of g)).0 (pop (group_of g)).1.1 g)
 
   abbrev leaves : ℕ × (Option Obstacle × Group) → Code
   leaves p = after p.0 p.1.1 g
 
-  pub pops_broken : sound_group (group_of g) ≡ false → ((2, (none, group_of g)) ≡ pop (group_of g)) × (g ≡ after (pop (group_of g)).0 (pop (group_of g)).1.1 g)
+  pub pops_broken : sound_group (group_of g) ≡ false → ((2, (None, group_of g)) ≡ pop (group_of g)) × (g ≡ after (pop (group_of g)).0 (pop (group_of g)).1.1 g)
   unfolding after
   pops_broken s = (sym (pop_broken s), sym (ap leaves (pop_broken s)))
 
   -- ---- a growth
   module _ (s : sound_group (group_of g) ≡ true) (l : ℤ) (f : Bool) (k : g.kind ≡ Growth l f) where
-    pub peek_growth : (10, none) ≡ peek (group_of g)
+    pub peek_growth : (10, None) ≡ peek (group_of g)
     unfolding peek
-    peek_growth = sym (kind (group_of g) (last_in (group_of g)) none s (ap is_growth (view_growth g l f k)))
+    peek_growth = sym (kind (group_of g) (last_in (group_of g)) None s (ap is_growth (view_growth g l f k)))
 
-    pop_growth : pop (group_of g) ≡ (10, (none, group_of g))
+    pop_growth : pop (group_of g) ≡ (10, (None, group_of g))
     unfolding pop
-    pop_growth = kind (group_of g) (last_in (group_of g), after_pop (group_of g)) (none, group_of g) s (ap is_growth (view_growth g l f k))
+    pop_growth = kind (group_of g) (last_in (group_of g), after_pop (group_of g)) (None, group_of g) s (ap is_growth (view_growth g l f k))
 
-    pub pops_growth : ((10, (none, group_of g)) ≡ pop (group_of g)) × (g ≡ after (pop (group_of g)).0 (pop (group_of g)).1.1 g)
+    pub pops_growth : ((10, (None, group_of g)) ≡ pop (group_of g)) × (g ≡ after (pop (group_of g)).0 (pop (group_of g)).1.1 g)
     unfolding after
     pops_growth = (sym pop_growth, sym (ap leaves pop_growth))
 
   -- ---- conflicts
   module _ (s : sound_group (group_of g) ≡ true) (k : g.kind ≡ Conflicts) (h : g.listed ≤ length g.list) (i : g.stopped ≤ length g.stops) (d : Entry) (x : Stop) where
-    abbrev top : MaybeObstacle
+    abbrev top : Option Obstacle
     top = top_by g.listed (get_or g.list (g.listed - 1) d) g.stopped (get_or g.stops 0 x)
 
-    top_there : maybe top ≡ last_in (group_of g)
+    top_there : top ≡ last_in (group_of g)
     top_there = top_is g.listed g.stopped g.list g.stops d x h i
         ∙ ap₂ last_of (sym (list_is g h)) (sym (stops_is g i)) ∙ sym (ap last_in (view_conflicts g k))
 
-    pub peek_conflicts : (o : MaybeObstacle) → o ≡ top → (0, maybe o) ≡ peek (group_of g)
+    pub peek_conflicts : (o : Option Obstacle) → o ≡ top → (0, o) ≡ peek (group_of g)
     unfolding peek
-    peek_conflicts o e = ap (λ (w : Option Obstacle). (0, w)) (ap maybe e ∙ top_there)
-        ∙ sym (passed (group_of g) (last_in (group_of g)) none s (ap is_growth (view_conflicts g k)))
+    peek_conflicts o e = ap (λ (w : Option Obstacle). (0, w)) (e ∙ top_there)
+        ∙ sym (passed (group_of g) (last_in (group_of g)) None s (ap is_growth (view_conflicts g k)))
 
     left : Code
     left = laid (popped (list_of g) (stops_of g)) g
 
-    pop_conflicts : pop (group_of g) ≡ (0, (maybe top, popped (list_of g) (stops_of g)))
+    pop_conflicts : pop (group_of g) ≡ (0, (top, popped (list_of g) (stops_of g)))
     unfolding pop
-    pop_conflicts = passed (group_of g) (last_in (group_of g), after_pop (group_of g)) (none, group_of g) s (ap is_growth (view_conflicts g k))
+    pop_conflicts = passed (group_of g) (last_in (group_of g), after_pop (group_of g)) (None, group_of g) s (ap is_growth (view_conflicts g k))
         ∙ ap₂ (λ (o : Option Obstacle) (q : Group). (0, (o, q))) (sym top_there) (ap after_pop (view_conflicts g k))
 
     abbrev bytes : List Stop → ℕ → ℕ → Code
@@ -103,10 +102,10 @@ module _ (g : Code) where
         refl (front_over g.listed g.list h) (rest_over g.stopped g.stops i) (front_long g.listed g.list h) (rest_long g.stopped g.stops i)
         ∙ ap₂ (λ (l : List Entry) (t : List Stop). laid (popped l t) g) (sym (list_is g h)) (sym (stops_is g i))
 
-    pub pops_conflicts : (o : MaybeObstacle) (t : List Stop) (n m : ℕ) → o ≡ top → t ≡ shifted m g.stops → n ≡ g.listed - 1 → m ≡ g.stopped - 1 → Pops 0 o (bytes t n m)
+    pub pops_conflicts : (o : Option Obstacle) (t : List Stop) (n m : ℕ) → o ≡ top → t ≡ shifted m g.stops → n ≡ g.listed - 1 → m ≡ g.stopped - 1 → Pops 0 o (bytes t n m)
     unfolding after
     pops_conflicts o t n m eo et en em = (
-      (λ j. (0, (maybe (eo j), group_of (is j)))) ∙ ap (λ (q : Group). (0, (maybe top, q))) (view_laid (popped (list_of g) (stops_of g)) g) ∙ sym pop_conflicts,
+      (λ j. (0, (eo j, group_of (is j)))) ∙ ap (λ (q : Group). (0, (top, q))) (view_laid (popped (list_of g) (stops_of g)) g) ∙ sym pop_conflicts,
       is ∙ sym (ap leaves pop_conflicts),
     )
       where

@@ -1,8 +1,8 @@
 -- The one on top of the first n entries and the first m stops of two arrays, and what is left of them once it and the first stop are gone.
 -- Assumes nothing.
+use Rattle.std.specs.Prelude.{None, Some}
 use Prim.Native.Nat.{ℕ, zero, suc, ◌-◌, ◌≤◌, ◌<◌}
 use mathlib.Core.Path.{◌≡◌, refl, sym, ap, ◌∙◌}
-use mathlib.Core.Option.{some}
 use mathlib.Core.List.{List, [], ◌∷◌, ◌++◌}
 use native.Mathlib.Nat.{le_of_suc-le-suc}
 use native.Mathlib.Omega.{arith}
@@ -13,24 +13,23 @@ use Rattle.kinds.specs.declared.Stop.{Stop}
 use Rattle.ledger_spec.specs.Groups.{last_of, all_but_last}
 use Rattle.groups.specs.View.{over}
 use Rattle.groups.proofs.Lists.{over_same}
-use Rattle.group_takes.specs.Takes.{maybe, top_by}
-use Rattle.group_takes.specs.declared.MaybeObstacle.TheVariants.{NoObstacle, WithObstacle}
+use Rattle.group_takes.specs.Takes.{top_by}
 
-pub top_entry : (n m : ℕ) (e : Entry) (s : Stop) → 0 < n → WithObstacle e.obstacle ≡ top_by n e m s
+pub top_entry : (n m : ℕ) (e : Entry) (s : Stop) → 0 < n → Some e.obstacle ≡ top_by n e m s
 top_entry zero m e s h = absurd (omega arith)
 top_entry (suc n) m e s h = refl
 
-pub top_stop : (n m : ℕ) (e : Entry) (s : Stop) → n ≤ 0 → 0 < m → WithObstacle s.obstacle ≡ top_by n e m s
+pub top_stop : (n m : ℕ) (e : Entry) (s : Stop) → n ≤ 0 → 0 < m → Some s.obstacle ≡ top_by n e m s
 top_stop (suc n) m e s h k = absurd (omega arith)
 top_stop zero zero e s h k = absurd (omega arith)
 top_stop zero (suc m) e s h k = refl
 
-pub top_none : (n m : ℕ) (e : Entry) (s : Stop) → n ≤ 0 → m ≤ 0 → NoObstacle ≡ top_by n e m s
+pub top_none : (n m : ℕ) (e : Entry) (s : Stop) → n ≤ 0 → m ≤ 0 → None ≡ top_by n e m s
 top_none (suc n) m e s h k = absurd (omega arith)
 top_none zero zero e s h k = refl
 top_none zero (suc m) e s h k = absurd (omega arith)
 
-last_top : (l : List Entry) (s : List Stop) (d : Entry) (n : ℕ) → length l ≡ suc n → last_of l s ≡ some (get_or l n d).obstacle
+last_top : (l : List Entry) (s : List Stop) (d : Entry) (n : ℕ) → length l ≡ suc n → last_of l s ≡ Some (get_or l n d).obstacle
 unfolding last_of
 last_top [] s d n h = absurd (omega arith)
 last_top (e ∷ []) s d zero h = refl
@@ -38,12 +37,12 @@ last_top (e ∷ []) s d (suc n) h = absurd (omega arith)
 last_top (e ∷ f ∷ es) s d zero h = absurd (omega arith)
 last_top (e ∷ f ∷ es) s d (suc n) h = last_top (f ∷ es) s d n (omega arith)
 
-pub top_is : (n m : ℕ) (l : List Entry) (s : List Stop) (d : Entry) (x : Stop) → n ≤ length l → m ≤ length s → maybe (top_by n (get_or l (n - 1) d) m (get_or s 0 x)) ≡ last_of (take n l) (take m s)
+pub top_is : (n m : ℕ) (l : List Entry) (s : List Stop) (d : Entry) (x : Stop) → n ≤ length l → m ≤ length s → top_by n (get_or l (n - 1) d) m (get_or s 0 x) ≡ last_of (take n l) (take m s)
 unfolding last_of
 top_is (suc n) m l s d x h k =
     let e : length (take (suc n) l) ≡ suc n = length-take-le (suc n) l h in
     let z : suc n - 1 ≡ n = omega arith in
-    sym (last_top (take (suc n) l) (take m s) d n e ∙ ap (λ (i : Entry). some i.obstacle) (get_or-take (suc n) l n d (omega arith) ∙ ap (λ (i : ℕ). get_or l i d) (sym z)))
+    sym (last_top (take (suc n) l) (take m s) d n e ∙ ap (λ (i : Entry). Some i.obstacle) (get_or-take (suc n) l n d (omega arith) ∙ ap (λ (i : ℕ). get_or l i d) (sym z)))
 top_is zero zero l s d x h k = refl
 top_is zero (suc m) l [] d x h k = absurd (omega arith)
 top_is zero (suc m) l (y ∷ s) d x h k = refl

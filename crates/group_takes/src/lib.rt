@@ -9,24 +9,18 @@ ghost use Rattle.group_takes.specs.Takes.{top_by, shifted, shown_peeked, shown_p
 use groups::{Group, Kind};
 use kinds::{Entry, Obstacle, Stop, numbers};
 
-#[derive(Clone, Copy)]
-pub enum MaybeObstacle {
-    NoObstacle,
-    WithObstacle(Obstacle),
-}
-
 // A number, and what stands on top.
 #[derive(Clone, Copy)]
 pub struct Peeked {
     pub number: u8,
-    pub obstacle: MaybeObstacle,
+    pub obstacle: Option<Obstacle>,
 }
 
 // A number, what was taken, and the group that is left.
 #[derive(Clone, Copy)]
 pub struct Popped {
     pub number: u8,
-    pub obstacle: MaybeObstacle,
+    pub obstacle: Option<Obstacle>,
     pub group: Group,
 }
 
@@ -41,18 +35,16 @@ fn less(n: usize) -> usize
 }
 
 // Of n entries with e the last and m stops with s the first: the one on top.
-fn top_of(n: usize, e: Entry, m: usize, s: Stop) -> MaybeObstacle
+fn top_of(n: usize, e: Entry, m: usize, s: Stop) -> Option<Obstacle>
     ensures { result ≡ top_by n e m s }
 {
     if 0 < n {
-        let o = e.obstacle;
-        return MaybeObstacle::WithObstacle(o);
+        return Some(e.obstacle);
     }
     if 0 < m {
-        let o = s.obstacle;
-        return MaybeObstacle::WithObstacle(o);
+        return Some(s.obstacle);
     }
-    MaybeObstacle::NoObstacle
+    None
 }
 
 // The first stop goes, and the next n move down.
@@ -61,13 +53,7 @@ fn moved_down(stops: [Stop; Group::MOST], n: usize) -> [Stop; Group::MOST]
     ensures { result ≡ shifted n stops }
 {
     let mut r = stops;
-    let mut j: usize = 0;
-    while j < n {
-        let up = j + 1;
-        let s = r[up];
-        r[j] = s;
-        j = up;
-    }
+    r.copy_within(1..n + 1, 0);
     r
 }
 
@@ -77,14 +63,14 @@ pub fn peek(g: Group) -> Peeked
     if !groups::group_is_sound(g) {
         return Peeked {
             number: numbers::BROKEN,
-            obstacle: MaybeObstacle::NoObstacle,
+            obstacle: None,
         };
     }
     let kind = g.kind;
     match kind {
         Kind::Growth(_, _) => Peeked {
             number: numbers::KIND,
-            obstacle: MaybeObstacle::NoObstacle,
+            obstacle: None,
         },
         Kind::Conflicts => {
             let n = less(g.listed);
@@ -106,7 +92,7 @@ pub fn pop(g: Group) -> Popped
     if !groups::group_is_sound(g) {
         return Popped {
             number: numbers::BROKEN,
-            obstacle: MaybeObstacle::NoObstacle,
+            obstacle: None,
             group: g,
         };
     }
@@ -114,7 +100,7 @@ pub fn pop(g: Group) -> Popped
     match kind {
         Kind::Growth(_, _) => Popped {
             number: numbers::KIND,
-            obstacle: MaybeObstacle::NoObstacle,
+            obstacle: None,
             group: g,
         },
         Kind::Conflicts => {

@@ -1,9 +1,9 @@
 -- What each question is answered, once it is known whether the group is sound and of which kind it is; and the largest weight's test on a machine's
 -- bits. Assumes nothing.
+use Rattle.std.specs.Prelude.{None, Option}
 use Prim.Native.Nat.{ℕ}
 use mathlib.Core.Path.{◌≡◌, refl, sym, ap, ◌∙◌}
 use mathlib.Core.Bool.{Bool, true, false, not}
-use mathlib.Core.Option.{Option, none}
 use mathlib.Core.List.{List, [], ◌∷◌}
 use native.Mathlib.Omega.{arith}
 use borrow.Author.Tests.{ne_eqb}
@@ -41,9 +41,9 @@ module _ (q : Group) where
   unfolding is_active group_tests
   active_broken e = broken q [] (active q) false e
 
-  pub growth_broken : sound_group q ≡ false → (2, none) ≡ growth_of q
+  pub growth_broken : sound_group q ≡ false → (2, None) ≡ growth_of q
   unfolding growth_of
-  growth_broken e = broken q ((is_largest q, 21) ∷ []) (length_in q) none e
+  growth_broken e = broken q ((is_largest q, 21) ∷ []) (length_in q) None e
 
   module _ (p : Group) (s : sound_group q ≡ true) (k : q ≡ p) where
     pub empty_is : (w : Bool) → w ≡ is_largest p → (0, w) ≡ is_empty q
@@ -54,14 +54,14 @@ module _ (q : Group) where
     unfolding is_active group_tests said first
     active_is w e = ap (λ (b : Bool). (0, b)) (e ∙ sym (ap active k)) ∙ unbroken q [] (active q) false s
 
-    growth_at : said (first ((is_largest p, 21) ∷ [])) (length_in p) none ≡ growth_of q
+    growth_at : said (first ((is_largest p, 21) ∷ [])) (length_in p) None ≡ growth_of q
     unfolding growth_of
-    growth_at = ap (λ (r : Group). said (first ((is_largest r, 21) ∷ [])) (length_in r) none) (sym k) ∙ unbroken q ((is_largest q, 21) ∷ []) (length_in q) none s
+    growth_at = ap (λ (r : Group). said (first ((is_largest r, 21) ∷ [])) (length_in r) None) (sym k) ∙ unbroken q ((is_largest q, 21) ∷ []) (length_in q) None s
 
-    pub growth_largest : is_largest p ≡ true → (21, none) ≡ growth_of q
+    pub growth_largest : is_largest p ≡ true → (21, None) ≡ growth_of q
     unfolding said first
-    growth_largest e = sym (ap (λ (b : Bool). said (first ((b, 21) ∷ [])) (length_in p) none) e) ∙ growth_at
+    growth_largest e = sym (ap (λ (b : Bool). said (first ((b, 21) ∷ [])) (length_in p) None) e) ∙ growth_at
 
     pub growth_is : is_largest p ≡ false → (w : Option ℤ) → w ≡ length_in p → (0, w) ≡ growth_of q
     unfolding said first
-    growth_is e w f = ap (λ (o : Option ℤ). (0, o)) f ∙ sym (ap (λ (b : Bool). said (first ((b, 21) ∷ [])) (length_in p) none) e) ∙ growth_at
+    growth_is e w f = ap (λ (o : Option ℤ). (0, o)) f ∙ sym (ap (λ (b : Bool). said (first ((b, 21) ∷ [])) (length_in p) None) e) ∙ growth_at

@@ -1,12 +1,10 @@
 -- No second answer: two results that meet a function's contract are one, since each contract is an equation whose one side shows every field of the
 -- result. Assumes nothing.
+use Rattle.std.specs.Prelude.{None, Option, Some}
 use Prim.Native.Nat.{ℕ}
 use mathlib.Core.Path.{◌≡◌, refl, sym, ap, ◌∙◌}
 use mathlib.Core.Bool.{Bool}
-use mathlib.Core.Option.{Option, none, some}
 use lib.IntN.{ℤ}
-use Rattle.kinds.specs.declared.MaybeLength.{MaybeLength}
-use Rattle.kinds.specs.declared.MaybeLength.TheVariants.{NoLength, Length}
 use Rattle.ledger_spec.specs.Groups.{sound_group}
 use Rattle.ledger_spec.specs.GroupCalls.{is_empty, is_active, growth_of}
 use Rattle.groups.specs.View.{group_of}
@@ -18,13 +16,13 @@ use Rattle.groups.specs.declared.Asked.{Asked}
 told_same : (r s : Told) → shown_told r ≡ shown_told s → r ≡ s
 told_same r s e = λ i. record { number = (e i).0; yes = (e i).1 }
 
-abbrev length_back : Option ℤ → MaybeLength
-length_back none = NoLength
-length_back (some l) = Length l
+abbrev length_back : Option ℤ → Option ℤ
+length_back None = None
+length_back (Some l) = Some l
 
-length_back_lem : (m : MaybeLength) → length_back (maybe_length m) ≡ m
-length_back_lem NoLength = refl
-length_back_lem (Length l) = refl
+length_back_lem : (m : Option ℤ) → length_back (maybe_length m) ≡ m
+length_back_lem None = refl
+length_back_lem (Some l) = refl
 
 asked_same : (r s : Asked) → shown_asked r ≡ shown_asked s → r ≡ s
 asked_same r s e = λ i. record { number = (e i).0; length = same i }

@@ -1,10 +1,6 @@
 -- The empty group, byte for byte, and what the answers' fields say in the ledger's terms. Assumes nothing.
-use Rattle.std.specs.Prelude.{ℕ, Bool, false, ℤ, replicate}
-use Rattle.std.proofs.Math.Option.{Option, none, some}
+use Rattle.std.specs.Prelude.{None, Option, Some, ℕ, Bool, false, ℤ, replicate}
 use Rattle.kinds.specs.Names.{no_code}
-use Rattle.kinds.specs.declared.MaybePair.TheVariants.{NoPair}
-use Rattle.kinds.specs.declared.MaybeLength.{MaybeLength}
-use Rattle.kinds.specs.declared.MaybeLength.TheVariants.{NoLength, Length}
 use Rattle.kinds.specs.declared.Obstacle.TheVariants.{BlossomNeedExpand, VertexShrinkStop}
 use Rattle.ledger_spec.specs.Groups.{largest}
 use Rattle.groups.specs.declared.Kind.TheVariants.{Growth}
@@ -16,7 +12,7 @@ abbrev pub empty_of : Code
 empty_of = record {
   kind = Growth largest false;
   list = replicate 128 (record { obstacle = BlossomNeedExpand no_code });
-  stops = replicate 128 (record { vertex = record { 0 = 0 }; obstacle = VertexShrinkStop no_code NoPair });
+  stops = replicate 128 (record { vertex = record { 0 = 0 }; obstacle = VertexShrinkStop no_code None });
   listed = 0;
   stopped = 0;
 }
@@ -24,9 +20,9 @@ empty_of = record {
 abbrev pub shown_told : Told → ℕ × Bool
 shown_told r = (r.number, r.yes)
 
-abbrev pub maybe_length : MaybeLength → Option ℤ
-maybe_length NoLength = none
-maybe_length (Length l) = some l
+abbrev pub maybe_length : Option ℤ → Option ℤ
+maybe_length None = None
+maybe_length (Some l) = Some l
 
 abbrev pub shown_asked : Asked → ℕ × Option ℤ
 shown_asked r = (r.number, maybe_length r.length)

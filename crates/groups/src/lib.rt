@@ -7,8 +7,9 @@ ghost use Rattle.ledger_spec.specs.GroupCalls.{is_empty, is_active, growth_of};
 ghost use Rattle.groups.specs.View.{group_of};
 ghost use Rattle.groups.specs.Shown.{empty_of, shown_told, shown_asked};
 
-use kinds::{Entry, Handle, MaybeLength, MaybePair, Obstacle, Stop, Vertex, numbers};
+use kinds::{Entry, Handle, Obstacle, Stop, Vertex, numbers};
 
+// (No Option of the growth: `None` for a group with conflicts would say nothing.)
 #[derive(Clone, Copy)]
 pub enum Kind {
     Growth(i64, bool),
@@ -40,7 +41,7 @@ pub struct Told {
 #[derive(Clone, Copy)]
 pub struct Asked {
     pub number: u8,
-    pub length: MaybeLength,
+    pub length: Option<i64>,
 }
 
 // (largest weight, no)
@@ -53,7 +54,7 @@ pub fn empty_group() -> Group
     };
     let s = Stop {
         vertex: Vertex(0),
-        obstacle: Obstacle::VertexShrinkStop(h, MaybePair::NoPair),
+        obstacle: Obstacle::VertexShrinkStop(h, None),
     };
     let list = [e; Group::MOST];
     let stops = [s; Group::MOST];
@@ -70,16 +71,7 @@ fn are_listable(list: [Entry; Group::MOST], n: usize) -> bool
     requires { n ≤ 128 }
     ensures { result ≡ all_listable (take n list) }
 {
-    let mut i: usize = 0;
-    while i < n {
-        let e = list[i];
-        let o = e.obstacle;
-        if !o.is_listable() {
-            return false;
-        }
-        i = i + 1;
-    }
-    true
+    list[..n].iter().all(|e| e.obstacle.is_listable())
 }
 
 // Only stops, by strictly rising vertex.
@@ -88,11 +80,8 @@ fn are_rising(stops: [Stop; Group::MOST], n: usize) -> bool
     ensures { result ≡ rising_from 0 (take n stops) }
 {
     let mut least: u64 = 0;
-    let mut i: usize = 0;
-    while i < n {
-        let s = stops[i];
-        let o = s.obstacle;
-        if !o.is_stop() {
+    for s in &stops[..n] {
+        if !s.obstacle.is_stop() {
             return false;
         }
         let v = s.vertex.0 as u64;
@@ -100,7 +89,6 @@ fn are_rising(stops: [Stop; Group::MOST], n: usize) -> bool
             return false;
         }
         least = v + 1;
-        i = i + 1;
     }
     true
 }
@@ -188,7 +176,7 @@ pub fn get_none_zero_growth(g: Group) -> Asked
     if !group_is_sound(g) {
         return Asked {
             number: numbers::BROKEN,
-            length: MaybeLength::NoLength,
+            length: None,
         };
     }
     let kind = g.kind;
@@ -197,17 +185,17 @@ pub fn get_none_zero_growth(g: Group) -> Asked
             if length == Obstacle::LARGEST {
                 return Asked {
                     number: numbers::NOTHING,
-                    length: MaybeLength::NoLength,
+                    length: None,
                 };
             }
             Asked {
                 number: 0,
-                length: MaybeLength::Length(length),
+                length: Some(length),
             }
         }
         Kind::Conflicts => Asked {
             number: 0,
-            length: MaybeLength::NoLength,
+            length: None,
         },
     }
 }

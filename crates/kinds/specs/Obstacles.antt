@@ -1,18 +1,9 @@
 -- Obstacles: the small tests on them and what each case holds. Assumes nothing.
-use Rattle.std.specs.Prelude.{Bool, true, false, ◌&&◌, ◌||◌}
+use Rattle.std.specs.Prelude.{None, Option, Some, ℤ, Bool, true, false, ◌&&◌, ◌||◌}
+use Rattle.kinds.specs.declared.Vertex.{Vertex}
 use Rattle.kinds.specs.Names.{same_code}
 use Rattle.kinds.specs.declared.Handle.{Handle}
 use Rattle.kinds.specs.declared.Pair.{Pair}
-use Rattle.kinds.specs.declared.MaybePair.{MaybePair}
-use Rattle.kinds.specs.declared.MaybePair.TheVariants.{NoPair}
-use Rattle.kinds.specs.declared.MaybeLength.{MaybeLength}
-use Rattle.kinds.specs.declared.MaybeLength.TheVariants.{NoLength, Length}
-use Rattle.kinds.specs.declared.MaybeNode.{MaybeNode}
-use Rattle.kinds.specs.declared.MaybeNode.TheVariants.{NoNode, Node}
-use Rattle.kinds.specs.declared.MaybeNodes.{MaybeNodes}
-use Rattle.kinds.specs.declared.MaybeNodes.TheVariants.{NoNodes, Nodes}
-use Rattle.kinds.specs.declared.MaybeVirtual.{MaybeVirtual}
-use Rattle.kinds.specs.declared.MaybeVirtual.TheVariants.{NoVirtual, Virtual}
 use Rattle.kinds.specs.declared.Obstacle.{Obstacle}
 use Rattle.kinds.specs.declared.Obstacle.TheVariants.{NonZeroGrow, Conflicting, TouchingVirtual, BlossomNeedExpand, VertexShrinkStop}
 
@@ -32,11 +23,11 @@ is_stop (BlossomNeedExpand h) = false
 is_stop (VertexShrinkStop h p) = true
 
 -- the pair of a stop that has one
-abbrev pub pair_of : Obstacle → MaybePair
-pair_of (NonZeroGrow l f) = NoPair
-pair_of (Conflicting p q) = NoPair
-pair_of (TouchingVirtual p v m) = NoPair
-pair_of (BlossomNeedExpand h) = NoPair
+abbrev pub pair_of : Obstacle → Option Pair
+pair_of (NonZeroGrow l f) = None
+pair_of (Conflicting p q) = None
+pair_of (TouchingVirtual p v m) = None
+pair_of (BlossomNeedExpand h) = None
 pair_of (VertexShrinkStop h p) = p
 
 -- a conflict of a and b, in this order and in either
@@ -55,37 +46,37 @@ conflicting_of (VertexShrinkStop h p) a b = false
 
 -- ---- what each case holds
 
-abbrev pub length_of : Obstacle → MaybeLength
-length_of (NonZeroGrow l f) = Length l
-length_of (Conflicting p q) = NoLength
-length_of (TouchingVirtual p v m) = NoLength
-length_of (BlossomNeedExpand h) = NoLength
-length_of (VertexShrinkStop h p) = NoLength
+abbrev pub length_of : Obstacle → Option ℤ
+length_of (NonZeroGrow l f) = Some l
+length_of (Conflicting p q) = None
+length_of (TouchingVirtual p v m) = None
+length_of (BlossomNeedExpand h) = None
+length_of (VertexShrinkStop h p) = None
 
-abbrev pub nodes_of : Obstacle → MaybeNodes
-nodes_of (NonZeroGrow l f) = NoNodes
-nodes_of (Conflicting p q) = Nodes p.node q.node
-nodes_of (TouchingVirtual p v m) = NoNodes
-nodes_of (BlossomNeedExpand h) = NoNodes
-nodes_of (VertexShrinkStop h p) = NoNodes
+abbrev pub nodes_of : Obstacle → Option (Handle × Handle)
+nodes_of (NonZeroGrow l f) = None
+nodes_of (Conflicting p q) = Some (p.node, q.node)
+nodes_of (TouchingVirtual p v m) = None
+nodes_of (BlossomNeedExpand h) = None
+nodes_of (VertexShrinkStop h p) = None
 
-abbrev pub virtual_of : Obstacle → MaybeVirtual
-virtual_of (NonZeroGrow l f) = NoVirtual
-virtual_of (Conflicting p q) = NoVirtual
-virtual_of (TouchingVirtual p v m) = Virtual p.node v
-virtual_of (BlossomNeedExpand h) = NoVirtual
-virtual_of (VertexShrinkStop h p) = NoVirtual
+abbrev pub virtual_of : Obstacle → Option (Handle × Vertex)
+virtual_of (NonZeroGrow l f) = None
+virtual_of (Conflicting p q) = None
+virtual_of (TouchingVirtual p v m) = Some (p.node, v)
+virtual_of (BlossomNeedExpand h) = None
+virtual_of (VertexShrinkStop h p) = None
 
-abbrev pub expand_of : Obstacle → MaybeNode
-expand_of (NonZeroGrow l f) = NoNode
-expand_of (Conflicting p q) = NoNode
-expand_of (TouchingVirtual p v m) = NoNode
-expand_of (BlossomNeedExpand h) = Node h
-expand_of (VertexShrinkStop h p) = NoNode
+abbrev pub expand_of : Obstacle → Option Handle
+expand_of (NonZeroGrow l f) = None
+expand_of (Conflicting p q) = None
+expand_of (TouchingVirtual p v m) = None
+expand_of (BlossomNeedExpand h) = Some h
+expand_of (VertexShrinkStop h p) = None
 
-abbrev pub stop_of : Obstacle → MaybeNode
-stop_of (NonZeroGrow l f) = NoNode
-stop_of (Conflicting p q) = NoNode
-stop_of (TouchingVirtual p v m) = NoNode
-stop_of (BlossomNeedExpand h) = NoNode
-stop_of (VertexShrinkStop h p) = Node h
+abbrev pub stop_of : Obstacle → Option Handle
+stop_of (NonZeroGrow l f) = None
+stop_of (Conflicting p q) = None
+stop_of (TouchingVirtual p v m) = None
+stop_of (BlossomNeedExpand h) = None
+stop_of (VertexShrinkStop h p) = Some h

@@ -10,13 +10,13 @@ ghost use Rattle.kinds.specs.States.{against_of, blossom_of};
 ghost use Rattle.kinds.specs.Obstacles.{listable, is_stop, pair_of, these_of, both_of, conflicting_of};
 
 // Three counters that never stand in for one another.
-#[derive(Clone, Copy)]
+#[derive(Clone, Copy, PartialEq, Eq)]
 pub struct Serial(pub u32);
 
-#[derive(Clone, Copy)]
+#[derive(Clone, Copy, PartialEq, Eq)]
 pub struct NodeIndex(pub u32);
 
-#[derive(Clone, Copy)]
+#[derive(Clone, Copy, PartialEq, Eq)]
 pub struct Vertex(pub u32);
 
 impl Serial {
@@ -27,7 +27,7 @@ impl Serial {
 }
 
 // A node by its interface, its slot there, and its serial. It names a node only as long as that slot holds that serial.
-#[derive(Clone, Copy)]
+#[derive(Clone, Copy, PartialEq, Eq)]
 pub struct Handle {
     pub unit: u8,
     pub slot: u8,
@@ -49,22 +49,10 @@ impl Handle {
             serial: Serial(0),
         }
     }
-
-    pub fn same(self, other: Handle) -> bool
-        ensures { result ≡ same_code self other }
-    {
-        if self.unit != other.unit {
-            return false;
-        }
-        if self.slot != other.slot {
-            return false;
-        }
-        self.serial.0 == other.serial.0
-    }
 }
 
 // Whether a node's value rises, stays or falls as its tree grows: +1, 0, -1.
-#[derive(Clone, Copy)]
+#[derive(Clone, Copy, PartialEq, Eq)]
 pub enum GrowState {
     Grow,
     Stay,
@@ -76,24 +64,16 @@ impl GrowState {
     pub fn is_against(self, other: GrowState) -> bool
         ensures { result ≡ against_of self other }
     {
-        match self {
-            GrowState::Grow => match other {
-                GrowState::Grow => true,
-                GrowState::Stay => true,
-                GrowState::Shrink => false,
-            },
-            GrowState::Stay => match other {
-                GrowState::Grow => true,
-                GrowState::Stay => false,
-                GrowState::Shrink => false,
-            },
-            GrowState::Shrink => false,
-        }
+        matches!(
+            (self, other),
+            (GrowState::Grow, GrowState::Grow | GrowState::Stay)
+                | (GrowState::Stay, GrowState::Grow)
+        )
     }
 }
 
 // What a slot holds. An empty slot, and one emptied by expansion, holds no node.
-#[derive(Clone, Copy)]
+#[derive(Clone, Copy, PartialEq, Eq)]
 pub enum Class {
     Absent,
     Blossom,
@@ -104,32 +84,15 @@ impl Class {
     pub fn is_blossom(self) -> bool
         ensures { result ≡ blossom_of self }
     {
-        match self {
-            Class::Absent => false,
-            Class::Blossom => true,
-            Class::Defect(_) => false,
-        }
+        matches!(self, Class::Blossom)
     }
 }
 
-// The blossom that a node is a member of, if any.
-#[derive(Clone, Copy)]
-pub enum Parent {
-    Outermost,
-    Inside(Handle),
-}
-
 // A node, and the node of it that touches.
-#[derive(Clone, Copy)]
+#[derive(Clone, Copy, PartialEq, Eq)]
 pub struct Pair {
     pub node: Handle,
     pub touching: Handle,
-}
-
-#[derive(Clone, Copy)]
-pub enum MaybePair {
-    NoPair,
-    WithPair(Pair),
 }
 
 // What stands in the way of growing: the Rust's `MaxUpdateLength`, with its variants' names.
@@ -141,52 +104,20 @@ pub enum Obstacle {
     // A virtual vertex, and whether it is a mirror.
     TouchingVirtual(Pair, Vertex, bool),
     BlossomNeedExpand(Handle),
-    VertexShrinkStop(Handle, MaybePair),
-}
-
-#[derive(Clone, Copy)]
-pub enum MaybeLength {
-    NoLength,
-    Length(i64),
-}
-
-#[derive(Clone, Copy)]
-pub enum MaybeNode {
-    NoNode,
-    Node(Handle),
-}
-
-#[derive(Clone, Copy)]
-pub enum MaybeNodes {
-    NoNodes,
-    Nodes(Handle, Handle),
-}
-
-#[derive(Clone, Copy)]
-pub enum MaybeVirtual {
-    NoVirtual,
-    Virtual(Handle, Vertex),
+    VertexShrinkStop(Handle, Option<Pair>),
 }
 
 // The first nodes of two pairs are a and b, in this order.
 fn are_these(p: Pair, q: Pair, a: Handle, b: Handle) -> bool
     ensures { result ≡ these_of p q a b }
 {
-    let m = p.node;
-    let n = q.node;
-    if m.same(a) {
-        return n.same(b);
-    }
-    false
+    p.node == a && q.node == b
 }
 
 fn are_both(p: Pair, q: Pair, a: Handle, b: Handle) -> bool
     ensures { result ≡ both_of p q a b }
 {
-    if are_these(p, q, a, b) {
-        return true;
-    }
-    are_these(p, q, b, a)
+    are_these(p, q, a, b) || are_these(p, q, b, a)
 }
 
 impl Obstacle {
@@ -197,37 +128,25 @@ impl Obstacle {
     pub fn is_listable(self) -> bool
         ensures { result ≡ listable self }
     {
-        match self {
-            Obstacle::NonZeroGrow(_, _) => false,
-            Obstacle::Conflicting(_, _) => true,
-            Obstacle::TouchingVirtual(_, _, _) => true,
-            Obstacle::BlossomNeedExpand(_) => true,
-            Obstacle::VertexShrinkStop(_, _) => false,
-        }
+        !matches!(
+            self,
+            Obstacle::NonZeroGrow(_, _) | Obstacle::VertexShrinkStop(_, _)
+        )
     }
 
     pub fn is_stop(self) -> bool
         ensures { result ≡ is_stop self }
     {
-        match self {
-            Obstacle::NonZeroGrow(_, _) => false,
-            Obstacle::Conflicting(_, _) => false,
-            Obstacle::TouchingVirtual(_, _, _) => false,
-            Obstacle::BlossomNeedExpand(_) => false,
-            Obstacle::VertexShrinkStop(_, _) => true,
-        }
+        matches!(self, Obstacle::VertexShrinkStop(_, _))
     }
 
     // The pair of a stop that has one.
-    pub fn pair(self) -> MaybePair
+    pub fn pair(self) -> Option<Pair>
         ensures { result ≡ pair_of self }
     {
         match self {
-            Obstacle::NonZeroGrow(_, _) => MaybePair::NoPair,
-            Obstacle::Conflicting(_, _) => MaybePair::NoPair,
-            Obstacle::TouchingVirtual(_, _, _) => MaybePair::NoPair,
-            Obstacle::BlossomNeedExpand(_) => MaybePair::NoPair,
             Obstacle::VertexShrinkStop(_, p) => p,
+            _ => None,
         }
     }
 
@@ -236,11 +155,8 @@ impl Obstacle {
         ensures { result ≡ conflicting_of self a b }
     {
         match self {
-            Obstacle::NonZeroGrow(_, _) => false,
             Obstacle::Conflicting(p, q) => are_both(p, q, a, b),
-            Obstacle::TouchingVirtual(_, _, _) => false,
-            Obstacle::BlossomNeedExpand(_) => false,
-            Obstacle::VertexShrinkStop(_, _) => false,
+            _ => false,
         }
     }
 }

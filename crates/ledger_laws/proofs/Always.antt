@@ -1,9 +1,9 @@
 -- Every call keeps a sound bench sound, so that from set-up no call ever meets BROKEN. Assumes nothing.
+use Rattle.std.specs.Prelude.{Some}
 use Prim.Native.Nat.{ℕ, zero, suc, ◌≤◌, ◌<◌, ◌^◌}
 use mathlib.Core.Path.{◌≡◌, refl, sym, ◌∙◌, ap, subst}
 use mathlib.Core.Logic.{◌≢◌}
 use mathlib.Core.Bool.{Bool, true, false, ◌&&◌, true≢false}
-use mathlib.Core.Option.{some}
 use mathlib.Core.List.{List, [], ◌∷◌}
 use native.Mathlib.Omega.{arith}
 use lib.Dec.{ltb}
@@ -129,5 +129,5 @@ pub never_broken : (n : ℕ) → n < 2 ^ 32 → (cs : List Call) (c : Call) → 
 never_broken n h cs c e = true≢false (sym (always_sound n h cs) ∙ broken_only (turns (new_book n) cs).bench c e)
 
 -- in a floored interface no present node has a negative value, after any calls from set-up
-pub never_below : (n : ℕ) → n < 2 ^ 32 → (cs : List Call) (u s : ℕ) (m : Node) → floored (turns (new_book n) cs).bench u ≡ true → slot_of (turns (new_book n) cs).bench u s ≡ some m → le_z (pos 0) m.value ≡ true
+pub never_below : (n : ℕ) → n < 2 ^ 32 → (cs : List Call) (u s : ℕ) (m : Node) → floored (turns (new_book n) cs).bench u ≡ true → slot_of (turns (new_book n) cs).bench u s ≡ Some m → le_z (pos 0) m.value ≡ true
 never_below n h cs u s m f e = ap afloat (sym e) ∙ (turns_sound (new_book n) cs (begun_sound n h)).floors.values u s f

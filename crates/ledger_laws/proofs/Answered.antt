@@ -1,10 +1,10 @@
 -- An answer by its cases: a broken bench, a call that its tests refuse, a call that is done. What a refusal leaves, and how many notices there are.
 -- Assumes nothing.
+use Rattle.std.specs.Prelude.{None}
 use Prim.Native.Nat.{ℕ, zero, suc, ◌≤◌}
 use mathlib.Core.Path.{◌≡◌, refl, sym, ◌∙◌, ap, subst}
 use mathlib.Core.Logic.{◌≢◌}
 use mathlib.Core.Bool.{Bool, true, false}
-use mathlib.Core.Option.{none}
 use mathlib.Core.List.{List, [], ◌∷◌, map}
 use native.Mathlib.Omega.{arith}
 use lib.ListN.{length, length-append, length-map}
@@ -37,7 +37,7 @@ unfoldable pub deed_of : Bench → Call → Bench
 deed_of b (Defect u v) = add_defect b u v
 deed_of b (Blossom u hs ts) = add_blossom b u hs ts
 deed_of b (Expand u h) = remove_blossom b h
-deed_of b (SetState u h s) = mark b h s none
+deed_of b (SetState u h s) = mark b h s None
 deed_of b (Grow u l) = grow_by b u l
 deed_of b (Fuse p l r) = join b p l r
 deed_of b (Clear u) = wipe b u

@@ -1,10 +1,10 @@
 -- Reads and text lines: a refused read has no value, and on a sound bench neither a read nor a line ever answers BROKEN; lines keep the bench sound.
 -- Assumes nothing.
+use Rattle.std.specs.Prelude.{None, Some}
 use Prim.Native.Nat.{ℕ, zero, suc, ◌<◌, ◌^◌}
 use mathlib.Core.Path.{◌≡◌, refl, sym, ◌∙◌, ap}
 use mathlib.Core.Logic.{◌≢◌}
 use mathlib.Core.Bool.{Bool, true, false, ◌||◌, true≢false}
-use mathlib.Core.Option.{none, some}
 use mathlib.Core.List.{List, [], ◌∷◌, map}
 use native.Mathlib.Omega.{arith}
 use lib.Dec.{eqb}
@@ -59,15 +59,15 @@ ask_always n h cs z r = ask_true (turns (new_book n) cs).bench z r (always_sound
 -- ---- lines
 pub line_sound : (b : Bench) (l : Line) → Sound b → Sound (says b l).bench
 unfolding says calls checks
-line_sound b (some (D u v)) T = answered_sound b T (Defect u v)
-line_sound b (some (B u ks)) T = answered_sound b T (Blossom u (map (named b) ks) [])
-line_sound b (some (E u k)) T = answered_sound b T (Expand u (named b k))
-line_sound b (some (S u k s)) T = answered_sound b T (SetState u (named b k) s)
-line_sound b (some (G u l)) T = answered_sound b T (Grow u l)
-line_sound b (some (F p l r)) T = answered_sound b T (Fuse p l r)
-line_sound b (some (C u)) T = answered_sound b T (Clear u)
-line_sound b (some (K u)) T = T
-line_sound b none T = T
+line_sound b (Some (D u v)) T = answered_sound b T (Defect u v)
+line_sound b (Some (B u ks)) T = answered_sound b T (Blossom u (map (named b) ks) [])
+line_sound b (Some (E u k)) T = answered_sound b T (Expand u (named b k))
+line_sound b (Some (S u k s)) T = answered_sound b T (SetState u (named b k) s)
+line_sound b (Some (G u l)) T = answered_sound b T (Grow u l)
+line_sound b (Some (F p l r)) T = answered_sound b T (Fuse p l r)
+line_sound b (Some (C u)) T = answered_sound b T (Clear u)
+line_sound b (Some (K u)) T = T
+line_sound b None T = T
 
 pub lines_sound : (b : Bench) (ls : List Line) → Sound b → Sound (after_lines b ls)
 unfolding after_lines
@@ -109,12 +109,12 @@ check_not_two b u T e = unit_not_two b u (sym (shown_number (ask b (0, 0) (check
 
 pub line_not_broken : (b : Bench) (l : Line) → Sound b → (says b l).numbers.0 ≢ 2
 unfolding says
-line_not_broken b (some (D u v)) T = call_not_two b u (Defect u v) T
-line_not_broken b (some (B u ks)) T = call_not_two b u (Blossom u (map (named b) ks) []) T
-line_not_broken b (some (E u k)) T = call_not_two b u (Expand u (named b k)) T
-line_not_broken b (some (S u k s)) T = call_not_two b u (SetState u (named b k) s) T
-line_not_broken b (some (G u l)) T = call_not_two b u (Grow u l) T
-line_not_broken b (some (F p l r)) T = call_not_two b p (Fuse p l r) T
-line_not_broken b (some (C u)) T = call_not_two b u (Clear u) T
-line_not_broken b (some (K u)) T = check_not_two b u T
-line_not_broken b none T = λ e. omega (arith, e)
+line_not_broken b (Some (D u v)) T = call_not_two b u (Defect u v) T
+line_not_broken b (Some (B u ks)) T = call_not_two b u (Blossom u (map (named b) ks) []) T
+line_not_broken b (Some (E u k)) T = call_not_two b u (Expand u (named b k)) T
+line_not_broken b (Some (S u k s)) T = call_not_two b u (SetState u (named b k) s) T
+line_not_broken b (Some (G u l)) T = call_not_two b u (Grow u l) T
+line_not_broken b (Some (F p l r)) T = call_not_two b p (Fuse p l r) T
+line_not_broken b (Some (C u)) T = call_not_two b u (Clear u) T
+line_not_broken b (Some (K u)) T = check_not_two b u T
+line_not_broken b None T = λ e. omega (arith, e)

@@ -1,10 +1,10 @@
 -- The account: every step keeps the sum of each interface without a parent the values of the nodes in its tree and of what went from it since the
 -- last clear. An interface without slots has nothing gone, which fusing asks. Assumes nothing.
+use Rattle.std.specs.Prelude.{None, Option, Some}
 use Prim.Native.Nat.{ℕ, ◌≤◌, ◌<◌}
 use mathlib.Core.Path.{◌≡◌, refl, sym, ◌∙◌, ap, ap₂, subst, fun_ext}
 use mathlib.Core.Logic.{◌≢◌}
 use mathlib.Core.Bool.{Bool, true, false}
-use mathlib.Core.Option.{Option, none, some}
 use mathlib.Core.List.{List, [], ◌∷◌, map}
 use native.Mathlib.Omega.{arith}
 use native.Mathlib.Decide.{ℕ_discrete, dec_lt}
@@ -42,7 +42,7 @@ pub record Booked (b : Bench) (g : Gone) : Type 0 where
 
 -- ---- a slot changed: what leaves it goes to the book
 module _ (b : Bench) (F : Frame b) (u s : ℕ) (y : Option Node) (g g' : Gone) (u<8 : u < 8)
-    (within : length (interface b u).slots ≤ s → y ≡ none)
+    (within : length (interface b u).slots ≤ s → y ≡ None)
     (g-here : total (g' u) ≡ total (g u) +ℤ (worth (slot_of b u s) -ℤ worth y))
     (g-else : (w : ℕ) → w ≢ u → g' w ≡ g w)
     (bare' : set (interface b u).slots s y ≡ [] → g' u ≡ []) where
@@ -73,8 +73,8 @@ pub set_nil : (l : List (Option Node)) (s : ℕ) (y : Option Node) → set l s y
 set_nil l s y e = nil_of l (sym (length-set l s y) ∙ ap length e)
 
 restate_worth : (o : Option Node) (s : State) (p : Option Handle) → worth (restate o s p) ≡ worth o
-restate_worth none s p = refl
-restate_worth (some n) s p = refl
+restate_worth None s p = refl
+restate_worth (Some n) s p = refl
 
 pub mark_booked : (b : Bench) → Frame b → (h : Handle) (s : State) (p : Option Handle) (g : Gone) → Booked b g → Booked (mark b h s p) g
 unfolding mark
@@ -85,7 +85,7 @@ mark_booked b F h s p g K = go (dec_lt h.unit 8)
 
     go : Dec (h.unit < 8) → Booked (mark b h s p) g
     go (yes u<8) = place_booked b F h.unit h.slot (restate old s p) g g u<8
-        (λ out. ap (λ (o : Option Node). restate o s p) (get_or-eq_default (interface b h.unit).slots none out))
+        (λ out. ap (λ (o : Option Node). restate o s p) (get_or-eq_default (interface b h.unit).slots None out))
         (sym (ap (λ (z : ℤ). total (g h.unit) +ℤ (worth old -ℤ z)) (restate_worth old s p) ∙ ap (λ (z : ℤ). total (g h.unit) +ℤ z) (+ℤ_invr (worth old)) ∙ +ℤ_idr (total (g h.unit))))
         (λ w q. refl) (λ e. K.bare h.unit (set_nil (interface b h.unit).slots h.slot (restate old s p) e)) K
     go (no q) = subst (λ (c : Bench). Booked c g) (sym (mark_out b F h s p (omega arith))) K
@@ -127,8 +127,8 @@ push_booked b F u t n g u<8 free nil K = record {
 -- ---- growing: values move by their rates, the sum by the speed
 grown_worth : (l : ℤ) (o : Option Node) → worth (grow_slot l o) ≡ worth o +ℤ l *ℤ share o
 unfolding grow_slot
-grown_worth l none = sym (+ℤ_idl (l *ℤ pos 0) ∙ *ℤ-zero l)
-grown_worth l (some n) = refl
+grown_worth l None = sym (+ℤ_idl (l *ℤ pos 0) ∙ *ℤ-zero l)
+grown_worth l (Some n) = refl
 
 grown_values : (l : ℤ) (xs : List (Option Node)) → slot_sum worth (map (grow_slot l) xs) ≡ slot_sum worth xs +ℤ l *ℤ slot_sum share xs
 unfolding slot_sum

@@ -1,9 +1,9 @@
 -- After each call every node is one that stood before, or the new one: read slot by slot. Assumes nothing.
+use Rattle.std.specs.Prelude.{None, Option, Some}
 use Prim.Native.Nat.{ℕ, suc, ◌<◌}
 use mathlib.Core.Path.{◌≡◌, refl, sym, ◌∙◌, ap, ap₂, subst}
 use mathlib.Core.Logic.{◌≢◌, ◌⊎◌, inl, inr}
 use mathlib.Core.Bool.{Bool, true, false}
-use mathlib.Core.Option.{Option, none, some}
 use mathlib.Core.List.{List, [], ◌∷◌}
 use native.Mathlib.Omega.{arith}
 use native.Mathlib.Decide.{ℕ_discrete}
@@ -101,7 +101,7 @@ module _ (b : Bench) (S : Sound b) (u : ℕ) (hs : List Handle) (ts : List (Hand
 
   -- a member has its size still
   member_size : (h : Handle) → In h hs → size_of (node_named b' h) ≡ size_of (node_named b h)
-  member_size h i = ap size_of (has_node b' h (with_node N.node stays (some (new_handle b u))) (record { stands = blossom_member b u hs ts low h i (away b u hs ts P h i) ∙ ap (λ (o : Option Node). restate o stays (some (new_handle b u))) N.has.stands; serial = N.has.serial })) ∙ ap size_of (sym N.is)
+  member_size h i = ap size_of (has_node b' h (with_node N.node stays (Some (new_handle b u))) (record { stands = blossom_member b u hs ts low h i (away b u hs ts P h i) ∙ ap (λ (o : Option Node). restate o stays (Some (new_handle b u))) N.has.stands; serial = N.has.serial })) ∙ ap size_of (sym N.is)
     where
       N : Named b u h
       N = P.member h i
@@ -127,8 +127,8 @@ module _ (b : Bench) (S : Sound b) (u : ℕ) (hs : List Handle) (ts : List (Hand
       kept m off = inl (stem_same b b' w s x (blossom_off b u hs ts low w s m off) e)
 
       go : Place hs w s → Dec (w ≡ u) → Dec (s ≡ free_slot b u) → Stem b 0 w s x ⊎ New b b' w s x
-      go (hit h i f g) p q = inl (stem_restated b b' w s x stays (some (new_handle b u))
-          (ap₂ (slot_of b') (sym f) (sym g) ∙ blossom_member b u hs ts low h i (away b u hs ts P h i) ∙ ap₂ (λ (y z : ℕ). restate (slot_of b y z) stays (some (new_handle b u))) f g) e)
+      go (hit h i f g) p q = inl (stem_restated b b' w s x stays (Some (new_handle b u))
+          (ap₂ (slot_of b') (sym f) (sym g) ∙ blossom_member b u hs ts low h i (away b u hs ts P h i) ∙ ap₂ (λ (y z : ℕ). restate (slot_of b y z) stays (Some (new_handle b u))) f g) e)
       go (miss m) (yes p) (yes q) = inr (record {
         bare = ap₂ (slot_of b) p q ∙ bare b u;
         serial = ap (λ (n : Node). n.serial) x_is;
@@ -149,8 +149,8 @@ expand_came b S u h P w s x e = go (place_in (members (node_named b h)) w s) (�
     b'' = remove_blossom b h
 
     go : Place (members (node_named b h)) w s → Dec (h.unit ≡ w) → Dec (h.slot ≡ s) → Stem b 0 w s x ⊎ New b b'' w s x
-    go (hit g i f k) p q = inl (stem_restated b b'' w s x grows none
-        (ap₂ (slot_of b'') (sym f) (sym k) ∙ expand_member b h g i (far b S u h P g i) ∙ ap₂ (λ (y z : ℕ). restate (slot_of b y z) grows none) f k) e)
+    go (hit g i f k) p q = inl (stem_restated b b'' w s x grows None
+        (ap₂ (slot_of b'') (sym f) (sym k) ∙ expand_member b h g i (far b S u h P g i) ∙ ap₂ (λ (y z : ℕ). restate (slot_of b y z) grows None) f k) e)
     go (miss m) (yes p) (yes q) = absurd (none_some (expand_at b h (λ g i y z. far b S u h P g i (sym y) (sym z))) (ap₂ (slot_of b'') p q ∙ e))
     go (miss m) (yes p) (no q) = inl (stem_same b b'' w s x (expand_off b h w s m (λ a c. q c)) e)
     go (miss m) (no p) q = inl (stem_same b b'' w s x (expand_off b h w s m (λ a c. p a)) e)
@@ -180,13 +180,13 @@ pub grown_else : (b : Bench) (u : ℕ) (l : ℤ) (w : ℕ) → top b w ≢ u →
 unfolding grown moved
 grown_else b u l w e = ap (moved (nat_abs l)) (ne_eqb (top b w) u e)
 
-stem_grown : (b : Bench) (l : ℤ) (u s : ℕ) (x : Node) → grow_slot l (slot_of b u s) ≡ some x → Stem b (nat_abs l) u s x
+stem_grown : (b : Bench) (l : ℤ) (u s : ℕ) (x : Node) → grow_slot l (slot_of b u s) ≡ Some x → Stem b (nat_abs l) u s x
 unfolding grow_slot
 stem_grown b l u s x k = go (slot_of b u s) refl k
   where
-    go : (o : Option Node) → slot_of b u s ≡ o → grow_slot l o ≡ some x → Stem b (nat_abs l) u s x
-    go none f z = absurd (none_some refl z)
-    go (some n) f z = let y = some_eq refl z in
+    go : (o : Option Node) → slot_of b u s ≡ o → grow_slot l o ≡ Some x → Stem b (nat_abs l) u s x
+    go None f z = absurd (none_some refl z)
+    go (Some n) f z = let y = some_eq refl z in
         record {
           node = n;
           stood = f;
@@ -207,7 +207,7 @@ grow_came b u l w s x e = go (ℕ_discrete (top b w) u)
 
 -- ---- fuse, mark, clear
 pub fuse_came : (b : Bench) → Frame b → (p l r : ℕ) → Fusable b p l r → Came b (join b p l r) still
-fuse_came b F p l r f w s x e = inl (stem_same b (join b p l r) w s x (ap (λ (y : List (Option Node)). get_or y s none) (join_slots b p l r (joins F f) w)) e)
+fuse_came b F p l r f w s x e = inl (stem_same b (join b p l r) w s x (ap (λ (y : List (Option Node)). get_or y s None) (join_slots b p l r (joins F f) w)) e)
 
 pub choose_came : (b : Bench) (u : ℕ) (k : Marking) → Came b (choose b u k) still
 choose_came b u k w s x e = inl (stem_same b (choose b u k) w s x (choose_slot b u k w s) e)
@@ -216,5 +216,5 @@ pub clear_came : (b : Bench) (u : ℕ) → Came b (wipe b u) still
 clear_came b u w s x e = go (ℕ_discrete (top b w) u)
   where
     go : Dec (top b w ≡ u) → Stem b 0 w s x ⊎ New b (wipe b u) w s x
-    go (yes p) = absurd (none_some (ap (λ (f : Interface). get_or f.slots s none) (wipe_under b u w p)) e)
-    go (no p) = inl (stem_same b (wipe b u) w s x (ap (λ (f : Interface). get_or f.slots s none) (wipe_else b u w p)) e)
+    go (yes p) = absurd (none_some (ap (λ (f : Interface). get_or f.slots s None) (wipe_under b u w p)) e)
+    go (no p) = inl (stem_same b (wipe b u) w s x (ap (λ (f : Interface). get_or f.slots s None) (wipe_else b u w p)) e)

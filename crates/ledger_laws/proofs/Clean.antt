@@ -1,9 +1,9 @@
 -- What a verdict means: 0 exactly where the sum is the total of present values, every defect vertex is single, and every touching handle passes the
 -- Rust's weak test; after calls from set-up 5 exactly where the last two hold and what went does not add up to 0. Assumes nothing.
+use Rattle.std.specs.Prelude.{None}
 use Prim.Native.Nat.{ℕ, zero, suc, ◌<◌}
 use mathlib.Core.Path.{◌≡◌, refl, ap}
 use mathlib.Core.Logic.{◌≢◌}
-use mathlib.Core.Option.{none}
 use mathlib.Core.List.{List, []}
 use native.Mathlib.Omega.{arith}
 use lib.IntN.{pos, nat_abs, ◌-ℤ◌}
@@ -48,7 +48,7 @@ module _ (b : Bench) (u : ℕ) where
   clean_zero C = verdict_zero b u (ordered_found C.ordered) C.sum
 
 -- ---- verdict 5, after calls from set-up
-module _ (n : ℕ) (cs : List Call) (i : ℕ) (h : i < 8) (free : (interface (turns (new_book n) cs).bench i).parent ≡ none) where
+module _ (n : ℕ) (cs : List Call) (i : ℕ) (h : i < 8) (free : (interface (turns (new_book n) cs).bench i).parent ≡ None) where
   abbrev b : Bench
   b = (turns (new_book n) cs).bench
 

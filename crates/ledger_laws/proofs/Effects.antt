@@ -1,9 +1,9 @@
 -- What each accepted call leaves, as facts about its answer: the handle and where its node stands, and every slot and field, also those that it does
 -- not touch. Read off the deeds; no two of these need each other. Assumes nothing.
+use Rattle.std.specs.Prelude.{None, Option, Some}
 use Prim.Native.Nat.{ℕ, suc, ◌<◌, max}
 use mathlib.Core.Path.{◌≡◌, refl, sym, ◌∙◌, ap, ap₂, subst}
 use mathlib.Core.Logic.{◌≢◌}
-use mathlib.Core.Option.{Option, none, some}
 use mathlib.Core.List.{List}
 use native.Mathlib.Omega.{arith}
 use native.Mathlib.Decide.{ℕ_discrete}
@@ -29,7 +29,7 @@ use Rattle.ledger_laws.proofs.Sewn.{away, far}
 use Rattle.ledger_laws.proofs.Answered.{tests_of, deed_of, node_of, zero_sound, zero_tests, zero_bench, zero_node}
 
 -- a handle of an older serial names what it named, also one of the slot that is filled
-older_names : (b b' : Bench) (u : ℕ) (n : Node) → n.serial ≡ b.next → slot_of b u (free_slot b u) ≡ none → slot_of b' u (free_slot b u) ≡ some n
+older_names : (b b' : Bench) (u : ℕ) (n : Node) → n.serial ≡ b.next → slot_of b u (free_slot b u) ≡ None → slot_of b' u (free_slot b u) ≡ Some n
     → ((w s : ℕ) → (w ≡ u → s ≡ free_slot b u → ⊥) → slot_of b' w s ≡ slot_of b w s) → (g : Handle) → g.serial < b.next → node_named b' g ≡ node_named b g
 unfolding node_named
 older_names b b' u n k none-was new off g h = go (ℕ_discrete g.unit u) (ℕ_discrete g.slot (free_slot b u))
@@ -42,7 +42,7 @@ older_names b b' u n k none-was new off g h = go (ℕ_discrete g.unit u) (ℕ_di
 -- ---- defect: one slot more, which holds the new node; links, progress and sums as they were; the speed up 1
 pub record DefectLeaves (b : Bench) (u v : ℕ) (h : Handle) (b' : Bench) : Type 0 where
   pub handle : h ≡ new_handle b u
-  pub new : node_named b' (new_handle b u) ≡ some (defect_node b v)
+  pub new : node_named b' (new_handle b u) ≡ Some (defect_node b v)
   pub others : (w s : ℕ) → (w ≡ u → s ≡ free_slot b u → ⊥) → slot_of b' w s ≡ slot_of b w s
   pub quiet : Quiet b b'
   pub marks : (w : ℕ) → (interface b' w).marks ≡ (interface b w).marks
@@ -73,8 +73,8 @@ defect_leaves b u v z = subst (DefectLeaves b u v (answer b (Defect u v)).node) 
 -- ---- blossom: one slot more, which holds the new node; its members stay and have it for parent; all else as it was
 pub record BlossomLeaves (b : Bench) (u : ℕ) (hs : List Handle) (ts : List (Handle × Handle)) (h : Handle) (b' : Bench) : Type 0 where
   pub handle : h ≡ new_handle b u
-  pub new : node_named b' (new_handle b u) ≡ some (blossom_node b hs ts)
-  pub members : (g : Handle) (n : Node) → In g hs → node_named b g ≡ some n → node_named b' g ≡ some (with_node n stays (some (new_handle b u)))
+  pub new : node_named b' (new_handle b u) ≡ Some (blossom_node b hs ts)
+  pub members : (g : Handle) (n : Node) → In g hs → node_named b g ≡ Some n → node_named b' g ≡ Some (with_node n stays (Some (new_handle b u)))
   pub others : (w s : ℕ) → ((g : Handle) → In g hs → g.unit ≡ w → g.slot ≡ s → ⊥) → (w ≡ u → s ≡ free_slot b u → ⊥) → slot_of b' w s ≡ slot_of b w s
   pub quiet : Quiet b b'
   pub marks : (w : ℕ) → (interface b' w).marks ≡ (interface b w).marks
@@ -102,15 +102,15 @@ blossom_leaves b u hs ts z = subst (BlossomLeaves b u hs ts (answer b (Blossom u
     low : u < length b.interfaces
     low = inside b (says b (zero_sound b (Blossom u hs ts) z)).frame P.here.low
 
-    taken : (g : Handle) (n : Node) → In g hs → node_named b g ≡ some n → node_named (add_blossom b u hs ts) g ≡ some (with_node n stays (some (new_handle b u)))
+    taken : (g : Handle) (n : Node) → In g hs → node_named b g ≡ Some n → node_named (add_blossom b u hs ts) g ≡ Some (with_node n stays (Some (new_handle b u)))
     taken g n i e = let H = node_has b g n e in
-        has_node (add_blossom b u hs ts) g (with_node n stays (some (new_handle b u))) (record { stands = blossom_member b u hs ts low g i (away b u hs ts P g i) ∙ ap (λ (o : Option Node). restate o stays (some (new_handle b u))) H.stands; serial = H.serial })
+        has_node (add_blossom b u hs ts) g (with_node n stays (Some (new_handle b u))) (record { stands = blossom_member b u hs ts low g i (away b u hs ts P g i) ∙ ap (λ (o : Option Node). restate o stays (Some (new_handle b u))) H.stands; serial = H.serial })
 
 -- ---- expand: its slot is empty; its members grow and have no parent; all else as it was, the sum and the next serial too
 pub record ExpandLeaves (b : Bench) (h g : Handle) (b' : Bench) : Type 0 where
   pub handle : g ≡ h
-  pub gone : slot_of b' h.unit h.slot ≡ none
-  pub freed : (k : Handle) (n : Node) → In k (members (node_named b h)) → node_named b k ≡ some n → node_named b' k ≡ some (with_node n grows none)
+  pub gone : slot_of b' h.unit h.slot ≡ None
+  pub freed : (k : Handle) (n : Node) → In k (members (node_named b h)) → node_named b k ≡ Some n → node_named b' k ≡ Some (with_node n grows None)
   pub others : (w s : ℕ) → ((k : Handle) → In k (members (node_named b h)) → k.unit ≡ w → k.slot ≡ s → ⊥) → (h.unit ≡ w → h.slot ≡ s → ⊥) → slot_of b' w s ≡ slot_of b w s
   pub quiet : Quiet b b'
   pub marks : (w : ℕ) → (interface b' w).marks ≡ (interface b w).marks
@@ -136,16 +136,16 @@ expand_leaves b u h z = subst (ExpandLeaves b h (answer b (Expand u h)).node) (s
     P : ExpandPassed b u h
     P = expand_passed b u h (zero_tests b (Expand u h) z)
 
-    free : (k : Handle) (n : Node) → In k (members (node_named b h)) → node_named b k ≡ some n → node_named (remove_blossom b h) k ≡ some (with_node n grows none)
+    free : (k : Handle) (n : Node) → In k (members (node_named b h)) → node_named b k ≡ Some n → node_named (remove_blossom b h) k ≡ Some (with_node n grows None)
     free k n i e = let H = node_has b k n e in
-        has_node (remove_blossom b h) k (with_node n grows none) (record { stands = expand_member b h k i (far b S.sewn u h P k i) ∙ ap (λ (o : Option Node). restate o grows none) H.stands; serial = H.serial })
+        has_node (remove_blossom b h) k (with_node n grows None) (record { stands = expand_member b h k i (far b S.sewn u h P k i) ∙ ap (λ (o : Option Node). restate o grows None) H.stands; serial = H.serial })
 
 -- ---- set state: one node's state, and the speed of its tree; all else as it was
 pub record StateLeaves (b : Bench) (u : ℕ) (h : Handle) (s : State) (g : Handle) (b' : Bench) : Type 0 where
   pub handle : g ≡ h
   pub node : Node
-  pub was : node_named b h ≡ some node
-  pub now : node_named b' h ≡ some (with_node node s node.parent)
+  pub was : node_named b h ≡ Some node
+  pub now : node_named b' h ≡ Some (with_node node s node.parent)
   pub others : (w t : ℕ) → (h.unit ≡ w → h.slot ≡ t → ⊥) → slot_of b' w t ≡ slot_of b w t
   pub quiet : Quiet b b'
   pub marks : (w : ℕ) → (interface b' w).marks ≡ (interface b w).marks
@@ -160,16 +160,16 @@ state_leaves b u h s z = subst (StateLeaves b u h s (answer b (SetState u h s)).
   handle = zero_node b (SetState u h s) z;
   node = n;
   was = P.named.is;
-  now = has_node (mark b h s none) h (with_node n s n.parent) (record { stands = mark_at b h s none ∙ ap (λ (o : Option Node). restate o s none) P.named.has.stands ∙ ap (λ (q : Option Handle). some (with_node n s q)) (sym P.orphan); serial = P.named.has.serial });
-  others = mark_off b h s none;
-  quiet = mark_quiet b h s none;
-  marks = mark_field b h s none (λ f. f.marks) (λ f l. refl) (λ f x. refl);
-  speed = subst (λ (t : ℕ). (interface (mark b h s none) t).speed ≡ (interface b t).speed +ℤ (rate s -ℤ rate n.state)) P.named.near
-      (mark_fast b h s none (subst (λ (t : ℕ). t < length b.interfaces) (sym P.named.near) (inside b S.frame P.here.low))
-      ∙ ap (λ (o : Option Node). (interface b (top b h.unit)).speed +ℤ (share (restate o s none) -ℤ share o)) P.named.has.stands);
-  speed_else = λ w q. mark_slow b h s none w (λ e. q (e ∙ P.named.near));
-  next = mark_next b h s none;
-  count = mark_count b h s none;
+  now = has_node (mark b h s None) h (with_node n s n.parent) (record { stands = mark_at b h s None ∙ ap (λ (o : Option Node). restate o s None) P.named.has.stands ∙ ap (λ (q : Option Handle). Some (with_node n s q)) (sym P.orphan); serial = P.named.has.serial });
+  others = mark_off b h s None;
+  quiet = mark_quiet b h s None;
+  marks = mark_field b h s None (λ f. f.marks) (λ f l. refl) (λ f x. refl);
+  speed = subst (λ (t : ℕ). (interface (mark b h s None) t).speed ≡ (interface b t).speed +ℤ (rate s -ℤ rate n.state)) P.named.near
+      (mark_fast b h s None (subst (λ (t : ℕ). t < length b.interfaces) (sym P.named.near) (inside b S.frame P.here.low))
+      ∙ ap (λ (o : Option Node). (interface b (top b h.unit)).speed +ℤ (share (restate o s None) -ℤ share o)) P.named.has.stands);
+  speed_else = λ w q. mark_slow b h s None w (λ e. q (e ∙ P.named.near));
+  next = mark_next b h s None;
+  count = mark_count b h s None;
 })
   where
     S : Sound b
@@ -185,7 +185,7 @@ state_leaves b u h s z = subst (StateLeaves b u h s (answer b (SetState u h s)).
 pub record GrowLeaves (b : Bench) (u : ℕ) (l : ℤ) (h : Handle) (b' : Bench) : Type 0 where
   pub handle : h ≡ nobody
   pub inside : (w s : ℕ) → top b w ≡ u → slot_of b' w s ≡ grow_slot l (slot_of b w s)
-  pub named : (g : Handle) (n : Node) → top b g.unit ≡ u → node_named b g ≡ some n → node_named b' g ≡ some (grown_node l n)
+  pub named : (g : Handle) (n : Node) → top b g.unit ≡ u → node_named b g ≡ Some n → node_named b' g ≡ Some (grown_node l n)
   pub outside : (w s : ℕ) → top b w ≢ u → slot_of b' w s ≡ slot_of b w s
   pub sum : (interface b' u).sum ≡ (interface b u).sum +ℤ l *ℤ (interface b u).speed
   pub sum_else : (w : ℕ) → w ≢ u → (interface b' w).sum ≡ (interface b w).sum
@@ -224,8 +224,8 @@ grow_leaves b u l z = subst (GrowLeaves b u l (answer b (Grow u l)).node) (sym (
 pub record FuseLeaves (b : Bench) (p l r : ℕ) (h : Handle) (b' : Bench) : Type 0 where
   pub handle : h ≡ nobody
   pub slots : (w : ℕ) → (interface b' w).slots ≡ (interface b w).slots
-  pub left : (interface b' l).parent ≡ some p
-  pub right : (interface b' r).parent ≡ some p
+  pub left : (interface b' l).parent ≡ Some p
+  pub right : (interface b' r).parent ≡ Some p
   pub parent : (w : ℕ) → w ≢ l → w ≢ r → (interface b' w).parent ≡ (interface b w).parent
   pub top : interface b' p ≡ fused_parent b p l r
   pub sum : (w : ℕ) → w ≢ p → (interface b' w).sum ≡ (interface b w).sum

@@ -1,10 +1,10 @@
 -- Where a new node stands: in its interface's lowest empty slot where that fills, else in the slot after the used ones. Older handles of that slot name
 -- no node; the used count is that of the highest slot filled; an interface that fills is FULL exactly where 64 of its nodes are present. Assumes nothing.
+use Rattle.std.specs.Prelude.{None}
 use Prim.Native.Nat.{ℕ, suc, ◌<◌, max}
 use mathlib.Core.Path.{◌≡◌, refl, sym, ◌∙◌, ap, ap₂, subst}
 use mathlib.Core.Logic.{◌≢◌}
 use mathlib.Core.Bool.{Bool, true, false, ◌&&◌, ◌||◌, not, true≢false}
-use mathlib.Core.Option.{none}
 use mathlib.Core.List.{List, [], ◌∷◌, ◌++◌}
 use native.Mathlib.Omega.{arith}
 use lib.Dec.{eqb, ltb}
@@ -44,13 +44,13 @@ standing b (Fuse p l r) m z = absurd (true≢false (sym m))
 standing b (Clear u) m z = absurd (true≢false (sym m))
 standing b (Mark u k) m z = absurd (true≢false (sym m))
 
-none_there : (b : Bench) (g : Handle) → slot_of b g.unit g.slot ≡ none → node_named b g ≡ none
+none_there : (b : Bench) (g : Handle) → slot_of b g.unit g.slot ≡ None → node_named b g ≡ None
 unfolding node_named
 none_there b g e = ap (if_serial g.serial) e ∙ serial_none g.serial
 
 -- the slot of h held nothing, and each lower one of its interface holds a node
 pub record Lowest (b : Bench) (h : Handle) : Type 0 where
-  pub empty : slot_of b h.unit h.slot ≡ none
+  pub empty : slot_of b h.unit h.slot ≡ None
   pub lower : (s : ℕ) → s < h.slot → is_some (slot_of b h.unit s) ≡ true
 
 module _ (b : Bench) (c : Call) (m : makes c ≡ true) (z : (answer b c).number ≡ 0) where
@@ -81,7 +81,7 @@ module _ (b : Bench) (c : Call) (m : makes c ≡ true) (z : (answer b c).number 
       ∙ ap₂ (λ (w s : ℕ). max (length (interface b w).slots) (suc s)) (sym unit_is) (sym slot_is)
 
   -- an older handle of the slot names no node, and by `never_again` none ever after
-  pub filled_stale : (g : Handle) → g.unit ≡ h.unit → g.slot ≡ h.slot → g.serial < b.next → node_named (answer b c).bench g ≡ none
+  pub filled_stale : (g : Handle) → g.unit ≡ h.unit → g.slot ≡ h.slot → g.serial < b.next → node_named (answer b c).bench g ≡ None
   filled_stale g x y l = never_once b c g l (none_there b g (ap₂ (slot_of b) (x ∙ unit_is) (y ∙ slot_is) ∙ bare b S.u))
 
 -- ---- FULL

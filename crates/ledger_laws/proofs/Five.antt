@@ -1,10 +1,10 @@
 -- The check's verdict 5: it comes exactly where the walk finds nothing and the sum is not the total of values; after calls from set-up, where what
 -- went from the tree does not add up to 0. Assumes nothing.
+use Rattle.std.specs.Prelude.{None, Option, Some}
 use Prim.Native.Nat.{ℕ, zero, suc, ◌≤◌, ◌<◌}
 use mathlib.Core.Path.{◌≡◌, refl, ap}
 use mathlib.Core.Logic.{◌≢◌}
 use mathlib.Core.Bool.{Bool, true, false, ◌&&◌, ◌||◌}
-use mathlib.Core.Option.{Option, none, some}
 use mathlib.Core.List.{List, [], ◌∷◌}
 use native.Mathlib.Omega.{arith}
 use lib.Dec.{eqb}
@@ -76,7 +76,7 @@ module _ (b : Bench) where
       of c = elim c [ defect v ↦ once v (any (eqb v) seen) | blossom ms ↦ ringed (circle_verdict b ms) ]
 
       pick : Option Node → ℕ × ℕ
-      pick o = elim o [ none ↦ finding b whole ts seen (suc k) | some n ↦ of n.class ]
+      pick o = elim o [ None ↦ finding b whole ts seen (suc k) | Some n ↦ of n.class ]
 
       ring : (c : ℕ × Handle) → c.0 ≤ 4 → (finding b whole ts seen (suc k)).0 ≤ 4 → (ringed c).0 ≤ 4
       ring c h ih = by c.0 h
@@ -97,8 +97,8 @@ module _ (b : Bench) where
       class (blossom ms) ih = ring (circle_verdict b ms) (circle_small ms) (ih seen (suc k))
 
       go : (o : Option Node) → ((s : List ℕ) (j : ℕ) → (finding b whole ts s j).0 ≤ 4) → (pick o).0 ≤ 4
-      go none ih = ih seen (suc k)
-      go (some n) ih = class n.class ih
+      go None ih = ih seen (suc k)
+      go (Some n) ih = class n.class ih
 
 -- ---- the verdict by its cases
 module _ (b : Bench) (u : ℕ) where
@@ -136,7 +136,7 @@ module _ (b : Bench) (u : ℕ) where
       go (suc k) f = absurd (omega (arith, e, ap (λ (w : ℕ × ℕ). w.0) (verdict_found k f), walk_small b (slots_of b u) (slots_of b u) [] 0))
 
 -- ---- after calls from set-up: exactly where what went from the tree does not add up to 0
-module _ (n : ℕ) (cs : List Call) (i : ℕ) (h : i < 8) (free : (interface (turns (new_book n) cs).bench i).parent ≡ none) where
+module _ (n : ℕ) (cs : List Call) (i : ℕ) (h : i < 8) (free : (interface (turns (new_book n) cs).bench i).parent ≡ None) where
   abbrev pub went : ℤ
   went = along (λ u. total ((turns (new_book n) cs).gone u)) (tree 8 (turns (new_book n) cs).bench i)
 

@@ -1,9 +1,9 @@
 -- Floors are kept: every call leaves an interface the mark of its parent, and the values of a floored one not negative. Assumes nothing.
+use Rattle.std.specs.Prelude.{None, Option, Some}
 use Prim.Native.Nat.{ℕ, zero, suc, ◌<◌}
 use mathlib.Core.Path.{◌≡◌, refl, sym, ◌∙◌, ap}
 use mathlib.Core.Logic.{◌≢◌, ◌⊎◌, inl, inr}
 use mathlib.Core.Bool.{true, true≢false}
-use mathlib.Core.Option.{Option, none, some}
 use mathlib.Core.List.{List}
 use native.Mathlib.Omega.{arith}
 use native.Mathlib.Decide.{ℕ_discrete, dec_lt}
@@ -36,8 +36,8 @@ climb_level b L zero w = refl
 climb_level b L (suc k) w = go (interface b w).parent refl (climb_level b L k)
   where
     go : (q : Option ℕ) → (interface b w).parent ≡ q → ((v : ℕ) → floored b v ≡ floored b (climb k b v)) → floored b w ≡ floored b (climb (suc k) b w)
-    go none e ih = ap (floored b) (sym (climb_none (suc k) b w e))
-    go (some p) e ih = L.level w p e ∙ ih p ∙ ap (floored b) (sym (climb_some k b w p e))
+    go None e ih = ap (floored b) (sym (climb_none (suc k) b w e))
+    go (Some p) e ih = L.level w p e ∙ ih p ∙ ap (floored b) (sym (climb_some k b w p e))
 
 pub level_top : (b : Bench) → Floors b → (w : ℕ) → floored b w ≡ floored b (top b w)
 level_top b L w = climb_level b L 8 w
@@ -58,13 +58,13 @@ module _ (b b' : Bench) (parents : (w : ℕ) → (interface b' w).parent ≡ (in
       stem u s x e (inr t) = ap (le_z (pos 0)) t.value
 
       at : (u s : ℕ) → floored b u ≡ true → (o : Option Node) → slot_of b' u s ≡ o → afloat (slot_of b' u s) ≡ true
-      at u s e none k = ap afloat k
-      at u s e (some x) k = ap afloat k ∙ stem u s x e (came u s x k)
+      at u s e None k = ap afloat k
+      at u s e (Some x) k = ap afloat k ∙ stem u s x e (came u s x k)
 
-grown_bare : (l : ℤ) (o : Option Node) → o ≡ none → afloat (grow_slot l o) ≡ true
+grown_bare : (l : ℤ) (o : Option Node) → o ≡ None → afloat (grow_slot l o) ≡ true
 unfolding grow_slot
-grown_bare l none k = refl
-grown_bare l (some n) k = absurd (none_some k refl)
+grown_bare l None k = refl
+grown_bare l (Some n) k = absurd (none_some k refl)
 
 -- ---- growing: a shrinking node has at least the length
 pub grow_floors : (b : Bench) → Frame b → Floors b → (u : ℕ) (l : ℤ) → GrowPassed b u l → Floors (grow_by b u l)
@@ -94,13 +94,13 @@ fuse_floors b F L p l r f = record { level = level; values = λ w s e. at w s e 
     mark_p : floored j p ≡ floored b l
     mark_p = ap (λ (g : Interface). g.marks.floored) (join_p b p l r (joins F f))
 
-    half : (w : ℕ) → floored b w ≡ floored b l → w ≢ p → (q : ℕ) → (interface j w).parent ≡ some p → (interface j w).parent ≡ some q → floored j w ≡ floored j q
+    half : (w : ℕ) → floored b w ≡ floored b l → w ≢ p → (q : ℕ) → (interface j w).parent ≡ Some p → (interface j w).parent ≡ Some q → floored j w ≡ floored j q
     half w x y q e e' = same_mark w y ∙ x ∙ sym mark_p ∙ ap (floored j) (some_eq e e')
 
     slots : (w s : ℕ) → slot_of j w s ≡ slot_of b w s
-    slots w s = ap (λ (x : List (Option Node)). get_or x s none) (join_slots b p l r (joins F f) w)
+    slots w s = ap (λ (x : List (Option Node)). get_or x s None) (join_slots b p l r (joins F f) w)
 
-    level : (w q : ℕ) → (interface j w).parent ≡ some q → floored j w ≡ floored j q
+    level : (w q : ℕ) → (interface j w).parent ≡ Some q → floored j w ≡ floored j q
     level w q e = go (ℕ_discrete w l) (ℕ_discrete w r)
       where
         go : Dec (w ≡ l) → Dec (w ≡ r) → floored j w ≡ floored j q
@@ -108,7 +108,7 @@ fuse_floors b F L p l r f = record { level = level; values = λ w s e. at w s e 
         go (no x) (yes y) = half w (ap (floored b) y ∙ sym f.alike) (λ z. omega (arith, y, z, f.r<p)) q (ap (λ (m : ℕ). (interface j m).parent) y ∙ join_r b p l r (joins F f)) e
         go (no x) (no y) = same_mark w w≢p ∙ L.level w q old ∙ sym (same_mark q q≢p)
           where
-            old : (interface b w).parent ≡ some q
+            old : (interface b w).parent ≡ Some q
             old = sym (join_rest b p l r (joins F f) f.p_none w x y) ∙ e
 
             w≢p : w ≢ p
@@ -118,7 +118,7 @@ fuse_floors b F L p l r f = record { level = level; values = λ w s e. at w s e 
             q≢p z = true≢false (sym (F.linked w q old) ∙ ap (λ (m : ℕ). is_some (interface b m).halves) z ∙ f.no_halves)
 
     at : (w s : ℕ) → floored j w ≡ true → Dec (w ≡ p) → afloat (slot_of j w s) ≡ true
-    at w s e (yes x) = ap afloat (slots w s ∙ ap (λ (y : List (Option Node)). get_or y s none) (ap (λ (m : ℕ). (interface b m).slots) x ∙ f.no_slots))
+    at w s e (yes x) = ap afloat (slots w s ∙ ap (λ (y : List (Option Node)). get_or y s None) (ap (λ (m : ℕ). (interface b m).slots) x ∙ f.no_slots))
     at w s e (no x) = ap afloat (slots w s) ∙ L.values w s (sym (same_mark w x) ∙ e)
 
 -- ---- clearing: no mark is left
@@ -128,16 +128,16 @@ clear_floors b F L u = record { level = λ w p e. level w p e (ℕ_discrete (top
     c : Bench
     c = wipe b u
 
-    level : (w p : ℕ) → (interface c w).parent ≡ some p → Dec (top b w ≡ u) → floored c w ≡ floored c p
+    level : (w p : ℕ) → (interface c w).parent ≡ Some p → Dec (top b w ≡ u) → floored c w ≡ floored c p
     level w p e (yes t) = absurd (none_some (ap (λ (f : Interface). f.parent) (wipe_under b u w t)) e)
     level w p e (no t) = ap (λ (f : Interface). f.marks.floored) (wipe_else b u w t) ∙ L.level w p old ∙ sym (ap (λ (f : Interface). f.marks.floored) (wipe_else b u p (λ z. t (top_parent b F w p old ∙ z))))
       where
-        old : (interface b w).parent ≡ some p
+        old : (interface b w).parent ≡ Some p
         old = sym (ap (λ (f : Interface). f.parent) (wipe_else b u w t)) ∙ e
 
     at : (w s : ℕ) → floored c w ≡ true → Dec (top b w ≡ u) → afloat (slot_of c w s) ≡ true
-    at w s e (yes t) = ap (λ (f : Interface). afloat (get_or f.slots s none)) (wipe_under b u w t)
-    at w s e (no t) = ap (λ (f : Interface). afloat (get_or f.slots s none)) (wipe_else b u w t) ∙ L.values w s (sym (ap (λ (f : Interface). f.marks.floored) (wipe_else b u w t)) ∙ e)
+    at w s e (yes t) = ap (λ (f : Interface). afloat (get_or f.slots s None)) (wipe_under b u w t)
+    at w s e (no t) = ap (λ (f : Interface). afloat (get_or f.slots s None)) (wipe_else b u w t) ∙ L.values w s (sym (ap (λ (f : Interface). f.marks.floored) (wipe_else b u w t)) ∙ e)
 
 -- ---- marking: an interface without a parent, children or slots
 pub choose_floors : (b : Bench) → Frame b → Floors b → (u : ℕ) (k : Marking) → MarkPassed b u → Floors (choose b u k)
@@ -152,12 +152,12 @@ choose_floors b F L u k P = record {
     same_mark : (w : ℕ) → w ≢ u → floored (choose b u k) w ≡ floored b w
     same_mark w q = ap (λ (f : Interface). f.marks.floored) (choose_else b u k w q)
 
-    level : (w p : ℕ) → (interface b w).parent ≡ some p → floored (choose b u k) w ≡ floored (choose b u k) p
+    level : (w p : ℕ) → (interface b w).parent ≡ Some p → floored (choose b u k) w ≡ floored (choose b u k) p
     level w p e = same_mark w (λ z. none_some P.here.free (ap (λ (m : ℕ). (interface b m).parent) (sym z) ∙ e)) ∙ L.level w p e
         ∙ sym (same_mark p (λ z. true≢false (sym (F.linked w p e) ∙ ap (λ (m : ℕ). is_some (interface b m).halves) z ∙ P.no_halves)))
 
     at : (w s : ℕ) → floored (choose b u k) w ≡ true → Dec (w ≡ u) → afloat (slot_of b w s) ≡ true
-    at w s e (yes x) = ap afloat (ap (λ (y : List (Option Node)). get_or y s none) (ap (λ (m : ℕ). (interface b m).slots) x ∙ P.no_slots))
+    at w s e (yes x) = ap afloat (ap (λ (y : List (Option Node)). get_or y s None) (ap (λ (m : ℕ). (interface b m).slots) x ∙ P.no_slots))
     at w s e (no x) = L.values w s (sym (same_mark w x) ∙ e)
 
 -- ---- set-up

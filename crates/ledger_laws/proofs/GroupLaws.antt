@@ -1,10 +1,10 @@
 -- The calls on groups: each leaves a sound group sound, and a refused one leaves it as it was; and (P9) for any two entries and any two stops.
 -- Assumes nothing.
+use Rattle.std.specs.Prelude.{None, Option, Some}
 use Prim.Native.Nat.{ℕ, zero, suc, ◌<◌}
 use mathlib.Core.Path.{◌≡◌, refl}
 use mathlib.Core.Logic.{◌≢◌}
 use mathlib.Core.Bool.{Bool, true, false, not, ◌&&◌, false≢true}
-use mathlib.Core.Option.{Option, none, some}
 use mathlib.Core.List.{List, [], ◌∷◌}
 use native.Mathlib.Omega.{arith}
 use borrow.Author.Tests.{le-leb}
@@ -40,16 +40,16 @@ after_sound (conflicts l t) s = popped_sound l t s
 
 pub pop_sound : (g : Group) → sound_group g ≡ true → sound_group (pop g).1.1 ≡ true
 unfolding pop
-pop_sound g s = said_keeps (λ (r : Option Obstacle × Group). sound_group r.1 ≡ true) (first (take_tests g)) (last_in g, after_pop g) (none, g) (after_sound g s) s
+pop_sound g s = said_keeps (λ (r : Option Obstacle × Group). sound_group r.1 ≡ true) (first (take_tests g)) (last_in g, after_pop g) (None, g) (after_sound g s) s
 
-pub pop_refused : (g : Group) → (pop g).0 ≢ 0 → (pop g).1 ≡ (none, g)
+pub pop_refused : (g : Group) → (pop g).0 ≢ 0 → (pop g).1 ≡ (None, g)
 unfolding pop
-pop_refused g q = said_refused (first (take_tests g)) (last_in g, after_pop g) (none, g) q
+pop_refused g q = said_refused (first (take_tests g)) (last_in g, after_pop g) (None, g) q
 
 -- ---- add, extend
-else_sound : (o : Option Group) (g : Group) → ((q : Group) → o ≡ some q → sound_group q ≡ true) → sound_group g ≡ true → sound_group (or_else o g) ≡ true
-else_sound none g f s = s
-else_sound (some q) g f s = f q refl
+else_sound : (o : Option Group) (g : Group) → ((q : Group) → o ≡ Some q → sound_group q ≡ true) → sound_group g ≡ true → sound_group (or_else o g) ≡ true
+else_sound None g f s = s
+else_sound (Some q) g f s = f q refl
 
 module _ (b : Bench) (g : Group) where
   pub add_sound : (o : Obstacle) → sound_group g ≡ true → sound_group (add b g o).1 ≡ true
@@ -74,7 +74,7 @@ unfolding pop said first take_tests
 pop_taken l s e = go (sound_group (conflicts l s)) e
   where
     answer : Bool → ℕ × (Option Obstacle × Group)
-    answer t = said (first ((not t, 2) ∷ (false, 10) ∷ [])) (last_of l s, popped l s) (none, conflicts l s)
+    answer t = said (first ((not t, 2) ∷ (false, 10) ∷ [])) (last_of l s, popped l s) (None, conflicts l s)
 
     go : (t : Bool) → t ≡ true → answer t ≡ (0, (last_of l s, popped l s))
     go true f = refl
@@ -90,14 +90,14 @@ module _ (c d : Entry) (x y : Stop) (hc : listable c.obstacle ≡ true) (hd : li
   unfolding sound_group all_listable rising_from
   one_fine = both_true (both_true hc refl) (both_true hy (both_true (le-leb 0 y.vertex.0 (omega arith)) refl))
 
-  pub p9_first : pop (conflicts (c ∷ d ∷ []) (x ∷ y ∷ [])) ≡ (0, (some d.obstacle, conflicts (c ∷ []) (y ∷ [])))
+  pub p9_first : pop (conflicts (c ∷ d ∷ []) (x ∷ y ∷ [])) ≡ (0, (Some d.obstacle, conflicts (c ∷ []) (y ∷ [])))
   unfolding last_of all_but_last
   p9_first = pop_taken (c ∷ d ∷ []) (x ∷ y ∷ []) both_fine
 
-  pub p9_second : pop (conflicts (c ∷ []) (y ∷ [])) ≡ (0, (some c.obstacle, conflicts [] []))
+  pub p9_second : pop (conflicts (c ∷ []) (y ∷ [])) ≡ (0, (Some c.obstacle, conflicts [] []))
   unfolding last_of all_but_last
   p9_second = pop_taken (c ∷ []) (y ∷ []) one_fine
 
-pub p9_third : pop (conflicts [] []) ≡ (0, (none, conflicts [] []))
+pub p9_third : pop (conflicts [] []) ≡ (0, (None, conflicts [] []))
 unfolding last_of all_but_last sound_group all_listable rising_from
 p9_third = pop_taken [] [] refl

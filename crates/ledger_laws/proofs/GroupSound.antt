@@ -1,9 +1,10 @@
 -- A sound group stays sound under add, extend and pop: what is added to a sound list and to rising stops leaves them so, and room is asked at each
 -- step. Assumes nothing.
+use Rattle.std.specs.Prelude.{None, Option, Some}
+use Rattle.kinds.specs.declared.Pair.{Pair}
 use Prim.Native.Nat.{ℕ, suc, ◌≤◌}
 use mathlib.Core.Path.{◌≡◌, refl, sym, ◌∙◌, ap, subst}
 use mathlib.Core.Bool.{Bool, true, false, cond, ◌&&◌}
-use mathlib.Core.Option.{Option, none, some}
 use mathlib.Core.List.{List, [], ◌∷◌, ◌++◌}
 use native.Mathlib.Omega.{arith}
 use borrow.Author.Tests.{leb-true, le-leb, ltb-true, ltb-false, eqb-true, eqb-false}
@@ -15,8 +16,6 @@ use Rattle.kinds.specs.Names.{same_code}
 use Rattle.kinds.specs.Obstacles.{listable, is_stop, pair_of}
 use Rattle.kinds.specs.declared.Entry.{Entry}
 use Rattle.kinds.specs.declared.Stop.{Stop}
-use Rattle.kinds.specs.declared.MaybePair.{MaybePair}
-use Rattle.kinds.specs.declared.MaybePair.TheVariants.{NoPair, WithPair}
 use Rattle.kinds.specs.declared.Obstacle.{Obstacle}
 use Rattle.kinds.specs.declared.Obstacle.TheVariants.{NonZeroGrow, Conflicting, TouchingVirtual, BlossomNeedExpand, VertexShrinkStop}
 use Rattle.ledger_spec.specs.Groups.{Group, growth, conflicts, largest, eq_z, all_listable, rising_from, sound_group, Lists, room_for, front_of, back_of, meet, placed, add_stop, grouped, add_to_growth, add_to_conflicts, added, smaller_pair, and_then, add_stops, extended, all_but_last, popped}
@@ -165,14 +164,14 @@ rise_in x v (y ∷ s) p q e a = go (ltb y.vertex.0 x.vertex.0) refl (λ c h r k.
 
 -- ---- what there is room for is fine
 abbrev Good : Option Lists → Type 0
-Good none = Unit {0}
-Good (some ls) = Fine ls.0 ls.1
+Good None = Unit {0}
+Good (Some ls) = Fine ls.0 ls.1
 
 room_good : (l : List Entry) (s : List Stop) → all_listable l ≡ true → rising_from 0 s ≡ true → Good (room_for l s)
 unfolding room_for
 room_good l s a r = go (leb (length l) 128) (leb (length s) 128) refl refl
   where
-    go : (p q : Bool) → leb (length l) 128 ≡ p → leb (length s) 128 ≡ q → Good (cond (p && q) (some (l, s)) none)
+    go : (p q : Bool) → leb (length l) 128 ≡ p → leb (length s) 128 ≡ q → Good (cond (p && q) (Some (l, s)) None)
     go true true h k = record { listed = leb-true (length l) 128 h; stopped = leb-true (length s) 128 k; listables = a; rises = r }
     go true false h k = tt
     go false q h k = tt
@@ -181,11 +180,11 @@ cond_good : (t : Bool) (a b : Option Lists) → Good a → Good b → Good (cond
 cond_good true a b p q = p
 cond_good false a b p q = q
 
-meet_good : (m n : MaybePair) (x y : Stop) (l : List Entry) (f b : List Stop) → is_stop x.obstacle ≡ true → y.vertex.0 ≡ x.vertex.0 → all_listable l ≡ true → rising_from 0 (f ++ y ∷ b) ≡ true → Good (meet m n x y l f b)
+meet_good : (m n : Option Pair) (x y : Stop) (l : List Entry) (f b : List Stop) → is_stop x.obstacle ≡ true → y.vertex.0 ≡ x.vertex.0 → all_listable l ≡ true → rising_from 0 (f ++ y ∷ b) ≡ true → Good (meet m n x y l f b)
 unfolding meet
-meet_good NoPair n x y l f b p w a r = room_good l (f ++ y ∷ b) a r
-meet_good (WithPair q) NoPair x y l f b p w a r = room_good l (f ++ x ∷ b) a (rise_instead x y 0 f b p w r)
-meet_good (WithPair q) (WithPair k) x y l f b p w a r =
+meet_good None n x y l f b p w a r = room_good l (f ++ y ∷ b) a r
+meet_good (Some q) None x y l f b p w a r = room_good l (f ++ x ∷ b) a (rise_instead x y 0 f b p w r)
+meet_good (Some q) (Some k) x y l f b p w a r =
     cond_good (same_code q.node k.node) (room_for l (f ++ y ∷ b)) (room_for (l ++ record { obstacle = Conflicting q k } ∷ []) (f ++ b)) (room_good l (f ++ y ∷ b) a r)
     (room_good (l ++ record { obstacle = Conflicting q k } ∷ []) (f ++ b) (append_listable l (record { obstacle = Conflicting q k } ∷ []) a (one_listable (record { obstacle = Conflicting q k }) refl)) (rise_out y 0 f b r))
 
@@ -203,9 +202,9 @@ unfolding add_stop
 stop_good x l s p a r = placed_good x l (front_of x.vertex.0 s) (back_of x.vertex.0 s) p a (ap (rising_from 0) (front_back x.vertex.0 s) ∙ r) (λ k. rise_in x 0 s p (omega arith) r k)
 
 -- ---- add
-some_fine : (o : Option Lists) (q : Group) → Good o → grouped o ≡ some q → sound_group q ≡ true
-some_fine none q g e = absurd (none_some refl e)
-some_fine (some ls) q g e = ap sound_group (sym (some_eq refl e)) ∙ of_fine ls.0 ls.1 g
+some_fine : (o : Option Lists) (q : Group) → Good o → grouped o ≡ Some q → sound_group q ≡ true
+some_fine None q g e = absurd (none_some refl e)
+some_fine (Some ls) q g e = ap sound_group (sym (some_eq refl e)) ∙ of_fine ls.0 ls.1 g
 
 few : (e : Entry) → listable e.obstacle ≡ true → Fine (e ∷ []) []
 few e h = record { listed = omega arith; stopped = omega arith; listables = one_listable e h; rises = rise_none 0 }
@@ -214,7 +213,7 @@ alone : (x : Stop) → is_stop x.obstacle ≡ true → Fine [] (x ∷ [])
 unfolding all_listable
 alone x h = record { listed = omega arith; stopped = omega arith; listables = refl; rises = of_rise 0 x [] (record { stop = h; least = omega arith; rest = rise_none (suc x.vertex.0) }) }
 
-to_growth : (a : ℤ) (f : Bool) (o : Obstacle) (v : ℕ) (q : Group) → add_to_growth a f o v ≡ some q → sound_group q ≡ true
+to_growth : (a : ℤ) (f : Bool) (o : Obstacle) (v : ℕ) (q : Group) → add_to_growth a f o v ≡ Some q → sound_group q ≡ true
 unfolding add_to_growth sound_group
 to_growth a f (NonZeroGrow b h) v q e = ap sound_group (sym (some_eq refl e))
 to_growth a f (Conflicting x y) v q e = ap sound_group (sym (some_eq refl e)) ∙ of_fine _ _ (few (record { obstacle = Conflicting x y }) refl)
@@ -225,7 +224,7 @@ to_growth a f (VertexShrinkStop n p) v q e = ap sound_group (sym (some_eq refl e
 one_more : (e : Entry) (l : List Entry) (s : List Stop) → listable e.obstacle ≡ true → Fine l s → Good (room_for (l ++ e ∷ []) s)
 one_more e l s h F = room_good (l ++ e ∷ []) s (append_listable l (e ∷ []) F.listables (one_listable e h)) F.rises
 
-to_conflicts : (l : List Entry) (s : List Stop) (o : Obstacle) (v : ℕ) (q : Group) → Fine l s → add_to_conflicts l s o v ≡ some q → sound_group q ≡ true
+to_conflicts : (l : List Entry) (s : List Stop) (o : Obstacle) (v : ℕ) (q : Group) → Fine l s → add_to_conflicts l s o v ≡ Some q → sound_group q ≡ true
 unfolding add_to_conflicts
 to_conflicts l s (NonZeroGrow b h) v q F e = ap sound_group (sym (some_eq refl e)) ∙ of_fine l s F
 to_conflicts l s (Conflicting x y) v q F e = some_fine (room_for (l ++ record { obstacle = Conflicting x y } ∷ []) s) q (one_more (record { obstacle = Conflicting x y }) l s refl F) e
@@ -233,7 +232,7 @@ to_conflicts l s (TouchingVirtual x w m) v q F e = some_fine (room_for (l ++ rec
 to_conflicts l s (BlossomNeedExpand n) v q F e = some_fine (room_for (l ++ record { obstacle = BlossomNeedExpand n } ∷ []) s) q (one_more (record { obstacle = BlossomNeedExpand n }) l s refl F) e
 to_conflicts l s (VertexShrinkStop n p) v q F e = some_fine (add_stop (record { vertex = record { 0 = v }; obstacle = VertexShrinkStop n p }) l s) q (stop_good (record { vertex = record { 0 = v }; obstacle = VertexShrinkStop n p }) l s refl F.listables F.rises) e
 
-pub added_sound : (g : Group) (o : Obstacle) (v : ℕ) (q : Group) → sound_group g ≡ true → added g o v ≡ some q → sound_group q ≡ true
+pub added_sound : (g : Group) (o : Obstacle) (v : ℕ) (q : Group) → sound_group g ≡ true → added g o v ≡ Some q → sound_group q ≡ true
 unfolding added
 added_sound (growth a f) o v q s e = to_growth a f o v q e
 added_sound (conflicts l t) o v q s e = to_conflicts l t o v q (fine_of l t s) e
@@ -248,10 +247,10 @@ stops_good v (x ∷ xs) l s e F = go (add_stop x l s) (stop_good x l s R.stop F.
     R = rise_of v x xs e
 
     go : (o : Option Lists) → Good o → ((l : List Entry) (s : List Stop) → Fine l s → Good (add_stops xs l s)) → Good (and_then o (add_stops xs))
-    go none G ih = tt
-    go (some ls) G ih = ih ls.0 ls.1 G
+    go None G ih = tt
+    go (Some ls) G ih = ih ls.0 ls.1 G
 
-pub extended_sound : (g h q : Group) → sound_group g ≡ true → sound_group h ≡ true → extended g h ≡ some q → sound_group q ≡ true
+pub extended_sound : (g h q : Group) → sound_group g ≡ true → sound_group h ≡ true → extended g h ≡ Some q → sound_group q ≡ true
 unfolding extended sound_group smaller_pair
 extended_sound (growth a f) (growth b i) q s t e = ap sound_group (sym (some_eq refl e)) ∙ pair (eq_z b largest) (lt_z b a) (lt_z a b)
   where
@@ -271,8 +270,8 @@ extended_sound (conflicts l s) (conflicts m t) q u w e = some_fine (and_then (ro
     H = fine_of m t w
 
     go : (o : Option Lists) → Good o → Good (and_then o (add_stops t))
-    go none G = tt
-    go (some ls) G = stops_good 0 t ls.0 ls.1 H.rises G
+    go None G = tt
+    go (Some ls) G = stops_good 0 t ls.0 ls.1 H.rises G
 
 -- ---- pop
 pub popped_sound : (l : List Entry) (s : List Stop) → sound_group (conflicts l s) ≡ true → sound_group (popped l s) ≡ true

@@ -1,8 +1,8 @@
 -- Growths that are accepted: two one after the other as one, one in parts; and what both halves could grow by, the fused tree can. Assumes nothing.
+use Rattle.std.specs.Prelude.{None, Option}
 use Prim.Native.Nat.{ℕ, ◌+◌, ◌<◌, ◌^◌}
 use mathlib.Core.Path.{◌≡◌, refl, sym, ◌∙◌, ap, ap₂}
 use mathlib.Core.Bool.{true, false, ◌||◌, true≢false}
-use mathlib.Core.Option.{Option, none}
 use mathlib.Core.List.{List}
 use native.Mathlib.Omega.{arith}
 use native.Mathlib.Decide.{ℕ_discrete}
@@ -113,9 +113,9 @@ module _ (b : Bench) (p l r : ℕ) (a : ℤ) where
       mark_p = ap (λ (g : Interface). g.marks.floored) (join_p b p l r (joins F f))
 
       slots : (w s : ℕ) → slot_of (join b p l r) w s ≡ slot_of b w s
-      slots w s = ap (λ (x : List (Option Node)). get_or x s none) (join_slots b p l r (joins F f) w)
+      slots w s = ap (λ (x : List (Option Node)). get_or x s None) (join_slots b p l r (joins F f) w)
 
       at : (w s : ℕ) → w < 8 → top (join b p l r) w ≡ p → floored b l ≡ true → Dec (top b w ≡ l) → Dec (top b w ≡ r) → sinks a (slot_of b w s) ≡ false
       at w s k t e (yes x) y = P.above e w s k x
       at w s k t e (no x) (yes y) = ap (sinks a) (sym (grow_off b l a w s x)) ∙ R.above (ap (λ (m : Marks). m.floored) (grow_marks b l a r) ∙ sym f.alike ∙ e) w s k (grow_top b l a w ∙ y)
-      at w s k t e (no x) (no y) = ap (sinks a) (ap (λ (z : List (Option Node)). get_or z s none) (ap (λ (m : ℕ). (interface b m).slots) (alone b F p f.no_halves w (sym (join_top_else b F p l r f w x y) ∙ t)) ∙ f.no_slots))
+      at w s k t e (no x) (no y) = ap (sinks a) (ap (λ (z : List (Option Node)). get_or z s None) (ap (λ (m : ℕ). (interface b m).slots) (alone b F p f.no_halves w (sym (join_top_else b F p l r f w x y) ∙ t)) ∙ f.no_slots))

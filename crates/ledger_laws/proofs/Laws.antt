@@ -1,9 +1,9 @@
 -- Demand 3's laws of what the calls do: growing twice is growing by the sum, and growing two halves and fusing them is fusing and growing. Assumes nothing.
+use Rattle.std.specs.Prelude.{None, Option, Some}
 use Prim.Native.Nat.{ℕ, ◌<◌}
 use mathlib.Core.Path.{◌≡◌, refl, sym, ◌∙◌, ap, ap₂, subst}
 use mathlib.Core.Logic.{◌≢◌}
 use mathlib.Core.Bool.{Bool, true, false}
-use mathlib.Core.Option.{Option, none, some}
 use mathlib.Core.List.{List, [], ◌∷◌, map}
 use native.Mathlib.Omega.{arith}
 use native.Mathlib.Decide.{ℕ_discrete}
@@ -30,8 +30,8 @@ twice_more x a c r = +ℤ_assoc x (a *ℤ r) (c *ℤ r) ∙ ap (λ (z : ℤ). x 
 
 slot_twice : (a c : ℤ) (o : Option Node) → grow_slot c (grow_slot a o) ≡ grow_slot (a +ℤ c) o
 unfolding grow_slot
-slot_twice a c none = refl
-slot_twice a c (some n) = λ i. some (record { serial = n.serial; class = n.class; state = n.state; parent = n.parent; value = twice_more n.value a c (rate n.state) i; size = n.size })
+slot_twice a c None = refl
+slot_twice a c (Some n) = λ i. Some (record { serial = n.serial; class = n.class; state = n.state; parent = n.parent; value = twice_more n.value a c (rate n.state) i; size = n.size })
 
 slots_twice : (a c : ℤ) (l : List (Option Node)) → map (grow_slot c) (map (grow_slot a) l) ≡ map (grow_slot (a +ℤ c)) l
 slots_twice a c [] = refl
@@ -175,8 +175,8 @@ module _ (b : Bench) (F : Frame b) (p l r : ℕ) (a : ℤ) (f : Fusable b p l r)
   sum_r : (interface b₂ r).sum ≡ (interface b r).sum +ℤ a *ℤ (interface b r).speed
   sum_r = grow_sum b₁ r a (wide₁ r r<8) ∙ ap₂ (λ (x y : ℤ). x +ℤ a *ℤ y) (grow_sum_else b l a r (λ e. f.l≢r (sym e))) (grow_speed b l a r)
 
-  join_sum : (w : ℕ) → (interface (join b₂ p l r) w).parent ≡ none → (interface (join b₂ p l r) w).sum ≡ (interface (grow_by j p a) w).sum
-  join_sum = four (λ w. (interface (join b₂ p l r) w).parent ≡ none → (interface (join b₂ p l r) w).sum ≡ (interface (grow_by j p a) w).sum)
+  join_sum : (w : ℕ) → (interface (join b₂ p l r) w).parent ≡ None → (interface (join b₂ p l r) w).sum ≡ (interface (grow_by j p a) w).sum
+  join_sum = four (λ w. (interface (join b₂ p l r) w).parent ≡ None → (interface (join b₂ p l r) w).sum ≡ (interface (grow_by j p a) w).sum)
       (λ free. ap (λ (f : Interface). f.sum) (join_p b₂ p l r J₂) ∙ ap₂ ◌+ℤ◌ sum_l sum_r ∙ swap_mid (interface b l).sum (a *ℤ (interface b l).speed) (interface b r).sum (a *ℤ (interface b r).speed)
       ∙ ap (λ (z : ℤ). ((interface b l).sum +ℤ (interface b r).sum) +ℤ z) (sym (*ℤ_dist_l a (interface b l).speed (interface b r).speed))
       ∙ sym (grow_sum j p a (wide_j p f.p<8) ∙ ap₂ (λ (x y : ℤ). x +ℤ a *ℤ y) (ap (λ (f : Interface). f.sum) (join_p b p l r J)) (ap (λ (f : Interface). f.speed) (join_p b p l r J))))

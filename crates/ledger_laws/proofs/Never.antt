@@ -1,10 +1,10 @@
 -- A serial is never used again: the next serial never falls, every node after a call stood before it or has the serial that was next, and so a handle
 -- that names no node any more never names one again, clears included. Assumes nothing.
+use Rattle.std.specs.Prelude.{None, Option, Some}
 use Prim.Native.Nat.{ℕ, zero, suc, ◌≤◌, ◌<◌}
 use mathlib.Core.Path.{◌≡◌, refl, sym, ◌∙◌, ap, subst}
 use mathlib.Core.Logic.{◌≢◌, ◌⊎◌, inl, inr}
 use mathlib.Core.Bool.{Bool, true, false, ◌&&◌, true≢false}
-use mathlib.Core.Option.{Option, none, some}
 use mathlib.Core.List.{List, [], ◌∷◌, ◌++◌}
 use native.Mathlib.Omega.{arith}
 use lib.Dec.{eqb}
@@ -36,7 +36,7 @@ unfolding deed_of tests_of
 next_deed b S (Defect u v) e = omega (arith, defect_next b u v)
 next_deed b S (Blossom u hs ts) e = omega (arith, blossom_next b u hs ts)
 next_deed b S (Expand u h) e = omega (arith, expand_next b h)
-next_deed b S (SetState u h t) e = omega (arith, mark_next b h t none)
+next_deed b S (SetState u h t) e = omega (arith, mark_next b h t None)
 next_deed b S (Grow u l) e = omega (arith, grow_next b u l)
 next_deed b S (Fuse q l r) e = omega (arith, join_next b q l r (joins S.frame (fusable b q l r e)))
 next_deed b S (Clear u) e = omega (arith, wipe_next b u)
@@ -60,12 +60,12 @@ next_never_falls k (c ∷ cs) = omega (arith, next_grows k.bench c, next_never_f
 
 -- ---- where the nodes after a call come from
 abbrev Born : Bench → Bench → Type 0
-Born b b' = (u s : ℕ) (x : Node) → slot_of b' u s ≡ some x → (x.serial ≡ b.next) ⊎ ((n : Node) × (slot_of b u s ≡ some n) × (n.serial ≡ x.serial))
+Born b b' = (u s : ℕ) (x : Node) → slot_of b' u s ≡ Some x → (x.serial ≡ b.next) ⊎ ((n : Node) × (slot_of b u s ≡ Some n) × (n.serial ≡ x.serial))
 
 from_came : (b b' : Bench) (d : ℕ → ℕ) → Came b b' d → Born b b'
 from_came b b' d C u s x e = go (C u s x e)
   where
-    go : Stem b (d u) u s x ⊎ New b b' u s x → (x.serial ≡ b.next) ⊎ ((n : Node) × (slot_of b u s ≡ some n) × (n.serial ≡ x.serial))
+    go : Stem b (d u) u s x ⊎ New b b' u s x → (x.serial ≡ b.next) ⊎ ((n : Node) × (slot_of b u s ≡ Some n) × (n.serial ≡ x.serial))
     go (inl t) = inr (t.node, t.stood, t.serial)
     go (inr t) = inl t.serial
 
@@ -74,39 +74,39 @@ unfolding deed_of tests_of
 deed_born b S (Defect u v) e = from_came b (deed_of b (Defect u v)) still (defect_came b S.frame u v (defect_passed b u e))
 deed_born b S (Blossom u hs ts) e = from_came b (deed_of b (Blossom u hs ts)) still (blossom_came b S u hs ts (blossom_passed b u hs ts e))
 deed_born b S (Expand u h) e = from_came b (deed_of b (Expand u h)) still (expand_came b S.sewn u h (expand_passed b u h e))
-deed_born b S (SetState u h t) e = from_came b (deed_of b (SetState u h t)) still (state_came b h t none)
+deed_born b S (SetState u h t) e = from_came b (deed_of b (SetState u h t)) still (state_came b h t None)
 deed_born b S (Grow u l) e = from_came b (deed_of b (Grow u l)) (grown b u l) (grow_came b u l)
 deed_born b S (Fuse p l r) e = from_came b (deed_of b (Fuse p l r)) still (fuse_came b S.frame p l r (fusable b p l r e))
 deed_born b S (Clear u) e = from_came b (deed_of b (Clear u)) still (clear_came b u)
 deed_born b S (Mark u k) e = from_came b (deed_of b (Mark u k)) still (choose_came b u k)
 
 -- ---- a handle that names no node any more
-still_none : (b b' : Bench) → Born b b' → (h : Handle) → h.serial < b.next → node_named b h ≡ none → node_named b' h ≡ none
+still_none : (b b' : Bench) → Born b b' → (h : Handle) → h.serial < b.next → node_named b h ≡ None → node_named b' h ≡ None
 still_none b b' B h l e = go (node_named b' h) refl
   where
-    go : (o : Option Node) → node_named b' h ≡ o → node_named b' h ≡ none
-    go none z = z
-    go (some x) z = absurd (was (B h.unit h.slot x H.stands))
+    go : (o : Option Node) → node_named b' h ≡ o → node_named b' h ≡ None
+    go None z = z
+    go (Some x) z = absurd (was (B h.unit h.slot x H.stands))
       where
         H : Has (slot_of b') h x
         H = node_has b' h x z
 
-        was : (x.serial ≡ b.next) ⊎ ((n : Node) × (slot_of b h.unit h.slot ≡ some n) × (n.serial ≡ x.serial)) → ⊥
+        was : (x.serial ≡ b.next) ⊎ ((n : Node) × (slot_of b h.unit h.slot ≡ Some n) × (n.serial ≡ x.serial)) → ⊥
         was (inl p) = omega (arith, p, l, H.serial)
         was (inr r) = none_some e (has_node b h r.0 (record { stands = r.1; serial = r.2 ∙ H.serial }))
 
-pub never_once : (b : Bench) (c : Call) (h : Handle) → h.serial < b.next → node_named b h ≡ none → node_named (answer b c).bench h ≡ none
-never_once b c h l e = after (λ (d : Bench). node_named d h ≡ none) b c e (λ S z. still_none b (deed_of b c) (deed_born b S c z) h l e)
+pub never_once : (b : Bench) (c : Call) (h : Handle) → h.serial < b.next → node_named b h ≡ None → node_named (answer b c).bench h ≡ None
+never_once b c h l e = after (λ (d : Bench). node_named d h ≡ None) b c e (λ S z. still_none b (deed_of b c) (deed_born b S c z) h l e)
 
 -- a handle of a serial that was given out, naming no present node, names none after any calls
-pub never_again : (k : Book) (cs : List Call) (h : Handle) → h.serial < k.bench.next → node_named k.bench h ≡ none → node_named (turns k cs).bench h ≡ none
+pub never_again : (k : Book) (cs : List Call) (h : Handle) → h.serial < k.bench.next → node_named k.bench h ≡ None → node_named (turns k cs).bench h ≡ None
 unfolding turns turn
 never_again k [] h l e = e
 never_again k (c ∷ cs) h l e = never_again (turn k c) cs h (omega (arith, l, next_grows k.bench c)) (never_once k.bench c h l e)
 
 -- a handle that named a node once and names none later, names none ever after
-pub gone_for_ever : (k : Book) → Sound k.bench → (cs ds : List Call) (h : Handle) (n : Node) → node_named k.bench h ≡ some n → node_named (turns k cs).bench h ≡ none
-    → node_named (turns (turns k cs) ds).bench h ≡ none
+pub gone_for_ever : (k : Book) → Sound k.bench → (cs ds : List Call) (h : Handle) (n : Node) → node_named k.bench h ≡ Some n → node_named (turns k cs).bench h ≡ None
+    → node_named (turns (turns k cs) ds).bench h ≡ None
 gone_for_ever k S cs ds h n e f = never_again (turns k cs) ds h (omega (arith, l, next_never_falls k cs)) f
   where
     H : Has (slot_of k.bench) h n

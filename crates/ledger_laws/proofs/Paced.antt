@@ -1,7 +1,7 @@
 -- Speeds that follow: every step keeps the speed of each interface without a parent the sum of the rates of the nodes in its tree. Assumes nothing.
+use Rattle.std.specs.Prelude.{None, Option, Some}
 use Prim.Native.Nat.{ℕ, ◌≤◌, ◌<◌}
 use mathlib.Core.Path.{◌≡◌, refl, sym, ◌∙◌, ap, subst, fun_ext}
-use mathlib.Core.Option.{Option, none, some}
 use mathlib.Core.List.{List, [], ◌∷◌, map}
 use native.Mathlib.Omega.{arith}
 use native.Mathlib.Decide.{ℕ_discrete, dec_lt}
@@ -36,7 +36,7 @@ pub inside : (b : Bench) → Frame b → {u : ℕ} → u < 8 → u < length b.in
 inside b F h = omega (arith, F.eight, h)
 
 -- ---- a slot changed, a node marked
-module _ (b : Bench) (F : Frame b) (u s : ℕ) (y : Option Node) (u<8 : u < 8) (within : length (interface b u).slots ≤ s → y ≡ none) where
+module _ (b : Bench) (F : Frame b) (u s : ℕ) (y : Option Node) (u<8 : u < 8) (within : length (interface b u).slots ≤ s → y ≡ None) where
   pub place_paced : Paced b → Paced (place b u s y)
   place_paced P = tops_same _ _ (quiet_top b (place b u s y) (place_quiet b u s y))
       (bal_change (top b) (rates_in b) (rates_in (place b u s y)) u (share y -ℤ share (slot_of b u s)) u<8
@@ -67,7 +67,7 @@ mark_paced b F h s p P = go (dec_lt h.unit 8)
   where
     go : Dec (h.unit < 8) → Paced (mark b h s p)
     go (yes u<8) = place_paced b F h.unit h.slot (restate (slot_of b h.unit h.slot) s p) u<8
-        (λ out. ap (λ (o : Option Node). restate o s p) (get_or-eq_default (interface b h.unit).slots none out)) P
+        (λ out. ap (λ (o : Option Node). restate o s p) (get_or-eq_default (interface b h.unit).slots None out)) P
     go (no q) = subst Paced (sym (mark_out b F h s p (omega arith))) P
 
 pub mark_all_paced : (b : Bench) → Frame b → (hs : List Handle) (s : State) (p : Option Handle) → Paced b → Paced (mark_all b hs s p)
@@ -76,7 +76,7 @@ mark_all_paced b F [] s p P = P
 mark_all_paced b F (h ∷ hs) s p P = mark_all_paced (mark b h s p) (quiet_frame b (mark b h s p) (mark_quiet b h s p) F) hs s p (mark_paced b F h s p P)
 
 -- ---- a slot added
-pub push_paced : (b : Bench) → Frame b → (u t : ℕ) (n : Node) → u < 8 → (interface b u).parent ≡ none → Vacant (interface b u).slots t → Paced b → Paced (push b u t n)
+pub push_paced : (b : Bench) → Frame b → (u t : ℕ) (n : Node) → u < 8 → (interface b u).parent ≡ None → Vacant (interface b u).slots t → Paced b → Paced (push b u t n)
 push_paced b F u t n u<8 root free P = tops_same _ _ (quiet_top b (push b u t n) (push_quiet b u t n))
     (bal_change (top b) (rates_in b) (rates_in (push b u t n)) u (rate n.state) u<8
     (ap (slot_sum share) (push_here b u t n (inside b F u<8)) ∙ over_put share refl (interface b u).slots t n free)
@@ -90,8 +90,8 @@ push_paced b F u t n u<8 root free P = tops_same _ _ (quiet_top b (push b u t n)
 -- ---- growing
 grown_share : (l : ℤ) (o : Option Node) → share (grow_slot l o) ≡ share o
 unfolding grow_slot
-grown_share l none = refl
-grown_share l (some n) = refl
+grown_share l None = refl
+grown_share l (Some n) = refl
 
 grown_rates : (l : ℤ) (xs : List (Option Node)) → slot_sum share (map (grow_slot l) xs) ≡ slot_sum share xs
 unfolding slot_sum

@@ -1,7 +1,7 @@
 -- Calls that touch nodes only: links, progress and sums of every interface are as they were, and with them tops, trees and W. Assumes nothing.
+use Rattle.std.specs.Prelude.{None, Option, Some}
 use Prim.Native.Nat.{ℕ, zero, suc, ◌+◌}
 use mathlib.Core.Path.{◌≡◌, refl, sym, ◌∙◌, ap, ap₂}
-use mathlib.Core.Option.{Option, none, some}
 use mathlib.Core.List.{List, [], ◌∷◌, ◌++◌}
 use lib.ListN.{length}
 use lib.IntN.{ℤ, nat_abs}
@@ -36,8 +36,8 @@ tree_same b b' hs zero u = refl
 tree_same b b' hs (suc k) u = go (interface b u).halves refl (tree_same b b' hs k)
   where
     go : (q : Option (ℕ × ℕ)) → (interface b u).halves ≡ q → ((w : ℕ) → tree k b' w ≡ tree k b w) → tree (suc k) b' u ≡ tree (suc k) b u
-    go none e ih = tree_leaf k b' u (hs u ∙ e) ∙ sym (tree_leaf k b u e)
-    go (some lr) e ih = tree_fork k b' u lr (hs u ∙ e) ∙ ap₂ (λ (x y : List ℕ). (x ++ y) ++ (u ∷ [])) (ih lr.0) (ih lr.1) ∙ sym (tree_fork k b u lr e)
+    go None e ih = tree_leaf k b' u (hs u ∙ e) ∙ sym (tree_leaf k b u e)
+    go (Some lr) e ih = tree_fork k b' u lr (hs u ∙ e) ∙ ap₂ (λ (x y : List ℕ). (x ++ y) ++ (u ∷ [])) (ih lr.0) (ih lr.1) ∙ sym (tree_fork k b u lr e)
 
 pub reach_same : (b b' : Bench) → ((w : ℕ) → (interface b' w).progress ≡ (interface b w).progress) → (us : List ℕ) → reach b' us ≡ reach b us
 unfolding reach
@@ -116,11 +116,11 @@ defect_quiet b u v = push_quiet b u _ _
 
 pub blossom_quiet : (b : Bench) (u : ℕ) (hs : List Handle) (ts : List (Handle × Handle)) → Quiet b (add_blossom b u hs ts)
 unfolding add_blossom
-blossom_quiet b u hs ts = quiet_trans b (mark_all b hs stays (some (new_handle b u))) _ (mark_all_quiet b hs stays (some (new_handle b u))) (push_quiet (mark_all b hs stays (some (new_handle b u))) u _ _)
+blossom_quiet b u hs ts = quiet_trans b (mark_all b hs stays (Some (new_handle b u))) _ (mark_all_quiet b hs stays (Some (new_handle b u))) (push_quiet (mark_all b hs stays (Some (new_handle b u))) u _ _)
 
 pub expand_quiet : (b : Bench) (h : Handle) → Quiet b (remove_blossom b h)
 unfolding remove_blossom
-expand_quiet b h = quiet_trans b (place b h.unit h.slot none) _ (place_quiet b h.unit h.slot none) (mark_all_quiet (place b h.unit h.slot none) (members (node_named b h)) grows none)
+expand_quiet b h = quiet_trans b (place b h.unit h.slot None) _ (place_quiet b h.unit h.slot None) (mark_all_quiet (place b h.unit h.slot None) (members (node_named b h)) grows None)
 
 pub choose_quiet : (b : Bench) (u : ℕ) (k : Marking) → Quiet b (choose b u k)
 choose_quiet b u k = record {

@@ -1,10 +1,10 @@
 -- W after each call that changes it: growing adds the length to the tree's, fusing adds two, clearing leaves the others. By the sums of `Balance`,
 -- since W is the sum of the progress of a tree. Assumes nothing.
+use Rattle.std.specs.Prelude.{None}
 use Prim.Native.Nat.{ℕ, ◌+◌, ◌<◌}
 use mathlib.Core.Path.{◌≡◌, refl, sym, ◌∙◌, ap, ap₂}
 use mathlib.Core.Logic.{◌≢◌}
 use mathlib.Core.Bool.{false, true≢false}
-use mathlib.Core.Option.{none}
 use native.Mathlib.Omega.{arith}
 use native.Mathlib.Decide.{ℕ_discrete}
 use lib.Dec.{eqb}
@@ -54,14 +54,14 @@ module _ (b : Bench) (F : Frame b) (u : ℕ) (l : ℤ) (o : Open b u) (forward :
   others : (w : ℕ) → w ≢ u → progress_in (grow_by b u l) w ≡ progress_in b w
   others w q = ap (λ (z : ℤ). pos (nat_abs z)) (grow_progress_else b u l w q)
 
-  W-now : (i : ℕ) → i < 8 → (interface b i).parent ≡ none → pos (W (grow_by b u l) i) ≡ tree_sum (top b) (progress_in (grow_by b u l)) i
+  W-now : (i : ℕ) → i < 8 → (interface b i).parent ≡ None → pos (W (grow_by b u l) i) ≡ tree_sum (top b) (progress_in (grow_by b u l)) i
   W-now i h free = W-under (grow_by b u l) (grow_frame b F u l) i h (grow_parent b u l i ∙ free) ∙ under_same (grow_top b u l) (λ w. refl) i
 
   pub W-grow : W (grow_by b u l) u ≡ W b u + nat_abs l
   W-grow = pos_eq (W-now u o.low o.free ∙ under_change (top b) (progress_in b) (progress_in (grow_by b u l)) u (pos (nat_abs l)) o.low more others u (climb_none 8 b u o.free)
       ∙ ap (λ (z : ℤ). z +ℤ pos (nat_abs l)) (sym (W-under b F u o.low o.free)))
 
-  pub W-grow-else : (i : ℕ) → i < 8 → (interface b i).parent ≡ none → i ≢ u → W (grow_by b u l) i ≡ W b i
+  pub W-grow-else : (i : ℕ) → i < 8 → (interface b i).parent ≡ None → i ≢ u → W (grow_by b u l) i ≡ W b i
   W-grow-else i h free q = pos_eq (W-now i h free ∙ under_other (top b) (progress_in b) (progress_in (grow_by b u l)) u (pos (nat_abs l)) o.low more others i (λ e. q (sym e ∙ climb_none 8 b u o.free))
       ∙ sym (W-under b F i h free))
 
@@ -80,7 +80,7 @@ module _ (b : Bench) (F : Frame b) (p l r : ℕ) (f : Fusable b p l r) where
   nothing : (u : ℕ) → top b u ≡ p → progress_in b u ≡ pos 0
   nothing u e = ap (progress_in b) (alone b F p f.no_halves u e) ∙ ap pos f.no_progress
 
-  p_free : (interface j p).parent ≡ none
+  p_free : (interface j p).parent ≡ None
   p_free = ap (λ (g : Interface). g.parent) (join_p b p l r (joins F f))
 
   pub W-fuse : W j p ≡ W b l + W b r
@@ -88,14 +88,14 @@ module _ (b : Bench) (F : Frame b) (p l r : ℕ) (f : Fusable b p l r) where
       ∙ under_fuse (top b) (top j) (progress_in b) p l r (climb_none 8 b l f.l_none) (climb_none 8 b r f.r_none) f.l≢r (join_top_l b F p l r f) (join_top_r b F p l r f) (join_top_else b F p l r f) nothing
       ∙ ap₂ ◌+ℤ◌ (sym (W-under b F l (omega arith) f.l_none)) (sym (W-under b F r (omega arith) f.r_none)))
 
-  pub W-fuse-else : (i : ℕ) → i < 8 → (interface b i).parent ≡ none → i ≢ p → i ≢ l → i ≢ r → W j i ≡ W b i
+  pub W-fuse-else : (i : ℕ) → i < 8 → (interface b i).parent ≡ None → i ≢ p → i ≢ l → i ≢ r → W j i ≡ W b i
   W-fuse-else i h free x y z = pos_eq (W-under j (fuse_frame b F p l r f) i h (join_rest b p l r (joins F f) f.p_none i y z ∙ free) ∙ under_same (λ w. refl) same_progress i
       ∙ under_unfused (top b) (top j) (progress_in b) p l r (climb_none 8 b l f.l_none) (climb_none 8 b r f.r_none) f.l≢r (join_top_l b F p l r f) (join_top_r b F p l r f) (join_top_else b F p l r f) nothing i x y z
       ∙ sym (W-under b F i h free))
 
 -- ---- clearing
 module _ (b : Bench) (F : Frame b) (u : ℕ) where
-  pub W-clear-else : (i : ℕ) → i < 8 → (interface b i).parent ≡ none → i ≢ u → W (wipe b u) i ≡ W b i
+  pub W-clear-else : (i : ℕ) → i < 8 → (interface b i).parent ≡ None → i ≢ u → W (wipe b u) i ≡ W b i
   W-clear-else i h free q = pos_eq (W-under (wipe b u) (clear_frame b F u) i h (ap (λ (g : Interface). g.parent) (wipe_else b u i other) ∙ free)
       ∙ under_spared (top b) (top (wipe b u)) (progress_in b) (progress_in (wipe b u)) u (λ w k. tops b F w) (λ w k. wipe_top_else b u F w)
       (λ w k e. ap (λ (g : Interface). pos (nat_abs g.progress)) (wipe_under b u w e)) (λ w k e. ap (λ (g : Interface). pos (nat_abs g.progress)) (wipe_else b u w e)) i other

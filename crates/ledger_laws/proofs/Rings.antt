@@ -1,9 +1,9 @@
 -- A circle has no finding exactly where each of its members passes the weak test. Assumes nothing.
+use Rattle.std.specs.Prelude.{None, Option, Some}
 use Prim.Native.Nat.{ℕ, zero, suc}
 use mathlib.Core.Path.{◌≡◌, refl, sym, ◌∙◌, ap, ap₂}
 use mathlib.Core.Logic.{◌⊎◌, inl, inr}
 use mathlib.Core.Bool.{Bool, true, false, not, ◌&&◌, ◌||◌, true≢false}
-use mathlib.Core.Option.{Option, none, some}
 use mathlib.Core.List.{List, [], ◌∷◌}
 use native.Mathlib.Omega.{arith}
 use Rattle.ledger_spec.specs.Bench.{Handle, Member, Node, Bench}
@@ -19,14 +19,14 @@ use Rattle.ledger_laws.proofs.Steps.{member_defect, member_two, member_four, mem
 
 -- ---- a handle that names no node
 module _ (b : Bench) (t : Handle) where
-  pub present : stale b t ≡ false → (n : Node) × (node_named b t ≡ some n)
+  pub present : stale b t ≡ false → (n : Node) × (node_named b t ≡ Some n)
   present e = go (node_named b t) refl
     where
-      go : (o : Option Node) → node_named b t ≡ o → (n : Node) × (node_named b t ≡ some n)
-      go none q = absurd (true≢false (sym (ap (λ (x : Option Node). not (is_some x)) q) ∙ e))
-      go (some n) q = (n, q)
+      go : (o : Option Node) → node_named b t ≡ o → (n : Node) × (node_named b t ≡ Some n)
+      go None q = absurd (true≢false (sym (ap (λ (x : Option Node). not (is_some x)) q) ∙ e))
+      go (Some n) q = (n, q)
 
-  not_stale : (n : Node) → node_named b t ≡ some n → stale b t ≡ false
+  not_stale : (n : Node) → node_named b t ≡ Some n → stale b t ≡ false
   not_stale n q = ap (λ (x : Option Node). not (is_some x)) q
 
 same_of : {g h : Handle} → g ≡ h → same_handle g h ≡ true

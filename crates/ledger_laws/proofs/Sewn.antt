@@ -1,8 +1,8 @@
 -- Every call keeps a bench sewn: serials different and below the next, member and parent linked both ways and once, in one tree, the member staying
 -- and older. Each is the law of `Knit` that fits, read by what stands where after the call. Assumes nothing.
+use Rattle.std.specs.Prelude.{None, Option, Some}
 use Prim.Native.Nat.{ℕ, suc, ◌≤◌, ◌<◌}
 use mathlib.Core.Path.{◌≡◌, refl, sym, ◌∙◌, ap, ap₂, subst, fun_ext}
-use mathlib.Core.Option.{Option, none, some}
 use mathlib.Core.List.{List, [], ◌∷◌}
 use native.Mathlib.Omega.{arith}
 use native.Mathlib.Decide.{ℕ_discrete}
@@ -99,59 +99,59 @@ expand_sewn b S u h P = sewn_at b b' b.next (expand_next b h) S.begun
 self_like : (n : Node) → Like n n
 self_like n = record { serial = refl; class = refl; parent = refl; state = λ q z. refl }
 
-pub state_sewn : (b : Bench) → Sewn b → (u : ℕ) (h : Handle) (s : State) → StatePassed b u h → Sewn (mark b h s none)
-state_sewn b S u h s P = sewn_at b b' b.next (mark_next b h s none) S.begun
+pub state_sewn : (b : Bench) → Sewn b → (u : ℕ) (h : Handle) (s : State) → StatePassed b u h → Sewn (mark b h s None)
+state_sewn b S u h s P = sewn_at b b' b.next (mark_next b h s None) S.begun
     (knit_like (slot_of b) (slot_of b') b.next (top b) (top b') S.knit came went (λ x w z. tops x ∙ z ∙ sym (tops w)))
   where
     b' : Bench
-    b' = mark b h s none
+    b' = mark b h s None
 
     n₀ : Node
     n₀ = P.named.node
 
     tops : (w : ℕ) → top b' w ≡ top b w
-    tops = quiet_top b b' (mark_quiet b h s none)
+    tops = quiet_top b b' (mark_quiet b h s None)
 
-    stands : slot_of b h.unit h.slot ≡ some n₀
+    stands : slot_of b h.unit h.slot ≡ Some n₀
     stands = P.named.has.stands
 
-    now : slot_of b' h.unit h.slot ≡ some (with_node n₀ s none)
-    now = mark_at b h s none ∙ ap (λ (o : Option Node). restate o s none) stands
+    now : slot_of b' h.unit h.slot ≡ Some (with_node n₀ s None)
+    now = mark_at b h s None ∙ ap (λ (o : Option Node). restate o s None) stands
 
-    like : Like n₀ (with_node n₀ s none)
+    like : Like n₀ (with_node n₀ s None)
     like = record { serial = refl; class = refl; parent = P.orphan; state = λ q z. absurd (none_some P.orphan z) }
 
-    came : (w v : ℕ) (x : Node) → slot_of b' w v ≡ some x → (n : Node) × (slot_of b w v ≡ some n) × Like n x
+    came : (w v : ℕ) (x : Node) → slot_of b' w v ≡ Some x → (n : Node) × (slot_of b w v ≡ Some n) × Like n x
     came w v x k = go (ℕ_discrete h.unit w) (ℕ_discrete h.slot v)
       where
-        same : slot_of b' w v ≡ slot_of b w v → (n : Node) × (slot_of b w v ≡ some n) × Like n x
+        same : slot_of b' w v ≡ slot_of b w v → (n : Node) × (slot_of b w v ≡ Some n) × Like n x
         same z = (x, sym z ∙ k, self_like x)
 
-        go : Dec (h.unit ≡ w) → Dec (h.slot ≡ v) → (n : Node) × (slot_of b w v ≡ some n) × Like n x
+        go : Dec (h.unit ≡ w) → Dec (h.slot ≡ v) → (n : Node) × (slot_of b w v ≡ Some n) × Like n x
         go (yes i) (yes j) = (n₀, ap₂ (slot_of b) (sym i) (sym j) ∙ stands, subst (Like n₀) (some_eq (ap₂ (slot_of b') (sym i) (sym j) ∙ now) k) like)
-        go (yes i) (no j) = same (mark_off b h s none w v (λ a c. j c))
-        go (no i) j = same (mark_off b h s none w v (λ a c. i a))
+        go (yes i) (no j) = same (mark_off b h s None w v (λ a c. j c))
+        go (no i) j = same (mark_off b h s None w v (λ a c. i a))
 
-    went : (w v : ℕ) (n : Node) → slot_of b w v ≡ some n → (x : Node) × (slot_of b' w v ≡ some x) × Like n x
+    went : (w v : ℕ) (n : Node) → slot_of b w v ≡ Some n → (x : Node) × (slot_of b' w v ≡ Some x) × Like n x
     went w v n k = go (ℕ_discrete h.unit w) (ℕ_discrete h.slot v)
       where
-        same : slot_of b' w v ≡ slot_of b w v → (x : Node) × (slot_of b' w v ≡ some x) × Like n x
+        same : slot_of b' w v ≡ slot_of b w v → (x : Node) × (slot_of b' w v ≡ Some x) × Like n x
         same z = (n, z ∙ k, self_like n)
 
-        go : Dec (h.unit ≡ w) → Dec (h.slot ≡ v) → (x : Node) × (slot_of b' w v ≡ some x) × Like n x
-        go (yes i) (yes j) = (with_node n₀ s none, ap₂ (slot_of b') (sym i) (sym j) ∙ now, subst (λ (m : Node). Like m (with_node n₀ s none)) (some_eq stands (ap₂ (slot_of b) i j ∙ k)) like)
-        go (yes i) (no j) = same (mark_off b h s none w v (λ a c. j c))
-        go (no i) j = same (mark_off b h s none w v (λ a c. i a))
+        go : Dec (h.unit ≡ w) → Dec (h.slot ≡ v) → (x : Node) × (slot_of b' w v ≡ Some x) × Like n x
+        go (yes i) (yes j) = (with_node n₀ s None, ap₂ (slot_of b') (sym i) (sym j) ∙ now, subst (λ (m : Node). Like m (with_node n₀ s None)) (some_eq stands (ap₂ (slot_of b) i j ∙ k)) like)
+        go (yes i) (no j) = same (mark_off b h s None w v (λ a c. j c))
+        go (no i) j = same (mark_off b h s None w v (λ a c. i a))
 
 -- ---- grow
-grow_like : (l : ℤ) (n : Node) → (x : Node) × (grow_slot l (some n) ≡ some x) × Like n x
+grow_like : (l : ℤ) (n : Node) → (x : Node) × (grow_slot l (Some n) ≡ Some x) × Like n x
 unfolding grow_slot
 grow_like l n = (_, refl, record { serial = refl; class = refl; parent = refl; state = λ q z. refl })
 
-grow_none : (l : ℤ) (o : Option Node) (x : Node) → grow_slot l o ≡ some x → (n : Node) × (o ≡ some n) × Like n x
+grow_none : (l : ℤ) (o : Option Node) (x : Node) → grow_slot l o ≡ Some x → (n : Node) × (o ≡ Some n) × Like n x
 unfolding grow_slot
-grow_none l none x e = absurd (none_some refl e)
-grow_none l (some n) x e = (n, refl, subst (Like n) (some_eq refl e) (record { serial = refl; class = refl; parent = refl; state = λ q z. refl }))
+grow_none l None x e = absurd (none_some refl e)
+grow_none l (Some n) x e = (n, refl, subst (Like n) (some_eq refl e) (record { serial = refl; class = refl; parent = refl; state = λ q z. refl }))
 
 pub grow_sewn : (b : Bench) → Sewn b → (u : ℕ) (l : ℤ) → Sewn (grow_by b u l)
 grow_sewn b S u l = sewn_at b b' b.next (grow_next b u l) S.begun
@@ -160,17 +160,17 @@ grow_sewn b S u l = sewn_at b b' b.next (grow_next b u l) S.begun
     b' : Bench
     b' = grow_by b u l
 
-    came : (w v : ℕ) (x : Node) → slot_of b' w v ≡ some x → (n : Node) × (slot_of b w v ≡ some n) × Like n x
+    came : (w v : ℕ) (x : Node) → slot_of b' w v ≡ Some x → (n : Node) × (slot_of b w v ≡ Some n) × Like n x
     came w v x k = go (ℕ_discrete (top b w) u)
       where
-        go : Dec (top b w ≡ u) → (n : Node) × (slot_of b w v ≡ some n) × Like n x
+        go : Dec (top b w ≡ u) → (n : Node) × (slot_of b w v ≡ Some n) × Like n x
         go (yes e) = grow_none l (slot_of b w v) x (sym (grow_at b u l w v e) ∙ k)
         go (no e) = (x, sym (grow_off b u l w v e) ∙ k, self_like x)
 
-    went : (w v : ℕ) (n : Node) → slot_of b w v ≡ some n → (x : Node) × (slot_of b' w v ≡ some x) × Like n x
+    went : (w v : ℕ) (n : Node) → slot_of b w v ≡ Some n → (x : Node) × (slot_of b' w v ≡ Some x) × Like n x
     went w v n k = go (ℕ_discrete (top b w) u)
       where
-        go : Dec (top b w ≡ u) → (x : Node) × (slot_of b' w v ≡ some x) × Like n x
+        go : Dec (top b w ≡ u) → (x : Node) × (slot_of b' w v ≡ Some x) × Like n x
         go (yes e) = let g = grow_like l n in (g.0, grow_at b u l w v e ∙ ap (grow_slot l) k ∙ g.1, g.2)
         go (no e) = (n, grow_off b u l w v e ∙ k, self_like n)
 
@@ -183,11 +183,11 @@ fuse_sewn b F S p l r f = sewn_at b j b.next (join_next b p l r (joins F f)) S.b
     j = join b p l r
 
     slots : (w v : ℕ) → slot_of j w v ≡ slot_of b w v
-    slots w v = ap (λ (s : List (Option Node)). get_or s v none) (join_slots b p l r (joins F f) w)
+    slots w v = ap (λ (s : List (Option Node)). get_or s v None) (join_slots b p l r (joins F f) w)
 
 -- ---- mark
 pub choose_slot : (b : Bench) (u : ℕ) (k : Marking) (w v : ℕ) → slot_of (choose b u k) w v ≡ slot_of b w v
-choose_slot b u k w v = ap (λ (s : List (Option Node)). get_or s v none) (choose_field b u k (λ f. f.slots) (λ f m. refl) w)
+choose_slot b u k w v = ap (λ (s : List (Option Node)). get_or s v None) (choose_field b u k (λ f. f.slots) (λ f m. refl) w)
 
 pub choose_sewn : (b : Bench) → Sewn b → (u : ℕ) (k : Marking) → Sewn (choose b u k)
 choose_sewn b S u k = sewn_at b c b.next (choose_next b u k) S.begun
@@ -203,11 +203,11 @@ choose_sewn b S u k = sewn_at b c b.next (choose_next b u k) S.begun
 pub clear_sewn : (b : Bench) → Frame b → Sewn b → (u : ℕ) → Sewn (wipe b u)
 clear_sewn b F S u = sewn_at b (wipe b u) b.next (wipe_next b u) S.begun
     (knit_clear (slot_of b) (slot_of (wipe b u)) b.next (top b) (top (wipe b u)) u S.knit
-    (λ w v e. ap (λ (f : Interface). get_or f.slots v none) (wipe_under b u w e)) (λ w v e. ap (λ (f : Interface). get_or f.slots v none) (wipe_else b u w e)) (wipe_top_else b u F))
+    (λ w v e. ap (λ (f : Interface). get_or f.slots v None) (wipe_under b u w e)) (λ w v e. ap (λ (f : Interface). get_or f.slots v None) (wipe_else b u w e)) (wipe_top_else b u F))
 
 -- ---- set-up: no nodes
-pub opened_empty : (n u s : ℕ) → slot_of (set_up n) u s ≡ none
-opened_empty n u s = ap (λ (f : Interface). get_or f.slots s none) (all_fresh 8 u)
+pub opened_empty : (n u s : ℕ) → slot_of (set_up n) u s ≡ None
+opened_empty n u s = ap (λ (f : Interface). get_or f.slots s None) (all_fresh 8 u)
 
 pub opened_sewn : (n : ℕ) → 1 ≤ n → Sewn (set_up n)
 opened_sewn n h = record {

@@ -1,8 +1,8 @@
 -- One slot against a floor: what does not sink stays afloat when it grows, and sinking by a length is sinking by its parts; what sinks by s after a growth by c sank by c + s. Assumes nothing.
+use Rattle.std.specs.Prelude.{None, Option, Some}
 use Prim.Native.Nat.{ℕ, zero, suc, ◌+◌, ◌*◌, ◌-◌, ◌≤◌, ◌<◌}
 use mathlib.Core.Path.{◌≡◌, refl, sym, ◌∙◌, ap}
 use mathlib.Core.Bool.{Bool, true, false, ◌&&◌, cond, true≢false}
-use mathlib.Core.Option.{Option, none, some}
 use mathlib.Core.Logic.{by_cases}
 use native.Mathlib.Decide.{dec_lt}
 use native.Mathlib.Omega.{arith}
@@ -81,21 +81,21 @@ sunk v (pos c) (pos s) shrinks h k = moved v c s
 -- ---- the same of a slot
 pub sinks_grown : (c s : ℤ) → lt_z c (pos 0) ≡ false → lt_z s (pos 0) ≡ false → (o : Option Node) → sinks s (grow_slot c o) ≡ sinks (c +ℤ s) o
 unfolding grow_slot
-sinks_grown c s h k none = refl
-sinks_grown c s h k (some n) = sunk n.value c s n.state h k
+sinks_grown c s h k None = refl
+sinks_grown c s h k (Some n) = sunk n.value c s n.state h k
 
 pub grown_afloat : (l : ℤ) (o : Option Node) → lt_z l (pos 0) ≡ false → afloat o ≡ true → sinks l o ≡ false → afloat (grow_slot l o) ≡ true
 unfolding grow_slot
-grown_afloat l none h a k = refl
-grown_afloat l (some n) h a k = rise n.value l n.state h a k
+grown_afloat l None h a k = refl
+grown_afloat l (Some n) h a k = rise n.value l n.state h a k
 
 module _ (a c : ℤ) (ha : lt_z a (pos 0) ≡ false) (hc : lt_z c (pos 0) ≡ false) where
   pub sinks_whole : (o : Option Node) → sinks a o ≡ false → sinks c (grow_slot a o) ≡ false → sinks (a +ℤ c) o ≡ false
   unfolding grow_slot
-  sinks_whole none x y = refl
-  sinks_whole (some n) x y = both n.value a c n.state ha hc x y
+  sinks_whole None x y = refl
+  sinks_whole (Some n) x y = both n.value a c n.state ha hc x y
 
   pub sinks_parts : (o : Option Node) → sinks (a +ℤ c) o ≡ false → (sinks a o ≡ false) × (sinks c (grow_slot a o) ≡ false)
   unfolding grow_slot
-  sinks_parts none x = (refl, refl)
-  sinks_parts (some n) x = parts n.value a c n.state ha hc x
+  sinks_parts None x = (refl, refl)
+  sinks_parts (Some n) x = parts n.value a c n.state ha hc x

@@ -1,9 +1,9 @@
 -- Every accepted call leaves a sound bench sound: what the links, the speeds, the nodes and W are after it, put together. Assumes nothing.
+use Rattle.std.specs.Prelude.{None, Option, Some}
 use Prim.Native.Nat.{ℕ, ◌+◌, ◌*◌, ◌≤◌, ◌<◌, ◌^◌}
 use mathlib.Core.Path.{◌≡◌, refl, sym, ◌∙◌, ap, subst}
 use mathlib.Core.Logic.{◌≢◌}
 use mathlib.Core.Bool.{false}
-use mathlib.Core.Option.{Option, none, some}
 use mathlib.Core.List.{List}
 use native.Mathlib.Omega.{arith}
 use native.Mathlib.Decide.{ℕ_discrete}
@@ -74,15 +74,15 @@ defect_sound b S u v P = quiet_sound b (add_defect b u v) S (defect_quiet b u v)
 
 pub blossom_sound : (b : Bench) → Sound b → (u : ℕ) (hs : List Handle) (ts : List (Handle × Handle)) → BlossomPassed b u hs ts → Sound (add_blossom b u hs ts)
 blossom_sound b S u hs ts P = quiet_sound b (add_blossom b u hs ts) S (blossom_quiet b u hs ts) (blossom_sewn b S.frame S.sewn u hs ts P)
-    (subst Paced (sym (blossom_is b u hs ts)) (push_paced c (quiet_frame b c marks S.frame) u (free_slot b u) (blossom_node b hs ts) P.here.low (marks.parent u ∙ P.here.free) (blossom_vacant b u hs ts) (mark_all_paced b S.frame hs stays (some (new_handle b u)) (paced_of b S))))
+    (subst Paced (sym (blossom_is b u hs ts)) (push_paced c (quiet_frame b c marks S.frame) u (free_slot b u) (blossom_node b hs ts) P.here.low (marks.parent u ∙ P.here.free) (blossom_vacant b u hs ts) (mark_all_paced b S.frame hs stays (Some (new_handle b u)) (paced_of b S))))
     (blossom_came b S u hs ts P) (omega (arith, blossom_next b u hs ts)) (omega (arith, blossom_next b u hs ts, P.unworn)) few
     (still_floors b (add_blossom b u hs ts) (blossom_quiet b u hs ts).parent (blossom_field b u hs ts (λ f. f.marks) (λ f l. refl) (λ f x. refl)) (blossom_came b S u hs ts P) S.floors)
   where
     c : Bench
-    c = mark_all b hs stays (some (new_handle b u))
+    c = mark_all b hs stays (Some (new_handle b u))
 
     marks : Quiet b c
-    marks = mark_all_quiet b hs stays (some (new_handle b u))
+    marks = mark_all_quiet b hs stays (Some (new_handle b u))
 
     few : (w : ℕ) → length (interface (add_blossom b u hs ts) w).slots ≤ 64
     few w = go (ℕ_discrete w u)
@@ -93,18 +93,18 @@ blossom_sound b S u hs ts P = quiet_sound b (add_blossom b u hs ts) S (blossom_q
 
 pub expand_sound : (b : Bench) → Sound b → (u : ℕ) (h : Handle) → ExpandPassed b u h → Sound (remove_blossom b h)
 expand_sound b S u h P = quiet_sound b (remove_blossom b h) S (expand_quiet b h) (expand_sewn b S.sewn u h P)
-    (subst Paced (sym (expand_is b h)) (mark_all_paced c (quiet_frame b c (place_quiet b h.unit h.slot none) S.frame) (members (node_named b h)) grows none
-    (place_paced b S.frame h.unit h.slot none (held_unit b S.frame h.unit h.slot P.named.node P.named.has.stands) (λ x. refl) (paced_of b S))))
+    (subst Paced (sym (expand_is b h)) (mark_all_paced c (quiet_frame b c (place_quiet b h.unit h.slot None) S.frame) (members (node_named b h)) grows None
+    (place_paced b S.frame h.unit h.slot None (held_unit b S.frame h.unit h.slot P.named.node P.named.has.stands) (λ x. refl) (paced_of b S))))
     (expand_came b S.sewn u h P) (omega (arith, expand_next b h)) (omega (arith, expand_next b h, S.worn)) (λ w. omega (arith, expand_count b h w, S.few w))
     (still_floors b (remove_blossom b h) (expand_quiet b h).parent (expand_field b h (λ f. f.marks) (λ f l. refl) (λ f x. refl)) (expand_came b S.sewn u h P) S.floors)
   where
     c : Bench
-    c = place b h.unit h.slot none
+    c = place b h.unit h.slot None
 
-pub state_sound : (b : Bench) → Sound b → (u : ℕ) (h : Handle) (s : State) → StatePassed b u h → Sound (mark b h s none)
-state_sound b S u h s P = quiet_sound b (mark b h s none) S (mark_quiet b h s none) (state_sewn b S.sewn u h s P) (mark_paced b S.frame h s none (paced_of b S)) (state_came b h s none)
-    (omega (arith, mark_next b h s none)) (omega (arith, mark_next b h s none, S.worn)) (λ w. omega (arith, mark_count b h s none w, S.few w))
-    (still_floors b (mark b h s none) (mark_quiet b h s none).parent (mark_field b h s none (λ f. f.marks) (λ f l. refl) (λ f x. refl)) (state_came b h s none) S.floors)
+pub state_sound : (b : Bench) → Sound b → (u : ℕ) (h : Handle) (s : State) → StatePassed b u h → Sound (mark b h s None)
+state_sound b S u h s P = quiet_sound b (mark b h s None) S (mark_quiet b h s None) (state_sewn b S.sewn u h s P) (mark_paced b S.frame h s None (paced_of b S)) (state_came b h s None)
+    (omega (arith, mark_next b h s None)) (omega (arith, mark_next b h s None, S.worn)) (λ w. omega (arith, mark_count b h s None w, S.few w))
+    (still_floors b (mark b h s None) (mark_quiet b h s None).parent (mark_field b h s None (λ f. f.marks) (λ f l. refl) (λ f x. refl)) (state_came b h s None) S.floors)
 
 pub choose_sound : (b : Bench) → Sound b → (u : ℕ) (k : Marking) → MarkPassed b u → Sound (choose b u k)
 choose_sound b S u k P = quiet_sound b (choose b u k) S (choose_quiet b u k) (choose_sewn b S.sewn u k) (choose_paced b u k (paced_of b S)) (choose_came b u k)
@@ -128,7 +128,7 @@ module _ (b : Bench) (S : Sound b) (u : ℕ) (l : ℤ) (P : GrowPassed b u l) wh
   W-here : W g u ≡ W b u + nat_abs l
   W-here = W-grow b S.frame u l P.here (S.forward u) ahead
 
-  W-other : (i : ℕ) → i < 8 → (interface b i).parent ≡ none → i ≢ u → W g i ≡ W b i
+  W-other : (i : ℕ) → i < 8 → (interface b i).parent ≡ None → i ≢ u → W g i ≡ W b i
   W-other = W-grow-else b S.frame u l P.here (S.forward u) ahead
 
   forward' : (w : ℕ) → (interface g w).progress ≡ pos (nat_abs (interface g w).progress)
@@ -147,7 +147,7 @@ module _ (b : Bench) (S : Sound b) (u : ℕ) (l : ℤ) (P : GrowPassed b u l) wh
           (subst (λ (z : ℤ). nat_abs z ≤ 2 ^ 40) (sym (grow_progress b u l here)) (not_past ((interface b u).progress +ℤ l) (2 ^ 40) P.limit (pos_sum (interface b u).progress l (S.forward u) ahead)))
       go (no e) = omega (arith, ap nat_abs (grow_progress_else b u l w e), S.limit w)
 
-  room : (w s : ℕ) (x : Node) → slot_of g w s ≡ some x → W b (top b w) + grown b u l w ≤ W g (top g w)
+  room : (w s : ℕ) (x : Node) → slot_of g w s ≡ Some x → W b (top b w) + grown b u l w ≤ W g (top g w)
   room w s x k = go (ℕ_discrete (top b w) u)
     where
       w<8 : w < 8
@@ -157,7 +157,7 @@ module _ (b : Bench) (S : Sound b) (u : ℕ) (l : ℤ) (P : GrowPassed b u l) wh
       go (yes e) = omega (arith, ap (W b) e, grown_here b u l w e, ap (W g) (grow_top b u l w ∙ e), W-here)
       go (no e) = omega (arith, grown_else b u l w e, ap (W g) (grow_top b u l w), W-other (top b w) (below b S.frame 8 w w<8) (top_root b S.frame w) e)
 
-  sums' : (i : ℕ) → i < 8 → (interface g i).parent ≡ none → nat_abs (interface g i).sum ≤ 512 * W g i
+  sums' : (i : ℕ) → i < 8 → (interface g i).parent ≡ None → nat_abs (interface g i).sum ≤ 512 * W g i
   sums' i h free = go (ℕ_discrete i u)
     where
       go : Dec (i ≡ u) → nat_abs (interface g i).sum ≤ 512 * W g i
@@ -195,7 +195,7 @@ module _ (b : Bench) (S : Sound b) (p l r : ℕ) (f : Fusable b p l r) where
   progress_else = join_kept b p l r (joins F f) (λ g. g.progress) (λ g q. refl)
 
   -- an interface without a parent that is not p was one before, and neither half
-  old_root : (i : ℕ) → i ≢ p → (interface j i).parent ≡ none → (i ≢ l) × (i ≢ r) × ((interface b i).parent ≡ none)
+  old_root : (i : ℕ) → i ≢ p → (interface j i).parent ≡ None → (i ≢ l) × (i ≢ r) × ((interface b i).parent ≡ None)
   old_root i q free = (not_l, not_r, sym (join_rest b p l r (joins F f) f.p_none i not_l not_r) ∙ free)
     where
       not_l : i ≢ l
@@ -204,19 +204,19 @@ module _ (b : Bench) (S : Sound b) (p l r : ℕ) (f : Fusable b p l r) where
       not_r : i ≢ r
       not_r e = none_some free (ap (λ (z : ℕ). (interface j z).parent) e ∙ join_r b p l r (joins F f))
 
-  fuse_room : (w s : ℕ) (x : Node) → slot_of j w s ≡ some x → W b (top b w) + 0 ≤ W j (top j w)
+  fuse_room : (w s : ℕ) (x : Node) → slot_of j w s ≡ Some x → W b (top b w) + 0 ≤ W j (top j w)
   fuse_room w s x k = go (ℕ_discrete (top b w) l) (ℕ_discrete (top b w) r) (ℕ_discrete (top b w) p)
     where
-      k' : slot_of b w s ≡ some x
-      k' = ap (λ (y : List (Option Node)). get_or y s none) (sym (join_slots b p l r (joins F f) w)) ∙ k
+      k' : slot_of b w s ≡ Some x
+      k' = ap (λ (y : List (Option Node)). get_or y s None) (sym (join_slots b p l r (joins F f) w)) ∙ k
 
       go : Dec (top b w ≡ l) → Dec (top b w ≡ r) → Dec (top b w ≡ p) → W b (top b w) + 0 ≤ W j (top j w)
       go (yes e) y z = omega (arith, ap (W b) e, ap (W j) (join_top_l b F p l r f w e), W-fuse b F p l r f)
       go (no x') (yes e) z = omega (arith, ap (W b) e, ap (W j) (join_top_r b F p l r f w e), W-fuse b F p l r f)
-      go (no x') (no y) (yes z) = absurd (none_some (ap (λ (y : List (Option Node)). get_or y s none) (ap (λ (m : ℕ). (interface b m).slots) (alone b F p f.no_halves w z) ∙ f.no_slots)) k')
+      go (no x') (no y) (yes z) = absurd (none_some (ap (λ (y : List (Option Node)). get_or y s None) (ap (λ (m : ℕ). (interface b m).slots) (alone b F p f.no_halves w z) ∙ f.no_slots)) k')
       go (no x') (no y) (no z) = omega (arith, ap (W j) (join_top_else b F p l r f w x' y), W-fuse-else b F p l r f (top b w) (below b F 8 w (held_unit b F w s x k')) (top_root b F w) z x' y)
 
-  fuse_sums : (i : ℕ) → i < 8 → (interface j i).parent ≡ none → nat_abs (interface j i).sum ≤ 512 * W j i
+  fuse_sums : (i : ℕ) → i < 8 → (interface j i).parent ≡ None → nat_abs (interface j i).sum ≤ 512 * W j i
   fuse_sums i h free = go (ℕ_discrete i p)
     where
       go : Dec (i ≡ p) → nat_abs (interface j i).sum ≤ 512 * W j i
@@ -260,25 +260,25 @@ module _ (b : Bench) (S : Sound b) (u : ℕ) where
       go (yes e) = subst P (sym (wipe_under b u w e)) x
       go (no e) = subst P (sym (wipe_else b u w e)) y
 
-  clear_room : (w s : ℕ) (x : Node) → slot_of c w s ≡ some x → W b (top b w) + 0 ≤ W c (top c w)
+  clear_room : (w s : ℕ) (x : Node) → slot_of c w s ≡ Some x → W b (top b w) + 0 ≤ W c (top c w)
   clear_room w s x k = go (ℕ_discrete (top b w) u)
     where
       go : Dec (top b w ≡ u) → W b (top b w) + 0 ≤ W c (top c w)
-      go (yes e) = absurd (none_some (ap (λ (f : Interface). get_or f.slots s none) (wipe_under b u w e)) k)
+      go (yes e) = absurd (none_some (ap (λ (f : Interface). get_or f.slots s None) (wipe_under b u w e)) k)
       go (no e) = omega (
         arith,
         ap (W c) (wipe_top_else b u S.frame w e),
         W-clear-else b S.frame u (top b w) (below b S.frame 8 w (held_unit c (clear_frame b S.frame u) w s x k)) (top_root b S.frame w) e,
       )
 
-  clear_sums : (i : ℕ) → i < 8 → (interface c i).parent ≡ none → nat_abs (interface c i).sum ≤ 512 * W c i
+  clear_sums : (i : ℕ) → i < 8 → (interface c i).parent ≡ None → nat_abs (interface c i).sum ≤ 512 * W c i
   clear_sums i h free = go (ℕ_discrete (top b i) u)
     where
       go : Dec (top b i ≡ u) → nat_abs (interface c i).sum ≤ 512 * W c i
       go (yes e) = omega (arith, ap (λ (f : Interface). nat_abs f.sum) (wipe_under b u i e))
       go (no e) = omega (arith, ap (λ (f : Interface). nat_abs f.sum) (wipe_else b u i e), W-clear-else b S.frame u i h old (λ q. e (climb_none 8 b i old ∙ q)), S.sums i h old)
         where
-          old : (interface b i).parent ≡ none
+          old : (interface b i).parent ≡ None
           old = ap (λ (f : Interface). f.parent) (sym (wipe_else b u i e)) ∙ free
 
   pub clear_sound : Sound (wipe b u)

@@ -1,10 +1,10 @@
 -- What a bench answers about a handle that names no present node: 8 to every read of a node, no to belonging, and to every call that names it 8 or a
 -- lower number. Assumes nothing.
+use Rattle.std.specs.Prelude.{None}
 use Prim.Native.Nat.{ℕ, zero, suc, ◌≤◌}
 use mathlib.Core.Path.{◌≡◌, refl, sym, ◌∙◌, ap}
 use mathlib.Core.Logic.{◌≢◌}
 use mathlib.Core.Bool.{Bool, true, false, ◌&&◌, ◌||◌, not, true≢false}
-use mathlib.Core.Option.{none}
 use mathlib.Core.List.{List, [], ◌∷◌, ◌++◌}
 use native.Mathlib.Omega.{arith}
 use lib.Dec.{eqb, ltb}
@@ -62,7 +62,7 @@ any_yes p h hs (there {g} {hs = tl} i) e = ap (λ (t : Bool). p g || t) (any_yes
     or_true true = refl
     or_true false = refl
 
-module _ (b : Bench) (h : Handle) (e : node_named b h ≡ none) where
+module _ (b : Bench) (h : Handle) (e : node_named b h ≡ None) where
   is_stale : stale b h ≡ true
   is_stale = ap (λ o. not (is_some o)) e
 

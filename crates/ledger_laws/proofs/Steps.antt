@@ -1,8 +1,8 @@
 -- The check's definitions a step at a time, by what a slot and a member turn out to be. Assumes nothing.
+use Rattle.std.specs.Prelude.{None, Some}
 use Prim.Native.Nat.{ℕ, suc}
 use mathlib.Core.Path.{◌≡◌, refl}
 use mathlib.Core.Bool.{Bool, true, false, ◌&&◌, ◌||◌}
-use mathlib.Core.Option.{none, some}
 use mathlib.Core.List.{List, [], ◌∷◌}
 use lib.Dec.{eqb}
 use lib.IntN.{pos, ◌+ℤ◌}
@@ -61,17 +61,17 @@ module _ (b : Bench) (m : Member) (ms : List Member) where
   unfolding strict_circle
   strict_on e = rw (e, strict_circle)
 
-  pub strict_bad : strict_member b m ≡ false → strict_circle b (m ∷ ms) ≡ some m.node
+  pub strict_bad : strict_member b m ≡ false → strict_circle b (m ∷ ms) ≡ Some m.node
   unfolding strict_circle
   strict_bad e = rw (e, strict_circle)
 
 -- ---- a slot
 module _ (b : Bench) (whole : List Entry) (t : Entry) (ts : List Entry) (seen : List ℕ) (k : ℕ) where
-  pub walk_empty : t.2 ≡ none → finding b whole (t ∷ ts) seen k ≡ finding b whole ts seen (suc k)
+  pub walk_empty : t.2 ≡ None → finding b whole (t ∷ ts) seen k ≡ finding b whole ts seen (suc k)
   unfolding finding
   walk_empty e = rw (e, finding)
 
-  module _ (n : Node) (e : t.2 ≡ some n) where
+  module _ (n : Node) (e : t.2 ≡ Some n) where
     pub walk_again : (v : ℕ) → n.class ≡ defect v → any (eqb v) seen ≡ true → finding b whole (t ∷ ts) seen k ≡ (1, k)
     unfolding finding
     walk_again v c a = rw (e, c, a, finding)
@@ -89,20 +89,20 @@ module _ (b : Bench) (whole : List Entry) (t : Entry) (ts : List Entry) (seen : 
     walk_bad ms c w z = rw (e, c, z, finding)
 
 module _ (b : Bench) (whole : List Entry) (t : Entry) (ts : List Entry) where
-  pub strict_empty : t.2 ≡ none → strict_finding b whole (t ∷ ts) ≡ strict_finding b whole ts
+  pub strict_empty : t.2 ≡ None → strict_finding b whole (t ∷ ts) ≡ strict_finding b whole ts
   unfolding strict_finding
   strict_empty e = rw (e, strict_finding)
 
-  module _ (n : Node) (e : t.2 ≡ some n) where
+  module _ (n : Node) (e : t.2 ≡ Some n) where
     pub strict_vertex : (v : ℕ) → n.class ≡ defect v → strict_finding b whole (t ∷ ts) ≡ strict_finding b whole ts
     unfolding strict_finding
     strict_vertex v c = rw (e, c, strict_finding)
 
-    pub strict_ring : (ms : List Member) → n.class ≡ blossom ms → strict_circle b ms ≡ none → strict_finding b whole (t ∷ ts) ≡ strict_finding b whole ts
+    pub strict_ring : (ms : List Member) → n.class ≡ blossom ms → strict_circle b ms ≡ None → strict_finding b whole (t ∷ ts) ≡ strict_finding b whole ts
     unfolding strict_finding
     strict_ring ms c z = rw (e, c, z, strict_finding)
 
-    pub strict_six : (ms : List Member) → n.class ≡ blossom ms → (h : Handle) → strict_circle b ms ≡ some h → strict_finding b whole (t ∷ ts) ≡ (6, index_in whole 0 h)
+    pub strict_six : (ms : List Member) → n.class ≡ blossom ms → (h : Handle) → strict_circle b ms ≡ Some h → strict_finding b whole (t ∷ ts) ≡ (6, index_in whole 0 h)
     unfolding strict_finding
     strict_six ms c h z = rw (e, c, z, strict_finding)
 

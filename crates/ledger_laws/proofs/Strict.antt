@@ -1,10 +1,10 @@
 -- What the strict verdict means: 0 exactly where the plain one is 0 and every touching node of a blossom member is under that member. The walk up that the
 -- definition makes arrives exactly where parents lead, since no chain of a sound bench is longer than 512 links. Assumes nothing.
+use Rattle.std.specs.Prelude.{None, Option, Some}
 use Prim.Native.Nat.{ℕ, zero, suc, ◌≤◌}
 use mathlib.Core.Path.{◌≡◌, refl, sym, ◌∙◌, ap, subst}
 use mathlib.Core.Logic.{◌⊎◌, inl, inr}
 use mathlib.Core.Bool.{Bool, true, false, true≢false}
-use mathlib.Core.Option.{Option, none, some}
 use mathlib.Core.List.{List, [], ◌∷◌}
 use native.Mathlib.Omega.{arith}
 use Rattle.ledger_spec.specs.Bench.{Handle, Member, Class, defect, blossom, Node, Bench}
@@ -30,12 +30,12 @@ module _ (b : Bench) (m : Handle) where
   arrives_here zero t e = e
   arrives_here (suc k) t e = rw (e, arrives)
 
-  arrives_none : (k : ℕ) (t : Handle) → same_handle t m ≡ false → parent_in (node_named b t) ≡ none → arrives k b t m ≡ false
+  arrives_none : (k : ℕ) (t : Handle) → same_handle t m ≡ false → parent_in (node_named b t) ≡ None → arrives k b t m ≡ false
   unfolding arrives
   arrives_none zero t e f = e
   arrives_none (suc k) t e f = rw (e, f, arrives)
 
-  arrives_up : (k : ℕ) (t p : Handle) → same_handle t m ≡ false → parent_in (node_named b t) ≡ some p → arrives (suc k) b t m ≡ arrives k b p m
+  arrives_up : (k : ℕ) (t p : Handle) → same_handle t m ≡ false → parent_in (node_named b t) ≡ Some p → arrives (suc k) b t m ≡ arrives k b p m
   unfolding arrives
   arrives_up k t p e f = rw (e, f, arrives)
 
@@ -52,10 +52,10 @@ module _ (b : Bench) (m : Handle) where
     where
       go : (c : Bool) → same_handle t m ≡ c → (o : Option Handle) → parent_in (node_named b t) ≡ o → ((p : Handle) → arrives k b p m ≡ true → Descends b m p) → Descends b m t
       go true e o f ih = same_descends t e
-      go false e none f ih = absurd (true≢false (sym a ∙ arrives_none (suc k) t e f))
-      go false e (some p) f ih = inside p f (ih p (sym (arrives_up k t p e f) ∙ a))
+      go false e None f ih = absurd (true≢false (sym a ∙ arrives_none (suc k) t e f))
+      go false e (Some p) f ih = inside p f (ih p (sym (arrives_up k t p e f) ∙ a))
 
-  onward : {t top p : Handle} {j : ℕ} → Chain b t j top → parent_in (node_named b t) ≡ some p → (i : ℕ) × (j ≡ suc i) × Chain b p i top
+  onward : {t top p : Handle} {j : ℕ} → Chain b t j top → parent_in (node_named b t) ≡ Some p → (i : ℕ) × (j ≡ suc i) × Chain b p i top
   onward (end e) f = absurd (none_some e f)
   onward (link {h} {k} {t} q e c) f = (k, refl, subst (λ (x : Handle). Chain b x k t) (some_eq e f) c)
 
@@ -80,8 +80,8 @@ module _ (b : Bench) where
     descends_under t m d = go (node_named b t) refl
       where
         go : (o : Option Node) → node_named b t ≡ o → arrives 512 b t m ≡ true
-        go none e = arrives_all b m d (end (ap parent_in e)) 512 (omega arith)
-        go (some n) e = arrives_all b m d (chain b S t n e) 512 (links_most b 512 t)
+        go None e = arrives_all b m d (end (ap parent_in e)) 512 (omega arith)
+        go (Some n) e = arrives_all b m d (chain b S t n e) 512 (links_most b 512 t)
 
 -- ---- a member, a circle, a tree's slots
 abbrev Under : Bench → Member → Type 0
@@ -93,11 +93,11 @@ module _ (b : Bench) where
       let s = and_true (is_under b m.touch.0 m.node) (is_under b m.touch.1 m.node) (sym (strict_blossom b m d) ∙ e) in
       (under_descends b m.touch.0 m.node s.0, under_descends b m.touch.1 m.node s.1)
 
-  ring_under : (ms : List Member) → strict_circle b ms ≡ none → (m : Member) → In m ms → Under b m
+  ring_under : (ms : List Member) → strict_circle b ms ≡ None → (m : Member) → In m ms → Under b m
   ring_under [] z m i = absurd (not_in_nil i)
   ring_under (x ∷ ms) z m i = go (strict_member b x) refl (ring_under ms)
     where
-      go : (c : Bool) → strict_member b x ≡ c → (strict_circle b ms ≡ none → (m : Member) → In m ms → Under b m) → Under b m
+      go : (c : Bool) → strict_member b x ≡ c → (strict_circle b ms ≡ None → (m : Member) → In m ms → Under b m) → Under b m
       go false e ih = absurd (none_some z (strict_bad b x ms e))
       go true e ih = one (in_cases i)
         where
@@ -105,14 +105,14 @@ module _ (b : Bench) where
           one (inl q) = subst (λ (y : Member). Under b y) (sym q) (member_under x e)
           one (inr j) = ih (sym (strict_on b x ms e) ∙ z) m j
 
-  walk_under : (whole ts : List Entry) → (strict_finding b whole ts).0 ≡ 0 → (t : Entry) (n : Node) (ms : List Member) (m : Member) → In t ts → t.2 ≡ some n → n.class ≡ blossom ms → In m ms → Under b m
+  walk_under : (whole ts : List Entry) → (strict_finding b whole ts).0 ≡ 0 → (t : Entry) (n : Node) (ms : List Member) (m : Member) → In t ts → t.2 ≡ Some n → n.class ≡ blossom ms → In m ms → Under b m
   walk_under whole [] z t n ms m i e c j = absurd (not_in_nil i)
   walk_under whole (x ∷ ts) z t n ms m i e c j = slot (λ q k. walk_under whole ts q t n ms m k e c j) x.2 refl (in_cases i)
     where
       rest : ((strict_finding b whole ts).0 ≡ 0 → In t ts → Under b m) → strict_finding b whole (x ∷ ts) ≡ strict_finding b whole ts → In t ts → Under b m
       rest ih q k = ih (sym (ap (λ (w : ℕ × ℕ). w.0) q) ∙ z) k
 
-      ring : ((strict_finding b whole ts).0 ≡ 0 → In t ts → Under b m) → (k : Node) → x.2 ≡ some k → (l : Class) → k.class ≡ l → (t ≡ x) ⊎ In t ts → Under b m
+      ring : ((strict_finding b whole ts).0 ≡ 0 → In t ts → Under b m) → (k : Node) → x.2 ≡ Some k → (l : Class) → k.class ≡ l → (t ≡ x) ⊎ In t ts → Under b m
       ring ih k f (defect v) g (inl q) = absurd (true≢false (ap kind (sym c ∙ ap (λ (y : Node). y.class) (some_eq e (ap (λ (y : Entry). y.2) q ∙ f)) ∙ g)))
         where
           kind : Class → Bool
@@ -124,14 +124,14 @@ module _ (b : Bench) where
           list y = elim y [ defect v ↦ [] | blossom ms ↦ ms ]
 
           found : (o : Option Handle) → strict_circle b ks ≡ o → (t ≡ x) ⊎ In t ts → Under b m
-          found (some h) r w = absurd (omega (arith, z, ap (λ (y : ℕ × ℕ). y.0) (strict_six b whole x ts k f ks g h r)))
-          found none r (inl q) = ring_under ks r m (subst (λ (ys : List Member). In m ys) (ap list (sym c ∙ ap (λ (y : Node). y.class) (some_eq e (ap (λ (y : Entry). y.2) q ∙ f)) ∙ g)) j)
-          found none r (inr i) = rest ih (strict_ring b whole x ts k f ks g r) i
+          found (Some h) r w = absurd (omega (arith, z, ap (λ (y : ℕ × ℕ). y.0) (strict_six b whole x ts k f ks g h r)))
+          found None r (inl q) = ring_under ks r m (subst (λ (ys : List Member). In m ys) (ap list (sym c ∙ ap (λ (y : Node). y.class) (some_eq e (ap (λ (y : Entry). y.2) q ∙ f)) ∙ g)) j)
+          found None r (inr i) = rest ih (strict_ring b whole x ts k f ks g r) i
 
       slot : ((strict_finding b whole ts).0 ≡ 0 → In t ts → Under b m) → (o : Option Node) → x.2 ≡ o → (t ≡ x) ⊎ In t ts → Under b m
-      slot ih none f (inl q) = absurd (none_some f (sym (ap (λ (y : Entry). y.2) q) ∙ e))
-      slot ih none f (inr i) = rest ih (strict_empty b whole x ts f) i
-      slot ih (some k) f w = ring ih k f k.class refl w
+      slot ih None f (inl q) = absurd (none_some f (sym (ap (λ (y : Entry). y.2) q) ∙ e))
+      slot ih None f (inr i) = rest ih (strict_empty b whole x ts f) i
+      slot ih (Some k) f w = ring ih k f k.class refl w
 
   -- ---- and the other way round
   module _ (S : Sound b) where
@@ -142,18 +142,18 @@ module _ (b : Bench) where
         go true d = strict_defect b m d
         go false d = let u = U d in strict_blossom b m d ∙ both_true (descends_under b S m.touch.0 m.node u.0) (descends_under b S m.touch.1 m.node u.1)
 
-    under_ring : (ms : List Member) → ((m : Member) → In m ms → Under b m) → strict_circle b ms ≡ none
+    under_ring : (ms : List Member) → ((m : Member) → In m ms → Under b m) → strict_circle b ms ≡ None
     unfolding strict_circle
     under_ring [] U = refl
     under_ring (x ∷ ms) U = strict_on b x ms (under_member x (U x (here refl))) ∙ under_ring ms (λ m i. U m (there i))
 
-    under_walk : (whole ts : List Entry) → ((t : Entry) (n : Node) (ms : List Member) (m : Member) → In t ts → t.2 ≡ some n → n.class ≡ blossom ms → In m ms → Under b m) → strict_finding b whole ts ≡ (0, 0)
+    under_walk : (whole ts : List Entry) → ((t : Entry) (n : Node) (ms : List Member) (m : Member) → In t ts → t.2 ≡ Some n → n.class ≡ blossom ms → In m ms → Under b m) → strict_finding b whole ts ≡ (0, 0)
     under_walk whole [] U = strict_none b whole
     under_walk whole (x ∷ ts) U = slot x.2 refl (under_walk whole ts (λ t n ms m i. U t n ms m (there i)))
       where
         slot : (o : Option Node) → x.2 ≡ o → strict_finding b whole ts ≡ (0, 0) → strict_finding b whole (x ∷ ts) ≡ (0, 0)
-        slot none f r = strict_empty b whole x ts f ∙ r
-        slot (some k) f r = ring k.class refl
+        slot None f r = strict_empty b whole x ts f ∙ r
+        slot (Some k) f r = ring k.class refl
           where
             ring : (l : Class) → k.class ≡ l → strict_finding b whole (x ∷ ts) ≡ (0, 0)
             ring (defect v) g = strict_vertex b whole x ts k f v g ∙ r

@@ -1,10 +1,10 @@
 -- Demand 3, the accounting: after any calls from set-up the stored sum and speed of every interface without a parent are right, and the check's
 -- verdict 5 is what went from the tree. Assumes nothing.
+use Rattle.std.specs.Prelude.{None, Option, Some}
 use Prim.Native.Nat.{ℕ, zero, suc, ◌<◌}
 use mathlib.Core.Path.{◌≡◌, refl, sym, ◌∙◌, ap, subst}
 use mathlib.Core.Logic.{◌≢◌}
 use mathlib.Core.Bool.{Bool, true, false}
-use mathlib.Core.Option.{Option, none, some}
 use mathlib.Core.List.{List, [], ◌∷◌}
 use native.Mathlib.Omega.{arith}
 use borrow.Author.Tests.{eq-eqb, ne_eqb}
@@ -61,24 +61,24 @@ module _ (b : Bench) (S : Sound b) (u : ℕ) (h : Handle) (P : ExpandPassed b u 
   noted_else w q = ap (note g w (worth (node_named b h))) (ne_eqb w h.unit q)
 
   filled : (interface b h.unit).slots ≡ [] → ⊥
-  filled e = none_some (ap (λ (l : List (Option Node)). get_or l h.slot none) e) P.named.has.stands
+  filled e = none_some (ap (λ (l : List (Option Node)). get_or l h.slot None) e) P.named.has.stands
 
   expand_booked : Booked b g → Booked (remove_blossom b h) g'
   unfolding total
   expand_booked K = subst (λ (c : Bench). Booked c g') (sym (expand_is b h))
-      (mark_all_booked (place b h.unit h.slot none) (quiet_frame b _ (place_quiet b h.unit h.slot none) S.frame) (members (node_named b h)) grows none g'
-      (place_booked b S.frame h.unit h.slot none g g' (held_unit b S.frame h.unit h.slot P.named.node P.named.has.stands) (λ x. refl)
+      (mark_all_booked (place b h.unit h.slot None) (quiet_frame b _ (place_quiet b h.unit h.slot None) S.frame) (members (node_named b h)) grows None g'
+      (place_booked b S.frame h.unit h.slot None g g' (held_unit b S.frame h.unit h.slot P.named.node P.named.has.stands) (λ x. refl)
       (ap total noted_here ∙ +ℤ_comm (worth (slot_of b h.unit h.slot)) (total (g h.unit))
       ∙ ap (λ (z : ℤ). total (g h.unit) +ℤ z) (sym (+ℤ_idr (worth (slot_of b h.unit h.slot)))))
-      noted_else (λ e. absurd (filled (set_nil (interface b h.unit).slots h.slot none e))) K))
+      noted_else (λ e. absurd (filled (set_nil (interface b h.unit).slots h.slot None e))) K))
 
 blossom_booked : (b : Bench) → Sound b → (u : ℕ) (hs : List Handle) (ts : List (Handle × Handle)) → BlossomPassed b u hs ts → (g : Gone) → Booked b g → Booked (deed_of b (Blossom u hs ts)) g
 unfolding deed_of
 blossom_booked b S u hs ts P g K = subst (λ (c : Bench). Booked c g) (sym (blossom_is b u hs ts))
-    (push_booked c (quiet_frame b c (mark_all_quiet b hs stays (some (new_handle b u))) S.frame) u (free_slot b u) (blossom_node b hs ts) g P.here.low (blossom_vacant b u hs ts) refl (mark_all_booked b S.frame hs stays (some (new_handle b u)) g K))
+    (push_booked c (quiet_frame b c (mark_all_quiet b hs stays (Some (new_handle b u))) S.frame) u (free_slot b u) (blossom_node b hs ts) g P.here.low (blossom_vacant b u hs ts) refl (mark_all_booked b S.frame hs stays (Some (new_handle b u)) g K))
   where
     c : Bench
-    c = mark_all b hs stays (some (new_handle b u))
+    c = mark_all b hs stays (Some (new_handle b u))
 
 -- ---- each call
 pub deed_booked : (b : Bench) → Sound b → (c : Call) → first (tests_of b c) ≡ 0 → (g : Gone) → Booked b g → Booked (deed_of b c) (wrote g b c)
@@ -86,7 +86,7 @@ unfolding tests_of deed_of wrote
 deed_booked b S (Defect u v) e g K = subst (λ (c : Bench). Booked c g) (sym (defect_is b u v)) (push_booked b S.frame u (free_slot b u) (defect_node b v) g (defect_passed b u e).here.low (free_vacant b u) refl K)
 deed_booked b S (Blossom u hs ts) e g K = blossom_booked b S u hs ts (blossom_passed b u hs ts e) g K
 deed_booked b S (Expand u h) e g K = expand_booked b S u h (expand_passed b u h e) g K
-deed_booked b S (SetState u h s) e g K = mark_booked b S.frame h s none g K
+deed_booked b S (SetState u h s) e g K = mark_booked b S.frame h s None g K
 deed_booked b S (Grow u l) e g K = grow_booked b S.frame (paced_of b S) u l g (grow_passed b u l e).here.low K
 deed_booked b S (Fuse p l r) e g K = fuse_booked b S.frame p l r g (fusable b p l r e) K
 deed_booked b S (Clear u) e g K = clear_booked b S.frame u g K
@@ -141,7 +141,7 @@ pub record Listed (k : Book) (i : ℕ) : Type 0 where
   pub sum : (interface k.bench i).sum ≡ total_of (slots_of k.bench i) +ℤ along (λ u. total (k.gone u)) (tree 8 k.bench i)
   pub speed : (interface k.bench i).speed ≡ along (rates_at k) (tree 8 k.bench i)
 
-module _ (k : Book) (K : Kept k) (i : ℕ) (h : i < 8) (free : (interface k.bench i).parent ≡ none) where
+module _ (k : Book) (K : Kept k) (i : ℕ) (h : i < 8) (free : (interface k.bench i).parent ≡ None) where
   pub kept_right : Right k i
   kept_right = record { sum = K.booked.sums i h (climb_none 8 k.bench i free); speed = K.paced i h (climb_none 8 k.bench i free) }
 
@@ -161,7 +161,7 @@ module _ (n : ℕ) (cs : List Call) where
   abbrev pub after : Book
   after = turns (new_book n) cs
 
-  module _ (i : ℕ) (h : i < 8) (free : (interface after.bench i).parent ≡ none) where
+  module _ (i : ℕ) (h : i < 8) (free : (interface after.bench i).parent ≡ None) where
     pub right : Right after i
     right = kept_right after (turns_kept (new_book n) cs (begun_kept n)) i h free
 

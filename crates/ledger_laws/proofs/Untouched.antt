@@ -1,10 +1,10 @@
 -- A call leaves every interface of the trees that it does not name as it was, whole, whether it is accepted or not: each step changes a slot's own
 -- interface and the top of its tree, and nothing else. Assumes nothing.
+use Rattle.std.specs.Prelude.{None, Option, Some}
 use Prim.Native.Nat.{ℕ, zero, suc, ◌<◌}
 use mathlib.Core.Path.{◌≡◌, refl, sym, ◌∙◌, ap, subst}
 use mathlib.Core.Logic.{◌≢◌}
 use mathlib.Core.Bool.{false}
-use mathlib.Core.Option.{Option, none, some}
 use mathlib.Core.List.{List, [], ◌∷◌}
 use native.Mathlib.Omega.{arith}
 use native.Mathlib.Decide.{dec_lt}
@@ -43,7 +43,7 @@ named_by (Clear u) = u ∷ []
 named_by (Mark u k) = u ∷ []
 
 -- an interface of another tree is neither a slot's of this one nor its top
-apart : (b : Bench) (u v w : ℕ) → (interface b u).parent ≡ none → top b v ≡ u → top b w ≢ u → (w ≢ v) × (w ≢ top b v)
+apart : (b : Bench) (u v w : ℕ) → (interface b u).parent ≡ None → top b v ≡ u → top b w ≢ u → (w ≢ v) × (w ≢ top b v)
 apart b u v w free e q = (λ f. q (ap (top b) f ∙ e), λ f. q (ap (top b) (f ∙ e) ∙ climb_none 8 b u free))
 
 pub mark_all_aside : (s : State) (p : Option Handle) (b : Bench) (hs : List Handle) (w : ℕ) → ((h : Handle) → In h hs → (w ≢ h.unit) × (w ≢ top b h.unit)) → interface (mark_all b hs s p) w ≡ interface b w
@@ -53,7 +53,7 @@ mark_all_aside s p b (h ∷ hs) w off = mark_all_aside s p (mark b h s p) hs w (
     ∙ mark_aside b h s p w (off h (here refl)).0 (off h (here refl)).1
 
 module _ (b : Bench) (S : Sound b) (u w : ℕ) (other : top b w ≢ u) where
-  own : (interface b u).parent ≡ none → w ≢ u
+  own : (interface b u).parent ≡ None → w ≢ u
   own free e = other (ap (top b) e ∙ climb_none 8 b u free)
 
   pub defect_untouched : (v : ℕ) → DefectPassed b u → interface (add_defect b u v) w ≡ interface b w
@@ -61,13 +61,13 @@ module _ (b : Bench) (S : Sound b) (u w : ℕ) (other : top b w ≢ u) where
 
   pub blossom_untouched : (hs : List Handle) (ts : List (Handle × Handle)) → BlossomPassed b u hs ts → interface (add_blossom b u hs ts) w ≡ interface b w
   blossom_untouched hs ts P = ap (λ (c : Bench). interface c w) (blossom_is b u hs ts)
-      ∙ push_aside (mark_all b hs stays (some (new_handle b u))) u (free_slot b u) (blossom_node b hs ts) w (own P.here.free)
-      ∙ mark_all_aside stays (some (new_handle b u)) b hs w (λ h i. apart b u h.unit w P.here.free (P.member h i).near other)
+      ∙ push_aside (mark_all b hs stays (Some (new_handle b u))) u (free_slot b u) (blossom_node b hs ts) w (own P.here.free)
+      ∙ mark_all_aside stays (Some (new_handle b u)) b hs w (λ h i. apart b u h.unit w P.here.free (P.member h i).near other)
 
   pub expand_untouched : (h : Handle) → ExpandPassed b u h → interface (remove_blossom b h) w ≡ interface b w
   expand_untouched h P = ap (λ (c : Bench). interface c w) (expand_is b h)
-      ∙ mark_all_aside grows none (place b h.unit h.slot none) (members (node_named b h)) w (λ g i. off g i)
-      ∙ place_aside b h.unit h.slot none w (at h.unit P.named.near).0 (at h.unit P.named.near).1
+      ∙ mark_all_aside grows None (place b h.unit h.slot None) (members (node_named b h)) w (λ g i. off g i)
+      ∙ place_aside b h.unit h.slot None w (at h.unit P.named.near).0 (at h.unit P.named.near).1
     where
       at : (v : ℕ) → top b v ≡ u → (w ≢ v) × (w ≢ top b v)
       at v e = apart b u v w P.here.free e other
@@ -78,11 +78,11 @@ module _ (b : Bench) (S : Sound b) (u w : ℕ) (other : top b w ≢ u) where
           D : Down (slot_of b) g (mk h.unit h.slot P.named.node)
           D = S.sewn.knit.down h.unit h.slot P.named.node P.ms g P.named.has.stands P.ring (subst (In g) P.circle i)
 
-      off : (g : Handle) → In g (members (node_named b h)) → (w ≢ g.unit) × (w ≢ top (place b h.unit h.slot none) g.unit)
-      off g i = let a = at g.unit (near g i) in (a.0, λ e. a.1 (e ∙ quiet_top b (place b h.unit h.slot none) (place_quiet b h.unit h.slot none) g.unit))
+      off : (g : Handle) → In g (members (node_named b h)) → (w ≢ g.unit) × (w ≢ top (place b h.unit h.slot None) g.unit)
+      off g i = let a = at g.unit (near g i) in (a.0, λ e. a.1 (e ∙ quiet_top b (place b h.unit h.slot None) (place_quiet b h.unit h.slot None) g.unit))
 
-  pub state_untouched : (h : Handle) (s : State) → StatePassed b u h → interface (mark b h s none) w ≡ interface b w
-  state_untouched h s P = let a = apart b u h.unit w P.here.free P.named.near other in mark_aside b h s none w a.0 a.1
+  pub state_untouched : (h : Handle) (s : State) → StatePassed b u h → interface (mark b h s None) w ≡ interface b w
+  state_untouched h s P = let a = apart b u h.unit w P.here.free P.named.near other in mark_aside b h s None w a.0 a.1
 
   pub grow_untouched : (l : ℤ) → Open b u → interface (grow_by b u l) w ≡ interface b w
   grow_untouched l o = go (dec_lt w (length b.interfaces))
@@ -127,8 +127,8 @@ climb_untouched b b' F ns same (suc k) w q = go (interface b w).parent refl (cli
     now = ap (λ (f : Interface). f.parent) (same w q)
 
     go : (o : Option ℕ) → (interface b w).parent ≡ o → ((w : ℕ) → (In (top b w) ns → ⊥) → climb k b' w ≡ climb k b w) → climb (suc k) b' w ≡ climb (suc k) b w
-    go none e ih = climb_none (suc k) b' w (now ∙ e) ∙ sym (climb_none (suc k) b w e)
-    go (some p) e ih = climb_some k b' w p (now ∙ e) ∙ ih p (λ i. q (subst (λ (t : ℕ). In t ns) (sym (top_parent b F w p e)) i)) ∙ sym (climb_some k b w p e)
+    go None e ih = climb_none (suc k) b' w (now ∙ e) ∙ sym (climb_none (suc k) b w e)
+    go (Some p) e ih = climb_some k b' w p (now ∙ e) ∙ ih p (λ i. q (subst (λ (t : ℕ). In t ns) (sym (top_parent b F w p e)) i)) ∙ sym (climb_some k b w p e)
 
 pub untouched_top : (b : Bench) (c : Call) (w : ℕ) → (In (top b w) (named_by c) → ⊥) → top (answer b c).bench w ≡ top b w
 untouched_top b c w q = go (answer b c).number refl

@@ -1,9 +1,9 @@
 -- The walk finds nothing exactly where no vertex comes twice, nor was seen before, and no circle has a finding. Assumes nothing.
+use Rattle.std.specs.Prelude.{None, Option, Some}
 use Prim.Native.Nat.{ℕ, zero, suc}
 use mathlib.Core.Path.{◌≡◌, refl, sym, ◌∙◌, ap}
 use mathlib.Core.Logic.{◌⊎◌, inl, inr}
 use mathlib.Core.Bool.{Bool, true, false, ◌||◌, true≢false}
-use mathlib.Core.Option.{Option, none, some}
 use mathlib.Core.List.{List, [], ◌∷◌}
 use native.Mathlib.Omega.{arith}
 use borrow.Author.Tests.{eq-eqb, eqb-true}
@@ -19,30 +19,30 @@ use Rattle.ledger_laws.proofs.Steps.{walk_none, walk_empty, walk_again, walk_new
 
 -- a slot whose circle, if it has one, has no finding
 abbrev pub Passes : Bench → Entry → Type 0
-Passes b t = (n : Node) (ms : List Member) → t.2 ≡ some n → n.class ≡ blossom ms → (circle_verdict b ms).0 ≡ 0
+Passes b t = (n : Node) (ms : List Member) → t.2 ≡ Some n → n.class ≡ blossom ms → (circle_verdict b ms).0 ≡ 0
 
 pub record Tidy (b : Bench) (ts : List Entry) (seen : List ℕ) : Type 0 where
-  pub fresh : (i v : ℕ) → vertex_at ts i ≡ some v → any (eqb v) seen ≡ false
-  pub single : (i j v : ℕ) → vertex_at ts i ≡ some v → vertex_at ts j ≡ some v → i ≡ j
+  pub fresh : (i v : ℕ) → vertex_at ts i ≡ Some v → any (eqb v) seen ≡ false
+  pub single : (i j v : ℕ) → vertex_at ts i ≡ Some v → vertex_at ts j ≡ Some v → i ≡ j
   pub rings : (t : Entry) → In t ts → Passes b t
 
 any_cons : (p : ℕ → Bool) (v : ℕ) (vs : List ℕ) → any p (v ∷ vs) ≡ (p v || any p vs)
 unfolding any
 any_cons p v vs = refl
 
-vertex_defect : (o : Option Node) (n : Node) (v : ℕ) → o ≡ some n → n.class ≡ defect v → vertex_of o ≡ some v
+vertex_defect : (o : Option Node) (n : Node) (v : ℕ) → o ≡ Some n → n.class ≡ defect v → vertex_of o ≡ Some v
 unfolding vertex_of
 vertex_defect o n v e c = rw (e, c, vertex_of)
 
-vertex_none : (o : Option Node) → o ≡ none → vertex_of o ≡ none
+vertex_none : (o : Option Node) → o ≡ None → vertex_of o ≡ None
 unfolding vertex_of
 vertex_none o e = rw (e, vertex_of)
 
-vertex_ring : (o : Option Node) (n : Node) (ms : List Member) → o ≡ some n → n.class ≡ blossom ms → vertex_of o ≡ none
+vertex_ring : (o : Option Node) (n : Node) (ms : List Member) → o ≡ Some n → n.class ≡ blossom ms → vertex_of o ≡ None
 unfolding vertex_of
 vertex_ring o n ms e c = rw (e, c, vertex_of)
 
-vertex_past : (i : ℕ) → vertex_at [] i ≡ none
+vertex_past : (i : ℕ) → vertex_at [] i ≡ None
 unfolding vertex_of
 vertex_past i = refl
 
@@ -55,15 +55,15 @@ module _ (b : Bench) (t : Entry) (ts : List Entry) (seen : List ℕ) where
       go (inl q) = rw q p
       go (inr j) = r x j
 
-  module _ (z : vertex_of t.2 ≡ none) where
+  module _ (z : vertex_of t.2 ≡ None) where
     tidy_none : Passes b t → Tidy b ts seen → Tidy b (t ∷ ts) seen
     tidy_none p T = record { fresh = fresh; single = single; rings = rings_more p T.rings }
       where
-        fresh : (i v : ℕ) → vertex_at (t ∷ ts) i ≡ some v → any (eqb v) seen ≡ false
+        fresh : (i v : ℕ) → vertex_at (t ∷ ts) i ≡ Some v → any (eqb v) seen ≡ false
         fresh zero v e = absurd (none_some z e)
         fresh (suc i) v e = T.fresh i v e
 
-        single : (i j v : ℕ) → vertex_at (t ∷ ts) i ≡ some v → vertex_at (t ∷ ts) j ≡ some v → i ≡ j
+        single : (i j v : ℕ) → vertex_at (t ∷ ts) i ≡ Some v → vertex_at (t ∷ ts) j ≡ Some v → i ≡ j
         single zero j v e f = absurd (none_some z e)
         single (suc i) zero v e f = absurd (none_some z f)
         single (suc i) (suc j) v e f = ap suc (T.single i j v e f)
@@ -75,21 +75,21 @@ module _ (b : Bench) (t : Entry) (ts : List Entry) (seen : List ℕ) where
     rings = λ x i. T.rings x (there i);
   }
 
-  module _ (w : ℕ) (z : vertex_of t.2 ≡ some w) where
+  module _ (w : ℕ) (z : vertex_of t.2 ≡ Some w) where
     tidy_vertex : Passes b t → any (eqb w) seen ≡ false → Tidy b ts (w ∷ seen) → Tidy b (t ∷ ts) seen
     tidy_vertex p a T = record { fresh = fresh; single = single; rings = rings_more p T.rings }
       where
         apart : (v : ℕ) → any (eqb v) (w ∷ seen) ≡ false → (eqb v w ≡ false) × (any (eqb v) seen ≡ false)
         apart v e = or_false (eqb v w) (any (eqb v) seen) (sym (any_cons (eqb v) w seen) ∙ e)
 
-        clash : (j v : ℕ) → w ≡ v → vertex_at ts j ≡ some v → ⊥
+        clash : (j v : ℕ) → w ≡ v → vertex_at ts j ≡ Some v → ⊥
         clash j v e f = true≢false (sym (eq-eqb v w (sym e)) ∙ (apart v (T.fresh j v f)).0)
 
-        fresh : (i v : ℕ) → vertex_at (t ∷ ts) i ≡ some v → any (eqb v) seen ≡ false
+        fresh : (i v : ℕ) → vertex_at (t ∷ ts) i ≡ Some v → any (eqb v) seen ≡ false
         fresh zero v e = ap (λ (x : ℕ). any (eqb x) seen) (sym (some_eq z e)) ∙ a
         fresh (suc i) v e = (apart v (T.fresh i v e)).1
 
-        single : (i j v : ℕ) → vertex_at (t ∷ ts) i ≡ some v → vertex_at (t ∷ ts) j ≡ some v → i ≡ j
+        single : (i j v : ℕ) → vertex_at (t ∷ ts) i ≡ Some v → vertex_at (t ∷ ts) j ≡ Some v → i ≡ j
         single zero zero v e f = refl
         single zero (suc j) v e f = absurd (clash j v (some_eq z e) f)
         single (suc i) zero v e f = absurd (clash i v (some_eq z f) e)
@@ -102,8 +102,8 @@ module _ (b : Bench) (t : Entry) (ts : List Entry) (seen : List ℕ) where
       rings = λ x i. T.rings x (there i);
     }
       where
-        go : (i v : ℕ) → vertex_at ts i ≡ some v → (c : Bool) → eqb v w ≡ c → (eqb v w || any (eqb v) seen) ≡ false
-        go i v e true q = absurd (let s = T.single zero (suc i) w z (e ∙ ap some (eqb-true v w q)) in omega arith)
+        go : (i v : ℕ) → vertex_at ts i ≡ Some v → (c : Bool) → eqb v w ≡ c → (eqb v w || any (eqb v) seen) ≡ false
+        go i v e true q = absurd (let s = T.single zero (suc i) w z (e ∙ ap Some (eqb-true v w q)) in omega arith)
         go i v e false q = rw q (T.fresh (suc i) v e)
 
 -- ---- the walk
@@ -117,8 +117,8 @@ module _ (b : Bench) (whole : List Entry) where
   walk_tidy (t ∷ ts) seen k z = go t.2 refl (walk_tidy ts)
     where
       go : (o : Option Node) → t.2 ≡ o → ((s : List ℕ) (j : ℕ) → (finding b whole ts s j).0 ≡ 0 → Tidy b ts s) → Tidy b (t ∷ ts) seen
-      go none e ih = tidy_none b t ts seen (vertex_none t.2 e) (λ n ms q c. absurd (none_some e q)) (ih seen (suc k) (sym (ap (λ (w : ℕ × ℕ). w.0) (walk_empty b whole t ts seen k e)) ∙ z))
-      go (some n) e ih = class n.class refl
+      go None e ih = tidy_none b t ts seen (vertex_none t.2 e) (λ n ms q c. absurd (none_some e q)) (ih seen (suc k) (sym (ap (λ (w : ℕ × ℕ). w.0) (walk_empty b whole t ts seen k e)) ∙ z))
+      go (Some n) e ih = class n.class refl
         where
           class : (c : Class) → n.class ≡ c → Tidy b (t ∷ ts) seen
           class (defect v) c = met (any (eqb v) seen) refl
@@ -140,8 +140,8 @@ module _ (b : Bench) (whole : List Entry) where
   tidy_walk (t ∷ ts) seen k T = go t.2 refl (tidy_walk ts)
     where
       go : (o : Option Node) → t.2 ≡ o → ((s : List ℕ) (j : ℕ) → Tidy b ts s → (finding b whole ts s j).0 ≡ 0) → (finding b whole (t ∷ ts) seen k).0 ≡ 0
-      go none e ih = ap (λ (w : ℕ × ℕ). w.0) (walk_empty b whole t ts seen k e) ∙ ih seen (suc k) (tidy_rest b t ts seen T)
-      go (some n) e ih = class n.class refl
+      go None e ih = ap (λ (w : ℕ × ℕ). w.0) (walk_empty b whole t ts seen k e) ∙ ih seen (suc k) (tidy_rest b t ts seen T)
+      go (Some n) e ih = class n.class refl
         where
           class : (c : Class) → n.class ≡ c → (finding b whole (t ∷ ts) seen k).0 ≡ 0
           class (defect v) c = let x = vertex_defect t.2 n v e c in

@@ -1,10 +1,10 @@
 -- When the two pops agree: in number and answer always; in the group that they leave exactly where the list or the stops are empty, or the call is refused.
 -- Assumes nothing.
+use Rattle.std.specs.Prelude.{None, Option}
 use Prim.Native.Nat.{ℕ, zero, suc}
 use mathlib.Core.Path.{◌≡◌, refl, ap}
 use mathlib.Core.Logic.{◌≢◌}
 use mathlib.Core.Bool.{true, false, false≢true}
-use mathlib.Core.Option.{Option, none}
 use mathlib.Core.List.{List, [], ◌∷◌}
 use native.Mathlib.Omega.{arith}
 use lib.ListN.{length, drop}
@@ -25,7 +25,7 @@ Turn = ℕ × (Option Obstacle × Group)
 -- ---- number and answer are those of the other pop, and of peek
 module _ (g : Group) where
   abbrev by : ℕ → Group → Turn
-  by n q = said n (last_in g, q) (none, g)
+  by n q = said n (last_in g, q) (None, g)
 
   pub same_answer : ((pop_sparing g).0 ≡ (pop g).0) × ((pop_sparing g).1.0 ≡ (pop g).1.0)
   unfolding pop_sparing pop said
@@ -39,7 +39,7 @@ module _ (g : Group) where
   unfolding pop_sparing peek said
   peek_serves = go (first (take_tests g))
     where
-      go : (n : ℕ) → ((by n (after_sparing g)).0, (by n (after_sparing g)).1.0) ≡ said n (last_in g) none
+      go : (n : ℕ) → ((by n (after_sparing g)).0, (by n (after_sparing g)).1.0) ≡ said n (last_in g) None
       go zero = refl
       go (suc n) = refl
 
@@ -74,11 +74,11 @@ module _ (x : Entry) (l : List Entry) (y : Stop) (s : List Stop) (e : sound_grou
 
   kept : pending (pop_sparing both) ≡ length (y ∷ s)
   unfolding pop_sparing spared
-  kept = ap pending (passes (x ∷ l) (y ∷ s) (last_in both, after_sparing both) (none, both) e)
+  kept = ap pending (passes (x ∷ l) (y ∷ s) (last_in both, after_sparing both) (None, both) e)
 
   gone : pending (pop both) ≡ length s
   unfolding pop
-  gone = ap pending (passes (x ∷ l) (y ∷ s) (last_in both, after_pop both) (none, both) e)
+  gone = ap pending (passes (x ∷ l) (y ∷ s) (last_in both, after_pop both) (None, both) e)
 
 pub agree_only : (g : Group) → sound_group g ≡ true → pop_sparing g ≡ pop g → one_empty g ≡ true
 unfolding one_empty

@@ -1,9 +1,9 @@
 -- THEOREM. Pops that spare the stops, called on a sound group until there is nothing: the list from its end, then the stops by rising vertex, each exactly
 -- once, as many answers as there are entries; then none, for ever. By the number of entries: a call takes the first in that order. Assumes nothing.
+use Rattle.std.specs.Prelude.{None, Option, Some}
 use Prim.Native.Nat.{ℕ, zero, suc, ◌+◌}
 use mathlib.Core.Path.{◌≡◌, refl, sym, ap, ap₂, ◌∙◌}
 use mathlib.Core.Bool.{true}
-use mathlib.Core.Option.{Option, none, some}
 use mathlib.Core.List.{List, [], ◌∷◌, ◌++◌}
 use native.Mathlib.Omega.{arith}
 use lib.ListN.{length, drop, length-append}
@@ -35,13 +35,13 @@ record Comes (l : List Entry) (s : List Stop) : Type 0 where
   pub one : Obstacle
   pub list : List Entry
   pub stops : List Stop
-  pub last : last_of l s ≡ some one
+  pub last : last_of l s ≡ Some one
   pub goes : spared l s ≡ conflicts list stops
   pub order : entries_of l s ≡ one ∷ entries_of list stops
 
 record Last (e : Entry) (l : List Entry) (s : List Stop) : Type 0 where
   pub one : Obstacle
-  pub last : last_of (e ∷ l) s ≡ some one
+  pub last : last_of (e ∷ l) s ≡ Some one
   pub order : from_end (e ∷ l) ≡ one ∷ from_end (all_but_last (e ∷ l))
 
 last_of_lem : (e : Entry) (l : List Entry) (s : List Stop) → Last e l s
@@ -69,7 +69,7 @@ unfolding last_of spared from_end as_they_stand
 from_stops x s = record { one = x.obstacle; list = []; stops = s; last = refl; goes = refl; order = refl }
 
 -- ---- nothing there: none, and the group stays
-nothing : pop_sparing (conflicts [] []) ≡ (0, (none, conflicts [] []))
+nothing : pop_sparing (conflicts [] []) ≡ (0, (None, conflicts [] []))
 unfolding last_of spared sound_group all_listable rising_from
 nothing = taken [] [] refl
 
@@ -88,8 +88,8 @@ pub none_for_ever : (k : ℕ) → (answers k (conflicts [] []) ≡ nothings k) �
 unfolding answers left nothings
 none_for_ever zero = (refl, refl)
 none_for_ever (suc k) = (
-  step_answers k (conflicts [] []) (0, (none, conflicts [] [])) nothing ∙ ap (λ (rest : List Answer). (0, none) ∷ rest) (none_for_ever k).0,
-  step_left k (conflicts [] []) (0, (none, conflicts [] [])) nothing ∙ (none_for_ever k).1,
+  step_answers k (conflicts [] []) (0, (None, conflicts [] [])) nothing ∙ ap (λ (rest : List Answer). (0, None) ∷ rest) (none_for_ever k).0,
+  step_left k (conflicts [] []) (0, (None, conflicts [] [])) nothing ∙ (none_for_ever k).1,
 )
 
 -- ---- the theorem: m calls, the last k of them on nothing
@@ -99,9 +99,9 @@ Drained m k l s = (answers m (conflicts l s) ≡ given_out (entries_of l s) ++ n
 one_more : (m k : ℕ) (l : List Entry) (s : List Stop) → sound_group (conflicts l s) ≡ true → (c : Comes l s) → Drained m k c.list c.stops → Drained (suc m) k l s
 unfolding given_out
 one_more m k l s e c d =
-    let next : Turn = (0, (some c.one, conflicts c.list c.stops)) in
+    let next : Turn = (0, (Some c.one, conflicts c.list c.stops)) in
     let t : pop_sparing (conflicts l s) ≡ next = taken l s e ∙ ap₂ (λ (o : Option Obstacle) (q : Group). (0, (o, q))) c.last c.goes in (
-      step_answers m (conflicts l s) next t ∙ ap (λ (rest : List Answer). (0, some c.one) ∷ rest) d.0 ∙ sym (ap (λ (os : List Obstacle). given_out os ++ nothings k) c.order),
+      step_answers m (conflicts l s) next t ∙ ap (λ (rest : List Answer). (0, Some c.one) ∷ rest) d.0 ∙ sym (ap (λ (os : List Obstacle). given_out os ++ nothings k) c.order),
       step_left m (conflicts l s) next t ∙ d.1,
     )
 

@@ -1,9 +1,9 @@
 -- One pop that spares the stops: what it answers by the tests, that a sound group stays sound, and that a refusal leaves the very group. Assumes nothing.
+use Rattle.std.specs.Prelude.{None, Option}
 use Prim.Native.Nat.{ℕ, zero, suc, ◌<◌}
 use mathlib.Core.Path.{◌≡◌, refl, ap}
 use mathlib.Core.Logic.{◌≢◌}
 use mathlib.Core.Bool.{Bool, true, false, not}
-use mathlib.Core.Option.{Option, none}
 use mathlib.Core.List.{List, [], ◌∷◌}
 use native.Mathlib.Omega.{arith}
 use lib.IntN.{ℤ}
@@ -25,20 +25,20 @@ passes l s v z e = ap (λ (b : Bool). said (first ((not b, 2) ∷ (false, 10) �
 
 pub taken : (l : List Entry) (s : List Stop) → sound_group (conflicts l s) ≡ true → pop_sparing (conflicts l s) ≡ (0, (last_of l s, spared l s))
 unfolding pop_sparing
-taken l s e = passes l s (last_of l s, spared l s) (none, conflicts l s) e
+taken l s e = passes l s (last_of l s, spared l s) (None, conflicts l s) e
 
 -- and so is every group that they pass
 pub sound_where : (g : Group) → (pop_sparing g).0 ≡ 0 → (sound_group g ≡ true) × (is_growth g ≡ false)
 unfolding pop_sparing take_tests first said
 sound_where g h = go (sound_group g) (is_growth g) h
   where
-    go : (a b : Bool) → (said {A = Option Obstacle × Group} (first ((not a, 2) ∷ (b, 10) ∷ [])) (last_in g, after_sparing g) (none, g)).0 ≡ 0 → (a ≡ true) × (b ≡ false)
+    go : (a b : Bool) → (said {A = Option Obstacle × Group} (first ((not a, 2) ∷ (b, 10) ∷ [])) (last_in g, after_sparing g) (None, g)).0 ≡ 0 → (a ≡ true) × (b ≡ false)
     go true false e = (refl, refl)
     go true true e = absurd (omega (arith, e))
     go false b e = absurd (omega (arith, e))
 
 -- a growth is KIND, whatever its length
-pub kind_refused : (n : ℤ) (f : Bool) → pop_sparing (growth n f) ≡ (10, (none, growth n f))
+pub kind_refused : (n : ℤ) (f : Bool) → pop_sparing (growth n f) ≡ (10, (None, growth n f))
 unfolding pop_sparing take_tests first said sound_group
 kind_refused n f = refl
 
@@ -74,7 +74,7 @@ after_sound (conflicts l t) s = spared_sound l t s
 -- ---- by the number of the tests
 module _ (g : Group) where
   abbrev turn : ℕ → ℕ × (Option Obstacle × Group)
-  turn n = said n (last_in g, after_sparing g) (none, g)
+  turn n = said n (last_in g, after_sparing g) (None, g)
 
   pub sparing_sound : sound_group g ≡ true → sound_group (pop_sparing g).1.1 ≡ true
   unfolding pop_sparing said
@@ -84,10 +84,10 @@ module _ (g : Group) where
       go zero = after_sound g s
       go (suc n) = s
 
-  pub sparing_refused : (pop_sparing g).0 ≢ 0 → (pop_sparing g).1 ≡ (none, g)
+  pub sparing_refused : (pop_sparing g).0 ≢ 0 → (pop_sparing g).1 ≡ (None, g)
   unfolding pop_sparing said
   sparing_refused q = go (first (take_tests g)) q
     where
-      go : (n : ℕ) → (turn n).0 ≢ 0 → (turn n).1 ≡ (none, g)
+      go : (n : ℕ) → (turn n).0 ≢ 0 → (turn n).1 ≡ (None, g)
       go zero q = absurd (q refl)
       go (suc n) q = refl

@@ -1,7 +1,6 @@
 -- Pops that spare the stops, one after another: what n of them answer and leave; the obstacles of a group in the order in which they must come; and where
 -- the two pops must agree. Assumes nothing.
-use Rattle.std.specs.Prelude.{ℕ, zero, suc, Bool, true, false, List, [], ◌∷◌, ◌++◌}
-use Rattle.std.proofs.Math.Option.{Option, none, some}
+use Rattle.std.specs.Prelude.{ℕ, zero, suc, Bool, true, false, List, [], ◌∷◌, ◌++◌, None, Option, Some}
 use Rattle.kinds.specs.declared.Entry.{Entry}
 use Rattle.kinds.specs.declared.Stop.{Stop}
 use Rattle.kinds.specs.declared.Obstacle.{Obstacle}
@@ -37,12 +36,12 @@ entries_of es ss = from_end es ++ as_they_stand ss
 -- each of them as an accepted call's answer
 unfoldable pub given_out : List Obstacle → List Answer
 given_out [] = []
-given_out (o ∷ os) = (0, some o) ∷ given_out os
+given_out (o ∷ os) = (0, Some o) ∷ given_out os
 
 -- n accepted calls that took nothing
 unfoldable pub nothings : ℕ → List Answer
 nothings zero = []
-nothings (suc n) = (0, none) ∷ nothings n
+nothings (suc n) = (0, None) ∷ nothings n
 
 -- the list or the stops are empty, or it is a growth
 unfoldable pub one_empty : Group → Bool

@@ -1,7 +1,6 @@
 -- The pop that spares the stops, beside the pop of `ledger_spec`: it touches the stops only where the list is empty, so that no pending stop is lost. Its
 -- refusals and what it takes are those of the other pop; a group without entries answers none and stays. Assumes nothing.
-use Rattle.std.specs.Prelude.{ℕ, List, [], ◌∷◌, drop}
-use Rattle.std.proofs.Math.Option.{Option, none}
+use Rattle.std.specs.Prelude.{ℕ, List, [], ◌∷◌, drop, None, Option}
 use Rattle.kinds.specs.declared.Entry.{Entry}
 use Rattle.kinds.specs.declared.Stop.{Stop}
 use Rattle.kinds.specs.declared.Obstacle.{Obstacle}
@@ -21,4 +20,4 @@ after_sparing (conflicts es ss) = spared es ss
 
 -- a number, what was taken, and the group after it, which a refusal leaves as it was
 unfoldable pub pop_sparing : Group → ℕ × (Option Obstacle × Group)
-pop_sparing g = said (first (take_tests g)) (last_in g, after_sparing g) (none, g)
+pop_sparing g = said (first (take_tests g)) (last_in g, after_sparing g) (None, g)

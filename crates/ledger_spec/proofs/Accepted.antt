@@ -1,9 +1,9 @@
 -- What each call finds where it is accepted: its tests' facts, call by call. Assumes nothing.
+use Rattle.std.specs.Prelude.{None, Some}
 use Prim.Native.Nat.{ℕ, suc, ◌≤◌, ◌<◌, ◌^◌}
 use mathlib.Core.Path.{◌≡◌, refl, sym, ◌∙◌, ap}
 use mathlib.Core.Logic.{◌⊎◌, inl, inr}
 use mathlib.Core.Bool.{Bool, true, false, ◌&&◌, not, true≢false}
-use mathlib.Core.Option.{none, some}
 use mathlib.Core.List.{List, [], ◌∷◌, ◌++◌}
 use native.Mathlib.Omega.{arith}
 use native.Mathlib.Decide.{ℕ_discrete}
@@ -28,13 +28,13 @@ use Rattle.ledger_spec.proofs.Passed.{Failed, passed, given_false, empty_true, O
 pub record Named (b : Bench) (u : ℕ) (h : Handle) : Type 0 where
   pub node : Node
   pub has : Has (slot_of b) h node
-  pub is : node_named b h ≡ some node
+  pub is : node_named b h ≡ Some node
   pub near : top b h.unit ≡ u
 
 named_of : (b : Bench) (u : ℕ) (h : Handle) → stale b h ≡ false → foreign b u h ≡ false → Named b u h
 named_of b u h e f = let p = has_of b h e in record { node = p.0; has = p.1; is = p.2; near = eqb-true (top b h.unit) u (not-false (eqb (top b h.unit) u) f) }
 
-orphan_of : (b : Bench) (u : ℕ) (h : Handle) (N : Named b u h) → has_parent (node_named b h) ≡ false → N.node.parent ≡ none
+orphan_of : (b : Bench) (u : ℕ) (h : Handle) (N : Named b u h) → has_parent (node_named b h) ≡ false → N.node.parent ≡ None
 orphan_of b u h N e = given_false N.node.parent (ap has_parent (sym N.is) ∙ e)
 
 -- ---- clear
@@ -60,7 +60,7 @@ pub record BlossomPassed (b : Bench) (u : ℕ) (hs : List Handle) (ts : List (Ha
   pub most : length hs ≤ 64
   pub paired : (ts ≡ []) ⊎ (length ts ≡ length hs)
   pub member : (h : Handle) → In h hs → Named b u h
-  pub orphan : (h : Handle) (i : In h hs) → (member h i).node.parent ≡ none
+  pub orphan : (h : Handle) (i : In h hs) → (member h i).node.parent ≡ None
   pub touch : (h : Handle) → In h (both ts) → Named b u h
   pub once : (h : Handle) → In h hs → tally (same_handle h) hs ≡ 1
   pub room : free_slot b u < 64
@@ -129,14 +129,14 @@ pub record ExpandPassed (b : Bench) (u : ℕ) (h : Handle) : Type 0 where
   pub named : Named b u h
   pub ms : List Member
   pub ring : named.node.class ≡ blossom ms
-  pub orphan : named.node.parent ≡ none
+  pub orphan : named.node.parent ≡ None
   pub circle : members (node_named b h) ≡ nodes ms
 
 -- the members of a node, by its class
 ring_nodes : Class → List Handle
 ring_nodes k = elim k [ defect v ↦ [] | blossom ms ↦ nodes ms ]
 
-module _ (b : Bench) (h : Handle) (n : Node) (e : node_named b h ≡ some n) where
+module _ (b : Bench) (h : Handle) (n : Node) (e : node_named b h ≡ Some n) where
   pub members_of : (ms : List Member) → n.class ≡ blossom ms → members (node_named b h) ≡ nodes ms
   unfolding ring_nodes
   members_of ms r = ap members e ∙ ap ring_nodes r
@@ -166,7 +166,7 @@ expand_passed b u h e = go N.node.class refl
 pub record StatePassed (b : Bench) (u : ℕ) (h : Handle) : Type 0 where
   pub here : Open b u
   pub named : Named b u h
-  pub orphan : named.node.parent ≡ none
+  pub orphan : named.node.parent ≡ None
 
 pub state_passed : (b : Bench) (u : ℕ) (h : Handle) → first (state_tests b u h) ≡ 0 → StatePassed b u h
 unfolding state_tests

@@ -1,9 +1,9 @@
 -- Bounds of a sound bench, which keep the ledger's weights within an `i64`: a speed is no larger than the slots of its tree, W is no larger than
 -- eight progresses, and a value, a sum and what a growth adds to it follow. Assumes nothing.
+use Rattle.std.specs.Prelude.{None, Option, Some}
 use Prim.Native.Nat.{ℕ, zero, suc, ◌+◌, ◌*◌, ◌≤◌, ◌<◌, ◌^◌}
 use mathlib.Core.Path.{◌≡◌, refl, sym, ◌∙◌, ap, subst}
 use mathlib.Core.Bool.{Bool, true, false}
-use mathlib.Core.Option.{Option, none, some}
 use mathlib.Core.List.{List, [], ◌∷◌}
 use native.Mathlib.Omega.{arith}
 use native.Mathlib.Nat.{mul-le-mul}
@@ -25,8 +25,8 @@ use Rattle.ledger_spec.proofs.Trees.{along, tree_sum_lem, gather_rates}
 use Rattle.ledger_spec.proofs.Gathered.{held_unit}
 
 share_bound : (o : Option Node) → nat_abs (share o) ≤ 1
-share_bound none = omega arith
-share_bound (some n) = abs_rate n.state
+share_bound None = omega arith
+share_bound (Some n) = abs_rate n.state
 
 pub rates_bound : (l : List (Option Node)) → nat_abs (slot_sum share l) ≤ length l
 unfolding slot_sum
@@ -55,7 +55,7 @@ unfolding reach along
 reach_along b [] = refl
 reach_along b (u ∷ us) = ap (λ (z : ℤ). progress_in b u +ℤ z) (reach_along b us)
 
-pub W-under : (b : Bench) → Frame b → (i : ℕ) → i < 8 → (interface b i).parent ≡ none → pos (W b i) ≡ tree_sum (top b) (progress_in b) i
+pub W-under : (b : Bench) → Frame b → (i : ℕ) → i < 8 → (interface b i).parent ≡ None → pos (W b i) ≡ tree_sum (top b) (progress_in b) i
 W-under b F i h free = reach_along b (tree 8 b i) ∙ tree_sum_lem b F (progress_in b) i h free
 
 -- ---- growth: within 512 times the reach, before and after
@@ -64,22 +64,22 @@ grown_sum s v l w m hs hv hl = omega (arith, abs_add s (l *ℤ v), abs_mul l v, 
 
 module _ (b : Bench) (S : Sound b) where
   -- the speed of a top, in the order of the index, as the check adds up
-  pub speed_along : (i : ℕ) → i < 8 → (interface b i).parent ≡ none → (interface b i).speed ≡ along (rates_in b) (tree 8 b i)
+  pub speed_along : (i : ℕ) → i < 8 → (interface b i).parent ≡ None → (interface b i).speed ≡ along (rates_in b) (tree 8 b i)
   speed_along i h free = S.speeds i h free ∙ sym (tree_sum_lem b S.frame (rates_in b) i h free)
 
-  pub speed_listed : (i : ℕ) → i < 8 → (interface b i).parent ≡ none → (interface b i).speed ≡ rates (slots_of b i)
+  pub speed_listed : (i : ℕ) → i < 8 → (interface b i).parent ≡ None → (interface b i).speed ≡ rates (slots_of b i)
   speed_listed i h free = speed_along i h free ∙ sym (gather_rates b (tree 8 b i))
 
   -- at most 64 slots each: a speed within 512
-  pub speed_bound : (i : ℕ) → i < 8 → (interface b i).parent ≡ none → nat_abs (interface b i).speed ≤ 512
+  pub speed_bound : (i : ℕ) → i < 8 → (interface b i).parent ≡ None → nat_abs (interface b i).speed ≤ 512
   speed_bound i h free = subst (λ (z : ℤ). nat_abs z ≤ 512) (sym (S.speeds i h free))
       (under_bound (top b) (rates_in b) 64 i (λ w. omega (arith, S.few w, rates_bound (interface b w).slots)))
 
-  pub W-bound : (i : ℕ) → i < 8 → (interface b i).parent ≡ none → W b i ≤ 8 * 2 ^ 40
+  pub W-bound : (i : ℕ) → i < 8 → (interface b i).parent ≡ None → W b i ≤ 8 * 2 ^ 40
   W-bound i h free = subst (λ (z : ℤ). nat_abs z ≤ 8 * 2 ^ 40) (sym (W-under b S.frame i h free)) (under_bound (top b) (progress_in b) (2 ^ 40) i (λ w. S.limit w))
 
-  pub value_bound : (u s : ℕ) (n : Node) → slot_of b u s ≡ some n → nat_abs n.value ≤ 8 * 2 ^ 40
+  pub value_bound : (u s : ℕ) (n : Node) → slot_of b u s ≡ Some n → nat_abs n.value ≤ 8 * 2 ^ 40
   value_bound u s n e = omega (arith, S.values u s n e, W-bound (top b u) (below b S.frame 8 u (held_unit b S.frame u s n e)) (top_root b S.frame u))
 
-  pub sum_bound : (i : ℕ) → i < 8 → (interface b i).parent ≡ none → nat_abs (interface b i).sum ≤ 2 ^ 52
+  pub sum_bound : (i : ℕ) → i < 8 → (interface b i).parent ≡ None → nat_abs (interface b i).sum ≤ 2 ^ 52
   sum_bound i h free = omega (arith, S.sums i h free, W-bound i h free)

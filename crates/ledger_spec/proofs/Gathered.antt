@@ -1,9 +1,9 @@
 -- Which interfaces stand in the list of a tree, and which slots in what is gathered from a list of interfaces: those whose top it is, and each of
 -- their slots. A sum along the tree that counts one interface finds it there (`tree_sum_lem`). Assumes nothing.
+use Rattle.std.specs.Prelude.{None, Option, Some}
 use Prim.Native.Nat.{ℕ, zero, suc, ◌+◌, ◌<◌}
 use mathlib.Core.Path.{◌≡◌, refl, sym, ◌∙◌, ap, ap₂, subst}
 use mathlib.Core.Logic.{◌≢◌, ◌⊎◌, inl, inr}
-use mathlib.Core.Option.{Option, none, some}
 use mathlib.Core.List.{List, [], ◌∷◌, ◌++◌}
 use native.Mathlib.Omega.{arith}
 use native.Mathlib.Nat.{zero-add, add-zero}
@@ -100,10 +100,10 @@ module _ (b : Bench) (F : Frame b) where
           on (inr j) = absurd (not_in_nil j)
 
       go : (q : Option (ℕ × ℕ)) → (interface b u).halves ≡ q → ((u w : ℕ) → u < 8 → In w (tree k b u) → (w < 8) × (top b w ≡ top b u)) → (w < 8) × (top b w ≡ top b u)
-      go none e ih = self (subst (In w) (tree_leaf k b u e) i)
-      go (some lr) e ih = three (in_append (tree k b lr.0 ++ tree k b lr.1) (u ∷ []) (subst (In w) (tree_fork k b u lr e) i))
+      go None e ih = self (subst (In w) (tree_leaf k b u e) i)
+      go (Some lr) e ih = three (in_append (tree k b lr.0 ++ tree k b lr.1) (u ∷ []) (subst (In w) (tree_fork k b u lr e) i))
         where
-          half : (c : ℕ) → (interface b c).parent ≡ some u → In w (tree k b c) → (w < 8) × (top b w ≡ top b u)
+          half : (c : ℕ) → (interface b c).parent ≡ Some u → In w (tree k b c) → (w < 8) × (top b w ≡ top b u)
           half c p j = let r : (c < u) × (u < 8) = F.rising c u p in let s : (w < 8) × (top b w ≡ top b c) = ih c w (omega arith) j in (s.0, s.1 ∙ top_parent b F c u p)
 
           two : In w (tree k b lr.0) ⊎ In w (tree k b lr.1) → (w < 8) × (top b w ≡ top b u)
@@ -115,11 +115,11 @@ module _ (b : Bench) (F : Frame b) where
           three (inr j) = self j
 
 -- ---- slots gathered
-slots_in : (u k : ℕ) (l : List (Option Node)) (s : ℕ) → s < length l → In (u, k + s, get_or l s none) (slots_from u k l)
+slots_in : (u k : ℕ) (l : List (Option Node)) (s : ℕ) → s < length l → In (u, k + s, get_or l s None) (slots_from u k l)
 unfolding slots_from
 slots_in u k [] s h = absurd (omega arith)
 slots_in u k (x ∷ xs) zero h = here (ap (λ (m : ℕ). (u, m, x)) (add-zero k))
-slots_in u k (x ∷ xs) (suc s) h = there (subst (λ (m : ℕ). In (u, m, get_or xs s none) (slots_from u (suc k) xs)) (omega arith) (slots_in u (suc k) xs s (omega arith)))
+slots_in u k (x ∷ xs) (suc s) h = there (subst (λ (m : ℕ). In (u, m, get_or xs s None) (slots_from u (suc k) xs)) (omega arith) (slots_in u (suc k) xs s (omega arith)))
 
 -- what stands in a gathered list: a slot of one of the interfaces
 pub record Slot (b : Bench) (us : List ℕ) (t : ℕ × ℕ × Option Node) : Type 0 where
@@ -127,13 +127,13 @@ pub record Slot (b : Bench) (us : List ℕ) (t : ℕ × ℕ × Option Node) : Ty
   pub inside : t.1 < length (interface b t.0).slots
   pub holds : t.2 ≡ slot_of b t.0 t.1
 
-in_slots : (u k : ℕ) (l : List (Option Node)) (t : ℕ × ℕ × Option Node) → In t (slots_from u k l) → (s : ℕ) × (s < length l) × (t.0 ≡ u) × (t.1 ≡ k + s) × (t.2 ≡ get_or l s none)
+in_slots : (u k : ℕ) (l : List (Option Node)) (t : ℕ × ℕ × Option Node) → In t (slots_from u k l) → (s : ℕ) × (s < length l) × (t.0 ≡ u) × (t.1 ≡ k + s) × (t.2 ≡ get_or l s None)
 unfolding slots_from
 in_slots u k [] t i = absurd (not_in_nil i)
 in_slots u k (x ∷ xs) t i = go (in_cases i) (in_slots u (suc k) xs t)
   where
-    go : (t ≡ (u, k, x)) ⊎ In t (slots_from u (suc k) xs) → (In t (slots_from u (suc k) xs) → (s : ℕ) × (s < length xs) × (t.0 ≡ u) × (t.1 ≡ suc k + s) × (t.2 ≡ get_or xs s none))
-        → (s : ℕ) × (s < suc (length xs)) × (t.0 ≡ u) × (t.1 ≡ k + s) × (t.2 ≡ get_or (x ∷ xs) s none)
+    go : (t ≡ (u, k, x)) ⊎ In t (slots_from u (suc k) xs) → (In t (slots_from u (suc k) xs) → (s : ℕ) × (s < length xs) × (t.0 ≡ u) × (t.1 ≡ suc k + s) × (t.2 ≡ get_or xs s None))
+        → (s : ℕ) × (s < suc (length xs)) × (t.0 ≡ u) × (t.1 ≡ k + s) × (t.2 ≡ get_or (x ∷ xs) s None)
     go (inl e) ih = (zero, omega arith, ap (λ (z : ℕ × ℕ × Option Node). z.0) e, ap (λ (z : ℕ × ℕ × Option Node). z.1) e ∙ sym (add-zero k), ap (λ (z : ℕ × ℕ × Option Node). z.2) e)
     go (inr j) ih = let r = ih j in (suc r.0, omega (arith, r.1), r.2, omega (arith, r.3), r.4)
 
@@ -149,7 +149,7 @@ module _ (b : Bench) where
   in_gather [] t i = absurd (not_in_nil i)
   in_gather (u ∷ us) t i = go (in_append (slots_from u 0 (interface b u).slots) (gather b us) i) (in_gather us t)
     where
-      own : (s : ℕ) × (s < length (interface b u).slots) × (t.0 ≡ u) × (t.1 ≡ 0 + s) × (t.2 ≡ get_or (interface b u).slots s none) → Slot b (u ∷ us) t
+      own : (s : ℕ) × (s < length (interface b u).slots) × (t.0 ≡ u) × (t.1 ≡ 0 + s) × (t.2 ≡ get_or (interface b u).slots s None) → Slot b (u ∷ us) t
       own r = record {
         unit = here r.2;
         inside = subst (λ (z : ℕ). t.1 < length (interface b z).slots) (sym r.2) (omega (arith, r.1, r.3));
@@ -161,7 +161,7 @@ module _ (b : Bench) where
       go (inr j) ih = let r : Slot b us t = ih j in record { unit = there r.unit; inside = r.inside; holds = r.holds }
 
 -- a slot that holds a node is one of its interface's, and that is one of the eight
-module _ (b : Bench) (F : Frame b) (u s : ℕ) (n : Node) (e : slot_of b u s ≡ some n) where
+module _ (b : Bench) (F : Frame b) (u s : ℕ) (n : Node) (e : slot_of b u s ≡ Some n) where
   pub held_unit : u < 8
   held_unit = go (dec_lt u 8)
     where
@@ -174,7 +174,7 @@ module _ (b : Bench) (F : Frame b) (u s : ℕ) (n : Node) (e : slot_of b u s ≡
     where
       go : Dec (s < length (interface b u).slots) → s < length (interface b u).slots
       go (yes h) = h
-      go (no h) = absurd (none_some (get_or-eq_default (interface b u).slots none (omega arith)) e)
+      go (no h) = absurd (none_some (get_or-eq_default (interface b u).slots None (omega arith)) e)
 
-  pub held_in : In (u, s, some n) (slots_of b (top b u))
+  pub held_in : In (u, s, Some n) (slots_of b (top b u))
   held_in = subst (λ (o : Option Node). In (u, s, o) (slots_of b (top b u))) e (gather_in b u (tree 8 b (top b u)) s (tree_in b F u held_unit) held_slot)

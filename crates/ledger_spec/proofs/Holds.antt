@@ -1,9 +1,9 @@
 -- A sound bench passes the test `sound`: each fact makes its part of the test hold. With `Says`, test and facts are one. Assumes nothing.
+use Rattle.std.specs.Prelude.{None, Option, Some}
 use Prim.Native.Nat.{ℕ, suc, ◌*◌, ◌≤◌, ◌<◌, ◌^◌}
 use mathlib.Core.Path.{◌≡◌, refl, sym, ◌∙◌, ap, subst}
 use mathlib.Core.Logic.{◌⊎◌, inl, inr}
 use mathlib.Core.Bool.{Bool, true, false, not, ◌&&◌, ◌||◌, true≢false, or-true}
-use mathlib.Core.Option.{Option, none, some}
 use mathlib.Core.List.{List}
 use native.Mathlib.Omega.{arith}
 use lib.Dec.{eqb}
@@ -37,11 +37,11 @@ ahead : (z : ℤ) (m : ℕ) → z ≡ pos (nat_abs z) → nat_abs z ≤ m → (l
 ahead (pos n) m h k = both_true (le-leb 0 n (omega arith)) (le-leb n m k)
 ahead (negsuc n) m h k = absurd (pos-ne-negsuc (suc n) n (sym h))
 
-is_parent_lem : (q : Option ℕ) (u : ℕ) → q ≡ some u → is_parent q u ≡ true
+is_parent_lem : (q : Option ℕ) (u : ℕ) → q ≡ Some u → is_parent q u ≡ true
 is_parent_lem q u e = ap (λ (o : Option ℕ). is_parent o u) e ∙ eq-eqb u u refl
 
 module _ (b : Bench) (S : Sound b) where
-  half_holds : (u p : ℕ) → (interface b u).parent ≡ some p → is_half (interface b p).halves u ≡ true
+  half_holds : (u p : ℕ) → (interface b u).parent ≡ Some p → is_half (interface b p).halves u ≡ true
   half_holds u p e = go (interface b p).halves refl (S.frame.linked u p e)
     where
       either : (l r : ℕ) → (u ≡ l) ⊎ (u ≡ r) → (eqb l u || eqb r u) ≡ true
@@ -49,30 +49,30 @@ module _ (b : Bench) (S : Sound b) where
       either l r (inr x) = ap (λ (c : Bool). eqb l u || c) (eq-eqb r u (sym x)) ∙ or-true (eqb l u)
 
       go : (q : Option (ℕ × ℕ)) → (interface b p).halves ≡ q → is_some (interface b p).halves ≡ true → is_half (interface b p).halves u ≡ true
-      go none f g = absurd (true≢false (sym g ∙ ap is_some f))
-      go (some lr) f g = ap (λ (o : Option (ℕ × ℕ)). is_half o u) f ∙ either lr.0 lr.1 (S.frame.up u p lr.0 lr.1 e f)
+      go None f g = absurd (true≢false (sym g ∙ ap is_some f))
+      go (Some lr) f g = ap (λ (o : Option (ℕ × ℕ)). is_half o u) f ∙ either lr.0 lr.1 (S.frame.up u p lr.0 lr.1 e f)
 
   up_holds : (u : ℕ) → links_up b u ≡ true
   up_holds u = go (interface b u).parent refl
     where
       go : (q : Option ℕ) → (interface b u).parent ≡ q → links_up b u ≡ true
-      go none e = up_none b u e
-      go (some p) e = let r : (u < p) × (p < 8) = S.frame.rising u p e in
+      go None e = up_none b u e
+      go (Some p) e = let r : (u < p) × (p < 8) = S.frame.rising u p e in
           up_open b u p e ∙ both_true (lt-ltb u p r.0) (both_true (le-leb p 7 (omega arith)) (half_holds u p e))
 
   down_holds : (u : ℕ) → links_down b u ≡ true
   down_holds u = go (interface b u).halves refl
     where
       go : (q : Option (ℕ × ℕ)) → (interface b u).halves ≡ q → links_down b u ≡ true
-      go none e = down_none b u e
-      go (some lr) e = down_open b u lr e
+      go None e = down_none b u e
+      go (Some lr) e = down_open b u lr e
           ∙ both_true (both_true (ap not (ne_eqb lr.0 lr.1 (S.frame.apart u lr.0 lr.1 e))) (both_true (lt-ltb lr.0 u (S.frame.rising lr.0 u left).0) (lt-ltb lr.1 u (S.frame.rising lr.1 u right).0)))
           (both_true (is_parent_lem (interface b lr.0).parent u left) (is_parent_lem (interface b lr.1).parent u right))
         where
-          left : (interface b lr.0).parent ≡ some u
+          left : (interface b lr.0).parent ≡ Some u
           left = S.frame.left u lr.0 lr.1 e
 
-          right : (interface b lr.1).parent ≡ some u
+          right : (interface b lr.1).parent ≡ Some u
           right = S.frame.right u lr.0 lr.1 e
 
   interface_holds : (u : ℕ) → sound_interface b u ≡ true
@@ -80,28 +80,28 @@ module _ (b : Bench) (S : Sound b) where
   interface_holds u = both_true (both_true (le-leb (length (interface b u).slots) 64 (S.few u)) (ahead (interface b u).progress (2 ^ 40) (S.forward u) (S.limit u))) (both_true (up_holds u) (down_holds u))
 
   -- ---- a node
-  parent_holds : (u s : ℕ) (n : Node) → slot_of b u s ≡ some n → sound_parent b (mk u s n) n ≡ true
+  parent_holds : (u s : ℕ) (n : Node) → slot_of b u s ≡ Some n → sound_parent b (mk u s n) n ≡ true
   parent_holds u s n e = go n.parent refl
     where
       go : (q : Option Handle) → n.parent ≡ q → sound_parent b (mk u s n) n ≡ true
-      go none f = parent_none b (mk u s n) n f
-      go (some q) f = parent_open b (mk u s n) q n f
+      go None f = parent_none b (mk u s n) n f
+      go (Some q) f = parent_open b (mk u s n) q n f
           ∙ both_true (both_true (both_true (ap is_stay U.still) (lt-ltb n.serial q.serial U.older)) (eq-eqb (top b q.unit) (top b u) (sym U.near)))
           (eq-eqb (tally (same_handle (mk u s n)) (members (node_named b q))) 1 (ap (tally (same_handle (mk u s n))) (members_of b q U.over (has_node b q U.over U.has) U.ms U.ring) ∙ U.once))
         where
           U : Up (slot_of b) (top b) u s n q
           U = S.sewn.knit.up u s n q e f
 
-  child_holds : (n : Node) (h : Handle) → n.parent ≡ some h → same_parent (some n) h ≡ true
+  child_holds : (n : Node) (h : Handle) → n.parent ≡ Some h → same_parent (Some n) h ≡ true
   child_holds n h e = ap test e ∙ same_self h
     where
       test : Option Handle → Bool
-      test q = elim q [ none ↦ false | some q ↦ same_handle q h ]
+      test q = elim q [ None ↦ false | Some q ↦ same_handle q h ]
 
   touch_holds : (t : Handle) → Touching b t → sound_touch b t ≡ true
   touch_holds t T = both_true (both_true (le-leb t.unit 7 T.unit) (le-leb t.slot 63 T.slot)) (lt-ltb t.serial b.next T.serial)
 
-  ring_holds : (u s : ℕ) (n : Node) (ms : List Member) → slot_of b u s ≡ some n → n.class ≡ blossom ms → sound_class b (mk u s n) (blossom ms) n.size ≡ true
+  ring_holds : (u s : ℕ) (n : Node) (ms : List Member) → slot_of b u s ≡ Some n → n.class ≡ blossom ms → sound_class b (mk u s n) (blossom ms) n.size ≡ true
   unfolding sound_class
   ring_holds u s n ms e r = both_true (both_true (both_true (le-leb 1 (length ms) C.least) (le-leb (length ms) 64 C.most)) (eq-eqb n.size (sizes b (nodes ms)) C.size))
       (all_of (λ (m : Member). same_parent (node_named b m.node) (mk u s n) && (sound_touch b m.touch.0 && sound_touch b m.touch.1)) ms member)
@@ -116,7 +116,7 @@ module _ (b : Bench) (S : Sound b) where
           D : Down (slot_of b) m.node (mk u s n)
           D = S.sewn.knit.down u s n ms m.node e r (in_map (λ (m : Member). m.node) i)
 
-  class_holds : (u s : ℕ) (n : Node) → slot_of b u s ≡ some n → sound_class b (mk u s n) n.class n.size ≡ true
+  class_holds : (u s : ℕ) (n : Node) → slot_of b u s ≡ Some n → sound_class b (mk u s n) n.class n.size ≡ true
   unfolding sound_class
   class_holds u s n e = go n.class refl
     where
@@ -126,12 +126,12 @@ module _ (b : Bench) (S : Sound b) where
 
   slot_holds : (u s : ℕ) (o : Option Node) → slot_of b u s ≡ o → sound_slot b (W b (top b u)) (u, s, o) ≡ true
   unfolding sound_slot
-  slot_holds u s none e = refl
-  slot_holds u s (some n) e = let l = S.sewn.knit.low u s n e in
+  slot_holds u s None e = refl
+  slot_holds u s (Some n) e = let l = S.sewn.knit.low u s n e in
       both_true (both_true (both_true (le-leb 1 n.serial l.0) (lt-ltb n.serial b.next l.1)) (le-leb (nat_abs n.value) (W b (top b u)) (S.values u s n e))) (both_true (parent_holds u s n e) (class_holds u s n e))
 
   -- ---- a top
-  entry_holds : (i : ℕ) → i < 8 → (interface b i).parent ≡ none → (t : ℕ × ℕ × Option Node) → In t (slots_of b i) → sound_slot b (W b i) t ≡ true
+  entry_holds : (i : ℕ) → i < 8 → (interface b i).parent ≡ None → (t : ℕ × ℕ × Option Node) → In t (slots_of b i) → sound_slot b (W b i) t ≡ true
   entry_holds i h free t j = subst (λ (w : ℕ). sound_slot b (W b w) (t.0, t.1, t.2) ≡ true) ((in_tree b S.frame 8 i t.0 h G.unit).1 ∙ climb_none 8 b i free) (slot_holds t.0 t.1 t.2 (sym G.holds))
     where
       G : Slot b (tree 8 b i) t
@@ -141,8 +141,8 @@ module _ (b : Bench) (S : Sound b) where
   top_holds i h = go (interface b i).parent refl
     where
       go : (q : Option ℕ) → (interface b i).parent ≡ q → sound_top b i ≡ true
-      go (some p) e = top_some b i p e
-      go none e = top_open b i e ∙ both_true (all_of (sound_slot b (W b i)) (slots_of b i) (entry_holds i h e)) (both_true (le-leb (nat_abs (interface b i).sum) (512 * W b i) (S.sums i h e))
+      go (Some p) e = top_some b i p e
+      go None e = top_open b i e ∙ both_true (all_of (sound_slot b (W b i)) (slots_of b i) (entry_holds i h e)) (both_true (le-leb (nat_abs (interface b i).sum) (512 * W b i) (S.sums i h e))
           (eq-eqb (nat_abs ((interface b i).speed -ℤ rates (slots_of b i))) 0 (diff_zero (interface b i).speed (rates (slots_of b i)) (S.speeds i h e ∙ sym (gather_rates b (tree 8 b i) ∙ tree_sum_lem b S.frame (rates_in b) i h e)))))
 
   floor_holds : (u : ℕ) → sound_floor b u ≡ true

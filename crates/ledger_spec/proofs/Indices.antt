@@ -1,10 +1,10 @@
 -- The index of a node, and the slot of an index: along a list of interfaces the slots of the first come first, then those of the rest; so a whole
 -- interface is passed over by its number of slots. Assumes nothing.
+use Rattle.std.specs.Prelude.{None, Option}
 use Prim.Native.Nat.{ℕ, zero, suc, ◌+◌, ◌<◌}
 use mathlib.Core.Path.{◌≡◌, refl, sym, ◌∙◌, ap}
 use mathlib.Core.Logic.{◌≢◌}
 use mathlib.Core.Bool.{Bool, true, false, ◌&&◌}
-use mathlib.Core.Option.{Option, none}
 use mathlib.Core.List.{List, [], ◌∷◌, ◌++◌}
 use native.Mathlib.Omega.{arith}
 use native.Mathlib.Nat.{add-zero}
@@ -30,11 +30,11 @@ unfolding gather
 gather_length b u us = slots_length u 0 (interface b u).slots (gather b us)
 
 -- ---- the slot of an index
-slots_at : (u k : ℕ) (l : List (Option Node)) (ts : List Entry) (i : ℕ) (d : Entry) → i < length l → get_or (slots_from u k l ++ ts) i d ≡ (u, k + i, get_or l i none)
+slots_at : (u k : ℕ) (l : List (Option Node)) (ts : List Entry) (i : ℕ) (d : Entry) → i < length l → get_or (slots_from u k l ++ ts) i d ≡ (u, k + i, get_or l i None)
 unfolding slots_from
 slots_at u k [] ts i d h = absurd (omega arith)
 slots_at u k (x ∷ xs) ts zero d h = ap (λ (m : ℕ). (u, m, x)) (sym (add-zero k))
-slots_at u k (x ∷ xs) ts (suc i) d h = slots_at u (suc k) xs ts i d (omega arith) ∙ ap (λ (m : ℕ). (u, m, get_or xs i none)) (omega arith)
+slots_at u k (x ∷ xs) ts (suc i) d h = slots_at u (suc k) xs ts i d (omega arith) ∙ ap (λ (m : ℕ). (u, m, get_or xs i None)) (omega arith)
 
 slots_past : (u k : ℕ) (l : List (Option Node)) (ts : List Entry) (i : ℕ) (d : Entry) → get_or (slots_from u k l ++ ts) (length l + i) d ≡ get_or ts i d
 unfolding slots_from

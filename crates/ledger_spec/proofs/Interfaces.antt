@@ -1,9 +1,9 @@
 -- What a bench says of an interface after another has been put in its place, and sums over slots after one has changed. Assumes nothing.
+use Rattle.std.specs.Prelude.{None, Option}
 use Prim.Native.Nat.{ℕ, zero, suc, ◌+◌, ◌≤◌, ◌<◌}
 use mathlib.Core.Path.{◌≡◌, refl, sym, ◌∙◌, ap, subst}
 use mathlib.Core.Logic.{◌≢◌}
 use mathlib.Core.Bool.{Bool, true, false}
-use mathlib.Core.Option.{Option, none}
 use mathlib.Core.List.{List, [], ◌∷◌, ◌++◌}
 use native.Mathlib.Omega.{arith}
 use native.Mathlib.Nat.{zero-add, add-zero}
@@ -44,12 +44,12 @@ nil_of [] h = refl
 nil_of (x ∷ xs) h = absurd (omega arith)
 
 -- one slot changes
-pub over_set : (φ : Option Node → ℤ) → φ none ≡ pos 0 → (l : List (Option Node)) (s : ℕ) (y : Option Node) → (length l ≤ s → y ≡ none)
-    → slot_sum φ (set l s y) ≡ slot_sum φ l +ℤ (φ y -ℤ φ (get_or l s none))
+pub over_set : (φ : Option Node → ℤ) → φ None ≡ pos 0 → (l : List (Option Node)) (s : ℕ) (y : Option Node) → (length l ≤ s → y ≡ None)
+    → slot_sum φ (set l s y) ≡ slot_sum φ l +ℤ (φ y -ℤ φ (get_or l s None))
 unfolding slot_sum
-over_set φ z [] s y out = sym (+ℤ_idl _ ∙ ap (λ (o : Option Node). φ o -ℤ φ none) (out (omega arith)) ∙ +ℤ_invr (φ none))
+over_set φ z [] s y out = sym (+ℤ_idl _ ∙ ap (λ (o : Option Node). φ o -ℤ φ None) (out (omega arith)) ∙ +ℤ_invr (φ None))
 over_set φ z (x ∷ xs) zero y out = sym (ap (λ (t : ℤ). t +ℤ (φ y -ℤ φ x)) (+ℤ_comm (φ x) (slot_sum φ xs)) ∙ +ℤ_assoc (slot_sum φ xs) (φ x) (φ y -ℤ φ x) ∙ ap (λ (t : ℤ). slot_sum φ xs +ℤ t) (add_diff (φ x) (φ y)) ∙ +ℤ_comm (slot_sum φ xs) (φ y))
-over_set φ z (x ∷ xs) (suc s) y out = ap (λ (t : ℤ). φ x +ℤ t) (over_set φ z xs s y (λ h. out (omega arith))) ∙ sym (+ℤ_assoc (φ x) (slot_sum φ xs) (φ y -ℤ φ (get_or xs s none)))
+over_set φ z (x ∷ xs) (suc s) y out = ap (λ (t : ℤ). φ x +ℤ t) (over_set φ z xs s y (λ h. out (omega arith))) ∙ sym (+ℤ_assoc (φ x) (slot_sum φ xs) (φ y -ℤ φ (get_or xs s None)))
 
 -- one slot more
 pub over_snoc : (φ : Option Node → ℤ) (l : List (Option Node)) (y : Option Node) → slot_sum φ (l ++ (y ∷ [])) ≡ slot_sum φ l +ℤ φ y

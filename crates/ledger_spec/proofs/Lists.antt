@@ -1,9 +1,9 @@
 -- Laws of tests over lists: a test of two parts, all of a list, how often a test holds, and what stands in a list. Assumes nothing.
+use Rattle.std.specs.Prelude.{None, Option}
 use Prim.Native.Nat.{ℕ, zero, suc, ◌≤◌}
 use mathlib.Core.Path.{◌≡◌, refl, sym, ◌∙◌, ap, ap₂}
 use mathlib.Core.Logic.{◌⊎◌, inl, inr}
 use mathlib.Core.Bool.{Bool, true, false, ◌&&◌, ◌||◌, true≢false}
-use mathlib.Core.Option.{Option, none}
 use mathlib.Core.List.{List, [], ◌∷◌, ◌++◌, map}
 use native.Mathlib.Omega.{arith}
 use lib.ListN.{length, get_or}
@@ -135,24 +135,24 @@ none_tally p [] h = refl
 none_tally p (x ∷ xs) h = tally_no p x xs (h x (here refl)) ∙ none_tally p xs (λ y i. h y (there i))
 
 -- ---- a test of every slot
-pub all_slots : {A : Type 0} (p : Option A → Bool) → p none ≡ true → (l : List (Option A)) → all p l ≡ true → (s : ℕ) → p (get_or l s none) ≡ true
+pub all_slots : {A : Type 0} (p : Option A → Bool) → p None ≡ true → (l : List (Option A)) → all p l ≡ true → (s : ℕ) → p (get_or l s None) ≡ true
 unfolding all
 all_slots p z [] e s = z
 all_slots p z (x ∷ xs) e zero = (and_true (p x) (all p xs) e).0
 all_slots p z (x ∷ xs) e (suc s) = all_slots p z xs (and_true (p x) (all p xs) e).1 s
 
-pub slots_all : {A : Type 0} (p : Option A → Bool) (l : List (Option A)) → ((s : ℕ) → p (get_or l s none) ≡ true) → all p l ≡ true
+pub slots_all : {A : Type 0} (p : Option A → Bool) (l : List (Option A)) → ((s : ℕ) → p (get_or l s None) ≡ true) → all p l ≡ true
 unfolding all
 slots_all p [] h = refl
 slots_all p (x ∷ xs) h = both_true (h zero) (slots_all p xs (λ s. h (suc s)))
 
-pub any_slots : {A : Type 0} (p : Option A → Bool) → p none ≡ false → (l : List (Option A)) → any p l ≡ false → (s : ℕ) → p (get_or l s none) ≡ false
+pub any_slots : {A : Type 0} (p : Option A → Bool) → p None ≡ false → (l : List (Option A)) → any p l ≡ false → (s : ℕ) → p (get_or l s None) ≡ false
 unfolding any
 any_slots p z [] e s = z
 any_slots p z (x ∷ xs) e zero = (or_false (p x) (any p xs) e).0
 any_slots p z (x ∷ xs) e (suc s) = any_slots p z xs (or_false (p x) (any p xs) e).1 s
 
-pub slots_any : {A : Type 0} (p : Option A → Bool) (l : List (Option A)) → ((s : ℕ) → p (get_or l s none) ≡ false) → any p l ≡ false
+pub slots_any : {A : Type 0} (p : Option A → Bool) (l : List (Option A)) → ((s : ℕ) → p (get_or l s None) ≡ false) → any p l ≡ false
 unfolding any
 slots_any p [] h = refl
 slots_any p (x ∷ xs) h = ap₂ ◌||◌ (h zero) (slots_any p xs (λ s. h (suc s)))

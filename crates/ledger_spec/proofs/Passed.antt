@@ -1,9 +1,9 @@
 -- What an accepted call's tests say: number 0 means that each test failed. Assumes nothing.
+use Rattle.std.specs.Prelude.{None, Option, Some}
 use Prim.Native.Nat.{ℕ, ◌<◌}
 use mathlib.Core.Path.{◌≡◌, refl, sym, ◌∙◌, ap, ap₂}
 use mathlib.Core.Logic.{◌≢◌}
 use mathlib.Core.Bool.{Bool, true, false, ◌||◌, ◌&&◌, not, true≢false}
-use mathlib.Core.Option.{Option, none, some}
 use mathlib.Core.List.{List, [], ◌∷◌}
 use native.Mathlib.Omega.{arith}
 use lib.Dec.{T, eqb, leb, ltb, ltb→lt}
@@ -54,9 +54,9 @@ failed (t ∷ ts) f = go t.0 f.0 (failed ts f.1)
     go true e h = absurd (true≢false e)
     go false e h = h
 
-pub given_false : {A : Type 0} (o : Option A) → is_some o ≡ false → o ≡ none
-given_false none e = refl
-given_false (some a) e = absurd (true≢false e)
+pub given_false : {A : Type 0} (o : Option A) → is_some o ≡ false → o ≡ None
+given_false None e = refl
+given_false (Some a) e = absurd (true≢false e)
 
 pub empty_true : {A : Type 0} (l : List A) → empty l ≡ true → l ≡ []
 empty_true [] e = refl
@@ -65,66 +65,66 @@ empty_true (x ∷ xs) e = absurd (true≢false (sym e))
 -- an interface that a call may name
 pub record Open (b : Bench) (u : ℕ) : Type 0 where
   pub low : u < 8
-  pub free : (interface b u).parent ≡ none
+  pub free : (interface b u).parent ≡ None
 
 pub open_of : (b : Bench) (u : ℕ) → outside u ≡ false → child b u ≡ false → Open b u
 open_of b u x y = record { low = leb-false 8 u x; free = given_false (interface b u).parent y }
 
 -- ---- the node that a handle names stands in its slot, under its serial
-serial_some : (k : ℕ) (o : Option Node) (n : Node) → if_serial k o ≡ some n → (o ≡ some n) × (n.serial ≡ k)
+serial_some : (k : ℕ) (o : Option Node) (n : Node) → if_serial k o ≡ Some n → (o ≡ Some n) × (n.serial ≡ k)
 unfolding if_serial
-serial_some k none n e = absurd (none_some refl e)
-serial_some k (some m) n e = go (eqb k m.serial) refl e
+serial_some k None n e = absurd (none_some refl e)
+serial_some k (Some m) n e = go (eqb k m.serial) refl e
   where
     pick : Bool → Option Node
-    pick c = elim c [ true ↦ some m | false ↦ none ]
+    pick c = elim c [ true ↦ Some m | false ↦ None ]
 
-    go : (c : Bool) → eqb k m.serial ≡ c → pick c ≡ some n → (some m ≡ some n) × (n.serial ≡ k)
+    go : (c : Bool) → eqb k m.serial ≡ c → pick c ≡ Some n → (Some m ≡ Some n) × (n.serial ≡ k)
     go true t e = (e, ap (λ (x : Node). x.serial) (sym (some_eq refl e)) ∙ sym (eqb-true k m.serial t))
     go false t e = absurd (none_some refl e)
 
-serial_is : (k : ℕ) (n : Node) → n.serial ≡ k → if_serial k (some n) ≡ some n
+serial_is : (k : ℕ) (n : Node) → n.serial ≡ k → if_serial k (Some n) ≡ Some n
 unfolding if_serial
 serial_is k n e = go (eq-eqb k n.serial (sym e))
   where
-    go : eqb k n.serial ≡ true → if_serial k (some n) ≡ some n
+    go : eqb k n.serial ≡ true → if_serial k (Some n) ≡ Some n
     go t = rw (t, if_serial)
 
-pub serial_none : (k : ℕ) → if_serial k none ≡ none
+pub serial_none : (k : ℕ) → if_serial k None ≡ None
 unfolding if_serial
 serial_none k = refl
 
-pub serial_other : (k : ℕ) (n : Node) → k ≢ n.serial → if_serial k (some n) ≡ none
+pub serial_other : (k : ℕ) (n : Node) → k ≢ n.serial → if_serial k (Some n) ≡ None
 unfolding if_serial
 serial_other k n q = go (ne_eqb k n.serial q)
   where
-    go : eqb k n.serial ≡ false → if_serial k (some n) ≡ none
+    go : eqb k n.serial ≡ false → if_serial k (Some n) ≡ None
     go t = rw (t, if_serial)
 
-pub node_has : (b : Bench) (h : Handle) (n : Node) → node_named b h ≡ some n → Has (slot_of b) h n
+pub node_has : (b : Bench) (h : Handle) (n : Node) → node_named b h ≡ Some n → Has (slot_of b) h n
 unfolding node_named
 node_has b h n e = let r = serial_some h.serial (slot_of b h.unit h.slot) n e in record { stands = r.0; serial = r.1 }
 
-pub has_node : (b : Bench) (h : Handle) (n : Node) → Has (slot_of b) h n → node_named b h ≡ some n
+pub has_node : (b : Bench) (h : Handle) (n : Node) → Has (slot_of b) h n → node_named b h ≡ Some n
 unfolding node_named
 has_node b h n H = ap (if_serial h.serial) H.stands ∙ serial_is h.serial n H.serial
 
 -- a handle that is not stale
-pub has_of : (b : Bench) (h : Handle) → stale b h ≡ false → (n : Node) × Has (slot_of b) h n × (node_named b h ≡ some n)
+pub has_of : (b : Bench) (h : Handle) → stale b h ≡ false → (n : Node) × Has (slot_of b) h n × (node_named b h ≡ Some n)
 has_of b h e = go (node_named b h) refl
   where
-    go : (o : Option Node) → node_named b h ≡ o → (n : Node) × Has (slot_of b) h n × (node_named b h ≡ some n)
-    go none k = absurd (true≢false (sym (ap (λ (o : Option Node). not (is_some o)) k) ∙ e))
-    go (some n) k = (n, node_has b h n k, k)
+    go : (o : Option Node) → node_named b h ≡ o → (n : Node) × Has (slot_of b) h n × (node_named b h ≡ Some n)
+    go None k = absurd (true≢false (sym (ap (λ (o : Option Node). not (is_some o)) k) ∙ e))
+    go (Some n) k = (n, node_has b h n k, k)
 
 pub record Fusable (b : Bench) (p l r : ℕ) : Type 0 where
   pub p<8 : p < 8
   pub l<p : l < p
   pub r<p : r < p
   pub l≢r : l ≢ r
-  pub l_none : (interface b l).parent ≡ none
-  pub r_none : (interface b r).parent ≡ none
-  pub p_none : (interface b p).parent ≡ none
+  pub l_none : (interface b l).parent ≡ None
+  pub r_none : (interface b r).parent ≡ None
+  pub p_none : (interface b p).parent ≡ None
   pub no_slots : (interface b p).slots ≡ []
   pub no_progress : nat_abs (interface b p).progress ≡ 0
   pub no_halves : is_some (interface b p).halves ≡ false

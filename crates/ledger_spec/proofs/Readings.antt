@@ -1,9 +1,9 @@
 -- What a bench says of its interfaces and slots after a slot was changed (`place`), a node marked (`mark`, `mark_all`) or a slot added (`push`).
 -- Each law is of one field; the definitions stay shut for whoever cites these. Assumes nothing.
+use Rattle.std.specs.Prelude.{None, Option, Some}
 use Prim.Native.Nat.{ℕ, zero, suc, ◌≤◌, ◌<◌, max}
 use mathlib.Core.Path.{◌≡◌, refl, sym, ◌∙◌, ap, ap₂, subst}
 use mathlib.Core.Logic.{◌≢◌}
-use mathlib.Core.Option.{Option, none, some}
 use mathlib.Core.List.{List, [], ◌∷◌}
 use native.Mathlib.Omega.{arith}
 use native.Mathlib.Decide.{ℕ_discrete, dec_lt}
@@ -18,8 +18,8 @@ use Rattle.ledger_spec.proofs.Interfaces.{put_here, put_else, put_kept}
 use Rattle.ledger_spec.proofs.Slots.{put_at, put_off, put_count}
 
 -- no interface, no node
-pub slot_out : (b : Bench) (u s : ℕ) → length b.interfaces ≤ u → slot_of b u s ≡ none
-slot_out b u s h = ap (λ (f : Interface). get_or f.slots s none) (get_or-eq_default b.interfaces fresh h)
+pub slot_out : (b : Bench) (u s : ℕ) → length b.interfaces ≤ u → slot_of b u s ≡ None
+slot_out b u s h = ap (λ (f : Interface). get_or f.slots s None) (get_or-eq_default b.interfaces fresh h)
 
 -- ---- a slot changed
 module _ (b : Bench) (u s : ℕ) (y : Option Node) where
@@ -67,24 +67,24 @@ module _ (b : Bench) (u s : ℕ) (y : Option Node) where
   place_plain = refl
 
   -- where it is placed: y, if there is such a slot
-  pub place_at : (slot_of b u s ≡ none → y ≡ none) → slot_of (place b u s y) u s ≡ y
+  pub place_at : (slot_of b u s ≡ None → y ≡ None) → slot_of (place b u s y) u s ≡ y
   place_at fit = go (dec_lt u (length b.interfaces)) (dec_lt s (length (interface b u).slots))
     where
       go : Dec (u < length b.interfaces) → Dec (s < length (interface b u).slots) → slot_of (place b u s y) u s ≡ y
-      go (yes h) (yes k) = ap (λ (l : List (Option Node)). get_or l s none) (place_here h) ∙ get_or-set_same (interface b u).slots s y none k
-      go (yes h) (no k) = ap (λ (l : List (Option Node)). get_or l s none) (place_here h) ∙ ap (λ (l : List (Option Node)). get_or l s none) (set_out (interface b u).slots s y (omega arith)) ∙ bare ∙ sym (fit bare)
+      go (yes h) (yes k) = ap (λ (l : List (Option Node)). get_or l s None) (place_here h) ∙ get_or-set_same (interface b u).slots s y None k
+      go (yes h) (no k) = ap (λ (l : List (Option Node)). get_or l s None) (place_here h) ∙ ap (λ (l : List (Option Node)). get_or l s None) (set_out (interface b u).slots s y (omega arith)) ∙ bare ∙ sym (fit bare)
         where
-          bare : slot_of b u s ≡ none
-          bare = get_or-eq_default (interface b u).slots none (omega arith)
+          bare : slot_of b u s ≡ None
+          bare = get_or-eq_default (interface b u).slots None (omega arith)
       go (no h) k = slot_out (place b u s y) u s (omega (arith, h, place_length)) ∙ sym (fit (slot_out b u s (omega arith)))
 
   pub place_off : (w t : ℕ) → (u ≡ w → s ≡ t → ⊥) → slot_of (place b u s y) w t ≡ slot_of b w t
   place_off w t off = go (ℕ_discrete w u) (dec_lt u (length b.interfaces))
     where
       go : Dec (w ≡ u) → Dec (u < length b.interfaces) → slot_of (place b u s y) w t ≡ slot_of b w t
-      go (yes e) (yes h) = subst (λ (z : ℕ). slot_of (place b u s y) z t ≡ slot_of b z t) (sym e) (ap (λ (l : List (Option Node)). get_or l t none) (place_here h) ∙ get_or-set_other (interface b u).slots s t y none (λ z. off (sym e) (sym z)))
+      go (yes e) (yes h) = subst (λ (z : ℕ). slot_of (place b u s y) z t ≡ slot_of b z t) (sym e) (ap (λ (l : List (Option Node)). get_or l t None) (place_here h) ∙ get_or-set_other (interface b u).slots s t y None (λ z. off (sym e) (sym z)))
       go (yes e) (no h) = slot_out (place b u s y) w t (omega (arith, h, e, place_length)) ∙ sym (slot_out b w t (omega arith))
-      go (no e) h = ap (λ (l : List (Option Node)). get_or l t none) (place_else w e)
+      go (no e) h = ap (λ (l : List (Option Node)). get_or l t None) (place_else w e)
 
   -- how many slots an interface has
   pub place_count : (w : ℕ) → length (interface (place b u s y) w).slots ≡ length (interface b w).slots
@@ -96,12 +96,12 @@ module _ (b : Bench) (u s : ℕ) (y : Option Node) where
       go (no e) h = ap length (place_else w e)
 
 -- ---- a node marked
-restate_none : (o : Option Node) (s : State) (p : Option Handle) → o ≡ none → restate o s p ≡ none
+restate_none : (o : Option Node) (s : State) (p : Option Handle) → o ≡ None → restate o s p ≡ None
 restate_none o s p e = ap (λ (x : Option Node). restate x s p) e
 
 restate_twice : (o : Option Node) (s : State) (p : Option Handle) → restate (restate o s p) s p ≡ restate o s p
-restate_twice none s p = refl
-restate_twice (some n) s p = refl
+restate_twice None s p = refl
+restate_twice (Some n) s p = refl
 
 module _ (b : Bench) (h : Handle) (s : State) (p : Option Handle) where
   pub mark_field : {X : Type 0} (φ : Interface → X) → ((f : Interface) (l : List (Option Node)) → φ (with_slots f l) ≡ φ f) → ((f : Interface) (x : ℤ) → φ (with_speed f x) ≡ φ f)
@@ -206,8 +206,8 @@ module _ (s : State) (p : Option Handle) where
   mark_all_plain b (g ∷ hs) = mark_all_plain (mark b g s p) hs ∙ mark_plain b g s p
 
   -- a slot that holds nothing holds nothing still
-  pub mark_all_none : (b : Bench) (hs : List Handle) (u t : ℕ) → slot_of b u t ≡ none → slot_of (mark_all b hs s p) u t ≡ none
-  mark_all_none b hs u t e = mark_all_fix b hs u t none e
+  pub mark_all_none : (b : Bench) (hs : List Handle) (u t : ℕ) → slot_of b u t ≡ None → slot_of (mark_all b hs s p) u t ≡ None
+  mark_all_none b hs u t e = mark_all_fix b hs u t None e
 
 -- ---- a node put at a free slot
 module _ (b : Bench) (u t : ℕ) (n : Node) where
@@ -254,12 +254,12 @@ module _ (b : Bench) (u t : ℕ) (n : Node) where
   pub push_count : u < length b.interfaces → t ≤ length (interface b u).slots → length (interface (push b u t n) u).slots ≡ max (length (interface b u).slots) (suc t)
   push_count h x = ap length (push_here h) ∙ put_count (interface b u).slots t n x
 
-  pub push_at : u < length b.interfaces → t ≤ length (interface b u).slots → slot_of (push b u t n) u t ≡ some n
-  push_at h x = ap (λ (l : List (Option Node)). get_or l t none) (push_here h) ∙ put_at (interface b u).slots t n x
+  pub push_at : u < length b.interfaces → t ≤ length (interface b u).slots → slot_of (push b u t n) u t ≡ Some n
+  push_at h x = ap (λ (l : List (Option Node)). get_or l t None) (push_here h) ∙ put_at (interface b u).slots t n x
 
   pub push_off : u < length b.interfaces → t ≤ length (interface b u).slots → (w v : ℕ) → (w ≡ u → v ≡ t → ⊥) → slot_of (push b u t n) w v ≡ slot_of b w v
   push_off h x w v off = go (ℕ_discrete w u)
     where
       go : Dec (w ≡ u) → slot_of (push b u t n) w v ≡ slot_of b w v
-      go (yes e) = subst (λ (z : ℕ). slot_of (push b u t n) z v ≡ slot_of b z v) (sym e) (ap (λ (l : List (Option Node)). get_or l v none) (push_here h) ∙ put_off (interface b u).slots t n x v (λ z. off e z))
-      go (no e) = ap (λ (l : List (Option Node)). get_or l v none) (push_else w e)
+      go (yes e) = subst (λ (z : ℕ). slot_of (push b u t n) z v ≡ slot_of b z v) (sym e) (ap (λ (l : List (Option Node)). get_or l v None) (push_here h) ∙ put_off (interface b u).slots t n x v (λ z. off e z))
+      go (no e) = ap (λ (l : List (Option Node)). get_or l v None) (push_else w e)

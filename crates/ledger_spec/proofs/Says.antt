@@ -1,8 +1,8 @@
 -- A bench that passes the test `sound` is sound: each part of the test says its fact, of every top and every node. Assumes nothing.
+use Rattle.std.specs.Prelude.{None, Option, Some}
 use Prim.Native.Nat.{ℕ, ◌*◌, ◌≤◌, ◌<◌}
 use mathlib.Core.Path.{◌≡◌, refl, sym, ◌∙◌, ap, subst}
 use mathlib.Core.Bool.{Bool, true, false, not, ◌&&◌, ◌||◌, true≢false}
-use mathlib.Core.Option.{Option, none, some}
 use mathlib.Core.List.{List}
 use native.Mathlib.Omega.{arith}
 use native.Mathlib.Decide.{dec_lt}
@@ -40,7 +40,7 @@ record Topped (b : Bench) (i : ℕ) : Type 0 where
   sum : nat_abs (interface b i).sum ≤ 512 * W b i
   speed : (interface b i).speed ≡ rates (slots_of b i)
 
-topped : (b : Bench) → Parts b → (i : ℕ) → i < 8 → (interface b i).parent ≡ none → Topped b i
+topped : (b : Bench) → Parts b → (i : ℕ) → i < 8 → (interface b i).parent ≡ None → Topped b i
 topped b P i h free =
     let a = and_true (all (sound_slot b (W b i)) (slots_of b i)) (leb (nat_abs (interface b i).sum) (512 * W b i) && eqb (nat_abs ((interface b i).speed -ℤ rates (slots_of b i))) 0) (sym (top_open b i free) ∙ P.tops i h) in
     let c = and_true (leb (nat_abs (interface b i).sum) (512 * W b i)) (eqb (nat_abs ((interface b i).speed -ℤ rates (slots_of b i))) 0) a.1 in
@@ -58,7 +58,7 @@ record Placed (b : Bench) (u s : ℕ) (n : Node) : Type 0 where
   parent : sound_parent b (mk u s n) n ≡ true
   class : sound_class b (mk u s n) n.class n.size ≡ true
 
-slot_says : (b : Bench) (w u s : ℕ) (n : Node) → sound_slot b w (u, s, some n) ≡ true
+slot_says : (b : Bench) (w u s : ℕ) (n : Node) → sound_slot b w (u, s, Some n) ≡ true
     → (((leb 1 n.serial && ltb n.serial b.next) && leb (nat_abs n.value) w) && (sound_parent b (mk u s n) n && sound_class b (mk u s n) n.class n.size)) ≡ true
 unfolding sound_slot
 slot_says b w u s n e = e
@@ -67,7 +67,7 @@ module _ (b : Bench) (P : Parts b) where
   abbrev F : Frame b
   F = framed b P
 
-  placed : (u s : ℕ) (n : Node) → slot_of b u s ≡ some n → Placed b u s n
+  placed : (u s : ℕ) (n : Node) → slot_of b u s ≡ Some n → Placed b u s n
   placed u s n e =
       let a = and_true ((leb 1 n.serial && ltb n.serial b.next) && leb (nat_abs n.value) w) (sound_parent b (mk u s n) n && sound_class b (mk u s n) n.class n.size)
       (slot_says b w u s n (all_in (sound_slot b w) (slots_of b (top b u)) (topped b P (top b u) (below b F 8 u (held_unit b F u s n e)) (top_root b F u)).nodes (held_in b F u s n e))) in
@@ -85,7 +85,7 @@ module _ (b : Bench) (P : Parts b) where
   stays_of stays e = refl
   stays_of shrinks e = absurd (true≢false (sym e))
 
-  up_of : (u s : ℕ) (n : Node) (q : Handle) → slot_of b u s ≡ some n → n.parent ≡ some q → Up (slot_of b) (top b) u s n q
+  up_of : (u s : ℕ) (n : Node) (q : Handle) → slot_of b u s ≡ Some n → n.parent ≡ Some q → Up (slot_of b) (top b) u s n q
   unfolding tally
   up_of u s n q e f = go (node_named b q) refl
     where
@@ -105,7 +105,7 @@ module _ (b : Bench) (P : Parts b) where
       once_in : tally (same_handle h) (members (node_named b q)) ≡ 1
       once_in = eqb-true (tally (same_handle h) (members (node_named b q))) 1 said.1
 
-      ring : (m : Node) → node_named b q ≡ some m → (c : Class) → m.class ≡ c → Up (slot_of b) (top b) u s n q
+      ring : (m : Node) → node_named b q ≡ Some m → (c : Class) → m.class ≡ c → Up (slot_of b) (top b) u s n q
       ring m k (defect v) r = absurd (omega (arith, sym once_in ∙ ap (tally (same_handle h)) (members_none b q m k v r)))
       ring m k (blossom ms) r = record {
         over = m;
@@ -119,8 +119,8 @@ module _ (b : Bench) (P : Parts b) where
       }
 
       go : (o : Option Node) → node_named b q ≡ o → Up (slot_of b) (top b) u s n q
-      go none k = absurd (omega (arith, sym once_in ∙ ap (λ (o : Option Node). tally (same_handle h) (members o)) k))
-      go (some m) k = ring m k m.class refl
+      go None k = absurd (omega (arith, sym once_in ∙ ap (λ (o : Option Node). tally (same_handle h) (members o)) k))
+      go (Some m) k = ring m k m.class refl
 
   -- a circle
   member_says : Handle → Member → Bool
@@ -131,22 +131,22 @@ module _ (b : Bench) (P : Parts b) where
   unfolding sound_class member_says
   ring_says h ms size e = and_true ((leb 1 (length ms) && leb (length ms) 64) && eqb size (sizes b (nodes ms))) (all (member_says h) ms) e
 
-  child_of : (o : Option Node) (h : Handle) → same_parent o h ≡ true → (n : Node) × (o ≡ some n) × (n.parent ≡ some h)
-  child_of none h e = absurd (true≢false (sym e))
-  child_of (some n) h e = go n.parent refl e
+  child_of : (o : Option Node) (h : Handle) → same_parent o h ≡ true → (n : Node) × (o ≡ Some n) × (n.parent ≡ Some h)
+  child_of None h e = absurd (true≢false (sym e))
+  child_of (Some n) h e = go n.parent refl e
     where
       test : Option Handle → Bool
-      test q = elim q [ none ↦ false | some q ↦ same_handle q h ]
+      test q = elim q [ None ↦ false | Some q ↦ same_handle q h ]
 
-      go : (q : Option Handle) → n.parent ≡ q → test q ≡ true → (m : Node) × (some n ≡ some m) × (m.parent ≡ some h)
-      go none f t = absurd (true≢false (sym t))
-      go (some q) f t = (n, refl, f ∙ ap some (same_handle_lem q h t))
+      go : (q : Option Handle) → n.parent ≡ q → test q ≡ true → (m : Node) × (Some n ≡ Some m) × (m.parent ≡ Some h)
+      go None f t = absurd (true≢false (sym t))
+      go (Some q) f t = (n, refl, f ∙ ap Some (same_handle_lem q h t))
 
-  class_of : (u s : ℕ) (n : Node) (ms : List Member) → slot_of b u s ≡ some n → n.class ≡ blossom ms
+  class_of : (u s : ℕ) (n : Node) (ms : List Member) → slot_of b u s ≡ Some n → n.class ≡ blossom ms
       → (((leb 1 (length ms) && leb (length ms) 64) && eqb n.size (sizes b (nodes ms))) ≡ true) × (all (member_says (mk u s n)) ms ≡ true)
   class_of u s n ms e r = ring_says (mk u s n) ms n.size (ap (λ (c : Class). sound_class b (mk u s n) c n.size) (sym r) ∙ (placed u s n e).class)
 
-  down_of : (u s : ℕ) (n : Node) (ms : List Member) (g : Handle) → slot_of b u s ≡ some n → n.class ≡ blossom ms → In g (nodes ms) → Down (slot_of b) g (mk u s n)
+  down_of : (u s : ℕ) (n : Node) (ms : List Member) (g : Handle) → slot_of b u s ≡ Some n → n.class ≡ blossom ms → In g (nodes ms) → Down (slot_of b) g (mk u s n)
   unfolding member_says
   down_of u s n ms g e r i =
       let m = map_in (λ (m : Member). m.node) ms i in
@@ -160,7 +160,7 @@ module _ (b : Bench) (P : Parts b) where
       let y = and_true (leb t.unit 7) (leb t.slot 63) x.0 in
       record { unit = leb-true t.unit 7 y.0; slot = leb-true t.slot 63 y.1; serial = ltb-true t.serial b.next x.1 }
 
-  circle_of : (u s : ℕ) (n : Node) (ms : List Member) → slot_of b u s ≡ some n → n.class ≡ blossom ms → Circle b n ms
+  circle_of : (u s : ℕ) (n : Node) (ms : List Member) → slot_of b u s ≡ Some n → n.class ≡ blossom ms → Circle b n ms
   unfolding member_says
   circle_of u s n ms e r =
       let c = class_of u s n ms e r in
@@ -174,11 +174,11 @@ module _ (b : Bench) (P : Parts b) where
           let y = and_true (sound_touch b m.touch.0) (sound_touch b m.touch.1) x.1 in
           (touch_of m.touch.0 y.0, touch_of m.touch.1 y.1)
 
-  single_of : (u s : ℕ) (n : Node) (v : ℕ) → slot_of b u s ≡ some n → n.class ≡ defect v → n.size ≡ 1
+  single_of : (u s : ℕ) (n : Node) (v : ℕ) → slot_of b u s ≡ Some n → n.class ≡ defect v → n.size ≡ 1
   unfolding sound_class
   single_of u s n v e r = eqb-true n.size 1 (ap (λ (c : Class). sound_class b (mk u s n) c n.size) (sym r) ∙ (placed u s n e).class)
 
-  entry : (u s : ℕ) (n : Node) → slot_of b u s ≡ some n → In (u, s, some n) (gather b units)
+  entry : (u s : ℕ) (n : Node) → slot_of b u s ≡ Some n → In (u, s, Some n) (gather b units)
   entry u s n e = subst (λ (o : Option Node). In (u, s, o) (gather b units)) e (gather_in b u units s (in_units u (held_unit b F u s n e)) (held_slot b F u s n e))
 
   floors_of : Floors b
@@ -202,7 +202,7 @@ module _ (b : Bench) (P : Parts b) where
       begun = P.begun;
       knit = record {
         low = λ u s n e. let p = placed u s n e in (p.least, p.below);
-        one = λ u s u' s' n n' e e' k. once (gather b units) P.apart (u, s, some n) (u', s', some n') n n' (entry u s n e) (entry u' s' n' e') refl refl k;
+        one = λ u s u' s' n n' e e' k. once (gather b units) P.apart (u, s, Some n) (u', s', Some n') n n' (entry u s n e) (entry u' s' n' e') refl refl k;
         up = up_of;
         down = down_of;
       };

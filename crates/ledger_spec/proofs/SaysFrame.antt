@@ -1,10 +1,10 @@
 -- What the test `sound` says of a bench's interfaces: the test in its parts, the bounds of each interface, and the links between them as a frame.
 -- Assumes nothing.
+use Rattle.std.specs.Prelude.{None, Option, Some}
 use Prim.Native.Nat.{ℕ, ◌≤◌, ◌<◌, ◌^◌}
 use mathlib.Core.Path.{◌≡◌, refl, sym, ◌∙◌, ap, subst}
 use mathlib.Core.Logic.{◌≢◌, ◌⊎◌, inl, inr}
 use mathlib.Core.Bool.{Bool, true, false, not, ◌&&◌, ◌||◌, true≢false}
-use mathlib.Core.Option.{Option, none, some}
 use native.Mathlib.Omega.{arith}
 use native.Mathlib.Decide.{dec_lt}
 use lib.Dec.{eqb, leb, ltb}
@@ -60,30 +60,30 @@ ahead (pos n) m h k = (refl, leb-true n m k)
 ahead (negsuc n) m h k = absurd (true≢false (sym h))
 
 half_given : (q : Option (ℕ × ℕ)) (u : ℕ) → is_half q u ≡ true → is_some q ≡ true
-half_given none u e = absurd (true≢false (sym e))
-half_given (some lr) u e = refl
+half_given None u e = absurd (true≢false (sym e))
+half_given (Some lr) u e = refl
 
 or_either : (a b : Bool) → (a || b) ≡ true → (a ≡ true) ⊎ (b ≡ true)
 or_either true b e = inl refl
 or_either false b e = inr e
 
-half_of : (q : Option (ℕ × ℕ)) (u l r : ℕ) → q ≡ some (l, r) → is_half q u ≡ true → (u ≡ l) ⊎ (u ≡ r)
+half_of : (q : Option (ℕ × ℕ)) (u l r : ℕ) → q ≡ Some (l, r) → is_half q u ≡ true → (u ≡ l) ⊎ (u ≡ r)
 half_of q u l r e h = go (or_either (eqb l u) (eqb r u) (ap (λ (o : Option (ℕ × ℕ)). is_half o u) (sym e) ∙ h))
   where
     go : (eqb l u ≡ true) ⊎ (eqb r u ≡ true) → (u ≡ l) ⊎ (u ≡ r)
     go (inl t) = inl (sym (eqb-true l u t))
     go (inr t) = inr (sym (eqb-true r u t))
 
-parent_of : (q : Option ℕ) (u : ℕ) → is_parent q u ≡ true → q ≡ some u
-parent_of none u e = absurd (true≢false (sym e))
-parent_of (some p) u e = ap some (eqb-true p u e)
+parent_of : (q : Option ℕ) (u : ℕ) → is_parent q u ≡ true → q ≡ Some u
+parent_of None u e = absurd (true≢false (sym e))
+parent_of (Some p) u e = ap Some (eqb-true p u e)
 
 pub record Linked (b : Bench) (u : ℕ) : Type 0 where
   pub few : length (interface b u).slots ≤ 64
   pub forward : (interface b u).progress ≡ pos (nat_abs (interface b u).progress)
   pub limit : nat_abs (interface b u).progress ≤ 2 ^ 40
-  pub ups : (p : ℕ) → (interface b u).parent ≡ some p → (u < p) × (p < 8) × (is_half (interface b p).halves u ≡ true)
-  pub downs : (l r : ℕ) → (interface b u).halves ≡ some (l, r) → (l ≢ r) × ((interface b l).parent ≡ some u) × ((interface b r).parent ≡ some u)
+  pub ups : (p : ℕ) → (interface b u).parent ≡ Some p → (u < p) × (p < 8) × (is_half (interface b p).halves u ≡ true)
+  pub downs : (l r : ℕ) → (interface b u).halves ≡ Some (l, r) → (l ≢ r) × ((interface b l).parent ≡ Some u) × ((interface b r).parent ≡ Some u)
 
 -- past the eighth there is nothing to say
 none_linked : (b : Bench) (u : ℕ) → interface b u ≡ fresh → Linked b u
@@ -118,7 +118,7 @@ linked b u e =
         (ltb-true u p x.0, omega (arith, leb-true p 7 y.0), y.1)
 
     down_facts : (lr : ℕ × ℕ) → ((not (eqb lr.0 lr.1) && (ltb lr.0 u && ltb lr.1 u)) && (is_parent (interface b lr.0).parent u && is_parent (interface b lr.1).parent u)) ≡ true
-        → (lr.0 ≢ lr.1) × ((interface b lr.0).parent ≡ some u) × ((interface b lr.1).parent ≡ some u)
+        → (lr.0 ≢ lr.1) × ((interface b lr.0).parent ≡ Some u) × ((interface b lr.1).parent ≡ Some u)
     down_facts lr h =
         let x = and_true (not (eqb lr.0 lr.1) && (ltb lr.0 u && ltb lr.1 u)) (is_parent (interface b lr.0).parent u && is_parent (interface b lr.1).parent u) h in
         let y = and_true (not (eqb lr.0 lr.1)) (ltb lr.0 u && ltb lr.1 u) x.0 in

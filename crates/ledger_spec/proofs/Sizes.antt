@@ -1,9 +1,9 @@
 -- A defect size is at most 512, the number of slots: over the nodes without a parent the sizes add up to the number of defects, and a member's
 -- size is part of its parent's. Assumes nothing.
+use Rattle.std.specs.Prelude.{None, Option, Some}
 use Prim.Native.Nat.{ℕ, zero, suc, ◌+◌, ◌*◌, ◌/◌, ◌%◌, ◌≤◌, ◌<◌}
 use mathlib.Core.Path.{◌≡◌, refl, sym, ◌∙◌, ap, ap₂, subst}
 use mathlib.Core.Bool.{Bool, true, false, true≢false}
-use mathlib.Core.Option.{Option, none, some}
 use mathlib.Core.List.{List, [], ◌∷◌, map}
 use native.Mathlib.Omega.{arith}
 use native.Mathlib.Decide.{ℕ_discrete, dec_lt}
@@ -54,12 +54,12 @@ own_class (defect v) = 1
 own_class (blossom ms) = 0
 
 abbrev pub own_of : Option Node → ℕ
-own_of none = 0
-own_of (some n) = own_class n.class
+own_of None = 0
+own_of (Some n) = own_class n.class
 
 own_small : (o : Option Node) → own_of o ≤ 1
-own_small none = omega arith
-own_small (some n) = go n.class
+own_small None = omega arith
+own_small (Some n) = go n.class
   where
     go : (c : Class) → own_class c ≤ 1
     go (defect v) = omega arith
@@ -68,11 +68,11 @@ own_small (some n) = go n.class
 pub record Adds (b : Bench) : Type 0 where
   pub eight : length b.interfaces ≡ 8
   pub few : (u : ℕ) → length (interface b u).slots ≤ 64
-  pub single : (u s : ℕ) (n : Node) (v : ℕ) → slot_of b u s ≡ some n → n.class ≡ defect v → n.size ≡ 1
-  pub added : (u s : ℕ) (n : Node) (ms : List Member) → slot_of b u s ≡ some n → n.class ≡ blossom ms → n.size ≡ sizes b (nodes ms)
+  pub single : (u s : ℕ) (n : Node) (v : ℕ) → slot_of b u s ≡ Some n → n.class ≡ defect v → n.size ≡ 1
+  pub added : (u s : ℕ) (n : Node) (ms : List Member) → slot_of b u s ≡ Some n → n.class ≡ blossom ms → n.size ≡ sizes b (nodes ms)
 
 module _ (b : Bench) (S : Sewn b) (A : Adds b) where
-  pub in_range : (u s : ℕ) (n : Node) → slot_of b u s ≡ some n → (u < 8) × (s < 64)
+  pub in_range : (u s : ℕ) (n : Node) → slot_of b u s ≡ Some n → (u < 8) × (s < 64)
   in_range u s n e = (go (dec_lt u 8), ho (dec_lt s 64))
     where
       go : Dec (u < 8) → u < 8
@@ -81,7 +81,7 @@ module _ (b : Bench) (S : Sewn b) (A : Adds b) where
 
       ho : Dec (s < 64) → s < 64
       ho (yes l) = l
-      ho (no l) = absurd (none_some (get_or-eq_default (interface b u).slots none (omega (arith, l, A.few u))) e)
+      ho (no l) = absurd (none_some (get_or-eq_default (interface b u).slots None (omega (arith, l, A.few u))) e)
 
   abbrev at : ℕ → Option Node
   at p = slot_of b (p / 64) (p % 64)
@@ -97,19 +97,19 @@ module _ (b : Bench) (S : Sewn b) (A : Adds b) where
       ap₂ (slot_of b) u s
 
   -- the members of a node, as its class has them
-  members_of : (o : Option Node) (n : Node) (ms : List Member) → o ≡ some n → n.class ≡ blossom ms → members o ≡ nodes ms
+  members_of : (o : Option Node) (n : Node) (ms : List Member) → o ≡ Some n → n.class ≡ blossom ms → members o ≡ nodes ms
   members_of o n ms e f = rw (e, f)
 
-  no_members : (o : Option Node) (n : Node) (v : ℕ) → o ≡ some n → n.class ≡ defect v → members o ≡ []
+  no_members : (o : Option Node) (n : Node) (v : ℕ) → o ≡ Some n → n.class ≡ defect v → members o ≡ []
   no_members o n v e f = rw (e, f)
 
   pub record Kid (q : ℕ) (g : Handle) : Type 0 where
     pub node : Node
     pub over : Node
-    pub stands : slot_of b g.unit g.slot ≡ some node
+    pub stands : slot_of b g.unit g.slot ≡ Some node
     pub serial : node.serial ≡ g.serial
-    pub above : at q ≡ some over
-    pub parent : node.parent ≡ some (mk (q / 64) (q % 64) over)
+    pub above : at q ≡ Some over
+    pub parent : node.parent ≡ Some (mk (q / 64) (q % 64) over)
 
   kid : (q : ℕ) (g : Handle) → In g (members (at q)) → Kid q g
   kid q g i = go (at q) refl i
@@ -118,13 +118,13 @@ module _ (b : Bench) (S : Sewn b) (A : Adds b) where
       nothing x = elim x [ ]
 
       go : (o : Option Node) → at q ≡ o → In g (members o) → Kid q g
-      go none e i = absurd (nothing i)
-      go (some m) e i = ho m.class refl i
+      go None e i = absurd (nothing i)
+      go (Some m) e i = ho m.class refl i
         where
-          ho : (c : Class) → m.class ≡ c → In g (members (some m)) → Kid q g
-          ho (defect v) f i = absurd (nothing (subst (In g) (no_members (some m) m v refl f) i))
+          ho : (c : Class) → m.class ≡ c → In g (members (Some m)) → Kid q g
+          ho (defect v) f i = absurd (nothing (subst (In g) (no_members (Some m) m v refl f) i))
           ho (blossom ms) f i =
-              let D = S.knit.down (q / 64) (q % 64) m ms g e f (subst (In g) (members_of (some m) m ms refl f) i) in
+              let D = S.knit.down (q / 64) (q % 64) m ms g e f (subst (In g) (members_of (Some m) m ms refl f) i) in
               record { node = D.node; over = m; stands = D.has.stands; serial = D.has.serial; above = e; parent = D.parent }
 
   kid_low : (q : ℕ) (g : Handle) → Kid q g → spot g < 512
@@ -140,7 +140,7 @@ module _ (b : Bench) (S : Sewn b) (A : Adds b) where
       let r = in_range g.unit g.slot k.node k.stands in
       ap (λ (o : Option Node). size_of (if_serial g.serial o)) k.stands ∙ held k.node k.serial ∙ sym (ap size_of (at_spot g r.1 ∙ k.stands))
     where
-      held : (n : Node) → n.serial ≡ g.serial → size_of (if_serial g.serial (some n)) ≡ n.size
+      held : (n : Node) → n.serial ≡ g.serial → size_of (if_serial g.serial (Some n)) ≡ n.size
       held n e = rw (eq-eqb g.serial n.serial (sym e), if_serial)
 
   sizes_at : (q : ℕ) (gs : List Handle) → ((g : Handle) → In g gs → Kid q g) → sizes b gs ≡ sum_of (λ p. size_of (at p)) (map spot gs)
@@ -153,14 +153,14 @@ module _ (b : Bench) (S : Sewn b) (A : Adds b) where
   adds q l = go (at q) refl (λ g i. kid q g i)
     where
       go : (o : Option Node) → at q ≡ o → ((g : Handle) → In g (members o) → Kid q g) → size_of o ≡ own_of o + sum_of (λ p. size_of (at p)) (map spot (members o))
-      go none e h = refl
-      go (some n) e h = ho n.class refl
+      go None e h = refl
+      go (Some n) e h = ho n.class refl
         where
-          ho : (c : Class) → n.class ≡ c → n.size ≡ own_class n.class + sum_of (λ p. size_of (at p)) (map spot (members (some n)))
+          ho : (c : Class) → n.class ≡ c → n.size ≡ own_class n.class + sum_of (λ p. size_of (at p)) (map spot (members (Some n)))
           ho (defect v) f = A.single (q / 64) (q % 64) n v e f ∙ sym (rw f)
           ho (blossom ms) f =
-              let m : members (some n) ≡ nodes ms = members_of (some n) n ms refl f in
-              let whole = A.added (q / 64) (q % 64) n ms e f ∙ ap (sizes b) (sym m) ∙ sizes_at q (members (some n)) h in
+              let m : members (Some n) ≡ nodes ms = members_of (Some n) n ms refl f in
+              let whole = A.added (q / 64) (q % 64) n ms e f ∙ ap (sizes b) (sym m) ∙ sizes_at q (members (Some n)) h in
               omega (arith, whole, ap own_class f)
 
   -- ---- each node stands once in its parent's circle, and in no other
@@ -168,7 +168,7 @@ module _ (b : Bench) (S : Sewn b) (A : Adds b) where
     pub node : k.node ≡ n
     pub handle : g ≡ mk (p / 64) (p % 64) n
 
-  same : (p : ℕ) (n : Node) → at p ≡ some n → (q : ℕ) (g : Handle) (k : Kid q g) → spot g ≡ p → Same p n g q k
+  same : (p : ℕ) (n : Node) → at p ≡ Some n → (q : ℕ) (g : Handle) (k : Kid q g) → spot g ≡ p → Same p n g q k
   same p n e q g k z =
       let r = in_range g.unit g.slot k.node k.stands in
       let m : k.node ≡ n = some_eq k.stands (sym (at_spot g r.1) ∙ ap at z ∙ e) in
@@ -177,14 +177,14 @@ module _ (b : Bench) (S : Sewn b) (A : Adds b) where
       let x : g.serial ≡ n.serial = sym k.serial ∙ ap (λ (w : Node). w.serial) m in
       record { node = m; handle = λ i. record { unit = u i; slot = s i; serial = x i } }
 
-  module _ (p : ℕ) (l : p < 512) (n : Node) (e : at p ≡ some n) (qh : Handle) (f : n.parent ≡ some qh) where
+  module _ (p : ℕ) (l : p < 512) (n : Node) (e : at p ≡ Some n) (qh : Handle) (f : n.parent ≡ Some qh) where
     up : Up (slot_of b) (top b) (p / 64) (p % 64) n qh
     up = S.knit.up (p / 64) (p % 64) n qh e f
 
     q_range : (qh.unit < 8) × (qh.slot < 64)
     q_range = in_range qh.unit qh.slot up.over up.has.stands
 
-    q_at : at (spot qh) ≡ some up.over
+    q_at : at (spot qh) ≡ Some up.over
     q_at = at_spot qh q_range.1 ∙ up.has.stands
 
     q_kids : members (at (spot qh)) ≡ nodes up.ms
@@ -214,12 +214,12 @@ module _ (b : Bench) (S : Sewn b) (A : Adds b) where
   child_once p l c = go (at p) refl c
     where
       go : (o : Option Node) → at p ≡ o → has_parent o ≡ true → sum_to 512 (λ q. count p (kids q)) ≡ 1
-      go none e c = absurd (true≢false (sym c))
-      go (some n) e c = ho n.parent refl c
+      go None e c = absurd (true≢false (sym c))
+      go (Some n) e c = ho n.parent refl c
         where
           ho : (h : Option Handle) → n.parent ≡ h → is_some h ≡ true → sum_to 512 (λ q. count p (kids q)) ≡ 1
-          ho none f c = absurd (true≢false (sym c))
-          ho (some qh) f c = once p l n e qh f
+          ho None f c = absurd (true≢false (sym c))
+          ho (Some qh) f c = once p l n e qh f
 
   free_never : (p : ℕ) → p < 512 → has_parent (at p) ≡ false → sum_to 512 (λ q. count p (kids q)) ≡ 0
   free_never p l c = sum_zero 512 (λ q. count p (kids q)) (λ q m. count_none p (members (at q)) (λ g i z. wrong q g (kid q g i) z))
@@ -237,16 +237,16 @@ module _ (b : Bench) (S : Sewn b) (A : Adds b) where
     sum_most 512 (λ p. own_of (at p)) (λ p l. own_small (at p)),
   )
 
-  bounded : (k p : ℕ) (n : Node) → p < 512 → at p ≡ some n → b.next ≤ n.serial + k → n.size ≤ 512
+  bounded : (k p : ℕ) (n : Node) → p < 512 → at p ≡ Some n → b.next ≤ n.serial + k → n.size ≤ 512
   bounded zero p n l e h = absurd (let x = S.knit.low (p / 64) (p % 64) n e in omega arith)
   bounded (suc k) p n l e h = go n.parent refl (bounded k)
     where
-      go : (o : Option Handle) → n.parent ≡ o → ((p : ℕ) (n : Node) → p < 512 → at p ≡ some n → b.next ≤ n.serial + k → n.size ≤ 512) → n.size ≤ 512
-      go none f ih =
+      go : (o : Option Handle) → n.parent ≡ o → ((p : ℕ) (n : Node) → p < 512 → at p ≡ Some n → b.next ≤ n.serial + k → n.size ≤ 512) → n.size ≤ 512
+      go None f ih =
           let x = sum_has 512 p (λ q. rest (has_parent (at q)) (size_of (at q))) l in
           let y : rest (has_parent (at p)) (size_of (at p)) ≡ n.size = ap (λ (o : Option Node). rest (has_parent o) (size_of o)) e ∙ ap (λ (h : Option Handle). rest (is_some h) n.size) f in
           omega (arith, x, y, all_free)
-      go (some qh) f ih =
+      go (Some qh) f ih =
           let U = up p l n e qh f in
           let r = q_range p l n e qh f in
           let q< : spot qh < 512 = omega arith in
@@ -254,7 +254,7 @@ module _ (b : Bench) (S : Sewn b) (A : Adds b) where
           let part = list_has (λ p. size_of (at p)) p (kids (spot qh)) 0 (here_once p l n e qh f) in
           omega (arith, more, part, adds (spot qh) q<, ap size_of e, ap size_of (q_at p l n e qh f))
 
-  pub small_size : (u s : ℕ) (n : Node) → slot_of b u s ≡ some n → n.size ≤ 512
+  pub small_size : (u s : ℕ) (n : Node) → slot_of b u s ≡ Some n → n.size ≤ 512
   small_size u s n e =
       let r = in_range u s n e in
       let p< : u * 64 + s < 512 = omega arith in

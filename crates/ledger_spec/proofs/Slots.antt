@@ -1,10 +1,10 @@
 -- The free slot of an interface, and a list of slots after a node was put at one. Whoever cites these needs to know only that the slot is free
 -- (`Vacant`), not how it is chosen. Assumes nothing.
+use Rattle.std.specs.Prelude.{None, Option, Some}
 use Prim.Native.Nat.{ℕ, zero, suc, ◌≤◌, ◌<◌, max}
 use mathlib.Core.Path.{◌≡◌, refl, sym, ◌∙◌, ap}
 use mathlib.Core.Logic.{◌≢◌}
 use mathlib.Core.Bool.{Bool, true, false}
-use mathlib.Core.Option.{Option, none, some}
 use mathlib.Core.List.{List, [], ◌∷◌}
 use native.Mathlib.Omega.{arith}
 use lib.ListN.{get_or, length, get_or-eq_default}
@@ -19,22 +19,22 @@ use Rattle.ledger_spec.specs.Account.{slot_sum}
 -- a slot that a node can be put at: no further than the end, and nothing stands there
 pub record Vacant (l : List (Option Node)) (s : ℕ) : Type 0 where
   pub low : s ≤ length l
-  pub bare : get_or l s none ≡ none
+  pub bare : get_or l s None ≡ None
 
 -- ---- the lowest empty slot
 gap_vacant : (l : List (Option Node)) → Vacant l (gap l)
 unfolding gap
 gap_vacant [] = record { low = omega arith; bare = refl }
-gap_vacant (none ∷ xs) = record { low = omega arith; bare = refl }
-gap_vacant (some n ∷ xs) = let v = gap_vacant xs in record { low = omega (arith, v.low); bare = v.bare }
+gap_vacant (None ∷ xs) = record { low = omega arith; bare = refl }
+gap_vacant (Some n ∷ xs) = let v = gap_vacant xs in record { low = omega (arith, v.low); bare = v.bare }
 
 -- every slot below it holds a node
-pub gap_lowest : (l : List (Option Node)) (s : ℕ) → s < gap l → is_some (get_or l s none) ≡ true
+pub gap_lowest : (l : List (Option Node)) (s : ℕ) → s < gap l → is_some (get_or l s None) ≡ true
 unfolding gap
 gap_lowest [] s h = absurd (omega arith)
-gap_lowest (none ∷ xs) s h = absurd (omega arith)
-gap_lowest (some n ∷ xs) zero h = refl
-gap_lowest (some n ∷ xs) (suc s) h = gap_lowest xs s (omega arith)
+gap_lowest (None ∷ xs) s h = absurd (omega arith)
+gap_lowest (Some n ∷ xs) zero h = refl
+gap_lowest (Some n ∷ xs) (suc s) h = gap_lowest xs s (omega arith)
 
 -- how many nodes stand in a list of slots: no fewer than stand below the gap, and as many as there are slots only where there is none
 abbrev pub present : List (Option Node) → ℕ
@@ -43,20 +43,20 @@ present l = tally is_some l
 present_few : (l : List (Option Node)) → present l ≤ length l
 unfolding tally
 present_few [] = omega arith
-present_few (none ∷ xs) = omega (arith, present_few xs)
-present_few (some n ∷ xs) = omega (arith, present_few xs)
+present_few (None ∷ xs) = omega (arith, present_few xs)
+present_few (Some n ∷ xs) = omega (arith, present_few xs)
 
 gap_present : (l : List (Option Node)) → gap l ≤ present l
 unfolding gap tally
 gap_present [] = omega arith
-gap_present (none ∷ xs) = omega arith
-gap_present (some n ∷ xs) = omega (arith, gap_present xs)
+gap_present (None ∷ xs) = omega arith
+gap_present (Some n ∷ xs) = omega (arith, gap_present xs)
 
 present_gap : (l : List (Option Node)) → length l ≤ present l → length l ≤ gap l
 unfolding gap tally
 present_gap [] h = omega arith
-present_gap (none ∷ xs) h = absurd (omega (arith, h, present_few xs))
-present_gap (some n ∷ xs) h = omega (arith, present_gap xs (omega (arith, h)))
+present_gap (None ∷ xs) h = absurd (omega (arith, h, present_few xs))
+present_gap (Some n ∷ xs) h = omega (arith, present_gap xs (omega (arith, h)))
 
 -- ---- the slot that a new node takes, by the mode
 free_slot_lem : Bool → List (Option Node) → ℕ
@@ -77,7 +77,7 @@ module _ (b : Bench) (u : ℕ) where
     where
       go : (c : Bool) → Vacant (interface b u).slots (elim c [ true ↦ gap (interface b u).slots | false ↦ length (interface b u).slots ])
       go true = gap_vacant (interface b u).slots
-      go false = record { low = omega arith; bare = get_or-eq_default (interface b u).slots none (omega arith) }
+      go false = record { low = omega arith; bare = get_or-eq_default (interface b u).slots None (omega arith) }
 
   -- an interface that fills is full exactly where 64 of its nodes are present
   pub full_present : (interface b u).marks.fills ≡ true → length (interface b u).slots ≤ 64 → 64 ≤ free_slot b u → present (interface b u).slots ≡ 64
@@ -87,14 +87,14 @@ module _ (b : Bench) (u : ℕ) where
   present_full e few h = omega (arith, h, few, free_fills e, present_few (interface b u).slots, present_gap (interface b u).slots (omega (arith, h, few)))
 
 -- ---- a node put at a slot
-pub put_at : (l : List (Option Node)) (s : ℕ) (n : Node) → s ≤ length l → get_or (put l s n) s none ≡ some n
+pub put_at : (l : List (Option Node)) (s : ℕ) (n : Node) → s ≤ length l → get_or (put l s n) s None ≡ Some n
 unfolding put
 put_at [] zero n h = refl
 put_at [] (suc s) n h = absurd (omega arith)
 put_at (x ∷ xs) zero n h = refl
 put_at (x ∷ xs) (suc s) n h = put_at xs s n (omega arith)
 
-pub put_off : (l : List (Option Node)) (s : ℕ) (n : Node) → s ≤ length l → (t : ℕ) → t ≢ s → get_or (put l s n) t none ≡ get_or l t none
+pub put_off : (l : List (Option Node)) (s : ℕ) (n : Node) → s ≤ length l → (t : ℕ) → t ≢ s → get_or (put l s n) t None ≡ get_or l t None
 unfolding put
 put_off [] zero n h zero q = absurd (q refl)
 put_off [] zero n h (suc t) q = refl
@@ -119,8 +119,8 @@ put_some (x ∷ xs) zero n = omega arith
 put_some (x ∷ xs) (suc s) n = omega arith
 
 -- a sum over the slots gets the node's part
-pub over_put : (φ : Option Node → ℤ) → φ none ≡ pos 0 → (l : List (Option Node)) (s : ℕ) (n : Node) → Vacant l s → slot_sum φ (put l s n) ≡ slot_sum φ l +ℤ φ (some n)
+pub over_put : (φ : Option Node → ℤ) → φ None ≡ pos 0 → (l : List (Option Node)) (s : ℕ) (n : Node) → Vacant l s → slot_sum φ (put l s n) ≡ slot_sum φ l +ℤ φ (Some n)
 unfolding put slot_sum
-over_put φ z [] s n v = +ℤ_comm (φ (some n)) (pos 0)
-over_put φ z (x ∷ xs) zero n v = +ℤ_comm (φ (some n)) (slot_sum φ xs) ∙ ap (λ (t : ℤ). t +ℤ φ (some n)) (sym (ap (λ (o : Option Node). φ o +ℤ slot_sum φ xs) v.bare ∙ ap (λ (t : ℤ). t +ℤ slot_sum φ xs) z ∙ +ℤ_idl (slot_sum φ xs)))
-over_put φ z (x ∷ xs) (suc s) n v = ap (λ (t : ℤ). φ x +ℤ t) (over_put φ z xs s n (record { low = omega (arith, v.low); bare = v.bare })) ∙ sym (+ℤ_assoc (φ x) (slot_sum φ xs) (φ (some n)))
+over_put φ z [] s n v = +ℤ_comm (φ (Some n)) (pos 0)
+over_put φ z (x ∷ xs) zero n v = +ℤ_comm (φ (Some n)) (slot_sum φ xs) ∙ ap (λ (t : ℤ). t +ℤ φ (Some n)) (sym (ap (λ (o : Option Node). φ o +ℤ slot_sum φ xs) v.bare ∙ ap (λ (t : ℤ). t +ℤ slot_sum φ xs) z ∙ +ℤ_idl (slot_sum φ xs)))
+over_put φ z (x ∷ xs) (suc s) n v = ap (λ (t : ℤ). φ x +ℤ t) (over_put φ z xs s n (record { low = omega (arith, v.low); bare = v.bare })) ∙ sym (+ℤ_assoc (φ x) (slot_sum φ xs) (φ (Some n)))

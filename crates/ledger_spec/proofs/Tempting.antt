@@ -1,10 +1,10 @@
 -- A row for each definition that is tempting to get wrong: what the right one computes and the wrong one does not. The crate's must-fail edit makes all of
 -- them wrong at once, and each must be refused at its own row; so calls are made by `perform`, where no test of the bench hides one behind another.
 -- Assumes nothing.
+use Rattle.std.specs.Prelude.{None, Some}
 use Prim.Native.Nat.{ℕ, ◌^◌}
 use mathlib.Core.Path.{◌≡◌, refl}
 use mathlib.Core.Bool.{true, false}
-use mathlib.Core.Option.{none, some}
 use mathlib.Core.List.{List, [], ◌∷◌}
 use lib.ListN.{replicate}
 use lib.IntN.{pos}
@@ -68,7 +68,7 @@ unfolding run after
 halves_cleared = refl
 
 -- the index counts the left half's slots first
-pub left_first : handle_at_index (after (set_up 1) (Defect 0 3 ∷ Defect 1 7 ∷ Fuse 2 0 1 ∷ [])) 2 0 ≡ (0, some (at 0 0 1))
+pub left_first : handle_at_index (after (set_up 1) (Defect 0 3 ∷ Defect 1 7 ∷ Fuse 2 0 1 ∷ [])) 2 0 ≡ (0, Some (at 0 0 1))
 unfolding run after
 left_first = refl
 
@@ -80,7 +80,7 @@ unfolding run after
 lowest = refl
 
 -- 64 slots, though all of them emptied
-pub slots_full : (perform (with_interface (set_up 1) 0 (with_slots fresh (replicate 64 none))) (Defect 0 3)).number ≡ 14
+pub slots_full : (perform (with_interface (set_up 1) 0 (with_slots fresh (replicate 64 None))) (Defect 0 3)).number ≡ 14
 unfolding run
 slots_full = refl
 
@@ -97,11 +97,11 @@ values_bound = refl
 -- ---- groups
 
 -- of two growths by one length the flag that is no
-pub flags_met : extended (growth (pos 5) true) (growth (pos 5) false) ≡ some (growth (pos 5) false)
+pub flags_met : extended (growth (pos 5) true) (growth (pos 5) false) ≡ Some (growth (pos 5) false)
 unfolding run
 flags_met = refl
 
 -- a pop takes the last of the list, and the stop of smallest vertex goes with it
-pub stop_gone : pop (conflicts (record { obstacle = c1 } ∷ []) (stop_at 4 ∷ [])) ≡ (0, (some c1, conflicts [] []))
+pub stop_gone : pop (conflicts (record { obstacle = c1 } ∷ []) (stop_at 4 ∷ [])) ≡ (0, (Some c1, conflicts [] []))
 unfolding run
 stop_gone = refl

@@ -1,10 +1,10 @@
 -- What a bench says of its interfaces after a tree grew (`grow_by`), two were fused (`join`) or one was cleared (`wipe`). Each law is of one
 -- field or of a whole interface; the definitions stay shut for whoever cites these. Assumes nothing.
+use Rattle.std.specs.Prelude.{None, Option, Some}
 use Prim.Native.Nat.{ℕ, ◌<◌}
 use mathlib.Core.Path.{◌≡◌, refl, sym, ◌∙◌, ap, ap₂, subst}
 use mathlib.Core.Logic.{◌≢◌}
 use mathlib.Core.Bool.{Bool, true, false}
-use mathlib.Core.Option.{Option, none, some}
 use mathlib.Core.List.{List, [], map}
 use native.Mathlib.Omega.{arith}
 use native.Mathlib.Decide.{ℕ_discrete, dec_lt}
@@ -117,10 +117,10 @@ module _ (b : Bench) (u : ℕ) (l : ℤ) where
   grow_at w v e = go (dec_lt w (length b.interfaces))
     where
       go : Dec (w < length b.interfaces) → slot_of (grow_by b u l) w v ≡ grow_slot l (slot_of b w v)
-      go (yes h) = ap (λ (s : List (Option Node)). get_or s v none) (grow_under w h e) ∙ get_or-map (grow_slot l) (interface b w).slots v none
+      go (yes h) = ap (λ (s : List (Option Node)). get_or s v None) (grow_under w h e) ∙ get_or-map (grow_slot l) (interface b w).slots v None
       go (no h) = slot_out (grow_by b u l) w v (omega (arith, h, grow_length)) ∙ ap (grow_slot l) (sym (slot_out b w v (omega arith)))
 
-  pub grow_node : (w v : ℕ) (n : Node) → top b w ≡ u → slot_of b w v ≡ some n → slot_of (grow_by b u l) w v ≡ some (grown_node l n)
+  pub grow_node : (w v : ℕ) (n : Node) → top b w ≡ u → slot_of b w v ≡ Some n → slot_of (grow_by b u l) w v ≡ Some (grown_node l n)
   unfolding grow_slot
   grow_node w v n e k = grow_at w v e ∙ ap (grow_slot l) k
 
@@ -128,7 +128,7 @@ module _ (b : Bench) (u : ℕ) (l : ℤ) where
   grow_off w v e = go (dec_lt w (length b.interfaces))
     where
       go : Dec (w < length b.interfaces) → slot_of (grow_by b u l) w v ≡ slot_of b w v
-      go (yes h) = ap (λ (s : List (Option Node)). get_or s v none) (grow_else w h e)
+      go (yes h) = ap (λ (s : List (Option Node)). get_or s v None) (grow_else w h e)
       go (no h) = slot_out (grow_by b u l) w v (omega (arith, h, grow_length)) ∙ sym (slot_out b w v (omega arith))
 
   -- one interface, whole
@@ -160,19 +160,19 @@ joins F f = record { inside = omega (arith, F.eight, f.p<8); l<p = f.l<p; r<p = 
 
 module _ (b : Bench) (p l r : ℕ) (j : Joins b p l r) where
   abbrev b₁ : Bench
-  b₁ = with_interface b l (with_parent (interface b l) (some p))
+  b₁ = with_interface b l (with_parent (interface b l) (Some p))
 
   abbrev b₂ : Bench
-  b₂ = with_interface b₁ r (with_parent (interface b r) (some p))
+  b₂ = with_interface b₁ r (with_parent (interface b r) (Some p))
 
   l<n : l < length b.interfaces
   l<n = omega arith
 
   r<n₁ : r < length b₁.interfaces
-  r<n₁ = omega (arith, length-set b.interfaces l (with_parent (interface b l) (some p)))
+  r<n₁ = omega (arith, length-set b.interfaces l (with_parent (interface b l) (Some p)))
 
   p<n₂ : p < length b₂.interfaces
-  p<n₂ = omega (arith, length-set b.interfaces l (with_parent (interface b l) (some p)), length-set b₁.interfaces r (with_parent (interface b r) (some p)))
+  p<n₂ = omega (arith, length-set b.interfaces l (with_parent (interface b l) (Some p)), length-set b₁.interfaces r (with_parent (interface b r) (Some p)))
 
   l≢p : l ≢ p
   l≢p e = omega arith
@@ -193,15 +193,15 @@ module _ (b : Bench) (p l r : ℕ) (j : Joins b p l r) where
   join_else w x y z = put_else (λ f. f) b₂ p _ w x ∙ put_else (λ f. f) b₁ r _ w z ∙ put_else (λ f. f) b l _ w y
 
   -- of l and r only the parent changes
-  pub join_kept : {X : Type 0} (φ : Interface → X) → ((f : Interface) (q : ℕ) → φ (with_parent f (some q)) ≡ φ f) → (w : ℕ) → w ≢ p → φ (interface (join b p l r) w) ≡ φ (interface b w)
+  pub join_kept : {X : Type 0} (φ : Interface → X) → ((f : Interface) (q : ℕ) → φ (with_parent f (Some q)) ≡ φ f) → (w : ℕ) → w ≢ p → φ (interface (join b p l r) w) ≡ φ (interface b w)
   unfolding join
   join_kept φ e w x = put_else φ b₂ p _ w x ∙ put_kept φ b₁ r _ (e (interface b r) p ∙ sym (put_kept φ b l _ (e (interface b l) p) r)) w ∙ put_kept φ b l _ (e (interface b l) p) w
 
-  pub join_l : (interface (join b p l r) l).parent ≡ some p
+  pub join_l : (interface (join b p l r) l).parent ≡ Some p
   unfolding join
   join_l = put_else (λ f. f.parent) b₂ p _ l l≢p ∙ put_else (λ f. f.parent) b₁ r _ l j.l≢r ∙ put_here (λ f. f.parent) b l _ l<n
 
-  pub join_r : (interface (join b p l r) r).parent ≡ some p
+  pub join_r : (interface (join b p l r) r).parent ≡ Some p
   unfolding join
   join_r = put_else (λ f. f.parent) b₂ p _ r r≢p ∙ put_here (λ f. f.parent) b₁ r _ r<n₁
 
@@ -222,7 +222,7 @@ module _ (b : Bench) (p l r : ℕ) (j : Joins b p l r) where
   join_plain = refl
 
   -- parents: only those of l and r change, if p had none
-  pub join_rest : (interface b p).parent ≡ none → (w : ℕ) → w ≢ l → w ≢ r → (interface (join b p l r) w).parent ≡ (interface b w).parent
+  pub join_rest : (interface b p).parent ≡ None → (w : ℕ) → w ≢ l → w ≢ r → (interface (join b p l r) w).parent ≡ (interface b w).parent
   join_rest p_none w x y = go (ℕ_discrete w p)
     where
       go : Dec (w ≡ p) → (interface (join b p l r) w).parent ≡ (interface b w).parent

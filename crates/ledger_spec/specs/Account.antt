@@ -1,6 +1,5 @@
 -- Demand 3: what it is for the stored sums and speeds to be right, and for two benches to be alike. Assumes nothing.
-use Rattle.std.specs.Prelude.{ℕ, zero, suc, ◌<◌, ◌≡◌, Bool, true, false, List, [], ◌∷◌, eqb, ℤ, pos, ◌+ℤ◌}
-use Rattle.std.proofs.Math.Option.{Option, none}
+use Rattle.std.specs.Prelude.{ℕ, zero, suc, ◌<◌, ◌≡◌, Bool, true, false, List, [], ◌∷◌, eqb, ℤ, pos, ◌+ℤ◌, None, Option}
 use Rattle.ledger_spec.specs.Bench.{Node, Bench}
 use Rattle.ledger_spec.specs.Look.{interface, top}
 use Rattle.ledger_spec.specs.Change.{share, worth}
@@ -48,5 +47,5 @@ pub record Alike (b c : Bench) : Type 0 where
   pub parent : (w : ℕ) → (interface b w).parent ≡ (interface c w).parent
   pub halves : (w : ℕ) → (interface b w).halves ≡ (interface c w).halves
   pub marks : (w : ℕ) → (interface b w).marks ≡ (interface c w).marks
-  pub sum : (w : ℕ) → (interface b w).parent ≡ none → (interface b w).sum ≡ (interface c w).sum
-  pub speed : (w : ℕ) → (interface b w).parent ≡ none → (interface b w).speed ≡ (interface c w).speed
+  pub sum : (w : ℕ) → (interface b w).parent ≡ None → (interface b w).sum ≡ (interface c w).sum
+  pub speed : (w : ℕ) → (interface b w).parent ≡ None → (interface b w).speed ≡ (interface c w).speed

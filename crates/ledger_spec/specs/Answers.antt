@@ -1,7 +1,6 @@
 -- The whole answer of each call and read, on any bench, sound or not: BROKEN (2) first, then the call's own number. A refused call has no node
 -- and no notices and leaves the bench as it was; a refused read has no value. Assumes nothing.
-use Rattle.std.specs.Prelude.{ℕ, zero, suc, Bool, true, false, List, [], ℤ, pos}
-use Rattle.std.proofs.Math.Option.{Option, none}
+use Rattle.std.specs.Prelude.{ℕ, zero, suc, Bool, true, false, List, [], ℤ, pos, None, Option}
 use Rattle.ledger_spec.specs.Numbers.{BROKEN}
 use Rattle.ledger_spec.specs.Bench.{Handle, Bench}
 use Rattle.ledger_spec.specs.Calls.{Reply, nobody, Call, perform}
@@ -61,7 +60,7 @@ abbrev pub floored_read : Bench → ℕ → Read Bool
 floored_read b u = record { own = floored_of b u; zero = false }
 
 abbrev pub index_read : Bench → ℕ → ℕ → Read (Option Handle)
-index_read b u k = record { own = handle_at_index b u k; zero = none }
+index_read b u k = record { own = handle_at_index b u k; zero = None }
 
 abbrev pub belongs_read : Bench → ℕ → Handle → Read Bool
 belongs_read b u h = record { own = belongs b u h; zero = false }

@@ -1,7 +1,6 @@
 -- The bench of docs/MANUAL.md, Words, held plainly: what a node, an interface and a bench are, and the bench that set-up makes.
 -- A weight is the ℤ that a contract has for an `i64`; serials, slots and vertices are ℕ. Assumes nothing.
-use Rattle.std.specs.Prelude.{ℕ, Bool, true, false, List, [], ℤ, pos, negsuc, replicate}
-use Rattle.std.proofs.Math.Option.{Option, none}
+use Rattle.std.specs.Prelude.{ℕ, Bool, true, false, List, [], ℤ, pos, negsuc, replicate, None, Option}
 
 pub record Handle : Type 0 where
   pub unit : ℕ
@@ -70,7 +69,7 @@ pub record Bench : Type 0 where
   pub plain : Bool
 
 abbrev pub fresh : Interface
-fresh = record { slots = []; progress = pos 0; sum = pos 0; speed = pos 0; parent = none; halves = none; marks = no_marks }
+fresh = record { slots = []; progress = pos 0; sum = pos 0; speed = pos 0; parent = None; halves = None; marks = no_marks }
 
 -- ---- an interface with one field changed: what every other definition makes one by, so that a new field is said in this file alone
 

@@ -1,18 +1,17 @@
 -- The four ways in which a call changes a bench: a node put where there was one (or taken away), a node added, an interface replaced,
 -- and the speed that follows. Every call that touches nodes is made of these. Assumes nothing.
-use Rattle.std.specs.Prelude.{ℕ, zero, suc, List, [], ◌∷◌, set, ℤ, pos, ◌+ℤ◌, ◌-ℤ◌}
-use Rattle.std.proofs.Math.Option.{Option, none, some}
+use Rattle.std.specs.Prelude.{ℕ, zero, suc, List, [], ◌∷◌, set, ℤ, pos, ◌+ℤ◌, ◌-ℤ◌, None, Option, Some}
 use Rattle.ledger_spec.specs.Bench.{Handle, State, rate, Node, Interface, Bench, with_slots, with_speed}
 use Rattle.ledger_spec.specs.Look.{interface, slot_of, top}
 
 -- what a slot adds to the speed, and its value
 abbrev pub share : Option Node → ℤ
-share none = pos 0
-share (some n) = rate n.state
+share None = pos 0
+share (Some n) = rate n.state
 
 abbrev pub worth : Option Node → ℤ
-worth none = pos 0
-worth (some n) = n.value
+worth None = pos 0
+worth (Some n) = n.value
 
 -- a node with a state and a parent; a bench with an interface
 abbrev pub with_node : Node → State → Option Handle → Node
@@ -31,8 +30,8 @@ place b u s y = faster (with_interface b u (with_slots (interface b u) (set (int
 
 -- n put at slot s: in the place of what it held, or at the end
 unfoldable pub put : List (Option Node) → ℕ → Node → List (Option Node)
-put [] s n = some n ∷ []
-put (x ∷ xs) zero n = some n ∷ xs
+put [] s n = Some n ∷ []
+put (x ∷ xs) zero n = Some n ∷ xs
 put (x ∷ xs) (suc s) n = x ∷ put xs s n
 
 -- the free slot s of interface u now holds n, which takes the next serial, and the speed of u follows
@@ -41,8 +40,8 @@ push b u s n = faster (record { next = suc b.next; interfaces = set b.interfaces
 
 -- the node of a slot gets a state and a parent
 abbrev pub restate : Option Node → State → Option Handle → Option Node
-restate none s p = none
-restate (some n) s p = some (with_node n s p)
+restate None s p = None
+restate (Some n) s p = Some (with_node n s p)
 
 unfoldable pub mark : Bench → Handle → State → Option Handle → Bench
 mark b h s p = place b h.unit h.slot (restate (slot_of b h.unit h.slot) s p)

@@ -1,6 +1,5 @@
 -- The check and the strict check: a verdict and an index. Present nodes by index, members in circle order, the first finding wins. Assumes nothing.
-use Rattle.std.specs.Prelude.{ℕ, zero, suc, Bool, true, false, ◌||◌, ◌&&◌, List, [], ◌∷◌, eqb, ℤ, pos, ◌+ℤ◌, ◌-ℤ◌, nat_abs}
-use Rattle.std.proofs.Math.Option.{Option, none, some}
+use Rattle.std.specs.Prelude.{ℕ, zero, suc, Bool, true, false, ◌||◌, ◌&&◌, List, [], ◌∷◌, eqb, ℤ, pos, ◌+ℤ◌, ◌-ℤ◌, nat_abs, None, Option, Some}
 use Rattle.ledger_spec.specs.Bench.{Handle, Member, defect, blossom, Node, Bench}
 use Rattle.ledger_spec.specs.Look.{interface, node_named, same_handle}
 use Rattle.ledger_spec.specs.Change.{worth}
@@ -33,8 +32,8 @@ circle_verdict b (m ∷ ms) = elim (member_verdict b m) [ zero ↦ circle_verdic
 unfoldable pub finding : Bench → List (ℕ × ℕ × Option Node) → List (ℕ × ℕ × Option Node) → List ℕ → ℕ → ℕ × ℕ
 finding b whole [] seen k = (0, 0)
 finding b whole (t ∷ ts) seen k = elim t.2 [
-  | none ↦ finding b whole ts seen (suc k)
-  | some n ↦ elim n.class [
+  | None ↦ finding b whole ts seen (suc k)
+  | Some n ↦ elim n.class [
     | defect v ↦ elim (any (eqb v) seen) [ true ↦ (1, k) | false ↦ finding b whole ts (v ∷ seen) (suc k) ]
     | blossom ms ↦ let c : ℕ × Handle = circle_verdict b ms in
         elim c.0 [ zero ↦ finding b whole ts seen (suc k) | suc w ↦ (suc w, index_in whole 0 c.1) ]
@@ -54,7 +53,7 @@ verdict b u = let w : ℕ × ℕ = finding b (slots_of b u) (slots_of b u) [] 0 
 -- whether t is m, or following its parents arrives at m, within so many links
 unfoldable pub arrives : ℕ → Bench → Handle → Handle → Bool
 arrives zero b t m = same_handle t m
-arrives (suc k) b t m = same_handle t m || elim (parent_in (node_named b t)) [ none ↦ false | some p ↦ arrives k b p m ]
+arrives (suc k) b t m = same_handle t m || elim (parent_in (node_named b t)) [ None ↦ false | Some p ↦ arrives k b p m ]
 
 -- a bench has 512 slots
 unfoldable pub is_under : Bench → Handle → Handle → Bool
@@ -64,16 +63,16 @@ unfoldable pub strict_member : Bench → Member → Bool
 strict_member b m = elim (is_defect (node_named b m.node)) [ true ↦ true | false ↦ is_under b m.touch.0 m.node && is_under b m.touch.1 m.node ]
 
 unfoldable pub strict_circle : Bench → List Member → Option Handle
-strict_circle b [] = none
-strict_circle b (m ∷ ms) = elim (strict_member b m) [ true ↦ strict_circle b ms | false ↦ some m.node ]
+strict_circle b [] = None
+strict_circle b (m ∷ ms) = elim (strict_member b m) [ true ↦ strict_circle b ms | false ↦ Some m.node ]
 
 unfoldable pub strict_finding : Bench → List (ℕ × ℕ × Option Node) → List (ℕ × ℕ × Option Node) → ℕ × ℕ
 strict_finding b whole [] = (0, 0)
 strict_finding b whole (t ∷ ts) = elim t.2 [
-  | none ↦ strict_finding b whole ts
-  | some n ↦ elim n.class [
+  | None ↦ strict_finding b whole ts
+  | Some n ↦ elim n.class [
     | defect v ↦ strict_finding b whole ts
-    | blossom ms ↦ elim (strict_circle b ms) [ none ↦ strict_finding b whole ts | some h ↦ (6, index_in whole 0 h) ]
+    | blossom ms ↦ elim (strict_circle b ms) [ None ↦ strict_finding b whole ts | Some h ↦ (6, index_in whole 0 h) ]
   ]
 ]
 

@@ -1,6 +1,5 @@
 -- Numbers as text, read and written. A number has one decimal: no leading zeros, a minus only before a nonzero number. Assumes nothing.
-use Rattle.std.specs.Prelude.{ℕ, zero, suc, ◌+◌, ◌-◌, ◌*◌, ◌/◌, ◌%◌, true, false, ◌&&◌, List, [], ◌∷◌, ◌++◌, leb, ltb, eqb, ℤ, pos, negsuc, neg_ℤ}
-use Rattle.std.proofs.Math.Option.{Option, none, some}
+use Rattle.std.specs.Prelude.{ℕ, zero, suc, ◌+◌, ◌-◌, ◌*◌, ◌/◌, ◌%◌, true, false, ◌&&◌, List, [], ◌∷◌, ◌++◌, leb, ltb, eqb, ℤ, pos, negsuc, neg_ℤ, None, Option, Some}
 
 -- ---- written
 
@@ -20,32 +19,32 @@ signed (negsuc n) = 45 ∷ decimal (suc n)
 
 -- digits after a number n
 unfoldable pub after_digits : ℕ → List ℕ → Option ℕ
-after_digits n [] = some n
-after_digits n (c ∷ f) = elim (leb 48 c && leb c 57) [ true ↦ after_digits (n * 10 + (c - 48)) f | false ↦ none ]
+after_digits n [] = Some n
+after_digits n (c ∷ f) = elim (leb 48 c && leb c 57) [ true ↦ after_digits (n * 10 + (c - 48)) f | false ↦ None ]
 
 -- plain decimals without leading zeros
 unfoldable pub natural : List ℕ → Option ℕ
-natural [] = none
+natural [] = None
 natural (c ∷ []) = after_digits 0 (c ∷ [])
-natural (c ∷ d ∷ f) = elim (eqb c 48) [ true ↦ none | false ↦ after_digits 0 (c ∷ d ∷ f) ]
+natural (c ∷ d ∷ f) = elim (eqb c 48) [ true ↦ None | false ↦ after_digits 0 (c ∷ d ∷ f) ]
 
 -- in a range, both ends included
 unfoldable pub between : ℕ → ℕ → Option ℕ → Option ℕ
-between least most none = none
-between least most (some n) = elim (leb least n && leb n most) [ true ↦ some n | false ↦ none ]
+between least most None = None
+between least most (Some n) = elim (leb least n && leb n most) [ true ↦ Some n | false ↦ None ]
 
 abbrev pub number_within : ℕ → ℕ → List ℕ → Option ℕ
 number_within least most f = between least most (natural f)
 
 abbrev pub plus_of : Option ℕ → Option ℤ
-plus_of none = none
-plus_of (some n) = some (pos n)
+plus_of None = None
+plus_of (Some n) = Some (pos n)
 
 abbrev pub minus_of : Option ℕ → Option ℤ
-minus_of none = none
-minus_of (some n) = some (neg_ℤ (pos n))
+minus_of None = None
+minus_of (Some n) = Some (neg_ℤ (pos n))
 
 -- any signed 64-bit number; minus only before a nonzero number
 unfoldable pub integer : List ℕ → Option ℤ
-integer [] = none
+integer [] = None
 integer (c ∷ f) = elim (eqb c 45) [ true ↦ minus_of (number_within 1 9223372036854775808 f) | false ↦ plus_of (number_within 0 9223372036854775807 (c ∷ f)) ]

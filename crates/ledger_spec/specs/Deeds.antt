@@ -1,6 +1,5 @@
 -- What each call of the plain ledger does where it is accepted. Assumes nothing.
-use Rattle.std.specs.Prelude.{ℕ, suc, ◌+◌, true, false, List, [], ◌∷◌, map, eqb, ℤ, pos, ◌+ℤ◌, ◌*ℤ◌}
-use Rattle.std.proofs.Math.Option.{Option, none, some}
+use Rattle.std.specs.Prelude.{ℕ, suc, ◌+◌, true, false, List, [], ◌∷◌, map, eqb, ℤ, pos, ◌+ℤ◌, ◌*ℤ◌, None, Option, Some}
 use Rattle.ledger_spec.specs.Bench.{Handle, grows, stays, rate, Member, defect, blossom, Node, Marking, with_floor, with_mark, Interface, Bench, fresh, with_slots, with_progress, with_sum, with_speed, with_parent, with_halves, with_marks}
 use Rattle.ledger_spec.specs.Look.{interface, free_slot, node_named, top}
 use Rattle.ledger_spec.specs.Change.{with_interface, place, push, mark_all}
@@ -9,7 +8,7 @@ abbrev pub new_handle : Bench → ℕ → Handle
 new_handle b u = record { unit = u; slot = free_slot b u; serial = b.next }
 
 unfoldable pub add_defect : Bench → ℕ → ℕ → Bench
-add_defect b u v = push b u (free_slot b u) (record { serial = b.next; class = defect v; state = grows; parent = none; value = pos 0; size = 1 })
+add_defect b u v = push b u (free_slot b u) (record { serial = b.next; class = defect v; state = grows; parent = None; value = pos 0; size = 1 })
 
 -- a blossom's circle: an empty touching list means each member twice
 unfoldable pub circle : List Handle → List (Handle × Handle) → List Member
@@ -18,28 +17,28 @@ circle (h ∷ hs) [] = record { node = h; touch = (h, h) } ∷ circle hs []
 circle (h ∷ hs) (t ∷ ts) = record { node = h; touch = t } ∷ circle hs ts
 
 abbrev pub size_of : Option Node → ℕ
-size_of none = 0
-size_of (some n) = n.size
+size_of None = 0
+size_of (Some n) = n.size
 
 unfoldable pub sizes : Bench → List Handle → ℕ
 sizes b [] = 0
 sizes b (h ∷ hs) = size_of (node_named b h) + sizes b hs
 
 unfoldable pub add_blossom : Bench → ℕ → List Handle → List (Handle × Handle) → Bench
-add_blossom b u hs ts = push (mark_all b hs stays (some (new_handle b u))) u (free_slot b u)
-    (record { serial = b.next; class = blossom (circle hs ts); state = grows; parent = none; value = pos 0; size = sizes b hs })
+add_blossom b u hs ts = push (mark_all b hs stays (Some (new_handle b u))) u (free_slot b u)
+    (record { serial = b.next; class = blossom (circle hs ts); state = grows; parent = None; value = pos 0; size = sizes b hs })
 
 abbrev pub members : Option Node → List Handle
-members none = []
-members (some n) = elim n.class [ defect v ↦ [] | blossom ms ↦ map (λ (m : Member). m.node) ms ]
+members None = []
+members (Some n) = elim n.class [ defect v ↦ [] | blossom ms ↦ map (λ (m : Member). m.node) ms ]
 
 unfoldable pub remove_blossom : Bench → Handle → Bench
-remove_blossom b h = mark_all (place b h.unit h.slot none) (members (node_named b h)) grows none
+remove_blossom b h = mark_all (place b h.unit h.slot None) (members (node_named b h)) grows None
 
 -- every node of a slot grows, stays or shrinks by l
 unfoldable pub grow_slot : ℤ → Option Node → Option Node
-grow_slot l none = none
-grow_slot l (some n) = some (record { serial = n.serial; class = n.class; state = n.state; parent = n.parent; value = n.value +ℤ l *ℤ rate n.state; size = n.size })
+grow_slot l None = None
+grow_slot l (Some n) = Some (record { serial = n.serial; class = n.class; state = n.state; parent = n.parent; value = n.value +ℤ l *ℤ rate n.state; size = n.size })
 
 -- f at every interface of u's tree, with its number
 unfoldable pub across : (Interface → Interface) → Bench → ℕ → ℕ → List Interface → List Interface
@@ -59,13 +58,13 @@ abbrev pub fused_parent : Bench → ℕ → ℕ → ℕ → Interface
 fused_parent b p l r =
     with_marks
     (with_halves
-    (with_speed (with_sum (with_progress (with_parent (interface b p) none) (pos 0)) ((interface b l).sum +ℤ (interface b r).sum)) ((interface b l).speed +ℤ (interface b r).speed))
-    (some (l, r)))
+    (with_speed (with_sum (with_progress (with_parent (interface b p) None) (pos 0)) ((interface b l).sum +ℤ (interface b r).sum)) ((interface b l).speed +ℤ (interface b r).speed))
+    (Some (l, r)))
     (with_floor (interface b p).marks (interface b l).marks.floored)
 
 unfoldable pub join : Bench → ℕ → ℕ → ℕ → Bench
 join b p l r =
-    with_interface (with_interface (with_interface b l (with_parent (interface b l) (some p))) r (with_parent (interface b r) (some p))) p (fused_parent b p l r)
+    with_interface (with_interface (with_interface b l (with_parent (interface b l) (Some p))) r (with_parent (interface b r) (Some p))) p (fused_parent b p l r)
 
 -- interface u gets a mark
 unfoldable pub choose : Bench → ℕ → Marking → Bench

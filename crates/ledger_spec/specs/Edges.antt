@@ -1,11 +1,9 @@
 -- The edges P1 to P10 as one table about the definitions, and after them some rows that tempting and wrong definitions break. Each row has
 -- what is computed and what is to come out. Assumes nothing.
-use Rattle.std.specs.Prelude.{ℕ, zero, suc, ◌≡◌, refl, true, false, List, [], ◌∷◌, map, ℤ, pos}
+use Rattle.std.specs.Prelude.{None, Option, Some, ℕ, zero, suc, ◌≡◌, refl, true, false, List, [], ◌∷◌, map, ℤ, pos}
 use Prim.Native.String.{String, ◌++◌}
-use Rattle.std.proofs.Math.Option.{Option, none, some}
 use Rattle.kinds.specs.Names.{no_code}
 use Rattle.kinds.specs.declared.Stop.{Stop}
-use Rattle.kinds.specs.declared.MaybePair.TheVariants.{NoPair}
 use Rattle.kinds.specs.declared.Obstacle.{Obstacle}
 use Rattle.kinds.specs.declared.Obstacle.TheVariants.{TouchingVirtual, BlossomNeedExpand, VertexShrinkStop}
 use Rattle.ledger_spec.specs.Numbers.{BROKEN}
@@ -76,7 +74,7 @@ expanded = Defect 0 3 ∷ Blossom 0 (record { unit = 0; slot = 0; serial = 1 } �
 
 -- a bench made by hand: a defect of this value where nothing has grown yet
 abbrev pub worth_at_once : ℤ → Bench
-worth_at_once v = with_interface (set_up 2) 0 (with_speed (with_slots fresh (some (record { serial = 1; class = defect 3; state = grows; parent = none; value = v; size = 1 }) ∷ [])) (pos 1))
+worth_at_once v = with_interface (set_up 2) 0 (with_speed (with_slots fresh (Some (record { serial = 1; class = defect 3; state = grows; parent = None; value = v; size = 1 }) ∷ [])) (pos 1))
 
 -- two obstacles for a list, and stops at 4 and 9
 abbrev pub c1 : Obstacle
@@ -86,7 +84,7 @@ abbrev pub c2 : Obstacle
 c2 = TouchingVirtual (record { node = no_code; touching = no_code }) (record { 0 = 7 }) false
 
 abbrev pub stop_at : ℕ → Stop
-stop_at v = record { vertex = record { 0 = v }; obstacle = VertexShrinkStop no_code NoPair }
+stop_at v = record { vertex = record { 0 = v }; obstacle = VertexShrinkStop no_code None }
 
 abbrev pub pending : Group
 pending = conflicts (record { obstacle = c1 } ∷ record { obstacle = c2 } ∷ []) (stop_at 4 ∷ stop_at 9 ∷ [])
@@ -112,7 +110,7 @@ table =
     -- P8
     ∷ (joined (growth (pos 5) false) (growth largest true), group (0, growth (pos 5) false))
     -- P9
-    ∷ (taken (pops 3 pending), taken ((0, some c2) ∷ (0, some c1) ∷ (0, none) ∷ []))
+    ∷ (taken (pops 3 pending), taken ((0, Some c2) ∷ (0, Some c1) ∷ (0, None) ∷ []))
     -- P10, the whole case
     ∷ (after "" whole_case, wants "0 1 1 0\n0 2 2 0\n0 3 3 0\n0 0 3 15\n0 4 1 15\n0 0 1 17\n0 4 -1 17\n0 0 -1 16\n0 4 3 16\n0 5 3 16\n")
     -- a fuse that names no interface shows zeros (READING T1)
@@ -121,8 +119,8 @@ table =
     ∷ (after "D 1 4\n" "B 0 1 9\n", wants "8 0 0 0\n")
     ∷ (after fused "E 0 1\n", wants "4 0 0 0\n")
     -- the index counts the left half's slots, then the right half's
-    ∷ (indexed fused 2 0, handle (0, some (record { unit = 0; slot = 0; serial = 1 })))
-    ∷ (indexed fused 2 1, handle (0, some (record { unit = 1; slot = 0; serial = 2 })))
+    ∷ (indexed fused 2 0, handle (0, Some (record { unit = 0; slot = 0; serial = 1 })))
+    ∷ (indexed fused 2 1, handle (0, Some (record { unit = 1; slot = 0; serial = 2 })))
     -- a clear empties and unfuses the halves too; the next serial stays
     ∷ (after (fused ++ "C 2\n") "D 0 5\nK 1\n", wants "0 3 1 0\n0 0 0 0\n")
     -- what went is booked by the interface whose slot it held

@@ -1,6 +1,5 @@
 -- What a sound bench is, as facts: `sound b ≡ true` says all of this and no more (proofs: Says, Holds). Assumes nothing.
-use Rattle.std.specs.Prelude.{ℕ, ◌*◌, ◌≤◌, ◌<◌, ◌≡◌, true, List, length, pos, nat_abs}
-use Rattle.std.proofs.Math.Option.{none, some}
+use Rattle.std.specs.Prelude.{ℕ, ◌*◌, ◌≤◌, ◌<◌, ◌≡◌, true, List, length, pos, nat_abs, None, Some}
 use Rattle.ledger_spec.specs.Numbers.{progress_limit, serial_limit, slot_limit, circle_limit}
 use Rattle.ledger_spec.specs.Bench.{Handle, Member, defect, blossom, Node, Bench}
 use Rattle.ledger_spec.specs.Look.{interface, slot_of, top, tree}
@@ -36,7 +35,7 @@ pub record Ring (b : Bench) (n : Node) : Type 0 where
 
 -- an interface bears the floor mark of its parent, and where it is floored no value is negative
 pub record Floors (b : Bench) : Type 0 where
-  pub level : (u p : ℕ) → (interface b u).parent ≡ some p → floored b u ≡ floored b p
+  pub level : (u p : ℕ) → (interface b u).parent ≡ Some p → floored b u ≡ floored b p
   pub values : (u s : ℕ) → floored b u ≡ true → afloat (slot_of b u s) ≡ true
 
 pub record Sound (b : Bench) : Type 0 where
@@ -46,8 +45,8 @@ pub record Sound (b : Bench) : Type 0 where
   pub limit : (u : ℕ) → nat_abs (interface b u).progress ≤ progress_limit
   pub worn : b.next ≤ serial_limit
   pub sewn : Sewn b
-  pub rings : (u s : ℕ) (n : Node) → slot_of b u s ≡ some n → Ring b n
-  pub values : (u s : ℕ) (n : Node) → slot_of b u s ≡ some n → nat_abs n.value ≤ W b (top b u)
-  pub sums : (i : ℕ) → i < 8 → (interface b i).parent ≡ none → nat_abs (interface b i).sum ≤ 512 * W b i
-  pub speeds : (i : ℕ) → i < 8 → (interface b i).parent ≡ none → (interface b i).speed ≡ tree_sum (top b) (rates_in b) i
+  pub rings : (u s : ℕ) (n : Node) → slot_of b u s ≡ Some n → Ring b n
+  pub values : (u s : ℕ) (n : Node) → slot_of b u s ≡ Some n → nat_abs n.value ≤ W b (top b u)
+  pub sums : (i : ℕ) → i < 8 → (interface b i).parent ≡ None → nat_abs (interface b i).sum ≤ 512 * W b i
+  pub speeds : (i : ℕ) → i < 8 → (interface b i).parent ≡ None → (interface b i).speed ≡ tree_sum (top b) (rates_in b) i
   pub floors : Floors b

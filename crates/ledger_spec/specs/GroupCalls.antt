@@ -1,12 +1,10 @@
 -- The calls on obstacle groups, for every group and bench: a number, the answer, and the group after it, which a refusal leaves as it was.
 -- Add and extend are lent the bench, the others none. Assumes nothing.
-use Rattle.std.specs.Prelude.{ℕ, Bool, true, false, cond, not, ◌&&◌, List, [], ◌∷◌, ◌++◌, ℤ}
-use Rattle.std.proofs.Math.Option.{Option, none, some}
+use Rattle.std.specs.Prelude.{None, Option, Some, ℕ, Bool, true, false, cond, not, ◌&&◌, List, [], ◌∷◌, ◌++◌, ℤ}
+use Rattle.kinds.specs.declared.Pair.{Pair}
 use Rattle.kinds.specs.declared.Handle.{Handle as Code}
 use Rattle.kinds.specs.declared.Entry.{Entry}
 use Rattle.kinds.specs.declared.Stop.{Stop}
-use Rattle.kinds.specs.declared.MaybePair.{MaybePair}
-use Rattle.kinds.specs.declared.MaybePair.TheVariants.{NoPair, WithPair}
 use Rattle.kinds.specs.declared.Obstacle.{Obstacle}
 use Rattle.kinds.specs.declared.Obstacle.TheVariants.{NonZeroGrow, Conflicting, TouchingVirtual, BlossomNeedExpand, VertexShrinkStop}
 use Rattle.ledger_spec.specs.Numbers.{BROKEN, STALE, KIND, ROOM, NOTHING}
@@ -44,21 +42,21 @@ is_active g = said (first (group_tests g)) (active g) false
 
 -- the length of a growth; "none" of conflicts
 abbrev pub length_in : Group → Option ℤ
-length_in (growth n f) = some n
-length_in (conflicts es ss) = none
+length_in (growth n f) = Some n
+length_in (conflicts es ss) = None
 
 unfoldable pub growth_of : Group → ℕ × Option ℤ
-growth_of g = said (first ((not (sound_group g), BROKEN) ∷ (is_largest g, NOTHING) ∷ [])) (length_in g) none
+growth_of g = said (first ((not (sound_group g), BROKEN) ∷ (is_largest g, NOTHING) ∷ [])) (length_in g) None
 
 abbrev pub last_in : Group → Option Obstacle
-last_in (growth n f) = none
+last_in (growth n f) = None
 last_in (conflicts es ss) = last_of es ss
 
 unfoldable pub take_tests : Group → List (Bool × ℕ)
 take_tests g = (not (sound_group g), BROKEN) ∷ (is_growth g, KIND) ∷ []
 
 unfoldable pub peek : Group → ℕ × Option Obstacle
-peek g = said (first (take_tests g)) (last_in g) none
+peek g = said (first (take_tests g)) (last_in g) None
 
 -- ---- changes: number, answer, group
 
@@ -67,12 +65,12 @@ after_pop (growth n f) = growth n f
 after_pop (conflicts es ss) = popped es ss
 
 unfoldable pub pop : Group → ℕ × (Option Obstacle × Group)
-pop g = said (first (take_tests g)) (last_in g, after_pop g) (none, g)
+pop g = said (first (take_tests g)) (last_in g, after_pop g) (None, g)
 
 -- the nodes that an obstacle names, and those of a group
-abbrev pub pair_handles : MaybePair → List Code
-pair_handles NoPair = []
-pair_handles (WithPair p) = p.node ∷ p.touching ∷ []
+abbrev pub pair_handles : Option Pair → List Code
+pair_handles None = []
+pair_handles (Some p) = p.node ∷ p.touching ∷ []
 
 unfoldable pub handles_of : Obstacle → List Code
 handles_of (NonZeroGrow n f) = []
@@ -106,8 +104,8 @@ vertex_of b (VertexShrinkStop h p) = (first_vertex b (handle_named h)).1
 
 -- the group itself where there is no room
 abbrev pub or_else : Option Group → Group → Group
-or_else none g = g
-or_else (some q) g = q
+or_else None g = g
+or_else (Some q) g = q
 
 unfoldable pub add : Bench → Group → Obstacle → ℕ × Group
 add b g o =

@@ -1,14 +1,12 @@
 -- Obstacle groups: a growth (length, flag), or conflicts, a list and pending stops by vertex. What each call does to one, and when there is no
 -- room. A length is the ℤ that a contract has for an `i64`; obstacles are those of crate `kinds`. Assumes nothing.
-use Rattle.std.specs.Prelude.{ℕ, suc, Bool, true, false, cond, ◌&&◌, ◌||◌, List, [], ◌∷◌, ◌++◌, length, drop, eqb, leb, ltb, ℤ, pos, negsuc}
-use Rattle.std.proofs.Math.Option.{Option, none, some}
+use Rattle.std.specs.Prelude.{None, Option, Some, ℕ, suc, Bool, true, false, cond, ◌&&◌, ◌||◌, List, [], ◌∷◌, ◌++◌, length, drop, eqb, leb, ltb, ℤ, pos, negsuc}
+use Rattle.kinds.specs.declared.Pair.{Pair}
 use Rattle.std.specs.Int.Signed.{lt_z}
 use Rattle.kinds.specs.Names.{same_code}
 use Rattle.kinds.specs.Obstacles.{listable, is_stop, pair_of}
 use Rattle.kinds.specs.declared.Entry.{Entry}
 use Rattle.kinds.specs.declared.Stop.{Stop}
-use Rattle.kinds.specs.declared.MaybePair.{MaybePair}
-use Rattle.kinds.specs.declared.MaybePair.TheVariants.{NoPair, WithPair}
 use Rattle.kinds.specs.declared.Obstacle.{Obstacle}
 use Rattle.kinds.specs.declared.Obstacle.TheVariants.{NonZeroGrow, Conflicting, TouchingVirtual, BlossomNeedExpand, VertexShrinkStop}
 use Rattle.ledger_spec.specs.Numbers.{group_limit}
@@ -51,7 +49,7 @@ abbrev pub Lists : Type 0
 Lists = List Entry × List Stop
 
 unfoldable pub room_for : List Entry → List Stop → Option Lists
-room_for es ss = cond (leb (length es) group_limit && leb (length ss) group_limit) (some (es, ss)) none
+room_for es ss = cond (leb (length es) group_limit && leb (length ss) group_limit) (Some (es, ss)) None
 
 -- the stops at the front whose vertex is below v, and the others
 unfoldable pub front_of : ℕ → List Stop → List Stop
@@ -63,10 +61,10 @@ back_of v [] = []
 back_of v (s ∷ ss) = cond (ltb s.vertex.0 v) (back_of v ss) (s ∷ ss)
 
 -- stop x comes to a vertex where y is pending, by their pairs; fs and bs are the stops before and after y
-unfoldable pub meet : MaybePair → MaybePair → Stop → Stop → List Entry → List Stop → List Stop → Option Lists
-meet NoPair q x y es fs bs = room_for es (fs ++ y ∷ bs)
-meet (WithPair p) NoPair x y es fs bs = room_for es (fs ++ x ∷ bs)
-meet (WithPair p) (WithPair q) x y es fs bs =
+unfoldable pub meet : Option Pair → Option Pair → Stop → Stop → List Entry → List Stop → List Stop → Option Lists
+meet None q x y es fs bs = room_for es (fs ++ y ∷ bs)
+meet (Some p) None x y es fs bs = room_for es (fs ++ x ∷ bs)
+meet (Some p) (Some q) x y es fs bs =
     cond (same_code p.node q.node) (room_for es (fs ++ y ∷ bs)) (room_for (es ++ record { obstacle = Conflicting p q } ∷ []) (fs ++ bs))
 
 unfoldable pub placed : Stop → List Entry → List Stop → List Stop → Option Lists
@@ -81,19 +79,19 @@ abbrev pub smaller : ℤ → ℤ → ℤ
 smaller n n' = cond (lt_z n' n) n' n
 
 abbrev pub grouped : Option Lists → Option Group
-grouped none = none
-grouped (some ls) = some (conflicts ls.0 ls.1)
+grouped None = None
+grouped (Some ls) = Some (conflicts ls.0 ls.1)
 
 -- o is added, v being the first vertex of a stop's node: to a growth, to conflicts
 unfoldable pub add_to_growth : ℤ → Bool → Obstacle → ℕ → Option Group
-add_to_growth n f (NonZeroGrow n' f') v = some (growth (smaller n n') (f || f'))
-add_to_growth n f (Conflicting p q) v = some (conflicts (record { obstacle = Conflicting p q } ∷ []) [])
-add_to_growth n f (TouchingVirtual p w m) v = some (conflicts (record { obstacle = TouchingVirtual p w m } ∷ []) [])
-add_to_growth n f (BlossomNeedExpand h) v = some (conflicts (record { obstacle = BlossomNeedExpand h } ∷ []) [])
-add_to_growth n f (VertexShrinkStop h p) v = some (conflicts [] (record { vertex = record { 0 = v }; obstacle = VertexShrinkStop h p } ∷ []))
+add_to_growth n f (NonZeroGrow n' f') v = Some (growth (smaller n n') (f || f'))
+add_to_growth n f (Conflicting p q) v = Some (conflicts (record { obstacle = Conflicting p q } ∷ []) [])
+add_to_growth n f (TouchingVirtual p w m) v = Some (conflicts (record { obstacle = TouchingVirtual p w m } ∷ []) [])
+add_to_growth n f (BlossomNeedExpand h) v = Some (conflicts (record { obstacle = BlossomNeedExpand h } ∷ []) [])
+add_to_growth n f (VertexShrinkStop h p) v = Some (conflicts [] (record { vertex = record { 0 = v }; obstacle = VertexShrinkStop h p } ∷ []))
 
 unfoldable pub add_to_conflicts : List Entry → List Stop → Obstacle → ℕ → Option Group
-add_to_conflicts es ss (NonZeroGrow n f) v = some (conflicts es ss)
+add_to_conflicts es ss (NonZeroGrow n f) v = Some (conflicts es ss)
 add_to_conflicts es ss (Conflicting p q) v = grouped (room_for (es ++ record { obstacle = Conflicting p q } ∷ []) ss)
 add_to_conflicts es ss (TouchingVirtual p w m) v = grouped (room_for (es ++ record { obstacle = TouchingVirtual p w m } ∷ []) ss)
 add_to_conflicts es ss (BlossomNeedExpand h) v = grouped (room_for (es ++ record { obstacle = BlossomNeedExpand h } ∷ []) ss)
@@ -111,26 +109,26 @@ smaller_pair n f n' f' = cond (lt_z n' n) (growth n' f') (cond (lt_z n n') (grow
 
 -- stops added one after the other, each under the vertex it was kept by, as long as there is room
 abbrev pub and_then : Option Lists → (List Entry → List Stop → Option Lists) → Option Lists
-and_then none next = none
-and_then (some ls) next = next ls.0 ls.1
+and_then None next = None
+and_then (Some ls) next = next ls.0 ls.1
 
 unfoldable pub add_stops : List Stop → List Entry → List Stop → Option Lists
-add_stops [] es ss = some (es, ss)
+add_stops [] es ss = Some (es, ss)
 add_stops (x ∷ xs) es ss = and_then (add_stop x es ss) (add_stops xs)
 
 unfoldable pub extended : Group → Group → Option Group
-extended (growth n f) (growth n' f') = some (cond (eq_z n' largest) (growth n f) (smaller_pair n f n' f'))
-extended (growth n f) (conflicts es ss) = some (conflicts es ss)
-extended (conflicts es ss) (growth n f) = some (conflicts es ss)
+extended (growth n f) (growth n' f') = Some (cond (eq_z n' largest) (growth n f) (smaller_pair n f n' f'))
+extended (growth n f) (conflicts es ss) = Some (conflicts es ss)
+extended (conflicts es ss) (growth n f) = Some (conflicts es ss)
 extended (conflicts es ss) (conflicts es' ss') = grouped (and_then (room_for (es ++ es') ss) (add_stops ss'))
 
 -- ---- pop and peek of conflicts
 
 -- the last of the list; where it is empty, the stop of smallest vertex; where there is none, nothing
 unfoldable pub last_of : List Entry → List Stop → Option Obstacle
-last_of [] [] = none
-last_of [] (s ∷ ss) = some s.obstacle
-last_of (e ∷ []) ss = some e.obstacle
+last_of [] [] = None
+last_of [] (s ∷ ss) = Some s.obstacle
+last_of (e ∷ []) ss = Some e.obstacle
 last_of (e ∷ e' ∷ es) ss = last_of (e' ∷ es) ss
 
 -- all but the last

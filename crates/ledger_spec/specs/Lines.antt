@@ -1,6 +1,5 @@
 -- What each line of the text program answers: number, serial, speed, sum. Assumes nothing.
-use Rattle.std.specs.Prelude.{ℕ, true, false, ◌||◌, List, [], ◌∷◌, map, eqb, ℤ, pos}
-use Rattle.std.proofs.Math.Option.{Option, none, some}
+use Rattle.std.specs.Prelude.{ℕ, true, false, ◌||◌, List, [], ◌∷◌, map, eqb, ℤ, pos, None, Option, Some}
 use Rattle.ledger_spec.specs.Numbers.{LINE, UNIT}
 use Rattle.ledger_spec.specs.Bench.{Handle, Node, Bench}
 use Rattle.ledger_spec.specs.Look.{interface}
@@ -16,8 +15,8 @@ use Rattle.ledger_spec.specs.Grammar.{Line}
 unfoldable pub seek : ℕ → List (ℕ × ℕ × Option Node) → Handle
 seek k [] = record { unit = 8; slot = 0; serial = k }
 seek k (t ∷ ts) = elim t.2 [
-  | none ↦ seek k ts
-  | some n ↦ elim (eqb k n.serial) [ true ↦ record { unit = t.0; slot = t.1; serial = k } | false ↦ seek k ts ]
+  | None ↦ seek k ts
+  | Some n ↦ elim (eqb k n.serial) [ true ↦ record { unit = t.0; slot = t.1; serial = k } | false ↦ seek k ts ]
 ]
 
 unfoldable pub named : Bench → ℕ → Handle
@@ -42,12 +41,12 @@ unfoldable pub checks : Bench → ℕ → LineAnswer
 checks b u = record { numbers = shown (read b (check_read b u)).0 (read b (check_read b u)).1.0 b u; bench = b }
 
 unfoldable pub says : Bench → Line → LineAnswer
-says b (some (D u v)) = calls b u (Defect u v)
-says b (some (B u ks)) = calls b u (Blossom u (map (named b) ks) [])
-says b (some (E u k)) = calls b u (Expand u (named b k))
-says b (some (S u k s)) = calls b u (SetState u (named b k) s)
-says b (some (G u l)) = calls b u (Grow u l)
-says b (some (F p l r)) = calls b p (Fuse p l r)
-says b (some (C u)) = calls b u (Clear u)
-says b (some (K u)) = checks b u
-says b none = record { numbers = (LINE, 0, pos 0, pos 0); bench = b }
+says b (Some (D u v)) = calls b u (Defect u v)
+says b (Some (B u ks)) = calls b u (Blossom u (map (named b) ks) [])
+says b (Some (E u k)) = calls b u (Expand u (named b k))
+says b (Some (S u k s)) = calls b u (SetState u (named b k) s)
+says b (Some (G u l)) = calls b u (Grow u l)
+says b (Some (F p l r)) = calls b p (Fuse p l r)
+says b (Some (C u)) = calls b u (Clear u)
+says b (Some (K u)) = checks b u
+says b None = record { numbers = (LINE, 0, pos 0, pos 0); bench = b }

@@ -1,10 +1,8 @@
 -- The code's plain types of crate `kinds`, as the ledger's own. Assumes nothing.
-use Rattle.std.proofs.Math.Option.{Option, none, some}
+use Rattle.std.specs.Prelude.{None, Option, Some}
 use Rattle.kinds.specs.declared.Handle.{Handle as Code}
 use Rattle.kinds.specs.declared.GrowState.{GrowState}
 use Rattle.kinds.specs.declared.GrowState.TheVariants.{Grow, Stay, Shrink}
-use Rattle.kinds.specs.declared.Parent.{Parent}
-use Rattle.kinds.specs.declared.Parent.TheVariants.{Outermost, Inside}
 use Rattle.ledger_spec.specs.Bench.{Handle, State, grows, stays, shrinks}
 
 abbrev pub handle_named : Code → Handle
@@ -15,6 +13,6 @@ state_named Grow = grows
 state_named Stay = stays
 state_named Shrink = shrinks
 
-abbrev pub parent_named : Parent → Option Handle
-parent_named Outermost = none
-parent_named (Inside h) = some (handle_named h)
+abbrev pub parent_named : Option Code → Option Handle
+parent_named None = None
+parent_named (Some h) = Some (handle_named h)

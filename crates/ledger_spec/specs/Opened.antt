@@ -1,7 +1,6 @@
 -- The plain ledger with every definition open, for what is shown by computing: the text program, reads, groups, the sound bench. Assumes nothing.
-use Rattle.std.specs.Prelude.{ℕ, zero, suc, List, [], ◌∷◌}
+use Rattle.std.specs.Prelude.{ℕ, zero, suc, List, [], ◌∷◌, Option}
 use Prim.Native.String.{String}
-use Rattle.std.proofs.Math.Option.{Option}
 use Rattle.kinds.specs.declared.Obstacle.{Obstacle}
 use Rattle.ledger_spec.specs.Bench.{Bench}
 use Rattle.ledger_spec.specs.Look.{gap, free_slot, node_named, if_serial, climb, tree}

@@ -1,7 +1,6 @@
 -- What a bench can be asked of its interfaces and nodes: a number and, where that is 0, a value (on a sound bench: Answers.antt has BROKEN).
 -- A read of an interface answers 3 or 4 as a call does, a read of a node 8. Assumes nothing.
-use Rattle.std.specs.Prelude.{ℕ, zero, suc, Bool, false, not, ◌&&◌, List, [], ◌∷◌, ◌++◌, length, get_or, leb, ℤ, pos}
-use Rattle.std.proofs.Math.Option.{Option, none, some}
+use Rattle.std.specs.Prelude.{ℕ, zero, suc, Bool, false, not, ◌&&◌, List, [], ◌∷◌, ◌++◌, length, get_or, leb, ℤ, pos, None, Option, Some}
 use Rattle.ledger_spec.specs.Numbers.{UNIT, CHILD, STALE, RANGE}
 use Rattle.ledger_spec.specs.Bench.{Handle, Node, Bench}
 use Rattle.ledger_spec.specs.Look.{interface, node_named, tree}
@@ -27,7 +26,7 @@ abbrev pub slots_of : Bench → ℕ → List (ℕ × ℕ × Option Node)
 slots_of b u = gather b (tree 8 b u)
 
 abbrev pub as_handle : ℕ × ℕ × Option Node → Option Handle
-as_handle t = elim t.2 [ none ↦ none | some n ↦ some (record { unit = t.0; slot = t.1; serial = n.serial }) ]
+as_handle t = elim t.2 [ None ↦ None | Some n ↦ Some (record { unit = t.0; slot = t.1; serial = n.serial }) ]
 
 -- ---- interfaces
 
@@ -53,7 +52,7 @@ index_tests b u k = (outside u, UNIT) ∷ (child b u, CHILD) ∷ (leb (length (s
 
 -- index to handle, or nothing where the slot was emptied
 unfoldable pub handle_at_index : Bench → ℕ → ℕ → ℕ × Option Handle
-handle_at_index b u k = said (first (index_tests b u k)) (as_handle (get_or (slots_of b u) k (0, 0, none))) none
+handle_at_index b u k = said (first (index_tests b u k)) (as_handle (get_or (slots_of b u) k (0, 0, None))) None
 
 -- ---- nodes
 

@@ -1,6 +1,5 @@
 -- A sound bench, first half: the interfaces and how they are linked into trees, as tests that compute. Assumes nothing.
-use Rattle.std.specs.Prelude.{ℕ, suc, ◌+◌, Bool, true, false, not, ◌&&◌, ◌||◌, List, [], ◌∷◌, length, eqb, leb, ltb, pos, nat_abs}
-use Rattle.std.proofs.Math.Option.{Option, none, some}
+use Rattle.std.specs.Prelude.{ℕ, suc, ◌+◌, Bool, true, false, not, ◌&&◌, ◌||◌, List, [], ◌∷◌, length, eqb, leb, ltb, pos, nat_abs, None, Option, Some}
 use Rattle.std.specs.Int.Signed.{le_z}
 use Rattle.ledger_spec.specs.Numbers.{progress_limit, slot_limit}
 use Rattle.ledger_spec.specs.Bench.{Bench}
@@ -19,21 +18,21 @@ tally p [] = 0
 tally p (x ∷ xs) = elim (p x) [ true ↦ suc (tally p xs) | false ↦ tally p xs ]
 
 abbrev pub is_parent : Option ℕ → ℕ → Bool
-is_parent none u = false
-is_parent (some p) u = eqb p u
+is_parent None u = false
+is_parent (Some p) u = eqb p u
 
 abbrev pub is_half : Option (ℕ × ℕ) → ℕ → Bool
-is_half none u = false
-is_half (some lr) u = eqb lr.0 u || eqb lr.1 u
+is_half None u = false
+is_half (Some lr) u = eqb lr.0 u || eqb lr.1 u
 
 -- links of interface u, up and down
 unfoldable pub links_up : Bench → ℕ → Bool
-links_up b u = elim (interface b u).parent [ none ↦ true | some p ↦ ltb u p && (leb p 7 && is_half (interface b p).halves u) ]
+links_up b u = elim (interface b u).parent [ None ↦ true | Some p ↦ ltb u p && (leb p 7 && is_half (interface b p).halves u) ]
 
 unfoldable pub links_down : Bench → ℕ → Bool
 links_down b u = elim (interface b u).halves [
-  | none ↦ true
-  | some lr ↦ (not (eqb lr.0 lr.1) && (ltb lr.0 u && ltb lr.1 u)) && (is_parent (interface b lr.0).parent u && is_parent (interface b lr.1).parent u)
+  | None ↦ true
+  | Some lr ↦ (not (eqb lr.0 lr.1) && (ltb lr.0 u && ltb lr.1 u)) && (is_parent (interface b lr.0).parent u && is_parent (interface b lr.1).parent u)
 ]
 
 unfoldable pub sound_interface : Bench → ℕ → Bool

@@ -1,6 +1,5 @@
 -- The tests behind the numbers of the manual's table (docs/MANUAL.md, Refusals), each of one thing: an interface's number, a handle, a list. Assumes nothing.
-use Rattle.std.specs.Prelude.{ℕ, Bool, true, false, ◌||◌, ◌&&◌, not, List, [], ◌∷◌, eqb, leb, ℤ, nat_abs}
-use Rattle.std.proofs.Math.Option.{Option, none, some}
+use Rattle.std.specs.Prelude.{ℕ, Bool, true, false, ◌||◌, ◌&&◌, not, List, [], ◌∷◌, eqb, leb, ℤ, nat_abs, None, Option, Some}
 use Rattle.std.specs.Int.Signed.{lt_z}
 use Rattle.ledger_spec.specs.Numbers.{slot_limit, serial_limit}
 use Rattle.ledger_spec.specs.Bench.{Handle, State, grows, stays, shrinks, Node, Interface, Bench, defect, blossom}
@@ -16,8 +15,8 @@ any p [] = false
 any p (x ∷ xs) = p x || any p xs
 
 abbrev pub is_some : {A : Type 0} → Option A → Bool
-is_some none = false
-is_some (some a) = true
+is_some None = false
+is_some (Some a) = true
 
 abbrev pub empty : {A : Type 0} → List A → Bool
 empty [] = true
@@ -38,12 +37,12 @@ abbrev pub foreign : Bench → ℕ → Handle → Bool
 foreign b u h = not (eqb (top b h.unit) u)
 
 abbrev pub is_defect : Option Node → Bool
-is_defect none = false
-is_defect (some n) = elim n.class [ defect v ↦ true | blossom ms ↦ false ]
+is_defect None = false
+is_defect (Some n) = elim n.class [ defect v ↦ true | blossom ms ↦ false ]
 
 abbrev pub has_parent : Option Node → Bool
-has_parent none = false
-has_parent (some n) = is_some n.parent
+has_parent None = false
+has_parent (Some n) = is_some n.parent
 
 unfoldable pub twice : List Handle → Bool
 twice [] = false
@@ -66,8 +65,8 @@ is_shrink stays = false
 is_shrink shrinks = true
 
 abbrev pub sinks : ℤ → Option Node → Bool
-sinks l none = false
-sinks l (some n) = is_shrink n.state && lt_z n.value l
+sinks l None = false
+sinks l (Some n) = is_shrink n.state && lt_z n.value l
 
 abbrev pub floored : Bench → ℕ → Bool
 floored b u = (interface b u).marks.floored

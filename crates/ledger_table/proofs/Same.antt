@@ -1,11 +1,11 @@
 -- Every text counts the same, replayed by the plain ledger, which tests the whole bench before each answer, and by the one that looks at the next serial
 -- alone: a bench that set-up made and calls changed is sound unless its first serial was past 32 bits, and then no call changes it. Assumes nothing.
+use Rattle.std.specs.Prelude.{None, Option, Some}
 use Prim.Native.Nat.{ℕ, zero, suc, ◌≤◌, ◌^◌}
 use Prim.Native.Char.{code}
 use Prim.Native.String.{String}
 use mathlib.Core.Path.{◌≡◌, refl, sym, ◌∙◌, ap, subst}
 use mathlib.Core.Bool.{Bool, true, false}
-use mathlib.Core.Option.{Option, none, some}
 use mathlib.Core.List.{List, [], ◌∷◌}
 use native.Mathlib.Omega.{arith}
 use lib.ListN.{drop}
@@ -78,13 +78,13 @@ module _ (t : Bench → Bool) (k : Desk) (c : ℕ) (l : List ℤ) where
 
   regroups_here : (r : Option (List ℤ × Group)) → regroups (tested t) k c l r ≡ regroups here k c l r
   unfolding here regroups reads checked dumped vertices
-  regroups_here none = refl
-  regroups_here (some r) = refl
+  regroups_here None = refl
+  regroups_here (Some r) = refl
 
   performs_here : (x : Option Call) → performs (tested t) k c l x ≡ performs here k c l x
   unfolding here performs changes adds extends acts
-  performs_here none = regroups_here (by_letter c (changes (tested t) k l))
-  performs_here (some x) = refl
+  performs_here None = regroups_here (by_letter c (changes (tested t) k l))
+  performs_here (Some x) = refl
 
   opens_here : (s : Bool) → opens (tested t) k c l s ≡ opens here k c l s
   unfolding opens
@@ -102,13 +102,13 @@ turn_same k c l R = ap (λ (L : Ledger). desk_turn L k c l) plain_tested ∙ tur
 module _ (k : Desk) (c : ℕ) (l : List ℤ) (R : Reached k.bench) where
   regroups_reached : (r : Option (List ℤ × Group)) → Reached (regroups plain k c l r).desk.bench
   unfolding regroups
-  regroups_reached none = R
-  regroups_reached (some r) = R
+  regroups_reached None = R
+  regroups_reached (Some r) = R
 
   performs_reached : (x : Option Call) → Reached (performs plain k c l x).desk.bench
   unfolding performs acts
-  performs_reached none = regroups_reached (by_letter c (changes plain k l))
-  performs_reached (some x) = answer_reached k.bench x R
+  performs_reached None = regroups_reached (by_letter c (changes plain k l))
+  performs_reached (Some x) = answer_reached k.bench x R
 
   opens_reached : (s : Bool) → Reached (opens plain k c l s).desk.bench
   unfolding opens

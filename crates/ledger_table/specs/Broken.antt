@@ -1,7 +1,6 @@
 -- The sound bench, rule by rule: a bench made by calls, one thing in it changed, and whether it is still sound. Each rule of docs/MANUAL.md, A sound bench, is
 -- broken and, where it has a limit, kept just at it; BROKEN is what every call then answers. Assumes nothing.
-use Rattle.std.specs.Prelude.{ℕ, suc, ◌≡◌, refl, Bool, true, false, not, List, [], ◌∷◌, ◌++◌, map, eqb, get_or, set, replicate, take, ℤ, pos, negsuc}
-use Rattle.std.proofs.Math.Option.{Option, none, some}
+use Rattle.std.specs.Prelude.{ℕ, suc, ◌≡◌, refl, Bool, true, false, not, List, [], ◌∷◌, ◌++◌, map, eqb, get_or, set, replicate, take, ℤ, pos, negsuc, None, Option, Some}
 use Rattle.ledger_spec.specs.Numbers.{progress_limit, BROKEN}
 use Rattle.ledger_spec.specs.Bench.{Handle, State, grows, stays, shrinks, Member, Class, blossom, Node, Interface, Bench, set_up, with_slots, with_progress, with_sum, with_speed, with_parent, with_halves}
 use Rattle.ledger_spec.specs.Look.{interface}
@@ -40,17 +39,17 @@ abbrev pub halves : Option (ℕ × ℕ) → Interface → Interface
 halves h f = with_halves f h
 
 abbrev pub empties : ℕ → Interface → Interface
-empties n f = with_slots f (f.slots ++ replicate n none)
+empties n f = with_slots f (f.slots ++ replicate n None)
 
 abbrev pub lose : ℕ → Interface → Interface
-lose s f = with_slots f (set f.slots s none)
+lose s f = with_slots f (set f.slots s None)
 
 abbrev pub changed : (Node → Node) → Option Node → Option Node
-changed g none = none
-changed g (some n) = some (g n)
+changed g None = None
+changed g (Some n) = Some (g n)
 
 abbrev pub node : ℕ → (Node → Node) → Interface → Interface
-node s g f = with_slots f (set f.slots s (changed g (get_or f.slots s none)))
+node s g f = with_slots f (set f.slots s (changed g (get_or f.slots s None)))
 
 abbrev pub serial : ℕ → Node → Node
 serial k n = record { serial = k; class = n.class; state = n.state; parent = n.parent; value = n.value; size = n.size }
@@ -96,15 +95,15 @@ rows =
     ∷ (face 7 (progress (pos progress_limit)), true) ∷ (face 7 (progress (pos (suc progress_limit))), false) ∷ (face 7 (progress (negsuc 0)), false)
     ∷ (face 0 (progress (pos 1)), true) ∷ (face 0 (progress (pos 0)), false) ∷ (face 0 (progress (pos 100)), true) ∷ (face 1 (progress (negsuc 0)), false)
     -- children
-    ∷ (face 2 (halves none), false) ∷ (face 2 (halves (some (1, 0))), true) ∷ (face 2 (halves (some (0, 0))), false)
-    ∷ (face 2 (halves (some (0, 3))), false) ∷ (face 2 (halves (some (0, 2))), false) ∷ (face 0 (parent none), false) ∷ (face 0 (parent (some 3)), false)
-    ∷ (face 0 (parent (some 1)), false) ∷ (face 3 (parent (some 4)), false) ∷ (face 3 (parent (some 8)), false) ∷ (face 7 (halves (some (3, 4))), false)
+    ∷ (face 2 (halves None), false) ∷ (face 2 (halves (Some (1, 0))), true) ∷ (face 2 (halves (Some (0, 0))), false)
+    ∷ (face 2 (halves (Some (0, 3))), false) ∷ (face 2 (halves (Some (0, 2))), false) ∷ (face 0 (parent None), false) ∷ (face 0 (parent (Some 3)), false)
+    ∷ (face 0 (parent (Some 1)), false) ∷ (face 3 (parent (Some 4)), false) ∷ (face 3 (parent (Some 8)), false) ∷ (face 7 (halves (Some (3, 4))), false)
     -- serials
     ∷ (face 1 (node 0 (serial 7)), false) ∷ (face 1 (node 0 (serial 0)), false) ∷ (face 1 (node 0 (serial 6)), false) ∷ (face 0 (node 0 (serial 2)), false)
     ∷ (λ b. next 100 (face 1 (node 0 (serial 99)) b), true)
     -- member and parent
-    ∷ (face 0 (node 0 (inside none)), false) ∷ (face 0 (node 0 (inside (some (h 0 3 5)))), false) ∷ (face 0 (node 0 (inside (some (h 0 1 2)))), false)
-    ∷ (face 1 (node 0 (inside (some (h 0 3 4)))), false) ∷ (face 2 (node 0 (inside (some (h 0 3 4)))), false) ∷ (face 0 (node 0 (state grows)), false)
+    ∷ (face 0 (node 0 (inside None)), false) ∷ (face 0 (node 0 (inside (Some (h 0 3 5)))), false) ∷ (face 0 (node 0 (inside (Some (h 0 1 2)))), false)
+    ∷ (face 1 (node 0 (inside (Some (h 0 3 4)))), false) ∷ (face 2 (node 0 (inside (Some (h 0 3 4)))), false) ∷ (face 0 (node 0 (state grows)), false)
     ∷ (face 0 (node 0 (state shrinks)), false) ∷ (ring (own 0 ∷ own 1 ∷ []), false) ∷ (ring (own 0 ∷ own 1 ∷ own 1 ∷ []), false)
     ∷ (ring (own 2 ∷ own 0 ∷ own 1 ∷ []), true) ∷ (ring (own 0 ∷ own 1 ∷ own 2 ∷ own 0 ∷ []), false) ∷ (ring [], false) ∷ (face 0 (lose 1), false) ∷ (face 0 (lose 3), false)
     ∷ (λ b. next 100 (face 0 (node 0 (serial 50)) (ring (m (h 0 0 50) (h 0 0 1) (h 0 0 1) ∷ own 1 ∷ own 2 ∷ []) b)), false)

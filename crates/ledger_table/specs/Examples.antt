@@ -1,7 +1,6 @@
 -- What the Rust was seen to answer, and what the definitions answer: verdicts 0 to 5 with their index, each on calls that only just lead there, and the
 -- strict check's 6. Shown by computing. Assumes nothing.
-use Rattle.std.specs.Prelude.{ℕ, ◌≡◌, refl, true, List, [], ◌∷◌, ◌++◌, map, pos}
-use Rattle.std.proofs.Math.Option.{none, some}
+use Rattle.std.specs.Prelude.{ℕ, ◌≡◌, refl, true, List, [], ◌∷◌, ◌++◌, map, pos, None, Some}
 use Rattle.ledger_spec.specs.Bench.{Handle, grows, shrinks, blossom, Bench}
 use Rattle.ledger_spec.specs.Change.{place}
 use Rattle.ledger_spec.specs.Sound.{sound}
@@ -53,7 +52,7 @@ both = Defect 0 1 ∷ Defect 0 2 ∷ Defect 0 3 ∷ ring (at 0 1) ∷ ring (at 1
 -- by hand, since no call can do it: a member's own parent as what it touches by
 abbrev pub around : Bench
 around = place (turns (new_book 1) (Defect 0 1 ∷ ring (at 0 1) ∷ ring (at 1 2) ∷ [])).bench 0 2
-    (some (record { serial = 3; class = blossom (record { node = at 1 2; touch = (at 2 3, at 1 2) } ∷ []); state = grows; parent = none; value = pos 0; size = 1 }))
+    (Some (record { serial = 3; class = blossom (record { node = at 1 2; touch = (at 2 3, at 1 2) } ∷ []); state = grows; parent = None; value = pos 0; size = 1 }))
 
 -- calls, the interface checked, number, verdict and index
 abbrev pub table : List (List Call × ℕ × (ℕ × (ℕ × ℕ)))

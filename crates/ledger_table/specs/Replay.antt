@@ -1,8 +1,7 @@
 -- A recording is lines: a call, then `= ` and its answer; `#` begins a comment. Replayed, it counts the answers compared and those that differ.
 -- Assumes nothing.
-use Rattle.std.specs.Prelude.{ℕ, suc, Bool, true, false, ◌&&◌, List, [], ◌∷◌, ◌++◌, map, drop, eqb, ℤ, pos}
+use Rattle.std.specs.Prelude.{ℕ, suc, Bool, true, false, ◌&&◌, List, [], ◌∷◌, ◌++◌, map, drop, eqb, ℤ, pos, None, Option, Some}
 use Prim.Native.String.{String}
-use Rattle.std.proofs.Math.Option.{Option, none, some}
 use Rattle.ledger_spec.specs.Bench.{set_up}
 use Rattle.ledger_spec.specs.Decimals.{signed, integer}
 use Rattle.ledger_spec.specs.Fields.{parts_after, cut}
@@ -10,8 +9,8 @@ use Rattle.ledger_spec.specs.Bytes.{bytes}
 use Rattle.ledger_table.specs.Talk.{Ledger, plain, Desk, new_desk, Turn, desk_turn}
 
 abbrev pub or_zero : Option ℤ → ℤ
-or_zero none = pos 0
-or_zero (some z) = z
+or_zero None = pos 0
+or_zero (Some z) = z
 
 abbrev pub letter_said : List (List ℕ) → ℕ
 letter_said [] = 0

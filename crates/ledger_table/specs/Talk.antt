@@ -1,12 +1,10 @@
 -- The recordings' line language (oracle/README.md), answered by a ledger: a letter and numbers in, numbers out. Assumes nothing.
-use Rattle.std.specs.Prelude.{ℕ, zero, suc, ◌+◌, Bool, true, false, List, [], ◌∷◌, ◌++◌, map, length, get_or, set, replicate, drop, eqb, ℤ, pos, negsuc, nat_abs}
+use Rattle.std.specs.Prelude.{None, Some, Option, ℕ, zero, suc, ◌+◌, Bool, true, false, List, [], ◌∷◌, ◌++◌, map, length, get_or, set, replicate, drop, eqb, ℤ, pos, negsuc, nat_abs}
 use Prim.Native.Char.{Char, code}
-use Rattle.std.proofs.Math.Option.{Option, none, some}
 use Rattle.kinds.specs.declared.Handle.{Handle as Code}
 use Rattle.kinds.specs.declared.Pair.{Pair}
 use Rattle.kinds.specs.declared.Entry.{Entry}
 use Rattle.kinds.specs.declared.Stop.{Stop}
-use Rattle.kinds.specs.declared.MaybePair.TheVariants.{NoPair, WithPair}
 use Rattle.kinds.specs.declared.Obstacle.{Obstacle}
 use Rattle.kinds.specs.declared.Obstacle.TheVariants.{NonZeroGrow, Conflicting, TouchingVirtual, BlossomNeedExpand, VertexShrinkStop}
 use Rattle.ledger_spec.specs.Bench.{Handle, State, grows, stays, shrinks, rate, Member, defect, blossom, Node, Bench}
@@ -95,16 +93,16 @@ shown_notice (blossom_removed h) = pos 5 ∷ num h.serial ∷ []
 shown_notice (grown l) = pos 6 ∷ l ∷ []
 
 abbrev pub parent_serial : Option Handle → ℤ
-parent_serial none = pos 0
-parent_serial (some h) = num h.serial
+parent_serial None = pos 0
+parent_serial (Some h) = num h.serial
 
 abbrev pub shown_member : Member → List ℤ
 shown_member m = num m.node.serial ∷ num m.touch.0.serial ∷ num m.touch.1.serial ∷ []
 
 unfoldable pub shown_slot : ℕ × ℕ × Option Node → List ℤ
 shown_slot t = elim t.2 [
-  | none ↦ pos 0 ∷ []
-  | some n ↦ elim n.class [
+  | None ↦ pos 0 ∷ []
+  | Some n ↦ elim n.class [
     | defect v ↦ pos 1 ∷ num n.serial ∷ rate n.state ∷ parent_serial n.parent ∷ num n.size ∷ n.value ∷ num v ∷ []
     | blossom ms ↦ pos 2 ∷ num n.serial ∷ rate n.state ∷ parent_serial n.parent ∷ num n.size ∷ n.value ∷ num (length ms) ∷ flattened shown_member ms
   ]
@@ -118,12 +116,12 @@ shown_obstacle (NonZeroGrow l f) = pos 1 ∷ l ∷ bit f ∷ []
 shown_obstacle (Conflicting p q) = pos 2 ∷ ser p.node ∷ ser p.touching ∷ ser q.node ∷ ser q.touching ∷ []
 shown_obstacle (TouchingVirtual p v m) = pos 3 ∷ ser p.node ∷ ser p.touching ∷ num v.0 ∷ bit m ∷ []
 shown_obstacle (BlossomNeedExpand n) = pos 4 ∷ ser n ∷ []
-shown_obstacle (VertexShrinkStop n NoPair) = pos 5 ∷ ser n ∷ []
-shown_obstacle (VertexShrinkStop n (WithPair p)) = pos 6 ∷ ser n ∷ ser p.node ∷ ser p.touching ∷ []
+shown_obstacle (VertexShrinkStop n None) = pos 5 ∷ ser n ∷ []
+shown_obstacle (VertexShrinkStop n (Some p)) = pos 6 ∷ ser n ∷ ser p.node ∷ ser p.touching ∷ []
 
 abbrev pub shown_taken : Option Obstacle → List ℤ
-shown_taken none = pos 0 ∷ []
-shown_taken (some o) = shown_obstacle o
+shown_taken None = pos 0 ∷ []
+shown_taken (Some o) = shown_obstacle o
 
 abbrev pub shown_group : Group → List ℤ
 shown_group (growth l f) = pos 1 ∷ l ∷ bit f ∷ []
@@ -131,12 +129,12 @@ shown_group (conflicts l s) = pos 2 ∷ num (length l) ∷ (flattened (λ (e : E
     ++ (num (length s) ∷ flattened (λ (x : Stop). num x.vertex.0 ∷ shown_obstacle x.obstacle) s))
 
 abbrev pub shown_length : Option ℤ → List ℤ
-shown_length none = pos 0 ∷ pos 0 ∷ []
-shown_length (some l) = pos 1 ∷ l ∷ []
+shown_length None = pos 0 ∷ pos 0 ∷ []
+shown_length (Some l) = pos 1 ∷ l ∷ []
 
 abbrev pub shown_handle : Option Handle → List ℤ
-shown_handle none = pos 0 ∷ pos 0 ∷ pos 0 ∷ []
-shown_handle (some h) = num h.serial ∷ num h.unit ∷ num h.slot ∷ []
+shown_handle None = pos 0 ∷ pos 0 ∷ pos 0 ∷ []
+shown_handle (Some h) = num h.serial ∷ num h.unit ∷ num h.slot ∷ []
 
 -- ---- calls
 
@@ -193,8 +191,8 @@ changes L k l =
     ∷ ("c", adds L k g (Conflicting (p 1 2) (p 3 4)))
     ∷ ("w", adds L k g (TouchingVirtual (p 1 2) (record { 0 = nat l 3 }) (flag (arg l 4))))
     ∷ ("x", adds L k g (BlossomNeedExpand (n 1)))
-    ∷ ("q", adds L k g (VertexShrinkStop (n 1) NoPair))
-    ∷ ("r", adds L k g (VertexShrinkStop (n 1) (WithPair (p 2 3))))
+    ∷ ("q", adds L k g (VertexShrinkStop (n 1) None))
+    ∷ ("r", adds L k g (VertexShrinkStop (n 1) (Some (p 2 3))))
     ∷ ("j", extends L k g (nat l 1))
     ∷ ("z", pops_one (group k g))
     ∷ []
@@ -254,21 +252,21 @@ reads L k l =
 
 -- what stands under a letter
 unfoldable pub by_letter : {A : Type 0} → ℕ → List (Char × A) → Option A
-by_letter c [] = none
-by_letter c (r ∷ rs) = elim (eqb c (code r.0)) [ true ↦ some r.1 | false ↦ by_letter c rs ]
+by_letter c [] = None
+by_letter c (r ∷ rs) = elim (eqb c (code r.0)) [ true ↦ Some r.1 | false ↦ by_letter c rs ]
 
 -- a letter that stands nowhere says nothing
 abbrev pub or_nothing : Option (List ℤ) → List ℤ
-or_nothing none = []
-or_nothing (some l) = l
+or_nothing None = []
+or_nothing (Some l) = l
 
 unfoldable pub regroups : Ledger → Desk → ℕ → List ℤ → Option (List ℤ × Group) → Turn
-regroups L k c l none = record { says = or_nothing (by_letter c (reads L k l)); desk = k }
-regroups L k c l (some r) = record { says = r.0; desk = record { bench = k.bench; groups = set k.groups (nat l 0) r.1 } }
+regroups L k c l None = record { says = or_nothing (by_letter c (reads L k l)); desk = k }
+regroups L k c l (Some r) = record { says = r.0; desk = record { bench = k.bench; groups = set k.groups (nat l 0) r.1 } }
 
 unfoldable pub performs : Ledger → Desk → ℕ → List ℤ → Option Call → Turn
-performs L k c l none = regroups L k c l (by_letter c (changes L k l))
-performs L k c l (some x) = acts L k (nat l 0) x
+performs L k c l None = regroups L k c l (by_letter c (changes L k l))
+performs L k c l (Some x) = acts L k (nat l 0) x
 
 unfoldable pub opens : Ledger → Desk → ℕ → List ℤ → Bool → Turn
 opens L k c l true = record { says = num (set_up_call (nat l 0)).number ∷ []; desk = new_desk (set_up_call (nat l 0)).bench }

@@ -1,7 +1,7 @@
 -- A number's sign decides a state; a number below 0 is written from -1 - z, since -z need not fit. Assumes nothing.
 use Prim.Native.Nat.{ℕ, zero, suc, ◌-◌, ◌<◌, ◌≤◌}
 use native.Mathlib.Omega.{arith}
-use mathlib.Core.Path.{◌≡◌, refl, sym, ap, ◌∙◌}
+use mathlib.Core.Path.{◌≡◌, refl, sym, ap}
 use mathlib.Core.Bool.{true, false, true≢false}
 use lib.Dec.{T}
 use lib.Signed.{lt_z, non_neg}
@@ -10,11 +10,8 @@ use borrow.Author.Tests.{ltb-true, ltb-false, le-ltb}
 use mir.Syntax.{Width, w8, w64}
 use mir.Val.{SFits, Fits, to_z, of_z}
 use mir.Facts.{to_z-of_z}
-use Rattle.groups.specs.Shown.{maybe_length}
 use Rattle.ledger_spec.specs.Bench.{grows, stays, shrinks}
-use Rattle.kinds.specs.declared.MaybeLength.{MaybeLength}
-use Rattle.kinds.specs.declared.MaybeLength.TheVariants.{Length}
-use Rattle.link_answers.specs.Forms.{signed_word, length_words, state_given}
+use Rattle.link_answers.specs.Forms.{signed_word, state_given}
 
 -- as the code reads it again from its bits
 abbrev pub again : Width → ℤ → ℤ
@@ -79,6 +76,3 @@ kept_once (negsuc n) f e = absurd (true≢false e)
 
 pub kept : (z : ℤ) → SFits w64 z → lt_z (again w64 z) (pos 0) ≡ false → Kept z (again w64 z)
 kept z f e = let t = kept_once z f (rw (to_z-of_z f) at e) in rw (to_z-of_z f) t
-
-pub length_written : (m : MaybeLength) (l : ℤ) (w : ℕ) → SFits w64 l → w ≡ signed_word (again w64 l) → m ≡ Length l → w ≡ (length_words (maybe_length m)).1
-length_written m l w f e q = e ∙ ap signed_word (to_z-of_z f) ∙ ap (λ (x : MaybeLength). (length_words (maybe_length x)).1) (sym q)

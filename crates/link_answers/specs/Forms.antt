@@ -1,6 +1,5 @@
 -- One value as one word, and a state by a number's sign, as include/dual_ledger.h has them. Assumes nothing.
-use Rattle.std.specs.Prelude.{ℕ, zero, suc, ◌+◌, ◌-◌, ◌*◌, Bool, true, false, ℤ, pos, negsuc}
-use Rattle.std.proofs.Math.Option.{Option, none, some}
+use Rattle.std.specs.Prelude.{ℕ, zero, suc, ◌+◌, ◌-◌, ◌*◌, Bool, true, false, ℤ, pos, negsuc, None, Option, Some}
 use Rattle.bench_words.specs.Codec.{past_handles}
 use Rattle.ledger_spec.specs.Bench.{Handle, State, grows, stays, shrinks}
 
@@ -13,8 +12,8 @@ outer_words r = (node_word r.0, r.1)
 
 -- 2^41 where there is none: no handle of a bench is written so
 abbrev pub maybe_word : Option Handle → ℕ
-maybe_word none = past_handles
-maybe_word (some h) = node_word h
+maybe_word None = past_handles
+maybe_word (Some h) = node_word h
 
 -- a read that may find no node: refused, its field is the zero handle
 abbrev pub indexed_word : ℕ → Option Handle → ℕ
@@ -35,8 +34,8 @@ signed_word (negsuc n) = 18446744073709551615 - n
 
 -- whether there is a length, and the length
 abbrev pub length_words : Option ℤ → ℕ × ℕ
-length_words none = (0, 0)
-length_words (some l) = (1, signed_word l)
+length_words None = (0, 0)
+length_words (Some l) = (1, signed_word l)
 
 abbrev pub state_given : ℤ → State
 state_given (pos zero) = stays

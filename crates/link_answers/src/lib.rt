@@ -8,7 +8,7 @@ ghost use Rattle.read_sound.specs.Shown.{maybe};
 ghost use Rattle.groups.specs.Shown.{maybe_length};
 ghost use Rattle.link_answers.specs.Forms.{node_word, maybe_word, indexed_word, flag_word, signed_word, length_words, state_given};
 
-use kinds::{GrowState, Handle, MaybeLength, MaybeNode};
+use kinds::{GrowState, Handle};
 
 // The handle that a word gives: one of an interface that no bench has where the word is no packed handle.
 pub fn hand(w: u64) -> Handle
@@ -24,17 +24,17 @@ pub fn node_word(h: Handle) -> u64
 }
 
 // Where there is no node, the first word that is no packed handle.
-pub fn maybe_word(m: MaybeNode) -> u64
+pub fn maybe_word(m: Option<Handle>) -> u64
     ensures { result ≡ maybe_word (maybe m) }
 {
     match m {
-        MaybeNode::NoNode => bench_words::PAST_HANDLES,
-        MaybeNode::Node(h) => node_word(h),
+        None => bench_words::PAST_HANDLES,
+        Some(h) => node_word(h),
     }
 }
 
 // Refused, it is the zero handle.
-pub fn indexed_word(number: u8, m: MaybeNode) -> u64
+pub fn indexed_word(number: u8, m: Option<Handle>) -> u64
     ensures { result ≡ indexed_word number (maybe m) }
 {
     if number == 0 {
@@ -53,21 +53,18 @@ pub fn flag_word(yes: bool) -> u64
 }
 
 // Whether there is a length, and the length or 0.
-pub fn asked_word(m: MaybeLength) -> u64
+pub fn asked_word(m: Option<i64>) -> u64
     ensures { result ≡ (length_words (maybe_length m)).0 }
 {
-    match m {
-        MaybeLength::NoLength => 0,
-        MaybeLength::Length(_) => 1,
-    }
+    m.is_some() as u64
 }
 
-pub fn length_word(m: MaybeLength) -> u64
+pub fn length_word(m: Option<i64>) -> u64
     ensures { result ≡ (length_words (maybe_length m)).1 }
 {
     match m {
-        MaybeLength::NoLength => 0,
-        MaybeLength::Length(l) => signed_word(l),
+        None => 0,
+        Some(l) => signed_word(l),
     }
 }
 

@@ -93,14 +93,10 @@ fn put_stays(out: &mut [u64; ANSWER], members: &[u64])
     requires { length members.now ≤ 64 }
     ensures { out.new ≡ sets out.old 3 (told_words (staying members.now)) }
 {
-    let n = members.len();
-    let mut i: usize = 0;
-    while i < n {
-        let w = member_word(members[i]);
+    for (i, m) in members.iter().enumerate() {
         let at = i * 2 + 3;
         out[at] = 2;
-        out[at + 1] = w;
-        i = i + 1;
+        out[at + 1] = member_word(*m);
     }
 }
 
@@ -120,12 +116,8 @@ fn put_circle(out: &mut [u64; ANSWER], members: &[u64])
     requires { length members.now ≤ 64 }
     ensures { out.new ≡ sets out.old 135 (map node_word (hands_given members.now)) }
 {
-    let n = members.len();
-    let mut i: usize = 0;
-    while i < n {
-        let w = member_word(members[i]);
-        out[i + 135] = w;
-        i = i + 1;
+    for (i, m) in members.iter().enumerate() {
+        out[i + 135] = member_word(*m);
     }
 }
 
@@ -148,20 +140,17 @@ fn put_grows(out: &mut [u64; ANSWER], b: &[u64; WORDS], first: usize, count: usi
     ensures { out.new ≡ sets out.old 5 (told_words (growing b.now first count)) }
 {
     let mut at = first;
-    let mut i: usize = 0;
-    while i < count {
+    for i in 0..count {
         let m = bench_words::load_node(b, at);
-        let serial = m.serial;
         let w = link_answers::node_word(Handle {
             unit: (at / 64) as u8,
             slot: (at % 64) as u8,
-            serial,
+            serial: m.serial,
         });
         let to = i * 2 + 5;
         out[to] = 3;
         out[to + 1] = w;
         at = m.next as usize;
-        i = i + 1;
     }
 }
 

@@ -1,6 +1,5 @@
 -- The two longer lists of notices, of a blossom made and of one expanded, and what the second asks of the bench. Assumes nothing.
-use Rattle.std.specs.Prelude.{◌≡◌, List, [], ◌∷◌, ◌++◌, map}
-use Rattle.std.proofs.Math.Option.{some}
+use Rattle.std.specs.Prelude.{◌≡◌, List, [], ◌∷◌, ◌++◌, map, Some}
 use Rattle.ledger_spec.specs.Bench.{Handle, Member, Node, Bench, grows, stays, blossom}
 use Rattle.ledger_spec.specs.Look.{node_named}
 use Rattle.ledger_spec.specs.Deeds.{members}
@@ -18,5 +17,5 @@ blossom_gone b h = blossom_removed h ∷ map (λ (g : Handle). state_set g grows
 pub record Ring (b : Bench) (h : Handle) : Type 0 where
   pub node : Node
   pub ms : List Member
-  pub named : node_named b h ≡ some node
+  pub named : node_named b h ≡ Some node
   pub ring : node.class ≡ blossom ms

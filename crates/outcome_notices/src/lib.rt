@@ -97,21 +97,18 @@ pub fn blossom(members: &[u64], q: Handle) -> Notices
     ensures { result ≡ laid (blossom_made (hands_given members.now) (handle_named q)) }
 {
     let mut r = none();
-    let n = members.len();
-    let mut i: usize = 0;
-    while i < n {
-        let h = hand(members[i]);
+    for (i, w) in members.iter().enumerate() {
+        let h = hand(*w);
         r.told[i] = Told {
             notice: Notice::StateSet(h, GrowState::Stay),
         };
         r.circle[i] = h;
-        i = i + 1;
     }
+    let n = members.len();
     r.told[n] = Told {
         notice: Notice::ShrinkPrepared,
     };
-    let last = n + 1;
-    r.told[last] = Told {
+    r.told[n + 1] = Told {
         notice: Notice::BlossomAdded(q),
     };
     r.count = n + 2;
@@ -131,17 +128,14 @@ pub fn expand(b: &[u64; WORDS], h: Handle) -> Notices
         notice: Notice::BlossomRemoved(h),
     };
     let mut at = n.first as usize;
-    let mut i: usize = 0;
-    while i < count {
+    for i in 0..count {
         let m = bench_words::load_node(b, at);
-        let serial = m.serial;
         let g = Handle {
             unit: (at / 64) as u8,
             slot: (at % 64) as u8,
-            serial,
+            serial: m.serial,
         };
-        i = i + 1;
-        r.told[i] = Told {
+        r.told[i + 1] = Told {
             notice: Notice::StateSet(g, GrowState::Grow),
         };
         at = m.next as usize;

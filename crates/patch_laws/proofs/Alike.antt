@@ -1,9 +1,9 @@
 -- A call of the patch meets the same tests on two benches whose interfaces of the patch are alike, but for WORN. Assumes nothing.
+use Rattle.std.specs.Prelude.{None, Option, Some}
 use Prim.Native.Nat.{ℕ, ◌+◌, ◌^◌}
 use mathlib.Core.Path.{◌≡◌, refl, sym, ◌∙◌, ap, ap₂}
 use mathlib.Core.Logic.{◌≢◌}
 use mathlib.Core.Bool.{Bool, true, false, ◌&&◌, ◌||◌, not, true≢false}
-use mathlib.Core.Option.{Option, none, some}
 use mathlib.Core.List.{List, [], ◌∷◌, ◌++◌, map, map-append}
 use lib.Dec.{eqb, leb, ltb}
 use lib.ListN.{length, length-map}
@@ -92,15 +92,15 @@ module _ (p : Patch) (R : Renaming) (s b : Bench) (C : Closed p s) (F : Faces p 
   node_faces h k = ap (node_named b) (N.plain h k) ∙ ap (if_serial (R.serial h.serial)) (slot_faces p R s b F h.unit h.slot k) ∙ go (slot_of s h.unit h.slot)
     where
       pick : Bool → Node → Option Node
-      pick c n = elim c [ true ↦ some n | false ↦ none ]
+      pick c n = elim c [ true ↦ Some n | false ↦ None ]
 
       picked : (c : Bool) (n : Node) → pick c (re_node R n) ≡ re_slot R (pick c n)
       picked true n = refl
       picked false n = refl
 
       go : (o : Option Node) → if_serial (R.serial h.serial) (re_slot R o) ≡ re_slot R (if_serial h.serial o)
-      go none = refl
-      go (some n) = ap (λ (c : Bool). pick c (re_node R n)) (N.one h.serial n.serial) ∙ picked (eqb h.serial n.serial) n
+      go None = refl
+      go (Some n) = ap (λ (c : Bool). pick c (re_node R n)) (N.one h.serial n.serial) ∙ picked (eqb h.serial n.serial) n
 
   pub stale_faces : (h : Handle) → mine p h.unit ≡ true → stale b (R.handle h) ≡ stale s h
   stale_faces h k = ap (λ (o : Option Node). not (is_some o)) (node_faces h k) ∙ ap not (re_given R (node_named s h))

@@ -1,8 +1,8 @@
 -- Both checks find the same on two benches whose interfaces of the patch are alike. Assumes nothing.
+use Rattle.std.specs.Prelude.{None, Option, Some}
 use Prim.Native.Nat.{ℕ, zero, suc}
 use mathlib.Core.Path.{◌≡◌, refl, sym, ◌∙◌, ap, ap₂}
 use mathlib.Core.Bool.{Bool, true, false, ◌&&◌, ◌||◌}
-use mathlib.Core.Option.{Option, none, some}
 use mathlib.Core.List.{List, [], ◌∷◌, map}
 use lib.Dec.{eqb}
 use lib.IntN.{ℤ, ◌-ℤ◌, nat_abs}
@@ -80,12 +80,12 @@ module _ (p : Patch) (ρ : ℕ → ℕ) (s b : Bench) (C : Closed p s) (F : Face
   arrives_faces (suc k) t m x y = ap₂ ◌||◌ (same t m x y) (ap (follow b ((by ρ).handle m)) (up_faces p ρ s b C F N H t x) ∙ go (parent_in (node_named s t)) refl (arrives_faces k))
     where
       follow : Bench → Handle → Option Handle → Bool
-      follow d g o = elim o as (λ z. Bool) [ none ↦ false | some q ↦ arrives k d q g ]
+      follow d g o = elim o as (λ z. Bool) [ None ↦ false | Some q ↦ arrives k d q g ]
 
       go : (o : Option Handle) → parent_in (node_named s t) ≡ o → ((q g : Handle) → mine p q.unit ≡ true → mine p g.unit ≡ true → arrives k b ((by ρ).handle q) ((by ρ).handle g) ≡ arrives k s q g)
           → follow b ((by ρ).handle m) (re_parent (by ρ) o) ≡ follow s m o
-      go none e ih = refl
-      go (some q) e ih = ih q m (up_mine p ρ s b C F N H t q x e) y
+      go None e ih = refl
+      go (Some q) e ih = ih q m (up_mine p ρ s b C F N H t q x e) y
 
   strict_member_lem : (m : Member) → Inside p m → strict_member b (re_member (by ρ) m) ≡ strict_member s m
   unfolding strict_member is_under
@@ -100,15 +100,15 @@ module _ (p : Patch) (ρ : ℕ → ℕ) (s b : Bench) (C : Closed p s) (F : Face
   strict_circle_lem (m ∷ ms) i = ap₂ pick (strict_member_lem m (i m (here refl))) (strict_circle_lem ms (λ x k. i x (there k))) ∙ picked (strict_member s m)
     where
       pick : Bool → Option Handle → Option Handle
-      pick c r = elim c as (λ x. Option Handle) [ true ↦ r | false ↦ some ((by ρ).handle m.node) ]
+      pick c r = elim c as (λ x. Option Handle) [ true ↦ r | false ↦ Some ((by ρ).handle m.node) ]
 
-      picked : (c : Bool) → pick c (re_parent (by ρ) (strict_circle s ms)) ≡ re_parent (by ρ) (elim c as (λ x. Option Handle) [ true ↦ strict_circle s ms | false ↦ some m.node ])
+      picked : (c : Bool) → pick c (re_parent (by ρ) (strict_circle s ms)) ≡ re_parent (by ρ) (elim c as (λ x. Option Handle) [ true ↦ strict_circle s ms | false ↦ Some m.node ])
       picked true = refl
       picked false = refl
 
   -- ---- along the slots
   abbrev Good : List Entry → Type 0
-  Good ts = (t : Entry) → In t ts → (n : Node) → t.2 ≡ some n → (ms : List Member) → n.class ≡ blossom ms → (m : Member) → In m ms → Inside p m
+  Good ts = (t : Entry) → In t ts → (n : Node) → t.2 ≡ Some n → (ms : List Member) → n.class ≡ blossom ms → (m : Member) → In m ms → Inside p m
 
   module _ (whole : List Entry) where
     abbrev whole' : List Entry
@@ -133,23 +133,23 @@ module _ (p : Patch) (ρ : ℕ → ℕ) (s b : Bench) (C : Closed p s) (F : Face
         entry o = (t.0, t.1, o)
 
         go : (o : Option Node) → t.2 ≡ o → Rest → finding b whole' (re_entry (by ρ) (entry o) ∷ map (re_entry (by ρ)) ts) seen k ≡ finding s whole (entry o ∷ ts) seen k
-        go none e ih = ih seen (suc k)
-        go (some n) e ih = at n.class refl
+        go None e ih = ih seen (suc k)
+        go (Some n) e ih = at n.class refl
           where
             node : Class → Node
             node c = record { serial = n.serial; class = c; state = n.state; parent = n.parent; value = n.value; size = n.size }
 
-            at : (c : Class) → n.class ≡ c → finding b whole' (re_entry (by ρ) (entry (some (node c))) ∷ map (re_entry (by ρ)) ts) seen k ≡ finding s whole (entry (some (node c)) ∷ ts) seen k
+            at : (c : Class) → n.class ≡ c → finding b whole' (re_entry (by ρ) (entry (Some (node c))) ∷ map (re_entry (by ρ)) ts) seen k ≡ finding s whole (entry (Some (node c)) ∷ ts) seen k
             at (defect v) r = ap (λ (x : ℕ × ℕ). elim (any (eqb v) seen) as (λ y. ℕ × ℕ) [ true ↦ (1, k) | false ↦ x ]) (ih (v ∷ seen) (suc k))
             at (blossom ms) r = ap₂ (λ (c : ℕ × Handle) (x : ℕ × ℕ). at_blossom c whole' x) (circle_faces ms (g t (here refl) n e ms r)) (ih seen (suc k)) ∙ found (circle_verdict s ms) (finding s whole ts seen (suc k))
 
     strict_blossom : Option Handle → List Entry → ℕ × ℕ → ℕ × ℕ
-    strict_blossom o l r = elim o as (λ x. ℕ × ℕ) [ none ↦ r | some h ↦ (6, index_in l 0 h) ]
+    strict_blossom o l r = elim o as (λ x. ℕ × ℕ) [ None ↦ r | Some h ↦ (6, index_in l 0 h) ]
 
     strict_found : (o : Option Handle) (r : ℕ × ℕ) → strict_blossom (re_parent (by ρ) o) whole' r ≡ strict_blossom o whole r
     unfolding strict_blossom
-    strict_found none r = refl
-    strict_found (some h) r = ap (λ (n : ℕ). (6, n)) (index_faces ρ whole 0 h)
+    strict_found None r = refl
+    strict_found (Some h) r = ap (λ (n : ℕ). (6, n)) (index_faces ρ whole 0 h)
 
     strict_faces : (ts : List Entry) → Good ts → strict_finding b whole' (map (re_entry (by ρ)) ts) ≡ strict_finding s whole ts
     unfolding strict_finding strict_blossom
@@ -163,13 +163,13 @@ module _ (p : Patch) (ρ : ℕ → ℕ) (s b : Bench) (C : Closed p s) (F : Face
         entry o = (t.0, t.1, o)
 
         go : (o : Option Node) → t.2 ≡ o → Rest → strict_finding b whole' (re_entry (by ρ) (entry o) ∷ map (re_entry (by ρ)) ts) ≡ strict_finding s whole (entry o ∷ ts)
-        go none e ih = ih
-        go (some n) e ih = at n.class refl
+        go None e ih = ih
+        go (Some n) e ih = at n.class refl
           where
             node : Class → Node
             node c = record { serial = n.serial; class = c; state = n.state; parent = n.parent; value = n.value; size = n.size }
 
-            at : (c : Class) → n.class ≡ c → strict_finding b whole' (re_entry (by ρ) (entry (some (node c))) ∷ map (re_entry (by ρ)) ts) ≡ strict_finding s whole (entry (some (node c)) ∷ ts)
+            at : (c : Class) → n.class ≡ c → strict_finding b whole' (re_entry (by ρ) (entry (Some (node c))) ∷ map (re_entry (by ρ)) ts) ≡ strict_finding s whole (entry (Some (node c)) ∷ ts)
             at (defect v) r = ih
             at (blossom ms) r = ap₂ (λ (o : Option Handle) (x : ℕ × ℕ). strict_blossom o whole' x) (strict_circle_lem ms (g t (here refl) n e ms r)) ih ∙ strict_found (strict_circle s ms) (strict_finding s whole ts)
 

@@ -1,10 +1,10 @@
 -- What an accepted call of the patch does, it does alike on two benches whose interfaces of the patch are alike; what it tells is alike too.
 -- Assumes nothing.
+use Rattle.std.specs.Prelude.{None, Some}
 use Prim.Native.Nat.{ℕ}
 use mathlib.Core.Path.{◌≡◌, refl, sym, ◌∙◌, ap, ap₂, subst}
 use mathlib.Core.Logic.{◌≢◌}
 use mathlib.Core.Bool.{true}
-use mathlib.Core.Option.{none, some}
 use mathlib.Core.List.{List, [], ◌∷◌, ◌++◌, map, map-append}
 use native.Mathlib.Decide.{ℕ_discrete}
 use lib.IntN.{pos}
@@ -49,40 +49,40 @@ module _ (p : Patch) (R : Renaming) (s b : Bench) (C : Closed p s) (F : Faces p 
   defect_faces : (u v : ℕ) → mine p u ≡ true → Faces p R (add_defect s u v) (add_defect b u v)
   unfolding add_defect
   defect_faces u v m = subst (λ (t : ℕ). Faces p R (push s u (free_slot s u) (defect_node s v)) (push b u t (defect_node b v))) (sym (free_faces p R s b C F N u m))
-      (push_faces p R s b F u (free_slot s u) (defect_node s v) (defect_node b v) m (λ i. record { serial = sym next i; class = defect v; state = grows; parent = none; value = pos 0; size = 1 }))
+      (push_faces p R s b F u (free_slot s u) (defect_node s v) (defect_node b v) m (λ i. record { serial = sym next i; class = defect v; state = grows; parent = None; value = pos 0; size = 1 }))
 
   blossom_faces : (u : ℕ) (hs : List Handle) (ts : List (Handle × Handle)) → mine p u ≡ true → ((h : Handle) → In h hs → mine p h.unit ≡ true)
       → Faces p R (add_blossom s u hs ts) (add_blossom b u (map R.handle hs) (map (re_pair R) ts))
   unfolding add_blossom
   blossom_faces u hs ts m k = subst (λ (t : ℕ). Faces p R (push s₁ u (free_slot s u) (blossom_node s hs ts)) (push b₁ u t (blossom_node b (map R.handle hs) (map (re_pair R) ts)))) (sym (free_faces p R s b C F N u m))
       (push_faces p R s₁ b₁ marked u (free_slot s u) (blossom_node s hs ts) (blossom_node b (map R.handle hs) (map (re_pair R) ts)) m
-      (λ i. record { serial = sym next i; class = blossom (re_circle R hs ts i); state = grows; parent = none; value = pos 0; size = sizes_faces p R s b C F N hs k i }))
+      (λ i. record { serial = sym next i; class = blossom (re_circle R hs ts i); state = grows; parent = None; value = pos 0; size = sizes_faces p R s b C F N hs k i }))
     where
       s₁ : Bench
-      s₁ = mark_all s hs stays (some (new_handle s u))
+      s₁ = mark_all s hs stays (Some (new_handle s u))
 
       b₁ : Bench
-      b₁ = mark_all b (map R.handle hs) stays (some (new_handle b u))
+      b₁ = mark_all b (map R.handle hs) stays (Some (new_handle b u))
 
       marked : Faces p R s₁ b₁
-      marked = subst (λ (h : Handle). Faces p R (mark_all s hs stays (some (new_handle s u))) (mark_all b (map R.handle hs) stays (some h))) (sym (new_faces u m))
-          (mark_all_faces p R N.plain s b C F hs stays (some (new_handle s u)) (λ h i. k h i))
+      marked = subst (λ (h : Handle). Faces p R (mark_all s hs stays (Some (new_handle s u))) (mark_all b (map R.handle hs) stays (Some h))) (sym (new_faces u m))
+          (mark_all_faces p R N.plain s b C F hs stays (Some (new_handle s u)) (λ h i. k h i))
 
   expand_faces : (h : Handle) → mine p h.unit ≡ true → Faces p R (remove_blossom s h) (remove_blossom b (R.handle h))
   unfolding remove_blossom
-  expand_faces h k = subst (λ (l : List Handle). Faces p R (remove_blossom s h) (mark_all (place b (R.handle h).unit (R.handle h).slot none) l grows none)) (sym (members_faces h k))
-      (mark_all_faces p R N.plain (place s h.unit h.slot none) (place b (R.handle h).unit (R.handle h).slot none) (closed_quiet p s (place s h.unit h.slot none) C (place_quiet s h.unit h.slot none)) placed
-      (members (node_named s h)) grows none (λ g i. members_mine p s H h k g i))
+  expand_faces h k = subst (λ (l : List Handle). Faces p R (remove_blossom s h) (mark_all (place b (R.handle h).unit (R.handle h).slot None) l grows None)) (sym (members_faces h k))
+      (mark_all_faces p R N.plain (place s h.unit h.slot None) (place b (R.handle h).unit (R.handle h).slot None) (closed_quiet p s (place s h.unit h.slot None) C (place_quiet s h.unit h.slot None)) placed
+      (members (node_named s h)) grows None (λ g i. members_mine p s H h k g i))
     where
-      placed : Faces p R (place s h.unit h.slot none) (place b (R.handle h).unit (R.handle h).slot none)
-      placed = subst (λ (g : Handle). Faces p R (place s h.unit h.slot none) (place b g.unit g.slot none)) (sym (N.plain h k)) (place_faces p R s b C F h.unit h.slot none none k refl)
+      placed : Faces p R (place s h.unit h.slot None) (place b (R.handle h).unit (R.handle h).slot None)
+      placed = subst (λ (g : Handle). Faces p R (place s h.unit h.slot None) (place b g.unit g.slot None)) (sym (N.plain h k)) (place_faces p R s b C F h.unit h.slot None None k refl)
 
   pub deed_faces : (c : Call) → Own p c → Faces p R (deed_of s c) (deed_of b (re_call R c))
   unfolding deed_of
   deed_faces (Defect u v) k = defect_faces u v (k.units u (here refl))
   deed_faces (Blossom u hs ts) k = blossom_faces u hs ts (k.units u (here refl)) (λ h i. k.handles h (in_left (both ts) i))
   deed_faces (Expand u h) k = expand_faces h (k.handles h (here refl))
-  deed_faces (SetState u h t) k = mark_faces p R N.plain s b C F h t none (k.handles h (here refl))
+  deed_faces (SetState u h t) k = mark_faces p R N.plain s b C F h t None (k.handles h (here refl))
   deed_faces (Grow u l) k = grow_faces p R s b C F u l
   deed_faces (Fuse q l r) k = join_faces p R s b F q l r (k.units q (here refl)) (k.units l (there (here refl))) (k.units r (there (there (here refl))))
   deed_faces (Clear u) k = wipe_faces p R s b C F u
@@ -117,7 +117,7 @@ module _ (p : Patch) (s : Bench) (S : Sound s) (C : Closed p s) where
       J : Joins s q l r
       J = joins S.frame f
 
-      up : (w x : ℕ) → mine p w ≡ true → (interface (join s q l r) w).parent ≡ some x → mine p x ≡ true
+      up : (w x : ℕ) → mine p w ≡ true → (interface (join s q l r) w).parent ≡ Some x → mine p x ≡ true
       up w x m e = go (ℕ_discrete w l) (ℕ_discrete w r)
         where
           go : Dec (w ≡ l) → Dec (w ≡ r) → mine p x ≡ true
@@ -125,10 +125,10 @@ module _ (p : Patch) (s : Bench) (S : Sound s) (C : Closed p s) where
           go (no i) (yes j) = subst (λ (z : ℕ). mine p z ≡ true) (some_eq (join_r s q l r J) (ap (λ (z : ℕ). (interface (join s q l r) z).parent) (sym j) ∙ e)) mq
           go (no i) (no j) = C.up w x m (sym (join_rest s q l r J f.p_none w i j) ∙ e)
 
-      halves : (w x y : ℕ) → mine p w ≡ true → (interface (join s q l r) w).halves ≡ some (x, y) → (mine p x ≡ true) × (mine p y ≡ true)
+      halves : (w x y : ℕ) → mine p w ≡ true → (interface (join s q l r) w).halves ≡ Some (x, y) → (mine p x ≡ true) × (mine p y ≡ true)
       halves w x y m e = go (ℕ_discrete w q)
         where
-          was : w ≢ q → (interface s w).halves ≡ some (x, y)
+          was : w ≢ q → (interface s w).halves ≡ Some (x, y)
           was i = sym (join_kept s q l r J (λ f. f.halves) (λ f z. refl) w i) ∙ e
 
           go : Dec (w ≡ q) → (mine p x ≡ true) × (mine p y ≡ true)
@@ -151,7 +151,7 @@ module _ (p : Patch) (s : Bench) (S : Sound s) (C : Closed p s) where
   deed_closed (Defect u v) k e = closed_quiet p s _ C (defect_quiet s u v)
   deed_closed (Blossom u hs ts) k e = closed_quiet p s _ C (blossom_quiet s u hs ts)
   deed_closed (Expand u h) k e = closed_quiet p s _ C (expand_quiet s h)
-  deed_closed (SetState u h t) k e = closed_quiet p s _ C (mark_quiet s h t none)
+  deed_closed (SetState u h t) k e = closed_quiet p s _ C (mark_quiet s h t None)
   deed_closed (Grow u l) k e = closed_same p s _ C (grow_parent s u l) (grow_halves s u l)
   deed_closed (Fuse q l r) k e = fuse_closed q l r (fusable s q l r e) (k.units q (here refl)) (k.units l (there (here refl))) (k.units r (there (there (here refl))))
   deed_closed (Clear u) k e = clear_closed u

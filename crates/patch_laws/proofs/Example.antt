@@ -1,17 +1,16 @@
 -- The theorem is not empty: two runs from set-up with serials 1 and 1000, in which the other patch makes quite different calls, and the watched one makes
 -- defects, blossoms with touching pairs, fuses, grows, expands, clears and marks its own, adds to a group and pops one, asks for present nodes, names nodes that went and a number that it was
 -- not given, and interfaces that have a parent or do not exist. Assumes nothing.
+use Rattle.std.specs.Prelude.{None, Some}
 use Prim.Native.Nat.{ℕ}
 use mathlib.Core.Path.{◌≡◌, refl, sym, ◌∙◌, ap}
 use mathlib.Core.Bool.{Bool, true, ◌&&◌, not, true≢false}
-use mathlib.Core.Option.{none, some}
 use mathlib.Core.List.{List, [], ◌∷◌, ◌++◌, map}
 use native.Mathlib.Omega.{arith}
 use lib.Dec.{eqb, ltb}
 use lib.ListN.{get_or}
 use lib.IntN.{pos}
 use borrow.Author.Tests.{ltb-true, eq-eqb}
-use Rattle.kinds.specs.declared.MaybePair.TheVariants.{NoPair}
 use Rattle.kinds.specs.declared.Obstacle.TheVariants.{BlossomNeedExpand, VertexShrinkStop}
 use Rattle.ledger_sparing.specs.Sparing.{spared, pop_sparing}
 use Rattle.read_present.specs.Present.{present_in, next_from, present_of, next_of}
@@ -52,17 +51,17 @@ steps = ours (Defect 3 10)
     ∷ asked (Strict 5)
     ∷ asked (Outer 0)
     ∷ asked (Vertices 5 (0 ∷ 0 ∷ 0 ∷ 0 ∷ []))
-    ∷ asked (Add empty_group (VertexShrinkStop (numbered 0 0 (some 5)) NoPair))
+    ∷ asked (Add empty_group (VertexShrinkStop (numbered 0 0 (Some 5)) None))
     ∷ ours (SetState 5 5 shrinks)
     ∷ ours (Grow 5 (pos 1))
     ∷ asked (Value 5)
     ∷ ours (Expand 5 5)
     ∷ asked (Value 5)
-    ∷ asked (Add empty_group (BlossomNeedExpand (numbered 0 0 (some 5))))
+    ∷ asked (Add empty_group (BlossomNeedExpand (numbered 0 0 (Some 5))))
     ∷ asked (Check 5)
     ∷ asked (Present 5)
     ∷ asked (Next 5 3)
-    ∷ asked (Spare (conflicts (record { obstacle = BlossomNeedExpand (numbered 0 0 (some 3)) } ∷ []) []))
+    ∷ asked (Spare (conflicts (record { obstacle = BlossomNeedExpand (numbered 0 0 (Some 3)) } ∷ []) []))
     ∷ ours (Defect 3 1)
     ∷ ours (SetState 5 9 grows)
     ∷ ours (Clear 5)
@@ -157,10 +156,10 @@ second_serials = refl
 
 -- ---- what the theorem leaves out, and why: a fuse that joins the patches, and serials that the other patch uses up
 abbrev refused : Name
-refused = record { unit = 0; slot = 0; number = none }
+refused = record { unit = 0; slot = 0; number = None }
 
 abbrev made_first : Name
-made_first = record { unit = 3; slot = 0; number = some 0 }
+made_first = record { unit = 3; slot = 0; number = Some 0 }
 
 pub joined : sees (opened 1) (theirs (Call.Fuse 5 0 3) ∷ ours (Defect 3 1) ∷ []) ≡ answered 4 refused [] ∷ []
 unfolding run written number_from after seen sees
@@ -179,7 +178,7 @@ alone_here = refl
 abbrev seen_at : ℕ → Seen
 seen_at k = get_or (sees (opened 1) first_run) k (counted (0, 0))
 
-pub looks : (seen_at 9 ≡ judged (0, (0, 0))) × (seen_at 10 ≡ linked (0, (record { unit = 5; slot = 0; number = some 5 }, 2))) × (seen_at 11 ≡ listed (0, (4, 10 ∷ 11 ∷ 12 ∷ 20 ∷ []))) × (seen_at 19 ≡ judged (0, (5, 0)))
-    × (seen_at 20 ≡ counted (0, 5)) × (seen_at 21 ≡ found (0, (3, some (record { unit = 3; slot = 3; number = some 3 }))))
+pub looks : (seen_at 9 ≡ judged (0, (0, 0))) × (seen_at 10 ≡ linked (0, (record { unit = 5; slot = 0; number = Some 5 }, 2))) × (seen_at 11 ≡ listed (0, (4, 10 ∷ 11 ∷ 12 ∷ 20 ∷ []))) × (seen_at 19 ≡ judged (0, (5, 0)))
+    × (seen_at 20 ≡ counted (0, 5)) × (seen_at 21 ≡ found (0, (3, Some (record { unit = 3; slot = 3; number = Some 3 }))))
 unfolding run written number_from numbered after seen present_in next_from present_of next_of spared pop_sparing read_by sees steps woven first_run
 looks = (refl, refl, refl, refl, refl, refl)

@@ -1,9 +1,9 @@
 -- A bench whose interfaces of one patch are another's, with serials renamed: every step of a call keeps it so. No step looks at a serial. Assumes nothing.
+use Rattle.std.specs.Prelude.{None, Option, Some}
 use Prim.Native.Nat.{ℕ, zero, suc, ◌≤◌, ◌<◌}
 use mathlib.Core.Path.{◌≡◌, refl, sym, ◌∙◌, ap, ap₂, subst}
 use mathlib.Core.Logic.{◌⊎◌, inl, inr}
 use mathlib.Core.Bool.{Bool, true, false, true≢false}
-use mathlib.Core.Option.{Option, none, some}
 use mathlib.Core.List.{List, [], ◌∷◌, map}
 use native.Mathlib.Omega.{arith}
 use native.Mathlib.Decide.{ℕ_discrete, dec_lt}
@@ -35,9 +35,9 @@ Plain p R = (h : Handle) → mine p h.unit ≡ true → R.handle h ≡ record { 
 
 -- what the patch's interfaces are linked to is the patch's
 pub record Closed (p : Patch) (s : Bench) : Type 0 where
-  pub up : (w q : ℕ) → mine p w ≡ true → (interface s w).parent ≡ some q → mine p q ≡ true
-  pub left : (w l r : ℕ) → mine p w ≡ true → (interface s w).halves ≡ some (l, r) → mine p l ≡ true
-  pub right : (w l r : ℕ) → mine p w ≡ true → (interface s w).halves ≡ some (l, r) → mine p r ≡ true
+  pub up : (w q : ℕ) → mine p w ≡ true → (interface s w).parent ≡ Some q → mine p q ≡ true
+  pub left : (w l r : ℕ) → mine p w ≡ true → (interface s w).halves ≡ Some (l, r) → mine p l ≡ true
+  pub right : (w l r : ℕ) → mine p w ≡ true → (interface s w).halves ≡ Some (l, r) → mine p r ≡ true
 
 module _ (p : Patch) (s s' : Bench) (C : Closed p s) where
   pub closed_same : ((w : ℕ) → (interface s' w).parent ≡ (interface s w).parent) → ((w : ℕ) → (interface s' w).halves ≡ (interface s w).halves) → Closed p s'
@@ -58,8 +58,8 @@ module _ (p : Patch) (s : Bench) (C : Closed p s) where
   climb_mine (suc k) w m = go (interface s w).parent refl (climb_mine k)
     where
       go : (o : Option ℕ) → (interface s w).parent ≡ o → ((q : ℕ) → mine p q ≡ true → mine p (climb k s q) ≡ true) → mine p (climb (suc k) s w) ≡ true
-      go none e ih = subst (λ (t : ℕ). mine p t ≡ true) (sym (climb_none (suc k) s w e)) m
-      go (some q) e ih = subst (λ (t : ℕ). mine p t ≡ true) (sym (climb_some k s w q e)) (ih q (C.up w q m e))
+      go None e ih = subst (λ (t : ℕ). mine p t ≡ true) (sym (climb_none (suc k) s w e)) m
+      go (Some q) e ih = subst (λ (t : ℕ). mine p t ≡ true) (sym (climb_some k s w q e)) (ih q (C.up w q m e))
 
 module _ (p : Patch) (R : Renaming) (s b : Bench) (C : Closed p s) (F : Faces p R s b) where
   pub climb_faces : (k w : ℕ) → mine p w ≡ true → climb k b w ≡ climb k s w
@@ -71,29 +71,29 @@ module _ (p : Patch) (R : Renaming) (s b : Bench) (C : Closed p s) (F : Faces p 
       now = ap (λ (f : Interface). f.parent) (F.face w m)
 
       go : (o : Option ℕ) → (interface s w).parent ≡ o → ((q : ℕ) → mine p q ≡ true → climb k b q ≡ climb k s q) → climb (suc k) b w ≡ climb (suc k) s w
-      go none e ih = climb_none (suc k) b w (now ∙ e) ∙ sym (climb_none (suc k) s w e)
-      go (some q) e ih = climb_some k b w q (now ∙ e) ∙ ih q (C.up w q m e) ∙ sym (climb_some k s w q e)
+      go None e ih = climb_none (suc k) b w (now ∙ e) ∙ sym (climb_none (suc k) s w e)
+      go (Some q) e ih = climb_some k b w q (now ∙ e) ∙ ih q (C.up w q m e) ∙ sym (climb_some k s w q e)
 
   pub top_faces : (w : ℕ) → mine p w ≡ true → top b w ≡ top s w
   top_faces w m = climb_faces 8 w m
 
 -- ---- and back: what stands under an interface of the patch is the patch's
-pub climb_back : (p : Patch) (b : Bench) → Frame b → ((q l r : ℕ) → mine p q ≡ true → (interface b q).halves ≡ some (l, r) → (mine p l ≡ true) × (mine p r ≡ true))
+pub climb_back : (p : Patch) (b : Bench) → Frame b → ((q l r : ℕ) → mine p q ≡ true → (interface b q).halves ≡ Some (l, r) → (mine p l ≡ true) × (mine p r ≡ true))
     → (k w : ℕ) → mine p (climb k b w) ≡ true → mine p w ≡ true
 unfolding climb
 climb_back p b F H zero w m = m
 climb_back p b F H (suc k) w m = go (interface b w).parent refl (climb_back p b F H k)
   where
     go : (o : Option ℕ) → (interface b w).parent ≡ o → ((q : ℕ) → mine p (climb k b q) ≡ true → mine p q ≡ true) → mine p w ≡ true
-    go none e ih = subst (λ (t : ℕ). mine p t ≡ true) (climb_none (suc k) b w e) m
-    go (some q) e ih = halves (interface b q).halves refl
+    go None e ih = subst (λ (t : ℕ). mine p t ≡ true) (climb_none (suc k) b w e) m
+    go (Some q) e ih = halves (interface b q).halves refl
       where
         above : mine p q ≡ true
         above = ih q (subst (λ (t : ℕ). mine p t ≡ true) (climb_some k b w q e) m)
 
         halves : (o : Option (ℕ × ℕ)) → (interface b q).halves ≡ o → mine p w ≡ true
-        halves none f = absurd (true≢false (sym (F.linked w q e) ∙ ap is_some f))
-        halves (some lr) f = side (F.up w q lr.0 lr.1 e f)
+        halves None f = absurd (true≢false (sym (F.linked w q e) ∙ ap is_some f))
+        halves (Some lr) f = side (F.up w q lr.0 lr.1 e f)
           where
             side : (w ≡ lr.0) ⊎ (w ≡ lr.1) → mine p w ≡ true
             side (inl x) = subst (λ (z : ℕ). mine p z ≡ true) (sym x) (H q lr.0 lr.1 above f).0
@@ -102,7 +102,7 @@ climb_back p b F H (suc k) w m = go (interface b w).parent refl (climb_back p b 
 -- ---- an interface put in another's place, on both benches
 module _ (p : Patch) (R : Renaming) where
   pub slot_faces : (s b : Bench) → Faces p R s b → (u k : ℕ) → mine p u ≡ true → slot_of b u k ≡ re_slot R (slot_of s u k)
-  slot_faces s b F u k m = ap (λ (f : Interface). get_or f.slots k none) (F.face u m) ∙ get_or-map (re_slot R) (interface s u).slots k none
+  slot_faces s b F u k m = ap (λ (f : Interface). get_or f.slots k None) (F.face u m) ∙ get_or-map (re_slot R) (interface s u).slots k None
 
   pub put_faces : (s b : Bench) → Faces p R s b → (u : ℕ) (f f' : Interface) → f' ≡ re_face R f → Faces p R (with_interface s u f) (with_interface b u f')
   put_faces s b F u f f' e = record {
@@ -165,8 +165,8 @@ module _ (p : Patch) (R : Renaming) where
   -- ---- fusing
   pub join_faces : (s b : Bench) → Faces p R s b → (q l r : ℕ) → mine p q ≡ true → mine p l ≡ true → mine p r ≡ true → Faces p R (join s q l r) (join b q l r)
   unfolding join
-  join_faces s b F q l r mq ml mr = put_faces _ _ (put_faces _ _ (put_faces s b F l _ _ (ap (λ (f : Interface). with_parent f (some q)) (F.face l ml))) r _ _ (ap (λ (f : Interface). with_parent f (some q)) (F.face r mr))) q _ _
-      (λ i. with_marks (with_halves (with_speed (with_sum (with_progress (with_parent (F.face q mq i) none) (pos 0)) ((F.face l ml i).sum +ℤ (F.face r mr i).sum)) ((F.face l ml i).speed +ℤ (F.face r mr i).speed)) (some (l, r)))
+  join_faces s b F q l r mq ml mr = put_faces _ _ (put_faces _ _ (put_faces s b F l _ _ (ap (λ (f : Interface). with_parent f (Some q)) (F.face l ml))) r _ _ (ap (λ (f : Interface). with_parent f (Some q)) (F.face r mr))) q _ _
+      (λ i. with_marks (with_halves (with_speed (with_sum (with_progress (with_parent (F.face q mq i) None) (pos 0)) ((F.face l ml i).sum +ℤ (F.face r mr i).sum)) ((F.face l ml i).speed +ℤ (F.face r mr i).speed)) (Some (l, r)))
       (with_floor (F.face q mq i).marks (F.face l ml i).marks.floored))
 
   -- ---- a mark

@@ -1,9 +1,9 @@
 -- The slots of a tree of the patch, in the order of the index, on two benches whose interfaces of the patch are alike. Assumes nothing.
+use Rattle.std.specs.Prelude.{None, Option, Some}
 use Prim.Native.Nat.{ℕ, zero, suc, ◌+◌}
 use mathlib.Core.Path.{◌≡◌, refl, sym, ◌∙◌, ap, ap₂, subst}
 use mathlib.Core.Logic.{◌⊎◌, inl, inr}
 use mathlib.Core.Bool.{true}
-use mathlib.Core.Option.{Option, none, some}
 use mathlib.Core.List.{List, [], ◌∷◌, ◌++◌, map, map-append}
 use lib.IntN.{◌+ℤ◌}
 use Rattle.read_present.specs.Present.{one, present_in}
@@ -44,8 +44,8 @@ present_faces R [] = refl
 present_faces R (t ∷ ts) = ap₂ ◌+◌ (go t.2) (present_faces R ts)
   where
     go : (o : Option Node) → one (re_slot R o) ≡ one o
-    go none = refl
-    go (some n) = refl
+    go None = refl
+    go (Some n) = refl
 
 -- ---- trees
 module _ (p : Patch) (s : Bench) (C : Closed p s) where
@@ -66,8 +66,8 @@ module _ (p : Patch) (s : Bench) (C : Closed p s) where
           self (inr l) = absurd (not_in_nil l)
 
       go : (o : Option (ℕ × ℕ)) → (interface s u).halves ≡ o → ((v : ℕ) → mine p v ≡ true → (w : ℕ) → In w (tree k s v) → mine p w ≡ true) → mine p w ≡ true
-      go none e ih = only (subst (In w) (tree_leaf k s u e) i)
-      go (some lr) e ih = part (in_append (tree k s lr.0 ++ tree k s lr.1) (u ∷ []) (subst (In w) (tree_fork k s u lr e) i))
+      go None e ih = only (subst (In w) (tree_leaf k s u e) i)
+      go (Some lr) e ih = part (in_append (tree k s lr.0 ++ tree k s lr.1) (u ∷ []) (subst (In w) (tree_fork k s u lr e) i))
         where
           half : In w (tree k s lr.0) ⊎ In w (tree k s lr.1) → mine p w ≡ true
           half (inl j) = ih lr.0 (C.left u lr.0 lr.1 m e) w j
@@ -87,8 +87,8 @@ module _ (p : Patch) (R : Renaming) (s b : Bench) (C : Closed p s) (F : Faces p 
       now = ap (λ (f : Interface). f.halves) (F.face u m)
 
       go : (o : Option (ℕ × ℕ)) → (interface s u).halves ≡ o → ((v : ℕ) → mine p v ≡ true → tree k b v ≡ tree k s v) → tree (suc k) b u ≡ tree (suc k) s u
-      go none e ih = tree_leaf k b u (now ∙ e) ∙ sym (tree_leaf k s u e)
-      go (some lr) e ih = tree_fork k b u lr (now ∙ e) ∙ ap₂ (λ (x y : List ℕ). (x ++ y) ++ (u ∷ [])) (ih lr.0 (C.left u lr.0 lr.1 m e)) (ih lr.1 (C.right u lr.0 lr.1 m e)) ∙ sym (tree_fork k s u lr e)
+      go None e ih = tree_leaf k b u (now ∙ e) ∙ sym (tree_leaf k s u e)
+      go (Some lr) e ih = tree_fork k b u lr (now ∙ e) ∙ ap₂ (λ (x y : List ℕ). (x ++ y) ++ (u ∷ [])) (ih lr.0 (C.left u lr.0 lr.1 m e)) (ih lr.1 (C.right u lr.0 lr.1 m e)) ∙ sym (tree_fork k s u lr e)
 
   gather_faces : (us : List ℕ) → ((u : ℕ) → In u us → mine p u ≡ true) → gather b us ≡ map (re_entry R) (gather s us)
   unfolding gather
@@ -100,5 +100,5 @@ module _ (p : Patch) (R : Renaming) (s b : Bench) (C : Closed p s) (F : Faces p 
   slots_faces u m = ap (gather b) (tree_faces 8 u m) ∙ gather_faces (tree 8 s u) (tree_mine p s C 8 u m)
 
 -- what the nodes of the tree name is the patch's
-pub entry_held : (p : Patch) (s : Bench) → Closed p s → Held p s → (u : ℕ) → mine p u ≡ true → (t : Entry) → In t (slots_of s u) → (n : Node) → t.2 ≡ some n → n ≡ re_node (keep p) n
+pub entry_held : (p : Patch) (s : Bench) → Closed p s → Held p s → (u : ℕ) → mine p u ≡ true → (t : Entry) → In t (slots_of s u) → (n : Node) → t.2 ≡ Some n → n ≡ re_node (keep p) n
 entry_held p s C H u m t i n e = some_eq e (ap (λ (x : Entry). x.2) (all_fixed (re_entry (keep p)) (slots_of s u) (slots_faces p (keep p) s s C H u m) t i) ∙ ap (re_slot (keep p)) e)

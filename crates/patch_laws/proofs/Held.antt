@@ -1,9 +1,9 @@
 -- Whatever a patch's nodes name is the patch's: members, touching handles and parents. Said as a renaming that changes nothing, so that what every
 -- call does to renamed benches says too that it stays so. Assumes nothing.
+use Rattle.std.specs.Prelude.{None, Option, Some}
 use Prim.Native.Nat.{ℕ}
 use mathlib.Core.Path.{◌≡◌, refl, sym, ◌∙◌, ap, ap₂, subst}
 use mathlib.Core.Bool.{Bool, true, false, ◌||◌}
-use mathlib.Core.Option.{Option, none, some}
 use mathlib.Core.List.{List, [], ◌∷◌, map}
 use lib.Dec.{leb}
 use lib.ListN.{get_or, drop}
@@ -67,7 +67,7 @@ fixed f [] e = refl
 fixed f (x ∷ xs) e = ap₂ ◌∷◌ (e x (here refl)) (fixed f xs (λ y i. e y (there i)))
 
 -- ---- what the patch's nodes name
-pub held : (p : Patch) (s : Bench) → Held p s → (u k : ℕ) (n : Node) → mine p u ≡ true → slot_of s u k ≡ some n → n ≡ re_node (keep p) n
+pub held : (p : Patch) (s : Bench) → Held p s → (u k : ℕ) (n : Node) → mine p u ≡ true → slot_of s u k ≡ Some n → n ≡ re_node (keep p) n
 held p s H u k n m e = some_eq e (slot_faces p (keep p) s s H u k m ∙ ap (re_slot (keep p)) e)
 
 module _ (p : Patch) (n : Node) (h : n ≡ re_node (keep p) n) where
@@ -80,7 +80,7 @@ module _ (p : Patch) (n : Node) (h : n ≡ re_node (keep p) n) where
   pub touch_mine : (ms : List Member) → n.class ≡ blossom ms → (x : Member) → In x ms → (mine p x.touch.0.unit ≡ true) × (mine p x.touch.1.unit ≡ true)
   touch_mine ms r x i = (kept_mine p x.touch.0 (ap (λ (y : Member). y.touch.0) (held_member ms r x i)), kept_mine p x.touch.1 (ap (λ (y : Member). y.touch.1) (held_member ms r x i)))
 
-  pub parent_mine : (q : Handle) → n.parent ≡ some q → mine p q.unit ≡ true
+  pub parent_mine : (q : Handle) → n.parent ≡ Some q → mine p q.unit ≡ true
   parent_mine q f = kept_mine p q (some_eq f (ap (λ (y : Node). y.parent) h ∙ ap (re_parent (keep p)) f))
 
 module _ (p : Patch) (s : Bench) (H : Held p s) where
@@ -89,8 +89,8 @@ module _ (p : Patch) (s : Bench) (H : Held p s) where
   members_mine h k g i = go (node_named s h) refl
     where
       go : (o : Option Node) → node_named s h ≡ o → mine p g.unit ≡ true
-      go none e = absurd (not_in_nil (subst (In g) (ap members e) i))
-      go (some n) e = at n.class refl
+      go None e = absurd (not_in_nil (subst (In g) (ap members e) i))
+      go (Some n) e = at n.class refl
         where
           at : (c : Class) → n.class ≡ c → mine p g.unit ≡ true
           at (defect v) r = absurd (not_in_nil (subst (In g) (members_none s h n e v r) i))

@@ -1,10 +1,10 @@
 -- The link between the patch alone on a bench and the patch on a bench that it shares: it holds at set-up, a call of the other patch keeps it, and a call
 -- of the patch, made on both, keeps it and shows the patch the same. Assumes nothing.
+use Rattle.std.specs.Prelude.{None}
 use Prim.Native.Nat.{ℕ, zero, suc, ◌≤◌, ◌<◌, ◌^◌}
 use mathlib.Core.Path.{◌≡◌, refl, sym, ◌∙◌, ap, ap₂, subst, subst₂}
 use mathlib.Core.Logic.{◌≢◌, ◌⊎◌, inl, inr}
 use mathlib.Core.Bool.{Bool, true, false, ◌||◌}
-use mathlib.Core.Option.{none}
 use mathlib.Core.List.{List, [], ◌∷◌, ◌++◌, map, map-append}
 use native.Mathlib.Omega.{arith}
 use native.Mathlib.Decide.{dec_lt}
@@ -162,7 +162,7 @@ module _ (p : Patch) (ρ : ℕ → ℕ) (k₀ k : Side) (L : Link p ρ k₀ k) (
   same_rising (Defect u v) e f = subst₂ (Rising ρ) (sym (defect_next s u v)) (sym (defect_next b u v)) (rising_more ρ s.next b.next L.rising)
   same_rising (Blossom u hs ts) e f = subst₂ (Rising ρ) (sym (blossom_next s u hs ts)) (sym (blossom_next b u _ _)) (rising_more ρ s.next b.next L.rising)
   same_rising (Expand u h) e f = subst₂ (Rising ρ) (sym (expand_next s h)) (sym (expand_next b _)) L.rising
-  same_rising (SetState u h t) e f = subst₂ (Rising ρ) (sym (mark_next s h t none)) (sym (mark_next b _ t none)) L.rising
+  same_rising (SetState u h t) e f = subst₂ (Rising ρ) (sym (mark_next s h t None)) (sym (mark_next b _ t None)) L.rising
   same_rising (Grow u l) e f = subst₂ (Rising ρ) (sym (grow_next s u l)) (sym (grow_next b u l)) L.rising
   same_rising (Fuse q l r) e f = subst₂ (Rising ρ) (sym (join_next s q l r (joins L.sound₀.frame (fusable s q l r e)))) (sym (join_next b q l r (joins L.sound.frame (fusable b q l r f)))) L.rising
   same_rising (Clear u) e f = subst₂ (Rising ρ) (sym (wipe_next s u)) (sym (wipe_next b u)) L.rising

@@ -1,9 +1,9 @@
 -- The handles that a patch was given have rising serials, so that each has one number. Assumes nothing.
+use Rattle.std.specs.Prelude.{Option, Some}
 use Prim.Native.Nat.{ℕ, zero, suc, ◌+◌, ◌≤◌, ◌<◌}
 use mathlib.Core.Path.{◌≡◌, refl, sym, ◌∙◌, ap, subst}
 use mathlib.Core.Logic.{◌≢◌, ◌⊎◌, inl, inr}
 use mathlib.Core.Bool.{Bool, true, false, ◌&&◌}
-use mathlib.Core.Option.{Option, some}
 use mathlib.Core.List.{List, [], ◌∷◌, ◌++◌, map, append-nil}
 use native.Mathlib.Omega.{arith}
 use native.Mathlib.Decide.{dec_lt}
@@ -34,12 +34,12 @@ apart g h q = ap (λ (c : Bool). (eqb g.unit h.unit && eqb g.slot h.slot) && c) 
     go true = refl
     go false = refl
 
-number_at : (k : ℕ) (t : Table) → Rises t → (j : ℕ) → j < length t → number_from k t (given t j) ≡ some (k + j)
+number_at : (k : ℕ) (t : Table) → Rises t → (j : ℕ) → j < length t → number_from k t (given t j) ≡ Some (k + j)
 unfolding number_from
 number_at k [] r j h = absurd (omega arith)
-number_at k (g ∷ t) r zero h = ap (λ (c : Bool). elim c as (λ x. Option ℕ) [ true ↦ some k | false ↦ number_from (suc k) t g ]) (same_self g) ∙ ap some (omega arith)
-number_at k (g ∷ t) r (suc j) h = ap (λ (c : Bool). elim c as (λ x. Option ℕ) [ true ↦ some k | false ↦ number_from (suc k) t (given t j) ]) (apart g (given t j) (λ e. omega (arith, e, r 0 (suc j) (omega arith) h)))
-    ∙ number_at (suc k) t (λ i l x y. r (suc i) (suc l) (omega arith) (omega arith)) j (omega arith) ∙ ap some (omega arith)
+number_at k (g ∷ t) r zero h = ap (λ (c : Bool). elim c as (λ x. Option ℕ) [ true ↦ Some k | false ↦ number_from (suc k) t g ]) (same_self g) ∙ ap Some (omega arith)
+number_at k (g ∷ t) r (suc j) h = ap (λ (c : Bool). elim c as (λ x. Option ℕ) [ true ↦ Some k | false ↦ number_from (suc k) t (given t j) ]) (apart g (given t j) (λ e. omega (arith, e, r 0 (suc j) (omega arith) h)))
+    ∙ number_at (suc k) t (λ i l x y. r (suc i) (suc l) (omega arith) (omega arith)) j (omega arith) ∙ ap Some (omega arith)
 
 -- ---- along a run
 record Ordered (k : Side) : Type 0 where
@@ -110,4 +110,4 @@ ordered_reached k O (asked r ∷ xs) = ordered_reached k O xs
 
 pub right_numbers : RightNumbers
 right_numbers n xs j x = let O = ordered_reached (opened n) (record { rises = λ i l y z. absurd (omega arith); old = λ l z. absurd (omega arith) }) xs in
-    number_at 0 (reached (opened n) xs).table O.rises j x ∙ ap some (omega arith)
+    number_at 0 (reached (opened n) xs).table O.rises j x ∙ ap Some (omega arith)

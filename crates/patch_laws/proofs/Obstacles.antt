@@ -1,8 +1,8 @@
 -- What the calls on groups do does not feel a renaming of handles that keeps them apart. Assumes nothing.
+use Rattle.std.specs.Prelude.{None, Option, Some}
 use Prim.Native.Nat.{ℕ, zero, suc}
 use mathlib.Core.Path.{◌≡◌, refl, sym, ◌∙◌, ap, ap₂}
 use mathlib.Core.Bool.{Bool, true, false, cond, not, ◌&&◌}
-use mathlib.Core.Option.{Option, none, some}
 use mathlib.Core.List.{List, [], ◌∷◌, ◌++◌, map, map-append}
 use lib.Dec.{eqb, leb, ltb}
 use lib.ListN.{length, length-map, drop}
@@ -13,8 +13,6 @@ use Rattle.kinds.specs.declared.Handle.{Handle as Code}
 use Rattle.kinds.specs.declared.Pair.{Pair}
 use Rattle.kinds.specs.declared.Entry.{Entry}
 use Rattle.kinds.specs.declared.Stop.{Stop}
-use Rattle.kinds.specs.declared.MaybePair.{MaybePair}
-use Rattle.kinds.specs.declared.MaybePair.TheVariants.{NoPair, WithPair}
 use Rattle.kinds.specs.declared.Obstacle.{Obstacle}
 use Rattle.kinds.specs.declared.Obstacle.TheVariants.{NonZeroGrow, Conflicting, TouchingVirtual, BlossomNeedExpand, VertexShrinkStop}
 use Rattle.ledger_spec.specs.Tests.{first}
@@ -41,8 +39,8 @@ module _ (f g h : Code → Code) (e : (c : Code) → f (g c) ≡ h c) where
   obstacle_twice (Conflicting p q) = ap₂ Conflicting (pair_twice p) (pair_twice q)
   obstacle_twice (TouchingVirtual p v m) = ap (λ (x : Pair). TouchingVirtual x v m) (pair_twice p)
   obstacle_twice (BlossomNeedExpand n) = ap BlossomNeedExpand (e n)
-  obstacle_twice (VertexShrinkStop n NoPair) = ap (λ (x : Code). VertexShrinkStop x NoPair) (e n)
-  obstacle_twice (VertexShrinkStop n (WithPair p)) = ap₂ (λ (x : Code) (y : Pair). VertexShrinkStop x (WithPair y)) (e n) (pair_twice p)
+  obstacle_twice (VertexShrinkStop n None) = ap (λ (x : Code). VertexShrinkStop x None) (e n)
+  obstacle_twice (VertexShrinkStop n (Some p)) = ap₂ (λ (x : Code) (y : Pair). VertexShrinkStop x (Some y)) (e n) (pair_twice p)
 
   pub group_twice : (q : Group) → map_group f (map_group g q) ≡ map_group h q
   group_twice (growth l b) = refl
@@ -50,8 +48,8 @@ module _ (f g h : Code → Code) (e : (c : Code) → f (g c) ≡ h c) where
       (map_map (map_stop g) (map_stop f) (map_stop h) (λ x. ap (λ (o : Obstacle). record { vertex = x.vertex; obstacle = o }) (obstacle_twice x.obstacle)) s)
 
   pub taken_twice : (o : Option Obstacle) → map_taken f (map_taken g o) ≡ map_taken h o
-  taken_twice none = refl
-  taken_twice (some o) = ap some (obstacle_twice o)
+  taken_twice None = refl
+  taken_twice (Some o) = ap Some (obstacle_twice o)
 
 -- ---- the handles of an obstacle and of a group
 module _ (f : Code → Code) where
@@ -61,8 +59,8 @@ module _ (f : Code → Code) where
   handles_map (Conflicting p q) = refl
   handles_map (TouchingVirtual p v m) = refl
   handles_map (BlossomNeedExpand n) = refl
-  handles_map (VertexShrinkStop n NoPair) = refl
-  handles_map (VertexShrinkStop n (WithPair p)) = refl
+  handles_map (VertexShrinkStop n None) = refl
+  handles_map (VertexShrinkStop n (Some p)) = refl
 
   list_map : (l : List Entry) → list_handles (map (map_entry f) l) ≡ map f (list_handles l)
   unfolding list_handles
@@ -169,7 +167,7 @@ module _ (f : Code → Code) where
 
   pub growth_map : (g : Group) → growth_of (map_group f g) ≡ growth_of g
   unfolding growth_of
-  growth_map g = λ i. said (first ((not (sound_map g i), 2) ∷ (largest_map g i, 21) ∷ [])) (go g i) none
+  growth_map g = λ i. said (first ((not (sound_map g i), 2) ∷ (largest_map g i, 21) ∷ [])) (go g i) None
     where
       go : (q : Group) → length_in (map_group f q) ≡ length_in q
       go (growth l b) = refl
@@ -177,7 +175,7 @@ module _ (f : Code → Code) where
 
   pub peek_map : (g : Group) → peek (map_group f g) ≡ ((peek g).0, map_taken f (peek g).1)
   unfolding peek
-  peek_map g = (λ i. said (take_map g i) (last_map g i) none) ∙ said_map (map_taken f) (first (take_tests g)) (last_in g) none
+  peek_map g = (λ i. said (take_map g i) (last_map g i) None) ∙ said_map (map_taken f) (first (take_tests g)) (last_in g) None
 
   -- a pop's answer and what it leaves
   abbrev pub map_popped : Option Obstacle × Group → Option Obstacle × Group
@@ -185,7 +183,7 @@ module _ (f : Code → Code) where
 
   pub pop_map : (g : Group) → pop (map_group f g) ≡ ((pop g).0, map_popped (pop g).1)
   unfolding pop
-  pop_map g = (λ i. said (take_map g i) (last_map g i, go g i) (none, map_group f g)) ∙ said_map map_popped (first (take_tests g)) (last_in g, after_pop g) (none, g)
+  pop_map g = (λ i. said (take_map g i) (last_map g i, go g i) (None, map_group f g)) ∙ said_map map_popped (first (take_tests g)) (last_in g, after_pop g) (None, g)
     where
       go : (q : Group) → after_pop (map_group f q) ≡ map_group f (after_pop q)
       go (growth l b) = refl
@@ -193,7 +191,7 @@ module _ (f : Code → Code) where
 
   pub spare_map : (g : Group) → pop_sparing (map_group f g) ≡ ((pop_sparing g).0, map_popped (pop_sparing g).1)
   unfolding pop_sparing spared
-  spare_map g = (λ i. said (take_map g i) (last_map g i, go g i) (none, map_group f g)) ∙ said_map map_popped (first (take_tests g)) (last_in g, after_sparing g) (none, g)
+  spare_map g = (λ i. said (take_map g i) (last_map g i, go g i) (None, map_group f g)) ∙ said_map map_popped (first (take_tests g)) (last_in g, after_sparing g) (None, g)
     where
       go : (q : Group) → after_sparing (map_group f q) ≡ map_group f (after_sparing q)
       go (growth l b) = refl
@@ -203,18 +201,18 @@ module _ (f : Code → Code) where
 -- ---- what add and extend make
 module _ (f : Code → Code) (same : (g h : Code) → same_code (f g) (f h) ≡ same_code g h) where
   abbrev both : Option Lists → Option Lists
-  both none = none
-  both (some ls) = some (E f ls.0, S f ls.1)
+  both None = None
+  both (Some ls) = Some (E f ls.0, S f ls.1)
 
   abbrev pub mapped : Option Group → Option Group
-  mapped none = none
-  mapped (some g) = some (map_group f g)
+  mapped None = None
+  mapped (Some g) = Some (map_group f g)
 
   room : (l : List Entry) (s : List Stop) → room_for (E f l) (S f s) ≡ both (room_for l s)
   unfolding room_for
-  room l s = ap₂ (λ (x y : ℕ). cond (leb x 128 && leb y 128) (some (E f l, S f s)) none) (length-map l (map_entry f)) (length-map s (map_stop f)) ∙ go (leb (length l) 128 && leb (length s) 128)
+  room l s = ap₂ (λ (x y : ℕ). cond (leb x 128 && leb y 128) (Some (E f l, S f s)) None) (length-map l (map_entry f)) (length-map s (map_stop f)) ∙ go (leb (length l) 128 && leb (length s) 128)
     where
-      go : (c : Bool) → cond c (some (E f l, S f s)) none ≡ both (cond c (some (l, s)) none)
+      go : (c : Bool) → cond c (Some (E f l, S f s)) None ≡ both (cond c (Some (l, s)) None)
       go true = refl
       go false = refl
 
@@ -247,11 +245,11 @@ module _ (f : Code → Code) (same : (g h : Code) → same_code (f g) (f h) ≡ 
   room_more : (l : List Entry) (x : Entry) (s : List Stop) → room_for (E f l ++ (map_entry f x ∷ [])) (S f s) ≡ both (room_for (l ++ (x ∷ [])) s)
   room_more l x s = ap (λ (z : List Entry). room_for z (S f s)) (sym (map-append (map_entry f) l (x ∷ []))) ∙ room (l ++ (x ∷ [])) s
 
-  meet_map : (p q : MaybePair) (x y : Stop) (l : List Entry) (s t : List Stop) → meet (map_maybe f p) (map_maybe f q) (map_stop f x) (map_stop f y) (E f l) (S f s) (S f t) ≡ both (meet p q x y l s t)
+  meet_map : (p q : Option Pair) (x y : Stop) (l : List Entry) (s t : List Stop) → meet (map_maybe f p) (map_maybe f q) (map_stop f x) (map_stop f y) (E f l) (S f s) (S f t) ≡ both (meet p q x y l s t)
   unfolding meet
-  meet_map NoPair q x y l s t = room_join l s (y ∷ t)
-  meet_map (WithPair p) NoPair x y l s t = room_join l s (x ∷ t)
-  meet_map (WithPair p) (WithPair q) x y l s t = (λ i. cond (same p.node q.node i) (room_join l s (y ∷ t) i) (more i)) ∙ both_cond (same_code p.node q.node) (room_for l (s ++ y ∷ t)) (room_for (l ++ record { obstacle = Conflicting p q } ∷ []) (s ++ t))
+  meet_map None q x y l s t = room_join l s (y ∷ t)
+  meet_map (Some p) None x y l s t = room_join l s (x ∷ t)
+  meet_map (Some p) (Some q) x y l s t = (λ i. cond (same p.node q.node i) (room_join l s (y ∷ t) i) (more i)) ∙ both_cond (same_code p.node q.node) (room_for l (s ++ y ∷ t)) (room_for (l ++ record { obstacle = Conflicting p q } ∷ []) (s ++ t))
     where
       more : room_for (E f l ++ record { obstacle = Conflicting (map_pair f p) (map_pair f q) } ∷ []) (S f s ++ S f t) ≡ both (room_for (l ++ record { obstacle = Conflicting p q } ∷ []) (s ++ t))
       more = ap (room_for (E f l ++ record { obstacle = Conflicting (map_pair f p) (map_pair f q) } ∷ [])) (sym (map-append (map_stop f) s t)) ∙ room_more l (record { obstacle = Conflicting p q }) (s ++ t)
@@ -274,12 +272,12 @@ module _ (f : Code → Code) (same : (g h : Code) → same_code (f g) (f h) ≡ 
   add_stops_lem (x ∷ xs) l s = ap (λ (o : Option Lists). and_then o (add_stops (S f xs))) (add_stop_lem x l s) ∙ go (add_stop x l s) (add_stops_lem xs)
     where
       go : (o : Option Lists) → ((l : List Entry) (s : List Stop) → add_stops (S f xs) (E f l) (S f s) ≡ both (add_stops xs l s)) → and_then (both o) (add_stops (S f xs)) ≡ both (and_then o (add_stops xs))
-      go none ih = refl
-      go (some ls) ih = ih ls.0 ls.1
+      go None ih = refl
+      go (Some ls) ih = ih ls.0 ls.1
 
   grouped_map : (o : Option Lists) → grouped (both o) ≡ mapped (grouped o)
-  grouped_map none = refl
-  grouped_map (some ls) = refl
+  grouped_map None = refl
+  grouped_map (Some ls) = refl
 
   pub added_map : (g : Group) (o : Obstacle) (v : ℕ) → added (map_group f g) (map_obstacle f o) v ≡ mapped (added g o v)
   unfolding added add_to_growth add_to_conflicts
@@ -298,7 +296,7 @@ module _ (f : Code → Code) (same : (g h : Code) → same_code (f g) (f h) ≡ 
   unfolding extended smaller_pair
   extended_map (growth a b) (growth c d) = go (eq_z c largest) (lt_z c a) (lt_z a c)
     where
-      go : (x y z : Bool) → some (cond x (growth a b) (cond y (growth c d) (cond z (growth a b) (growth a (b && d))))) ≡ mapped (some (cond x (growth a b) (cond y (growth c d) (cond z (growth a b) (growth a (b && d))))))
+      go : (x y z : Bool) → Some (cond x (growth a b) (cond y (growth c d) (cond z (growth a b) (growth a (b && d))))) ≡ mapped (Some (cond x (growth a b) (cond y (growth c d) (cond z (growth a b) (growth a (b && d))))))
       go true y z = refl
       go false true z = refl
       go false false true = refl
@@ -308,5 +306,5 @@ module _ (f : Code → Code) (same : (g h : Code) → same_code (f g) (f h) ≡ 
   extended_map (conflicts l s) (conflicts m t) = ap grouped (ap (λ (o : Option Lists). and_then o (add_stops (S f t))) (ap (λ (z : List Entry). room_for z (S f s)) (sym (map-append (map_entry f) l m)) ∙ room (l ++ m) s) ∙ go (room_for (l ++ m) s)) ∙ grouped_map (and_then (room_for (l ++ m) s) (add_stops t))
     where
       go : (o : Option Lists) → and_then (both o) (add_stops (S f t)) ≡ both (and_then o (add_stops t))
-      go none = refl
-      go (some ls) = add_stops_lem t ls.0 ls.1
+      go None = refl
+      go (Some ls) = add_stops_lem t ls.0 ls.1

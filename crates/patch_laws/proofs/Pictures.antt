@@ -1,9 +1,9 @@
 -- The picture of an interface of the patch names nodes by their index, so that it is one on two benches whose interfaces of the patch are alike.
 -- Assumes nothing.
+use Rattle.std.specs.Prelude.{None, Option, Some}
 use Prim.Native.Nat.{ℕ}
 use mathlib.Core.Path.{◌≡◌, refl, ◌∙◌, ap}
 use mathlib.Core.Bool.{Bool, true}
-use mathlib.Core.Option.{Option, none, some}
 use mathlib.Core.List.{List, map}
 use Rattle.ledger_spec.specs.Bench.{Handle, Member, Class, defect, blossom, Node, Bench}
 use Rattle.ledger_spec.specs.Reads.{slots_of}
@@ -31,13 +31,13 @@ module _ (p : Patch) (ρ : ℕ → ℕ) (s b : Bench) (C : Closed p s) (F : Face
   shape_faces (blossom ms) = ap circle (map_map (re_member (by ρ)) (linked (index_of b u)) (linked (index_of s u)) linked_faces ms)
 
   parent_faces : (o : Option Handle) → indexed (index_of b u) (re_parent (by ρ) o) ≡ indexed (index_of s u) o
-  parent_faces none = refl
-  parent_faces (some h) = ap some (at h)
+  parent_faces None = refl
+  parent_faces (Some h) = ap Some (at h)
 
   slot_seen : (o : Option Node) → seen_of (index_of b u) (re_slot (by ρ) o) ≡ seen_of (index_of s u) o
   unfolding seen_of
-  slot_seen none = refl
-  slot_seen (some n) = λ i. some (record { shape = shape_faces n.class i; state = n.state; parent = parent_faces n.parent i })
+  slot_seen None = refl
+  slot_seen (Some n) = λ i. Some (record { shape = shape_faces n.class i; state = n.state; parent = parent_faces n.parent i })
 
   pub picture_faces : (a : Bool) → picture b u a ≡ picture s u a
   unfolding picture sketch_of

@@ -1,7 +1,7 @@
 -- Nodes and interfaces with their serials and handles renamed, and what a renaming leaves alone. Assumes nothing.
+use Rattle.std.specs.Prelude.{None, Option, Some}
 use Prim.Native.Nat.{ℕ, zero, suc}
 use mathlib.Core.Path.{◌≡◌, refl, ap, ap₂}
-use mathlib.Core.Option.{Option, none, some}
 use mathlib.Core.List.{List, [], ◌∷◌, map}
 use lib.ListN.{set}
 use lib.IntN.{ℤ}
@@ -20,8 +20,8 @@ abbrev pub re_pair : Renaming → Handle × Handle → Handle × Handle
 re_pair R t = (R.handle t.0, R.handle t.1)
 
 abbrev pub re_parent : Renaming → Option Handle → Option Handle
-re_parent R none = none
-re_parent R (some h) = some (R.handle h)
+re_parent R None = None
+re_parent R (Some h) = Some (R.handle h)
 
 abbrev pub re_member : Renaming → Member → Member
 re_member R m = record { node = R.handle m.node; touch = re_pair R m.touch }
@@ -34,8 +34,8 @@ abbrev pub re_node : Renaming → Node → Node
 re_node R n = record { serial = R.serial n.serial; class = re_class R n.class; state = n.state; parent = re_parent R n.parent; value = n.value; size = n.size }
 
 abbrev pub re_slot : Renaming → Option Node → Option Node
-re_slot R none = none
-re_slot R (some n) = some (re_node R n)
+re_slot R None = None
+re_slot R (Some n) = Some (re_node R n)
 
 abbrev pub re_face : Renaming → Interface → Interface
 re_face R f = with_slots f (map (re_slot R) f.slots)
@@ -53,31 +53,31 @@ map_map f g h e (x ∷ xs) = ap₂ ◌∷◌ (e x) (map_map f g h e xs)
 -- ---- what a slot shows
 module _ (R : Renaming) where
   pub re_share : (o : Option Node) → share (re_slot R o) ≡ share o
-  re_share none = refl
-  re_share (some n) = refl
+  re_share None = refl
+  re_share (Some n) = refl
 
   pub re_worth : (o : Option Node) → worth (re_slot R o) ≡ worth o
-  re_worth none = refl
-  re_worth (some n) = refl
+  re_worth None = refl
+  re_worth (Some n) = refl
 
   pub re_sinks : (l : ℤ) (o : Option Node) → sinks l (re_slot R o) ≡ sinks l o
-  re_sinks l none = refl
-  re_sinks l (some n) = refl
+  re_sinks l None = refl
+  re_sinks l (Some n) = refl
 
   pub re_size : (o : Option Node) → size_of (re_slot R o) ≡ size_of o
-  re_size none = refl
-  re_size (some n) = refl
+  re_size None = refl
+  re_size (Some n) = refl
 
   pub re_given : (o : Option Node) → is_some (re_slot R o) ≡ is_some o
-  re_given none = refl
-  re_given (some n) = refl
+  re_given None = refl
+  re_given (Some n) = refl
 
   -- the lowest empty slot, and a node put at a slot
   pub re_gap : (xs : List (Option Node)) → gap (map (re_slot R) xs) ≡ gap xs
   unfolding gap
   re_gap [] = refl
-  re_gap (none ∷ xs) = refl
-  re_gap (some n ∷ xs) = ap suc (re_gap xs)
+  re_gap (None ∷ xs) = refl
+  re_gap (Some n ∷ xs) = ap suc (re_gap xs)
 
   pub re_put : (xs : List (Option Node)) (s : ℕ) (n : Node) → put (map (re_slot R) xs) s (re_node R n) ≡ map (re_slot R) (put xs s n)
   unfolding put
@@ -86,32 +86,32 @@ module _ (R : Renaming) where
   re_put (x ∷ xs) (suc s) n = ap {B = List (Option Node)} (λ l. re_slot R x ∷ l) (re_put xs s n)
 
   pub re_restate : (o : Option Node) (s : State) (q : Option Handle) → restate (re_slot R o) s (re_parent R q) ≡ re_slot R (restate o s q)
-  re_restate none s q = refl
-  re_restate (some n) s q = refl
+  re_restate None s q = refl
+  re_restate (Some n) s q = refl
 
   pub re_grow : (l : ℤ) (o : Option Node) → grow_slot l (re_slot R o) ≡ re_slot R (grow_slot l o)
   unfolding grow_slot
-  re_grow l none = refl
-  re_grow l (some n) = refl
+  re_grow l None = refl
+  re_grow l (Some n) = refl
 
   pub re_grows : (l : ℤ) (xs : List (Option Node)) → map (grow_slot l) (map (re_slot R) xs) ≡ map (re_slot R) (map (grow_slot l) xs)
   re_grows l [] = refl
   re_grows l (x ∷ xs) = ap₂ ◌∷◌ (re_grow l x) (re_grows l xs)
 
   pub re_orphan : (o : Option Node) → has_parent (re_slot R o) ≡ has_parent o
-  re_orphan none = refl
-  re_orphan (some n) = go n.parent
+  re_orphan None = refl
+  re_orphan (Some n) = go n.parent
     where
       go : (q : Option Handle) → is_some (re_parent R q) ≡ is_some q
-      go none = refl
-      go (some h) = refl
+      go None = refl
+      go (Some h) = refl
 
   pub re_defect : (o : Option Node) → is_defect (re_slot R o) ≡ is_defect o
-  re_defect none = refl
-  re_defect (some n) = go n.class
+  re_defect None = refl
+  re_defect (Some n) = go n.class
     where
-      go : (c : Class) → is_defect (some (record { serial = R.serial n.serial; class = re_class R c; state = n.state; parent = re_parent R n.parent; value = n.value; size = n.size }))
-          ≡ is_defect (some (record { serial = n.serial; class = c; state = n.state; parent = n.parent; value = n.value; size = n.size }))
+      go : (c : Class) → is_defect (Some (record { serial = R.serial n.serial; class = re_class R c; state = n.state; parent = re_parent R n.parent; value = n.value; size = n.size }))
+          ≡ is_defect (Some (record { serial = n.serial; class = c; state = n.state; parent = n.parent; value = n.value; size = n.size }))
       go (defect v) = refl
       go (blossom ms) = refl
 
@@ -120,11 +120,11 @@ module _ (R : Renaming) where
   re_nodes (m ∷ ms) = ap {B = List Handle} (λ t. R.handle m.node ∷ t) (re_nodes ms)
 
   pub re_members : (o : Option Node) → members (re_slot R o) ≡ map R.handle (members o)
-  re_members none = refl
-  re_members (some n) = go n.class
+  re_members None = refl
+  re_members (Some n) = go n.class
     where
-      go : (c : Class) → members (some (record { serial = R.serial n.serial; class = re_class R c; state = n.state; parent = re_parent R n.parent; value = n.value; size = n.size }))
-          ≡ map R.handle (members (some (record { serial = n.serial; class = c; state = n.state; parent = n.parent; value = n.value; size = n.size })))
+      go : (c : Class) → members (Some (record { serial = R.serial n.serial; class = re_class R c; state = n.state; parent = re_parent R n.parent; value = n.value; size = n.size }))
+          ≡ map R.handle (members (Some (record { serial = n.serial; class = c; state = n.state; parent = n.parent; value = n.value; size = n.size })))
       go (defect v) = refl
       go (blossom ms) = re_nodes ms
 

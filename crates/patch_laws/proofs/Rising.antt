@@ -1,10 +1,10 @@
 -- A renaming of serials that keeps their order: what the patch's numbers do not feel, and that serials not yet given out may be renamed anew.
 -- Assumes nothing.
+use Rattle.std.specs.Prelude.{None, Option, Some}
 use Prim.Native.Nat.{ℕ, zero, suc, ◌+◌, ◌-◌, ◌≤◌, ◌<◌}
 use mathlib.Core.Path.{◌≡◌, refl, sym, ◌∙◌, ap, ap₂}
 use mathlib.Core.Logic.{◌≢◌}
 use mathlib.Core.Bool.{Bool, true, false, ◌&&◌}
-use mathlib.Core.Option.{Option, none, some}
 use mathlib.Core.List.{List, [], ◌∷◌, map}
 use native.Mathlib.Omega.{arith}
 use native.Mathlib.Decide.{dec_lt}
@@ -18,7 +18,7 @@ use Rattle.ledger_spec.specs.Knit.{In, here, there}
 use Rattle.ledger_spec.specs.Facts.{Sound}
 use Rattle.ledger_spec.proofs.Lists.{in_map}
 use Rattle.patch_laws.specs.Patch.{Patch, Table, number_from, Name, name_of}
-use Rattle.patch_laws.specs.Runs.{defect_added, state_set, shrink_prepared, blossom_added, blossom_removed, grown, heard}
+use Rattle.patch_laws.specs.Runs.{defect_added, state_set, shrink_prepared, blossom_added, blossom_removed, heard}
 use Rattle.patch_laws.proofs.Renamed.{Renaming, re_parent, re_member, re_class, re_node, re_slot, re_face}
 use Rattle.patch_laws.proofs.Faces.{Faces}
 use Rattle.patch_laws.proofs.Alike.{Names}
@@ -96,7 +96,7 @@ module _ (ρ : ℕ → ℕ) (one : (i j : ℕ) → eqb (ρ i) (ρ j) ≡ eqb i j
   number_faces : (k : ℕ) (t : Table) (h : Handle) → number_from k (map (by ρ).handle t) ((by ρ).handle h) ≡ number_from k t h
   unfolding number_from
   number_faces k [] h = refl
-  number_faces k (g ∷ t) h = ap₂ (λ (c : Bool) (o : Option ℕ). elim c as (λ x. Option ℕ) [ true ↦ some k | false ↦ o ]) (ap (λ (c : Bool). (eqb g.unit h.unit && eqb g.slot h.slot) && c) (one g.serial h.serial)) (number_faces (suc k) t h)
+  number_faces k (g ∷ t) h = ap₂ (λ (c : Bool) (o : Option ℕ). elim c as (λ x. Option ℕ) [ true ↦ Some k | false ↦ o ]) (ap (λ (c : Bool). (eqb g.unit h.unit && eqb g.slot h.slot) && c) (one g.serial h.serial)) (number_faces (suc k) t h)
 
   pub name_same : (t : Table) (h : Handle) → name_of (map (by ρ).handle t) ((by ρ).handle h) ≡ name_of t h
   name_same t h = λ i. record { unit = h.unit; slot = h.slot; number = number_faces 0 t h i }
@@ -129,23 +129,23 @@ module _ (ρ σ : ℕ → ℕ) (s : Bench) (e : (i : ℕ) → i < s.next → ρ 
   pub table_agree : (t : Table) → ((h : Handle) → In h t → h.serial < s.next) → map (by ρ).handle t ≡ map (by σ).handle t
   table_agree t old = map_agree (by ρ).handle (by σ).handle t (λ h i. handle_agree h (old h i))
 
-  slots_agree : (l : List (Option Node)) → ((k : ℕ) (n : Node) → get_or l k none ≡ some n → re_node (by ρ) n ≡ re_node (by σ) n) → map (re_slot (by ρ)) l ≡ map (re_slot (by σ)) l
+  slots_agree : (l : List (Option Node)) → ((k : ℕ) (n : Node) → get_or l k None ≡ Some n → re_node (by ρ) n ≡ re_node (by σ) n) → map (re_slot (by ρ)) l ≡ map (re_slot (by σ)) l
   slots_agree [] a = refl
-  slots_agree (none ∷ xs) a = ap {B = List (Option Node)} (λ l. none ∷ l) (slots_agree xs (λ k. a (suc k)))
-  slots_agree (some n ∷ xs) a = ap₂ {C = List (Option Node)} (λ x l. some x ∷ l) (a 0 n refl) (slots_agree xs (λ k. a (suc k)))
+  slots_agree (None ∷ xs) a = ap {B = List (Option Node)} (λ l. None ∷ l) (slots_agree xs (λ k. a (suc k)))
+  slots_agree (Some n ∷ xs) a = ap₂ {C = List (Option Node)} (λ x l. Some x ∷ l) (a 0 n refl) (slots_agree xs (λ k. a (suc k)))
 
   module _ (S : Sound s) where
-    low : (u k : ℕ) (n : Node) → slot_of s u k ≡ some n → n.serial < s.next
+    low : (u k : ℕ) (n : Node) → slot_of s u k ≡ Some n → n.serial < s.next
     low u k n q = (S.sewn.knit.low u k n q).1
 
-    member_agree : (u k : ℕ) (n : Node) → slot_of s u k ≡ some n → (ms : List Member) → n.class ≡ blossom ms → (m : Member) → In m ms → re_member (by ρ) m ≡ re_member (by σ) m
+    member_agree : (u k : ℕ) (n : Node) → slot_of s u k ≡ Some n → (ms : List Member) → n.class ≡ blossom ms → (m : Member) → In m ms → re_member (by ρ) m ≡ re_member (by σ) m
     member_agree u k n q ms r m i =
         let D = S.sewn.knit.down u k n ms m.node q r (in_map (λ (x : Member). x.node) i) in
         let T = ((S.rings u k n q).circle ms r).touching m i in
         let a : m.node.serial < s.next = omega (arith, D.has.serial, low m.node.unit m.node.slot D.node D.has.stands) in
         λ j. record { node = handle_agree m.node a j; touch = (handle_agree m.touch.0 T.0.serial j, handle_agree m.touch.1 T.1.serial j) }
 
-    node_agree : (u k : ℕ) (n : Node) → slot_of s u k ≡ some n → re_node (by ρ) n ≡ re_node (by σ) n
+    node_agree : (u k : ℕ) (n : Node) → slot_of s u k ≡ Some n → re_node (by ρ) n ≡ re_node (by σ) n
     node_agree u k n q = λ j. record { serial = e n.serial (low u k n q) j; class = class n.class refl j; state = n.state; parent = parent n.parent refl j; value = n.value; size = n.size }
       where
         class : (c : Class) → n.class ≡ c → re_class (by ρ) c ≡ re_class (by σ) c
@@ -153,9 +153,9 @@ module _ (ρ σ : ℕ → ℕ) (s : Bench) (e : (i : ℕ) → i < s.next → ρ 
         class (blossom ms) r = ap blossom (map_agree (re_member (by ρ)) (re_member (by σ)) ms (member_agree u k n q ms r))
 
         parent : (o : Option Handle) → n.parent ≡ o → re_parent (by ρ) o ≡ re_parent (by σ) o
-        parent none f = refl
-        parent (some h) f = let U = S.sewn.knit.up u k n h q f in
-            ap some (handle_agree h (omega (arith, U.has.serial, low h.unit h.slot U.over U.has.stands)))
+        parent None f = refl
+        parent (Some h) f = let U = S.sewn.knit.up u k n h q f in
+            ap Some (handle_agree h (omega (arith, U.has.serial, low h.unit h.slot U.over U.has.stands)))
 
     face_agree : (w : ℕ) → re_face (by ρ) (interface s w) ≡ re_face (by σ) (interface s w)
     face_agree w = ap (with_slots (interface s w))

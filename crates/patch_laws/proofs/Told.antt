@@ -1,8 +1,8 @@
 -- What the patch asks of either bench is answered alike. Assumes nothing.
+use Rattle.std.specs.Prelude.{None, Option, Some}
 use Prim.Native.Nat.{ℕ, suc}
 use mathlib.Core.Path.{◌≡◌, refl, sym, ◌∙◌, subst, ap, ap₂}
 use mathlib.Core.Bool.{Bool, true, false, ◌&&◌, not}
-use mathlib.Core.Option.{Option, none, some}
 use mathlib.Core.List.{List, [], ◌∷◌, ◌++◌, map}
 use lib.Dec.{eqb, leb, ltb}
 use lib.ListN.{get_or, drop, length, length-map, get_or-map}
@@ -49,13 +49,13 @@ use Rattle.patch_laws.proofs.Checks.{verdict_faces, strict_verdict_lem}
 use Rattle.patch_laws.proofs.Pictures.{picture_faces}
 
 re_some : (ρ : ℕ → ℕ) (o : Option Handle) → present (re_parent (by ρ) o) ≡ present o
-re_some ρ none = refl
-re_some ρ (some h) = refl
+re_some ρ None = refl
+re_some ρ (Some h) = refl
 
 -- ---- a slot's handle, and the next present one
 re_as : (ρ : ℕ → ℕ) (t : Entry) (o : Option Node) → as_handle (t.0, t.1, re_slot (by ρ) o) ≡ re_parent (by ρ) (as_handle (t.0, t.1, o))
-re_as ρ t none = refl
-re_as ρ t (some n) = refl
+re_as ρ t None = refl
+re_as ρ t (Some n) = refl
 
 abbrev re_found : (ℕ → ℕ) → ℕ × Option Handle → ℕ × Option Handle
 re_found ρ x = (x.0, re_parent (by ρ) x.1)
@@ -63,15 +63,15 @@ re_found ρ x = (x.0, re_parent (by ρ) x.1)
 next_faces : (ρ : ℕ → ℕ) (i k : ℕ) (ts : List Entry) → next_from i k (map (re_entry (by ρ)) ts) ≡ re_found ρ (next_from i k ts)
 unfolding next_from
 next_faces ρ i k [] = refl
-next_faces ρ i k (t ∷ ts) = ap₂ (λ (o : Option Handle) (r : ℕ × Option Handle). or_next o i r) (here_or (leb k i)) (next_faces ρ (suc i) k ts) ∙ joined (pick (leb k i) (as_handle t) none) (next_from (suc i) k ts)
+next_faces ρ i k (t ∷ ts) = ap₂ (λ (o : Option Handle) (r : ℕ × Option Handle). or_next o i r) (here_or (leb k i)) (next_faces ρ (suc i) k ts) ∙ joined (pick (leb k i) (as_handle t) None) (next_from (suc i) k ts)
   where
-    here_or : (c : Bool) → pick c (as_handle (re_entry (by ρ) t)) none ≡ re_parent (by ρ) (pick c (as_handle t) none)
+    here_or : (c : Bool) → pick c (as_handle (re_entry (by ρ) t)) None ≡ re_parent (by ρ) (pick c (as_handle t) None)
     here_or true = re_as ρ t t.2
     here_or false = refl
 
     joined : (o : Option Handle) (r : ℕ × Option Handle) → or_next (re_parent (by ρ) o) i (re_found ρ r) ≡ re_found ρ (or_next o i r)
-    joined none r = refl
-    joined (some h) r = refl
+    joined None r = refl
+    joined (Some h) r = refl
 
 module _ (p : Patch) (ρ : ℕ → ℕ) (k₀ k : Side) (L : Link p ρ k₀ k) where
   abbrev s : Bench
@@ -188,15 +188,15 @@ module _ (p : Patch) (ρ : ℕ → ℕ) (k₀ k : Side) (L : Link p ρ k₀ k) w
 
     index_same : (k : ℕ) → handle_at_index b u k ≡ ((handle_at_index s u k).0, re_parent (by ρ) (handle_at_index s u k).1)
     unfolding handle_at_index
-    index_same k = (λ i. said (index_was k i) (handle_was i) none) ∙ said_map (re_parent (by ρ)) (first (index_tests s u k)) (as_handle (get_or (slots_of s u) k (0, 0, none))) none
+    index_same k = (λ i. said (index_was k i) (handle_was i) None) ∙ said_map (re_parent (by ρ)) (first (index_tests s u k)) (as_handle (get_or (slots_of s u) k (0, 0, None))) None
       where
-        handle_was : as_handle (get_or (slots_of b u) k (0, 0, none)) ≡ re_parent (by ρ) (as_handle (get_or (slots_of s u) k (0, 0, none)))
-        handle_was = ap (λ (l : List Entry). as_handle (get_or l k (0, 0, none))) (slots_faces p (by ρ) s b L.closed L.faces u m) ∙ ap as_handle (get_or-map (re_entry (by ρ)) (slots_of s u) k (0, 0, none))
-            ∙ re_as ρ (get_or (slots_of s u) k (0, 0, none)) (get_or (slots_of s u) k (0, 0, none)).2
+        handle_was : as_handle (get_or (slots_of b u) k (0, 0, None)) ≡ re_parent (by ρ) (as_handle (get_or (slots_of s u) k (0, 0, None)))
+        handle_was = ap (λ (l : List Entry). as_handle (get_or l k (0, 0, None))) (slots_faces p (by ρ) s b L.closed L.faces u m) ∙ ap as_handle (get_or-map (re_entry (by ρ)) (slots_of s u) k (0, 0, None))
+            ∙ re_as ρ (get_or (slots_of s u) k (0, 0, None)) (get_or (slots_of s u) k (0, 0, None)).2
 
     next_same : (k : ℕ) → next_of b u k ≡ ((next_of s u k).0, re_found ρ (next_of s u k).1)
     unfolding next_of
-    next_same k = (λ i. said (index_was k i) (next_was i) (0, none)) ∙ said_map (re_found ρ) (first (index_tests s u k)) (next_from 0 k (slots_of s u)) (0, none)
+    next_same k = (λ i. said (index_was k i) (next_was i) (0, None)) ∙ said_map (re_found ρ) (first (index_tests s u k)) (next_from 0 k (slots_of s u)) (0, None)
       where
         next_was : next_from 0 k (slots_of b u) ≡ re_found ρ (next_from 0 k (slots_of s u))
         next_was = ap (next_from 0 k) (slots_faces p (by ρ) s b L.closed L.faces u m) ∙ next_faces ρ 0 k (slots_of s u)
@@ -238,12 +238,12 @@ module _ (p : Patch) (ρ : ℕ → ℕ) (k₀ k : Side) (L : Link p ρ k₀ k) w
 
   -- a group, or the one that was there
   present_map : (o : Option Group) → present (mapped F apart o) ≡ present o
-  present_map none = refl
-  present_map (some g) = refl
+  present_map None = refl
+  present_map (Some g) = refl
 
   else_map : (o : Option Group) (g : Group) → or_else (mapped F apart o) (map_group F g) ≡ map_group F (or_else o g)
-  else_map none g = refl
-  else_map (some h) g = refl
+  else_map None g = refl
+  else_map (Some h) g = refl
 
   add_same : (g : Group) (o : Obstacle) → ((c : Code) → In c (handles_of o) → mine p c.unit ≡ true) → add b (map_group F g) (map_obstacle F o) ≡ ((add s g o).0, map_group F (add s g o).1)
   unfolding add
@@ -293,8 +293,8 @@ module _ (p : Patch) (ρ : ℕ → ℕ) (k₀ k : Side) (L : Link p ρ k₀ k) w
       y = ask_true s z r₀ (holds s L.sound₀)
 
   in_was : (o : Option Handle) → name_in k.table (re_parent (by ρ) o) ≡ name_in k₀.table o
-  in_was none = refl
-  in_was (some h) = ap some (name_was h)
+  in_was None = refl
+  in_was (Some h) = ap Some (name_was h)
 
   -- a group by numbers, on either side
   group_was : (g : Group) → map_group (given_code k.table) g ≡ map_group F (map_group (given_code k₀.table) g)
@@ -341,8 +341,8 @@ module _ (p : Patch) (ρ : ℕ → ℕ) (k₀ k : Side) (L : Link p ρ k₀ k) w
   told_same (First n) w = ap counted (asked_same 0 _ _ (ap (first_vertex b) (node_was n) ∙ first_same (given k₀.table n) (mine_was n)))
   told_same (Vertices n out) w = ap listed (asked_same (0, out) _ _ (ap (λ (h : Handle). vertices_into b h out) (node_was n) ∙ vertices_same (given k₀.table n) (mine_was n) out))
   told_same (Belongs u n) w = ap truth (asked_same false _ _ (ap (belongs b u) (node_was n) ∙ belongs_same u (w u (here refl)) (given k₀.table n) (mine_was n)))
-  told_same (At u j) w = let q = asked_by none (re_parent (by ρ)) (name_in k.table) (name_in k₀.table) in_was (handle_at_index b u j) (handle_at_index s u j) (index_same u (w u (here refl)) j) in λ i. indexed (q.0 i, q.1 i)
-  told_same (Next u j) w = let q = asked_by {A = ℕ × Option Handle} {B = ℕ × Option Name} (0, none) (re_found ρ) (λ x. (x.0, name_in k.table x.1)) (λ x. (x.0, name_in k₀.table x.1)) (λ x i. (x.0, in_was x.1 i))
+  told_same (At u j) w = let q = asked_by None (re_parent (by ρ)) (name_in k.table) (name_in k₀.table) in_was (handle_at_index b u j) (handle_at_index s u j) (index_same u (w u (here refl)) j) in λ i. indexed (q.0 i, q.1 i)
+  told_same (Next u j) w = let q = asked_by {A = ℕ × Option Handle} {B = ℕ × Option Name} (0, None) (re_found ρ) (λ x. (x.0, name_in k.table x.1)) (λ x. (x.0, name_in k₀.table x.1)) (λ x i. (x.0, in_was x.1 i))
       (next_of b u j) (next_of s u j) (next_same u (w u (here refl)) j) in λ i. found (q.0 i, q.1 i)
   told_same (Sum u) w = ap amount (asked_same (pos 0) _ _ (sum_same u (w u (here refl))))
   told_same (Speed u) w = ap amount (asked_same (pos 0) _ _ (speed_same u (w u (here refl))))

@@ -1,6 +1,5 @@
 -- A run of two patches on one bench, and what the watched one sees of it. Assumes nothing.
-use Rattle.std.specs.Prelude.{ℕ, zero, suc, Bool, List, [], ◌∷◌, ◌++◌, map, ℤ}
-use Rattle.std.proofs.Math.Option.{Option, none, some}
+use Rattle.std.specs.Prelude.{ℕ, zero, suc, Bool, List, [], ◌∷◌, ◌++◌, map, ℤ, None, Option, Some}
 use Rattle.kinds.specs.declared.Obstacle.{Obstacle}
 use Rattle.ledger_spec.specs.Bench.{Handle, State, Bench}
 use Rattle.ledger_spec.specs.Calls.{Call, set_up_call}
@@ -76,8 +75,8 @@ number_of (kept r) = r.0
 
 -- a slot's handle; nothing where the slot was emptied
 abbrev pub name_in : Table → Option Handle → Option Name
-name_in t none = none
-name_in t (some h) = some (name_of t h)
+name_in t None = None
+name_in t (Some h) = Some (name_of t h)
 
 -- the patch's group as the ledger has it, and back
 abbrev pub lent : Table → Group → Group

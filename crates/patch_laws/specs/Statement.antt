@@ -1,6 +1,5 @@
 -- Ask 13: two patches share a bench, and neither disturbs what the other sees. Assumes nothing.
-use Rattle.std.specs.Prelude.{ℕ, ◌<◌, ◌^◌, ◌≡◌, ◌≢◌, List, [], ◌∷◌, length}
-use Rattle.std.proofs.Math.Option.{some}
+use Rattle.std.specs.Prelude.{ℕ, ◌<◌, ◌^◌, ◌≡◌, ◌≢◌, List, [], ◌∷◌, length, Some}
 use Rattle.ledger_spec.specs.Numbers.{WORN}
 use Rattle.patch_laws.specs.Patch.{Patch, Apart, Within, units_named, units_of, Table, given, name_of}
 use Rattle.patch_laws.specs.Runs.{Read, Value, Outer, Below, First, Vertices, Belongs, At, Next, Sum, Speed, Count, Present, Fills, Floored, Check, Strict, Picture, Empty, Active, Growth, Peek, Pop, Spare, Add, Extend, Seen, number_of, Step, theirs, ours, asked, sees, reached, opened, own}
@@ -59,4 +58,4 @@ TwoPatches =
 
 -- and numbers lose nothing: after any run, the handle that the patch was given as the j-th is written j
 abbrev pub RightNumbers : Type 0
-RightNumbers = (n : ℕ) (xs : List Step) (j : ℕ) → let t : Table = (reached (opened n) xs).table in j < length t → (name_of t (given t j)).number ≡ some j
+RightNumbers = (n : ℕ) (xs : List Step) (j : ℕ) → let t : Table = (reached (opened n) xs).table in j < length t → (name_of t (given t j)).number ≡ Some j

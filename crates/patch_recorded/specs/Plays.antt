@@ -1,7 +1,6 @@
 -- Ask 13 with growth over recordings among the steps: two patches share a bench, each may grow against recorded groups (ask 10), and neither disturbs what the
 -- other sees. Assumes nothing.
-use Rattle.std.specs.Prelude.{ℕ, ◌<◌, ◌^◌, ◌≡◌, ◌≢◌, List, [], ◌∷◌, ℤ}
-use Rattle.std.proofs.Math.Option.{Option}
+use Rattle.std.specs.Prelude.{ℕ, ◌<◌, ◌^◌, ◌≡◌, ◌≢◌, List, [], ◌∷◌, ℤ, Option}
 use Rattle.ledger_spec.specs.Numbers.{WORN}
 use Rattle.ledger_spec.specs.Groups.{Group}
 use Rattle.ledger_spec.specs.Answers.{answer}

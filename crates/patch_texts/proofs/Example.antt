@@ -1,11 +1,11 @@
 -- The theorem speaks of bytes that can be typed: an input of the watched patch alone, and one where the other patch's lines stand between. Its serials
 -- differ, the rest of its answers does not. Assumes nothing.
+use Rattle.std.specs.Prelude.{Some}
 use Prim.Native.Nat.{ℕ, zero, suc}
 use mathlib.Core.Path.{◌≡◌, refl, sym, ◌∙◌, ap}
 use mathlib.Core.Bool.{Bool, false}
 use mathlib.Core.List.{List, [], ◌∷◌, map}
 use native.Mathlib.Omega.{arith}
-use mathlib.Core.Option.{some}
 use lib.Dec.{eqb, ltb}
 use lib.ListN.{length, get_or, drop, replicate}
 use lib.IntN.{pos}
@@ -34,11 +34,11 @@ unfolding other watched
 disjoint u x y = omega (arith, ltb-true u 3 x, ltb-true 2 u y)
 
 pub alone : List Step
-alone = ours (some (D 3 8)) ∷ ours (some (D 3 9)) ∷ ours (some (G 3 (pos 2))) ∷ ours (some (B 3 (0 ∷ 1 ∷ []))) ∷ ours (some (E 3 2)) ∷ ours (some (K 3)) ∷ ours (some (E 3 2)) ∷ ours (some (D 9 1)) ∷ ours wrong ∷ []
+alone = ours (Some (D 3 8)) ∷ ours (Some (D 3 9)) ∷ ours (Some (G 3 (pos 2))) ∷ ours (Some (B 3 (0 ∷ 1 ∷ []))) ∷ ours (Some (E 3 2)) ∷ ours (Some (K 3)) ∷ ours (Some (E 3 2)) ∷ ours (Some (D 9 1)) ∷ ours wrong ∷ []
 
 pub shared : List Step
-shared = theirs (some (D 0 7)) ∷ ours (some (D 3 8)) ∷ theirs (some (D 1 7)) ∷ ours (some (D 3 9)) ∷ theirs (some (F 2 0 1)) ∷ theirs (some (E 2 2)) ∷ ours (some (G 3 (pos 2))) ∷ ours (some (B 3 (0 ∷ 1 ∷ []))) ∷ theirs wrong ∷ ours (some (E 3 2)) ∷ theirs (some (C 2)) ∷ ours (some (K 3))
-    ∷ theirs (some (K 2)) ∷ ours (some (E 3 2)) ∷ ours (some (D 9 1)) ∷ ours wrong ∷ []
+shared = theirs (Some (D 0 7)) ∷ ours (Some (D 3 8)) ∷ theirs (Some (D 1 7)) ∷ ours (Some (D 3 9)) ∷ theirs (Some (F 2 0 1)) ∷ theirs (Some (E 2 2)) ∷ ours (Some (G 3 (pos 2))) ∷ ours (Some (B 3 (0 ∷ 1 ∷ []))) ∷ theirs wrong ∷ ours (Some (E 3 2)) ∷ theirs (Some (C 2)) ∷ ours (Some (K 3))
+    ∷ theirs (Some (K 2)) ∷ ours (Some (E 3 2)) ∷ ours (Some (D 9 1)) ∷ ours wrong ∷ []
 
 pub alone_input : List ℕ
 alone_input = bytes "D 3 8\nD 3 9\nG 3 2\nB 3 1 2\nE 3 3\nK 3\nE 3 3\nD 9 1\nX\n"
@@ -47,10 +47,10 @@ pub shared_input : List ℕ
 shared_input = bytes "D 0 7\nD 3 8\nD 1 7\nD 3 9\nF 2 0 1\nE 2 2\nG 3 2\nB 3 2 4\n?\nE 3 5\nC 2\nK 3\nK 2\nE 3 5\nD 9 1\nX\n"
 
 abbrev alone_typed : List Line
-alone_typed = some (D 3 8) ∷ some (D 3 9) ∷ some (G 3 (pos 2)) ∷ some (B 3 (1 ∷ 2 ∷ [])) ∷ some (E 3 3) ∷ some (K 3) ∷ some (E 3 3) ∷ some (D 9 1) ∷ wrong ∷ []
+alone_typed = Some (D 3 8) ∷ Some (D 3 9) ∷ Some (G 3 (pos 2)) ∷ Some (B 3 (1 ∷ 2 ∷ [])) ∷ Some (E 3 3) ∷ Some (K 3) ∷ Some (E 3 3) ∷ Some (D 9 1) ∷ wrong ∷ []
 
 abbrev shared_typed : List Line
-shared_typed = some (D 0 7) ∷ some (D 3 8) ∷ some (D 1 7) ∷ some (D 3 9) ∷ some (F 2 0 1) ∷ some (E 2 2) ∷ some (G 3 (pos 2)) ∷ some (B 3 (2 ∷ 4 ∷ [])) ∷ wrong ∷ some (E 3 5) ∷ some (C 2) ∷ some (K 3) ∷ some (K 2) ∷ some (E 3 5) ∷ some (D 9 1) ∷ wrong ∷ []
+shared_typed = Some (D 0 7) ∷ Some (D 3 8) ∷ Some (D 1 7) ∷ Some (D 3 9) ∷ Some (F 2 0 1) ∷ Some (E 2 2) ∷ Some (G 3 (pos 2)) ∷ Some (B 3 (2 ∷ 4 ∷ [])) ∷ wrong ∷ Some (E 3 5) ∷ Some (C 2) ∷ Some (K 3) ∷ Some (K 2) ∷ Some (E 3 5) ∷ Some (D 9 1) ∷ wrong ∷ []
 
 alone_said : lines_of alone_input ≡ alone_typed
 unfolding run alone_input

@@ -1,7 +1,7 @@
 -- A serial has one place for good: after any calls, a node with the serial of a handle that was given out stands where the handle says. Assumes nothing.
+use Rattle.std.specs.Prelude.{None, Option, Some}
 use Prim.Native.Nat.{ℕ, ◌<◌}
 use mathlib.Core.Path.{◌≡◌, refl, sym, ◌∙◌, ap}
-use mathlib.Core.Option.{Option, none, some}
 use mathlib.Core.List.{List, [], ◌∷◌}
 use native.Mathlib.Omega.{arith}
 use Rattle.ledger_spec.specs.Bench.{Handle, Node, Bench}
@@ -24,19 +24,19 @@ at u s h = record { unit = u; slot = s; serial = h.serial }
 
 -- no other place has a node with the handle's serial
 abbrev pub Firm : Bench → Handle → Type 0
-Firm b h = (u s : ℕ) → ((u ≡ h.unit) × (s ≡ h.slot) → ⊥) → node_named b (at u s h) ≡ none
+Firm b h = (u s : ℕ) → ((u ≡ h.unit) × (s ≡ h.slot) → ⊥) → node_named b (at u s h) ≡ None
 
 pub firm_kept : (b : Bench) (c : Call) (h : Handle) → h.serial < b.next → Firm b h → Firm (answer b c).bench h
 unfolding turns turn
 firm_kept b c h l f u s q = never_again (record { bench = b; gone = λ w. [] }) (c ∷ []) (at u s h) l (f u s q)
 
 -- where a node stands with the handle's serial, no other does
-stands_firm : (b : Bench) → Sound b → (h : Handle) (n : Node) → slot_of b h.unit h.slot ≡ some n → n.serial ≡ h.serial → Firm b h
+stands_firm : (b : Bench) → Sound b → (h : Handle) (n : Node) → slot_of b h.unit h.slot ≡ Some n → n.serial ≡ h.serial → Firm b h
 stands_firm b S h n e k u s q = go (node_named b (at u s h)) refl
   where
-    go : (o : Option Node) → node_named b (at u s h) ≡ o → node_named b (at u s h) ≡ none
-    go none z = z
-    go (some x) z = let H : Has (slot_of b) (at u s h) x = node_has b (at u s h) x z in
+    go : (o : Option Node) → node_named b (at u s h) ≡ o → node_named b (at u s h) ≡ None
+    go None z = z
+    go (Some x) z = let H : Has (slot_of b) (at u s h) x = node_has b (at u s h) x z in
         absurd (q (S.sewn.knit.one u s h.unit h.slot x n H.stands e (H.serial ∙ sym k)))
 
 -- ---- what a creating call hands out
@@ -61,7 +61,7 @@ module _ (b : Bench) (S : Sound b) where
       low : u < 8
       low = (defect_passed b u (zero_tests b c z)).here.low
 
-      stands : slot_of (answer b c).bench (answer b c).node.unit (answer b c).node.slot ≡ some (defect_node b v)
+      stands : slot_of (answer b c).bench (answer b c).node.unit (answer b c).node.slot ≡ Some (defect_node b v)
       stands = (λ i. slot_of (zero_bench b c z i) (node i).unit (node i).slot) ∙ defect_at b u v (omega (arith, low, S.frame.eight))
 
   pub blossom_new : (u : ℕ) (hs : List Handle) (ts : List (Handle × Handle)) → (answer b (Blossom u hs ts)).number ≡ 0
@@ -81,5 +81,5 @@ module _ (b : Bench) (S : Sound b) where
       low : u < 8
       low = (blossom_passed b u hs ts (zero_tests b c z)).here.low
 
-      stands : slot_of (answer b c).bench (answer b c).node.unit (answer b c).node.slot ≡ some (blossom_node b hs ts)
+      stands : slot_of (answer b c).bench (answer b c).node.unit (answer b c).node.slot ≡ Some (blossom_node b hs ts)
       stands = (λ i. slot_of (zero_bench b c z i) (node i).unit (node i).slot) ∙ blossom_at b u hs ts (omega (arith, low, S.frame.eight))

@@ -1,9 +1,9 @@
 -- A page of lines beside the handles that its calls hand out: each line of the patch answers as its call by handles does. Assumes nothing.
+use Rattle.std.specs.Prelude.{Option, Some}
 use Prim.Native.Nat.{ℕ, zero, suc, ◌<◌}
 use mathlib.Core.Path.{◌≡◌, refl, sym, ◌∙◌, ap, ap₂, subst}
 use mathlib.Core.Logic.{◌⊎◌, inl, inr}
 use mathlib.Core.Bool.{Bool, true, false, ◌||◌}
-use mathlib.Core.Option.{Option, some}
 use mathlib.Core.List.{List, [], ◌∷◌, ◌++◌, map, map-append}
 use lib.Dec.{eqb}
 use lib.IntN.{ℤ, pos}
@@ -89,47 +89,47 @@ pub record Says (l : Line) (c : Script) (u : ℕ) : Type 0 where
   pub units : units_of c ≡ units_in l
   pub by : (t : Serials) (k : ℕ) → field t l k ≡ number_from 0 t k
 
-pub d_says : (u v : ℕ) → Says (some (D u v)) (Defect u v) u
+pub d_says : (u v : ℕ) → Says (Some (D u v)) (Defect u v) u
 unfolding says spelled written line_calls
 d_says u v = record { call = λ k S f. refl; hands = hands; units = refl; by = λ t k. refl }
   where
-    hands : (n : ℕ) (h : Handle) → handed (some (D u v)) n h.serial ≡ map serial_of (made (Defect u v) n h)
+    hands : (n : ℕ) (h : Handle) → handed (Some (D u v)) n h.serial ≡ map serial_of (made (Defect u v) n h)
     hands zero h = refl
     hands (suc n) h = refl
 
-pub b_says : (u : ℕ) (ks : List ℕ) → Says (some (B u ks)) (Blossom u ks []) u
+pub b_says : (u : ℕ) (ks : List ℕ) → Says (Some (B u ks)) (Blossom u ks []) u
 unfolding says spelled written line_calls
 b_says u ks = record { call = call; hands = hands; units = refl; by = λ t k. refl }
   where
-    hands : (n : ℕ) (h : Handle) → handed (some (B u ks)) n h.serial ≡ map serial_of (made (Blossom u ks []) n h)
+    hands : (n : ℕ) (h : Handle) → handed (Some (B u ks)) n h.serial ≡ map serial_of (made (Blossom u ks []) n h)
     hands zero h = refl
     hands (suc n) h = refl
 
-    call : (k : Side) → Sound k.bench → ((h : Handle) → In h k.table → Firm k.bench h) → says k.bench (spelled (map serial_of k.table) (some (B u ks))) ≡ line_of (answer_to k (Blossom u ks [])) u
+    call : (k : Side) → Sound k.bench → ((h : Handle) → In h k.table → Firm k.bench h) → says k.bench (spelled (map serial_of k.table) (Some (B u ks))) ≡ line_of (answer_to k (Blossom u ks [])) u
     call k Z f = ap (λ (hs : List Handle). line_of (answer k.bench (calls.Blossom u hs [])) u) (map_map (serial_at (map serial_of k.table)) (named k.bench) finds (λ x. refl) ks)
         ∙ ap (λ (a : Answer). line_of a u) (blossom_twins k.bench Z u finds (given k.table) (λ x. twin_at k.bench Z k.table f x) ks)
       where
         finds : ℕ → Handle
         finds x = named k.bench (serial_at (map serial_of k.table) x)
 
-pub e_says : (u i : ℕ) → Says (some (E u i)) (Expand u i) u
+pub e_says : (u i : ℕ) → Says (Some (E u i)) (Expand u i) u
 unfolding says spelled written line_calls
 e_says u i = record { call = λ k Z f. ap (λ (a : Answer). line_of a u) (expand_twins k.bench Z u _ _ (twin_at k.bench Z k.table f i)); hands = λ n h. refl; units = refl; by = λ t k. refl }
 
-pub s_says : (u i : ℕ) (to : State) → Says (some (S u i to)) (SetState u i to) u
+pub s_says : (u i : ℕ) (to : State) → Says (Some (S u i to)) (SetState u i to) u
 unfolding says spelled written line_calls
 s_says u i to = record { call = λ k Z f. ap (λ (a : Answer). line_of a u) (state_twins k.bench Z u _ _ to (twin_at k.bench Z k.table f i)); hands = λ n h. refl; units = refl; by = λ t k. refl }
 
 module _ (u : ℕ) where
-  pub g_says : (l : ℤ) → Says (some (G u l)) (Grow u l) u
+  pub g_says : (l : ℤ) → Says (Some (G u l)) (Grow u l) u
   unfolding says spelled written line_calls
   g_says l = record { call = λ k Z f. refl; hands = λ n h. refl; units = refl; by = λ t k. refl }
 
-  pub f_says : (l r : ℕ) → Says (some (F u l r)) (Fuse u l r) u
+  pub f_says : (l r : ℕ) → Says (Some (F u l r)) (Fuse u l r) u
   unfolding says spelled written line_calls
   f_says l r = record { call = λ k Z f. refl; hands = λ n h. refl; units = refl; by = λ t k. refl }
 
-  pub c_says : Says (some (C u)) (Clear u) u
+  pub c_says : Says (Some (C u)) (Clear u) u
   unfolding says spelled written line_calls
   c_says = record { call = λ k Z f. refl; hands = λ n h. refl; units = refl; by = λ t k. refl }
 

@@ -1,10 +1,10 @@
 -- Two patches in one input: what a patch reads of its lines' answers is what it reads alone, so two inputs with the same lines of the patch, by numbers,
 -- give it the same. Assumes nothing.
+use Rattle.std.specs.Prelude.{None, Option, Some}
 use Prim.Native.Nat.{ℕ, suc, ◌<◌, ◌^◌}
 use mathlib.Core.Path.{◌≡◌, refl, sym, ◌∙◌, ap, ap₂, subst}
 use mathlib.Core.Logic.{◌≢◌}
 use mathlib.Core.Bool.{Bool, true, false, ◌||◌}
-use mathlib.Core.Option.{Option, none, some}
 use mathlib.Core.List.{List, [], ◌∷◌, ◌++◌, map, append-nil}
 use native.Mathlib.Omega.{arith}
 use lib.Dec.{eqb}
@@ -42,21 +42,21 @@ pub data Moves (b : Bench) (l : Line) : Type 0 where
 
 moves : (b : Bench) (l : Line) → Moves b l
 unfolding says calls checks
-moves b (some (D u v)) = moved (Defect u v) refl refl
-moves b (some (B u ks)) = moved (Blossom u (map (named b) ks) []) refl refl
-moves b (some (E u k)) = moved (Expand u (named b k)) refl refl
-moves b (some (S u k s)) = moved (SetState u (named b k) s) refl refl
-moves b (some (G u l)) = moved (Grow u l) refl refl
-moves b (some (F p l r)) = moved (Fuse p l r) refl refl
-moves b (some (C u)) = moved (Clear u) refl refl
-moves b (some (K u)) = still refl
-moves b none = still refl
+moves b (Some (D u v)) = moved (Defect u v) refl refl
+moves b (Some (B u ks)) = moved (Blossom u (map (named b) ks) []) refl refl
+moves b (Some (E u k)) = moved (Expand u (named b k)) refl refl
+moves b (Some (S u k s)) = moved (SetState u (named b k) s) refl refl
+moves b (Some (G u l)) = moved (Grow u l) refl refl
+moves b (Some (F p l r)) = moved (Fuse p l r) refl refl
+moves b (Some (C u)) = moved (Clear u) refl refl
+moves b (Some (K u)) = still refl
+moves b None = still refl
 
 -- ---- numbers do not feel a renaming
 numbers_same : (ρ : ℕ → ℕ) → ((i j : ℕ) → eqb (ρ i) (ρ j) ≡ eqb i j) → (n : ℕ) (t : List Handle) (k : ℕ) → number_from n (map serial_of (map (by ρ).handle t)) (ρ k) ≡ number_from n (map serial_of t) k
 unfolding number_from
 numbers_same ρ one n [] k = refl
-numbers_same ρ one n (h ∷ t) k = ap₂ (λ (c : Bool) (o : Option ℕ). elim c as (λ x. Option ℕ) [ true ↦ some n | false ↦ o ]) (one h.serial k) (numbers_same ρ one (suc n) t k)
+numbers_same ρ one n (h ∷ t) k = ap₂ (λ (c : Bool) (o : Option ℕ). elim c as (λ x. Option ℕ) [ true ↦ Some n | false ↦ o ]) (one h.serial k) (numbers_same ρ one (suc n) t k)
 
 module _ (p : Patch) (ρ : ℕ → ℕ) (k₀ k : Side) (L : Link p ρ k₀ k) where
   one : (i j : ℕ) → eqb (ρ i) (ρ j) ≡ eqb i j
@@ -84,17 +84,17 @@ module _ (p : Patch) (ρ : ℕ → ℕ) (k₀ k : Side) (L : Link p ρ k₀ k) w
 
 -- ---- a line that checks, or is wrong, by itself
 abbrev check_row : Bench → ℕ → ℕ × (ℕ × ℕ) → page.Read
-check_row b u r = (r.0, some r.1.0, paid (hidden r.0 b u) (interface b u).speed, paid (hidden r.0 b u) (interface b u).sum)
+check_row b u r = (r.0, Some r.1.0, paid (hidden r.0 b u) (interface b u).speed, paid (hidden r.0 b u) (interface b u).sum)
 
 module _ (k : Side) (q : Page) (N : Kin k q) where
-  check_is : (u : ℕ) → page.read_of q (some (K u)) ≡ check_row k.bench u (read k.bench (check_read k.bench u))
+  check_is : (u : ℕ) → page.read_of q (Some (K u)) ≡ check_row k.bench u (read k.bench (check_read k.bench u))
   unfolding page.read_of says spelled checks
-  check_is u = ap (λ (x : Four). (x.0, some x.1, x.2, x.3)) ((λ i. (says (N.bench i) (some (K u))).numbers) ∙ shown_is r.0 r.1.0 k.bench u)
+  check_is u = ap (λ (x : Four). (x.0, Some x.1, x.2, x.3)) ((λ i. (says (N.bench i) (Some (K u))).numbers) ∙ shown_is r.0 r.1.0 k.bench u)
     where
       r : ℕ × (ℕ × ℕ)
       r = read k.bench (check_read k.bench u)
 
-  check_kin : (u : ℕ) → Kin k (page.after q (some (K u)))
+  check_kin : (u : ℕ) → Kin k (page.after q (Some (K u)))
   unfolding page.after says spelled checks
   check_kin u = record { bench = N.bench; serials = append-nil q.serials ∙ N.serials; firm = N.firm; old = N.old }
 
@@ -121,8 +121,8 @@ module _ (p : Patch) (ρ : ℕ → ℕ) (k₀ k : Side) (L : Link p ρ k₀ k) (
         ∙ ap (λ (n : ℕ). read_row (map serial_of (after k₀ c).table) n (answer_to k₀ c).node.serial (answer_to k₀ c).bench u) T.number ∙ sym (read_is k₀ q₀ N₀ L.sound₀ Y)
 
   -- that checks, or is wrong: the page does not change
-  check_read_lem : (u : ℕ) → mine p u ≡ true → page.read_of q (some (K u)) ≡ page.read_of q₀ (some (K u))
-  check_read_lem u m = check_is k q N₁ u ∙ (λ i. (n, some r.1.0, speed_was p ρ k₀ k L u m n i, sum_was p ρ k₀ k L u m n i)) ∙ ap (check_row k₀.bench u) (check_was p ρ k₀ k L u m) ∙ sym (check_is k₀ q₀ N₀ u)
+  check_read_lem : (u : ℕ) → mine p u ≡ true → page.read_of q (Some (K u)) ≡ page.read_of q₀ (Some (K u))
+  check_read_lem u m = check_is k q N₁ u ∙ (λ i. (n, Some r.1.0, speed_was p ρ k₀ k L u m n i, sum_was p ρ k₀ k L u m n i)) ∙ ap (check_row k₀.bench u) (check_was p ρ k₀ k L u m) ∙ sym (check_is k₀ q₀ N₀ u)
     where
       r : ℕ × (ℕ × ℕ)
       r = read k.bench (check_read k.bench u)
@@ -156,15 +156,15 @@ module _ (a p : Patch) (apart : Apart a p) where
     by_nothing l e M₀ M₁ x = ap₂ ◌∷◌ e (rest ρ k₀ k L (page.after q₀ l) (page.after q l) M₀ M₁ fit x.1)
 
     by_line : (l : Line) → Each p (units_in l) → Unworn (reads q (ours l ∷ xs)) → reads q (ours l ∷ xs) ≡ reads q₀ (own (ours l ∷ xs))
-    by_line (some (D u v)) w x = by_call (d_says u v) (here refl) w x
-    by_line (some (B u ks)) w x = by_call (b_says u ks) (here refl) w x
-    by_line (some (E u i)) w x = by_call (e_says u i) (here refl) w x
-    by_line (some (S u i t)) w x = by_call (s_says u i t) (here refl) w x
-    by_line (some (G u l)) w x = by_call (g_says u l) (here refl) w x
-    by_line (some (F u l r)) w x = by_call (f_says u l r) (here refl) w x
-    by_line (some (C u)) w x = by_call (c_says u) (here refl) w x
-    by_line (some (K u)) w x = by_nothing (some (K u)) (check_read_lem p ρ k₀ k L q₀ q N₀ N₁ u (w u (here refl))) (check_kin k₀ q₀ N₀ u) (check_kin k q N₁ u) x
-    by_line none w x = by_nothing wrong (wrong_read p ρ k₀ k L q₀ q N₀ N₁) (wrong_kin k₀ q₀ N₀) (wrong_kin k q N₁) x
+    by_line (Some (D u v)) w x = by_call (d_says u v) (here refl) w x
+    by_line (Some (B u ks)) w x = by_call (b_says u ks) (here refl) w x
+    by_line (Some (E u i)) w x = by_call (e_says u i) (here refl) w x
+    by_line (Some (S u i t)) w x = by_call (s_says u i t) (here refl) w x
+    by_line (Some (G u l)) w x = by_call (g_says u l) (here refl) w x
+    by_line (Some (F u l r)) w x = by_call (f_says u l r) (here refl) w x
+    by_line (Some (C u)) w x = by_call (c_says u) (here refl) w x
+    by_line (Some (K u)) w x = by_nothing (Some (K u)) (check_read_lem p ρ k₀ k L q₀ q N₀ N₁ u (w u (here refl))) (check_kin k₀ q₀ N₀ u) (check_kin k q N₁ u) x
+    by_line None w x = by_nothing wrong (wrong_read p ρ k₀ k L q₀ q N₀ N₁) (wrong_kin k₀ q₀ N₀) (wrong_kin k q N₁) x
 
     by_other : (l : Line) → Each a (units_in l) → Unworn (reads q (theirs l ∷ xs)) → reads q (theirs l ∷ xs) ≡ reads q₀ (own (theirs l ∷ xs))
     unfolding reads own
@@ -212,7 +212,7 @@ two_inputs a p apart xs ys fx fy e wx wy i j x y = from xs i x ∙ ap (map bare)
     from zs o z = ap₂ (λ (b : Bench) (l : List Line). map but_serial (own_of zs (answers b l))) (sym opened_one) z ∙ printed (page.opened 1) zs
 
 -- an input whose first line chooses no engine
-open_lazy : (l : List ℕ) (ls : List (List ℕ)) → chosen l ≡ none → open_answers (l ∷ ls) ≡ answers (set_up 1) (ended (l ∷ ls))
+open_lazy : (l : List ℕ) (ls : List (List ℕ)) → chosen l ≡ None → open_answers (l ∷ ls) ≡ answers (set_up 1) (ended (l ∷ ls))
 unfolding open_answers answers ended
 open_lazy l [] e = refl
 open_lazy l (m ∷ ls) e = ap (λ (o : LineAnswer). o.numbers ∷ answers o.bench (ended (m ∷ ls))) (opening_none l e)
@@ -221,5 +221,5 @@ pub two_programs : TwoPrograms
 unfolding lines_of
 two_programs a p apart xs ys fx fy e wx wy i j x y u v = as_lines xs i u ∙ two_inputs a p apart xs ys fx fy e wx wy i j x y ∙ sym (as_lines ys j v)
   where
-    as_lines : (zs : List Step) (o : List ℕ) → chosen (upto 10 o) ≡ none → map but_serial (own_of zs (open_answers (cut 10 o))) ≡ map but_serial (own_of zs (answers (set_up 1) (lines_of o)))
+    as_lines : (zs : List Step) (o : List ℕ) → chosen (upto 10 o) ≡ None → map but_serial (own_of zs (open_answers (cut 10 o))) ≡ map but_serial (own_of zs (answers (set_up 1) (lines_of o)))
     as_lines zs o c = ap (λ (t : List (ℕ × ℕ × ℤ × ℤ)). map but_serial (own_of zs t)) (open_lazy (upto 10 o) (parts_after 10 o) c)

@@ -1,10 +1,10 @@
 -- A line finds a node by its serial: the node of the handle that was given out, or none where that is stale; either way a call answers the same.
 -- Assumes nothing.
+use Rattle.std.specs.Prelude.{None, Option, Some}
 use Prim.Native.Nat.{ℕ, zero, suc}
 use mathlib.Core.Path.{◌≡◌, refl, sym, ◌∙◌, ap, ap₂, subst}
 use mathlib.Core.Logic.{◌≢◌, ◌⊎◌, inl, inr}
 use mathlib.Core.Bool.{Bool, true, false, ◌||◌, not}
-use mathlib.Core.Option.{Option, none, some}
 use mathlib.Core.List.{List, [], ◌∷◌, ◌++◌, map}
 use native.Mathlib.Omega.{arith}
 use native.Mathlib.Decide.{ℕ_discrete}
@@ -34,27 +34,27 @@ abbrev pub Twin : Bench → Handle → Handle → Type 0
 Twin b g h = (g ≡ h) ⊎ ((stale b g ≡ true) × (stale b h ≡ true))
 
 module _ (b : Bench) (S : Sound b) where
-  gone : (h : Handle) → node_named b h ≡ none → stale b h ≡ true
+  gone : (h : Handle) → node_named b h ≡ None → stale b h ≡ true
   gone h e = ap (λ (o : Option Node). not (is_some o)) e
 
-  no_eighth : (k : ℕ) → node_named b (record { unit = 8; slot = 0; serial = k }) ≡ none
+  no_eighth : (k : ℕ) → node_named b (record { unit = 8; slot = 0; serial = k }) ≡ None
   no_eighth k = go (node_named b (record { unit = 8; slot = 0; serial = k })) refl
     where
-      go : (o : Option Node) → node_named b (record { unit = 8; slot = 0; serial = k }) ≡ o → node_named b (record { unit = 8; slot = 0; serial = k }) ≡ none
-      go none e = e
-      go (some n) e = absurd (omega (arith, held_unit b S.frame 8 0 n (node_has b (record { unit = 8; slot = 0; serial = k }) n e).stands))
+      go : (o : Option Node) → node_named b (record { unit = 8; slot = 0; serial = k }) ≡ o → node_named b (record { unit = 8; slot = 0; serial = k }) ≡ None
+      go None e = e
+      go (Some n) e = absurd (omega (arith, held_unit b S.frame 8 0 n (node_has b (record { unit = 8; slot = 0; serial = k }) n e).stands))
 
   pub twin_of : (h : Handle) → Firm b h → Twin b (named b h.serial) h
   twin_of h f = go (node_named b h) refl
     where
       go : (o : Option Node) → node_named b h ≡ o → Twin b (named b h.serial) h
-      go (some n) e = let H = node_has b h n e in inl (named_one b h.serial S.frame S.sewn.knit h.unit h.slot n H.stands H.serial)
-      go none e = inr (ap (stale b) (named_none b h.serial nowhere_else) ∙ gone (record { unit = 8; slot = 0; serial = h.serial }) (no_eighth h.serial), gone h e)
+      go (Some n) e = let H = node_has b h n e in inl (named_one b h.serial S.frame S.sewn.knit h.unit h.slot n H.stands H.serial)
+      go None e = inr (ap (stale b) (named_none b h.serial nowhere_else) ∙ gone (record { unit = 8; slot = 0; serial = h.serial }) (no_eighth h.serial), gone h e)
         where
-          nowhere_else : (u s : ℕ) (x : Node) → slot_of b u s ≡ some x → x.serial ≡ h.serial → ⊥
+          nowhere_else : (u s : ℕ) (x : Node) → slot_of b u s ≡ Some x → x.serial ≡ h.serial → ⊥
           nowhere_else u s x q z = place (ℕ_discrete u h.unit) (ℕ_discrete s h.slot)
             where
-              is : node_named b (at u s h) ≡ some x
+              is : node_named b (at u s h) ≡ Some x
               is = has_node b (at u s h) x (record { stands = q; serial = z })
 
               place : Dec (u ≡ h.unit) → Dec (s ≡ h.slot) → ⊥

@@ -1,6 +1,5 @@
 -- Two patches in one input of the text program: neither disturbs what the other reads. Assumes nothing.
-use Rattle.std.specs.Prelude.{ℕ, ◌<◌, ◌^◌, ◌≡◌, ◌≢◌, List, [], ◌∷◌, map, ℤ}
-use Rattle.std.proofs.Math.Option.{none, some}
+use Rattle.std.specs.Prelude.{ℕ, ◌<◌, ◌^◌, ◌≡◌, ◌≢◌, List, [], ◌∷◌, map, ℤ, None, Some}
 use Rattle.ledger_spec.specs.Numbers.{WORN}
 use Rattle.ledger_spec.specs.Bench.{set_up}
 use Rattle.ledger_spec.specs.Fields.{upto, cut}
@@ -13,15 +12,15 @@ use Rattle.patch_texts.specs.Page.{Read, Step, theirs, ours, reads, lines, own, 
 
 -- the interfaces that a line names
 abbrev pub units_in : Line → List ℕ
-units_in (some (D u v)) = u ∷ []
-units_in (some (B u ks)) = u ∷ []
-units_in (some (E u k)) = u ∷ []
-units_in (some (S u k s)) = u ∷ []
-units_in (some (G u l)) = u ∷ []
-units_in (some (F p l r)) = p ∷ l ∷ r ∷ []
-units_in (some (C u)) = u ∷ []
-units_in (some (K u)) = u ∷ []
-units_in none = []
+units_in (Some (D u v)) = u ∷ []
+units_in (Some (B u ks)) = u ∷ []
+units_in (Some (E u k)) = u ∷ []
+units_in (Some (S u k s)) = u ∷ []
+units_in (Some (G u l)) = u ∷ []
+units_in (Some (F p l r)) = p ∷ l ∷ r ∷ []
+units_in (Some (C u)) = u ∷ []
+units_in (Some (K u)) = u ∷ []
+units_in None = []
 
 -- a line names interfaces of its own patch only; the other's serials may be any
 abbrev pub Fits : Patch → Patch → Step → Type 0
@@ -59,5 +58,5 @@ TwoInputs =
 abbrev pub TwoPrograms : Type 0
 TwoPrograms =
     (a p : Patch) → Apart a p → (xs ys : List Step) → AllFit a p xs → AllFit a p ys → own xs ≡ own ys → Unworn (reads (opened 1) xs) → Unworn (reads (opened 1) ys)
-    → (i j : List ℕ) → lines_of i ≡ lines (opened 1) xs → lines_of j ≡ lines (opened 1) ys → chosen (upto 10 i) ≡ none → chosen (upto 10 j) ≡ none
+    → (i j : List ℕ) → lines_of i ≡ lines (opened 1) xs → lines_of j ≡ lines (opened 1) ys → chosen (upto 10 i) ≡ None → chosen (upto 10 j) ≡ None
     → map but_serial (own_of xs (open_answers (cut 10 i))) ≡ map but_serial (own_of ys (open_answers (cut 10 j)))

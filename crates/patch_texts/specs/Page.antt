@@ -1,7 +1,6 @@
 -- Lines of two patches in one input, and what the watched patch reads of its answers. Its lines have numbers in place of serials: k is the k-th node that
 -- its lines made; the serial field of an answer is written so too. Assumes nothing.
-use Rattle.std.specs.Prelude.{ℕ, zero, suc, true, false, List, [], ◌∷◌, ◌++◌, map, eqb, get_or, ℤ}
-use Rattle.std.proofs.Math.Option.{Option, none, some}
+use Rattle.std.specs.Prelude.{ℕ, zero, suc, true, false, List, [], ◌∷◌, ◌++◌, map, eqb, get_or, ℤ, None, Option, Some}
 use Rattle.ledger_spec.specs.Bench.{Bench}
 use Rattle.ledger_spec.specs.Calls.{set_up_call}
 use Rattle.ledger_spec.specs.Operations.{D, B, E, S, G, F, C, K}
@@ -17,46 +16,46 @@ serial_at t k = get_or t k 0
 
 -- a line with serials in place of numbers
 unfoldable pub spelled : Serials → Line → Line
-spelled t (some (D u v)) = some (D u v)
-spelled t (some (B u ks)) = some (B u (map (serial_at t) ks))
-spelled t (some (E u k)) = some (E u (serial_at t k))
-spelled t (some (S u k s)) = some (S u (serial_at t k) s)
-spelled t (some (G u l)) = some (G u l)
-spelled t (some (F p l r)) = some (F p l r)
-spelled t (some (C u)) = some (C u)
-spelled t (some (K u)) = some (K u)
-spelled t none = none
+spelled t (Some (D u v)) = Some (D u v)
+spelled t (Some (B u ks)) = Some (B u (map (serial_at t) ks))
+spelled t (Some (E u k)) = Some (E u (serial_at t k))
+spelled t (Some (S u k s)) = Some (S u (serial_at t k) s)
+spelled t (Some (G u l)) = Some (G u l)
+spelled t (Some (F p l r)) = Some (F p l r)
+spelled t (Some (C u)) = Some (C u)
+spelled t (Some (K u)) = Some (K u)
+spelled t None = None
 
 -- an accepted creating line hands out a serial
 abbrev pub handed : Line → ℕ → ℕ → Serials
-handed (some (D u v)) zero k = k ∷ []
-handed (some (D u v)) (suc n) k = []
-handed (some (B u ks)) zero k = k ∷ []
-handed (some (B u ks)) (suc n) k = []
-handed (some (E u i)) n k = []
-handed (some (S u i s)) n k = []
-handed (some (G u l)) n k = []
-handed (some (F p l r)) n k = []
-handed (some (C u)) n k = []
-handed (some (K u)) n k = []
-handed none n k = []
+handed (Some (D u v)) zero k = k ∷ []
+handed (Some (D u v)) (suc n) k = []
+handed (Some (B u ks)) zero k = k ∷ []
+handed (Some (B u ks)) (suc n) k = []
+handed (Some (E u i)) n k = []
+handed (Some (S u i s)) n k = []
+handed (Some (G u l)) n k = []
+handed (Some (F p l r)) n k = []
+handed (Some (C u)) n k = []
+handed (Some (K u)) n k = []
+handed None n k = []
 
 -- and back: the number of a serial, none where the patch was not handed it
 unfoldable pub number_from : ℕ → Serials → ℕ → Option ℕ
-number_from n [] k = none
-number_from n (x ∷ t) k = elim (eqb x k) [ true ↦ some n | false ↦ number_from (suc n) t k ]
+number_from n [] k = None
+number_from n (x ∷ t) k = elim (eqb x k) [ true ↦ Some n | false ↦ number_from (suc n) t k ]
 
 -- the second field as the patch reads it: a verdict as it is, a serial by its number
 abbrev pub field : Serials → Line → ℕ → Option ℕ
-field t (some (D u v)) k = number_from 0 t k
-field t (some (B u ks)) k = number_from 0 t k
-field t (some (E u i)) k = number_from 0 t k
-field t (some (S u i s)) k = number_from 0 t k
-field t (some (G u l)) k = number_from 0 t k
-field t (some (F p l r)) k = number_from 0 t k
-field t (some (C u)) k = number_from 0 t k
-field t (some (K u)) k = some k
-field t none k = number_from 0 t k
+field t (Some (D u v)) k = number_from 0 t k
+field t (Some (B u ks)) k = number_from 0 t k
+field t (Some (E u i)) k = number_from 0 t k
+field t (Some (S u i s)) k = number_from 0 t k
+field t (Some (G u l)) k = number_from 0 t k
+field t (Some (F p l r)) k = number_from 0 t k
+field t (Some (C u)) k = number_from 0 t k
+field t (Some (K u)) k = Some k
+field t None k = number_from 0 t k
 
 -- ---- a line by line account: the bench, and the serials that the patch was handed
 pub record Page : Type 0 where

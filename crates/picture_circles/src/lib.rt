@@ -46,10 +46,8 @@ fn put_member(
         return picture_pieces::put_number(out, at, index[q]);
     }
     let n = bench_words::load_node(b, q);
-    let left = n.left;
-    let right = n.right;
-    let i = index_of(b, unit, index, left);
-    let j = index_of(b, unit, index, right);
+    let i = index_of(b, unit, index, n.left);
+    let j = index_of(b, unit, index, n.right);
     let p = picture_pieces::put(out, at, b"[");
     let x = picture_pieces::put_number(out, p, i);
     let y = picture_pieces::put(out, x, b",");
@@ -76,15 +74,13 @@ pub fn put_circle(
     let n = bench_words::load_node(b, k);
     let mut r = picture_pieces::put(out, at, b"[");
     let mut p = n.first;
-    let mut m = n.count;
     let mut i: u64 = 0;
-    while 0 < m {
+    for _ in 0..n.count {
         let q = p as usize;
         let s = picture_pieces::put_comma(out, r, i);
         r = put_member(b, unit, index, out, s, q, touching);
         let x = bench_words::load_node(b, q);
         p = x.next;
-        m = m - 1;
         i = 1;
     }
     picture_pieces::put(out, r, b"]")

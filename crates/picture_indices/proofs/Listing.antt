@@ -1,9 +1,9 @@
 -- From the last slot to the first: what stands at a position is the index among the slots passed, as the definition searches them. Assumes nothing.
+use Rattle.std.specs.Prelude.{None, Option}
 use Prim.Native.Nat.{ℕ, suc, ◌+◌, ◌-◌, ◌*◌, ◌/◌, ◌%◌, ◌<◌, ◌≤◌}
 use mathlib.Core.Path.{◌≡◌, refl, ap, sym, ◌∙◌, subst}
 use mathlib.Core.Bool.{Bool, true, false, ◌&&◌}
 use mathlib.Core.Logic.{by_cases}
-use mathlib.Core.Option.{Option, none}
 use mathlib.Core.List.{List, [], ◌∷◌}
 use native.Mathlib.Decide.{ℕ_discrete}
 use native.Mathlib.Omega.{arith}
@@ -64,14 +64,14 @@ module _ (b : List ℕ) (unit : ℕ) (ps : List ℕ) (count : ℕ) (P : Places b
     low_place : p < 512
     low_place = let I : AtIndex b unit k p = P.at k l in let u = I.low in omega arith
 
-    split : drop k (slots_of (view b) unit) ≡ (p / 64, p % 64, (get_or (slots_of (view b) unit) k (0, 0, none)).2) ∷ drop (suc k) (slots_of (view b) unit)
+    split : drop k (slots_of (view b) unit) ≡ (p / 64, p % 64, (get_or (slots_of (view b) unit) k (0, 0, None)).2) ∷ drop (suc k) (slots_of (view b) unit)
     split =
         let I : AtIndex b unit k p = P.at k l in
-        let e : get_or (slots_of (view b) unit) k (0, 0, none) ≡ (p / 64, p % 64, (get_or (slots_of (view b) unit) k (0, 0, none)).2) = I.at ∙ ap (λ (t : Entry). (p / 64, p % 64, t.2)) (sym I.at) in
-        drop-cons (slots_of (view b) unit) k (0, 0, none) I.inside ∙ ap (λ (t : Entry). t ∷ drop (suc k) (slots_of (view b) unit)) e
+        let e : get_or (slots_of (view b) unit) k (0, 0, None) ≡ (p / 64, p % 64, (get_or (slots_of (view b) unit) k (0, 0, None)).2) = I.at ∙ ap (λ (t : Entry). (p / 64, p % 64, t.2)) (sym I.at) in
+        drop-cons (slots_of (view b) unit) k (0, 0, None) I.inside ∙ ap (λ (t : Entry). t ∷ drop (suc k) (slots_of (view b) unit)) e
 
     abbrev slot : Entry
-    slot = (p / 64, p % 64, (get_or (slots_of (view b) unit) k (0, 0, none)).2)
+    slot = (p / 64, p % 64, (get_or (slots_of (view b) unit) k (0, 0, None)).2)
 
     abbrev later : List Entry
     later = drop (suc k) (slots_of (view b) unit)

@@ -12,9 +12,7 @@ pub fn indices(b: &[u64; WORDS], unit: usize, places: &[usize; 512], count: usiz
     ensures { Indices b.now unit result }
 {
     let mut index = [0u64; 512];
-    let mut k = count;
-    while 0 < k {
-        k = k - 1;
+    for k in (0..count).rev() {
         let p = places[k];
         index[p] = k as u64;
     }

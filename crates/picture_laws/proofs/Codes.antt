@@ -1,10 +1,10 @@
 -- Texts of which the beginning of a longer one says what it is of: decimals before a byte that is no digit, signed numbers, lists. Assumes nothing.
+use Rattle.std.specs.Prelude.{Some}
 use Prim.Native.Nat.{ℕ, zero, suc, ◌+◌, ◌/◌, ◌%◌, ◌≤◌, ◌<◌}
 use native.Mathlib.Omega.{arith}
 use native.Mathlib.Decide.{dec_lt}
 use mathlib.Core.Path.{◌≡◌, refl, sym, ◌∙◌, ap, ap₂, subst}
 use mathlib.Core.Bool.{Bool, true, false, ◌&&◌, true≢false}
-use mathlib.Core.Option.{some}
 use mathlib.Core.List.{List, [], ◌∷◌, ◌++◌, append_assoc, map}
 use lib.Dec.{leb}
 use lib.IntN.{ℤ, pos, negsuc}
@@ -81,7 +81,7 @@ spans (more d r) (more d₂ r₂) s t p q e =
     let i = spans r r₂ s t p q (tails e) in (ap₂ (λ (x : ℕ) (y : List ℕ). x ∷ y) (heads e) i.0, i.1)
 
 pub one_number : (m n : ℕ) → decimal m ≡ decimal n → m ≡ n
-one_number m n e = let r : some m ≡ some n = sym (read_back m) ∙ ap natural e ∙ read_back n in cc
+one_number m n e = let r : Some m ≡ Some n = sym (read_back m) ∙ ap natural e ∙ read_back n in cc
 
 pub decimal_tells : Tells decimal (λ (n : ℕ). n)
 decimal_tells m n s t p q e = let r = spans (digits m) (digits n) s t p q e in (one_number m n r.0, r.1)

@@ -1,10 +1,10 @@
 -- A picture determines what it shows: with the same names, two interfaces with one text have the same speed, sum, states, classes, circles, touching indices
 -- and parents. It needs neither a sound bench nor a check of 0. Assumes nothing.
+use Rattle.std.specs.Prelude.{None, Option, Some}
 use Prim.Native.Nat.{ℕ}
 use native.Mathlib.Omega.{arith}
 use mathlib.Core.Path.{◌≡◌, refl, sym, ◌∙◌, ap, ap₂}
 use mathlib.Core.Bool.{Bool}
-use mathlib.Core.Option.{Option, none, some}
 use mathlib.Core.List.{List, [], ◌∷◌, ◌++◌, append_assoc, map}
 use Rattle.ledger_spec.specs.Bench.{State, grows, stays, shrinks, Bench}
 use Rattle.ledger_spec.specs.Bytes.{bytes}
@@ -65,10 +65,10 @@ state_tells shrinks stays s t e = let h : ◌≡◌ {A = ℕ} 104 116 = heads (t
 
 parent_tells : Tells parent_text (λ (p : Option ℕ). p)
 unfolding parent_text bytes
-parent_tells none none s t p q e = (refl, tails (tails (tails (tails e))))
-parent_tells none (some n) s t p q e = absurd (not_digit (digits n) 110 t (117 ∷ 108 ∷ 108 ∷ s) refl (sym e))
-parent_tells (some m) none s t p q e = absurd (not_digit (digits m) 110 s (117 ∷ 108 ∷ 108 ∷ t) refl e)
-parent_tells (some m) (some n) s t p q e = let r = decimal_tells m n s t p q e in (ap some r.0, r.1)
+parent_tells None None s t p q e = (refl, tails (tails (tails (tails e))))
+parent_tells None (Some n) s t p q e = absurd (not_digit (digits n) 110 t (117 ∷ 108 ∷ 108 ∷ s) refl (sym e))
+parent_tells (Some m) None s t p q e = absurd (not_digit (digits m) 110 s (117 ∷ 108 ∷ 108 ∷ t) refl e)
+parent_tells (Some m) (Some n) s t p q e = let r = decimal_tells m n s t p q e in (ap Some r.0, r.1)
 
 -- a list does not begin as null does
 not_null : {A : Type 0} (f : A → List ℕ) (xs : List A) (r t : List ℕ) → array f xs ++ r ≡ 110 ∷ t → ⊥
@@ -127,15 +127,15 @@ module _ (ns : Names) where
 
   slot_tells : Tells (slot_text ns) (λ (n : Option Seen). n)
   unfolding slot_text bytes
-  slot_tells none none s t p q e = (refl, tails (tails (tails (tails e))))
-  slot_tells none (some n) s t p q e = let h : ◌≡◌ {A = ℕ} 110 123 = heads (e ∙ node_split n t) in absurd (omega arith)
-  slot_tells (some m) none s t p q e = let h : ◌≡◌ {A = ℕ} 123 110 = heads (sym (node_split m s) ∙ e) in absurd (omega arith)
-  slot_tells (some m) (some n) s t p q e = let r = node_tells m n s t p q e in (ap some r.0, r.1)
+  slot_tells None None s t p q e = (refl, tails (tails (tails (tails e))))
+  slot_tells None (Some n) s t p q e = let h : ◌≡◌ {A = ℕ} 110 123 = heads (e ∙ node_split n t) in absurd (omega arith)
+  slot_tells (Some m) None s t p q e = let h : ◌≡◌ {A = ℕ} 123 110 = heads (sym (node_split m s) ∙ e) in absurd (omega arith)
+  slot_tells (Some m) (Some n) s t p q e = let r = node_tells m n s t p q e in (ap Some r.0, r.1)
 
   slot_opens : Opens (slot_text ns)
   unfolding slot_text bytes
-  slot_opens none s t e = let h : ◌≡◌ {A = ℕ} 110 93 = heads e in omega arith
-  slot_opens (some n) s t e = let h : ◌≡◌ {A = ℕ} 123 93 = heads (sym (node_split n s) ∙ e) in omega arith
+  slot_opens None s t e = let h : ◌≡◌ {A = ℕ} 110 93 = heads e in omega arith
+  slot_opens (Some n) s t e = let h : ◌≡◌ {A = ℕ} 123 93 = heads (sym (node_split n s) ∙ e) in omega arith
 
   same_map : (xs ys : List (Option Seen)) → map (λ (n : Option Seen). n) xs ≡ map (λ (n : Option Seen). n) ys → xs ≡ ys
   same_map xs ys e = sym (plain xs) ∙ e ∙ plain ys

@@ -1,8 +1,8 @@
 -- Along the slots: what is left of their list comes after what is put. Assumes nothing.
+use Rattle.std.specs.Prelude.{None, Option}
 use Prim.Native.Nat.{ℕ, suc, ◌+◌, ◌<◌, ◌≤◌}
 use mathlib.Core.Path.{ap, sym, subst}
 use mathlib.Core.Bool.{Bool}
-use mathlib.Core.Option.{Option, none}
 use mathlib.Core.List.{List, [], ◌∷◌, ◌++◌, map}
 use native.Mathlib.Numerals.{add-one}
 use native.Mathlib.Omega.{arith}
@@ -39,10 +39,10 @@ module _ (b : List ℕ) (unit : ℕ) (ps : List ℕ) (count : ℕ) (P : Places b
   slots = slots_of (view b) unit
 
   pub along_on : k < count → (o₁ : List ℕ) (q : ℕ) (o₂ : List ℕ) (s : ℕ) → Drawn o' r (comma i) o₁ q
-      → Drawn o₁ q (slot_text (names_by a) (slot_seen_by (view b) unit (get_or slots k (0, 0, none)))) o₂ s → Along b unit a o at o₂ s (k + 1) 1
+      → Drawn o₁ q (slot_text (names_by a) (slot_seen_by (view b) unit (get_or slots k (0, 0, None)))) o₂ s → Along b unit a o at o₂ s (k + 1) 1
   along_on l o₁ q o₂ s v d = subst (λ (j : ℕ). Along b unit a o at o₂ s j 1) (sym (add-one k)) (record {
-    text = items_on (slot_text (names_by a)) i (slot_seen_by (view b) unit (get_or slots k (0, 0, none))) (map (slot_seen_by (view b) unit) (drop (suc k) slots)) close
-        (relabel (ap (after b unit a i) (drop-cons slots k (0, 0, none) (omega (arith, P.count)))) G.text) v d;
+    text = items_on (slot_text (names_by a)) i (slot_seen_by (view b) unit (get_or slots k (0, 0, None))) (map (slot_seen_by (view b) unit) (drop (suc k) slots)) close
+        (relabel (ap (after b unit a i) (drop-cons slots k (0, 0, None) (omega (arith, P.count)))) G.text) v d;
   })
 
   pub along_ends : count ≤ k → (o₀ : List ℕ) (at₀ : ℕ) → Drawn o₀ at₀ (91 ∷ []) o at → (o₁ : List ℕ) (q : ℕ) → Drawn o' r close o₁ q

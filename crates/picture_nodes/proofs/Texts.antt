@@ -1,8 +1,8 @@
 -- The bytes that the code puts are those of the definition, by the names asked for. Assumes nothing.
+use Rattle.std.specs.Prelude.{None, Option, Some}
 use Prim.Native.Nat.{ℕ}
 use mathlib.Core.Path.{◌≡◌, refl}
 use mathlib.Core.Bool.{Bool, true, false}
-use mathlib.Core.Option.{Option, none, some}
 use mathlib.Core.List.{List, [], ◌∷◌, ◌++◌, append_assoc}
 use Rattle.ledger_spec.specs.Bench.{State}
 use Rattle.ledger_spec.specs.Bytes.{bytes}
@@ -13,7 +13,7 @@ use Rattle.picture_pieces.specs.Drawn.{either}
 use Rattle.picture_circles.specs.Member.{member_text}
 use Rattle.picture_nodes.specs.Rest.{shape_text, rest_text}
 
-pub null_text : (a : Bool) → 110 ∷ 117 ∷ 108 ∷ 108 ∷ [] ≡ slot_text (names_by a) none
+pub null_text : (a : Bool) → 110 ∷ 117 ∷ 108 ∷ 108 ∷ [] ≡ slot_text (names_by a) None
 unfolding slot_text bytes
 null_text a = refl
 
@@ -34,11 +34,11 @@ module _ (s : State) (p : Option ℕ) where
   rest_text_lem false = refl
 
   pub defect_text : (v : ℕ) (a : Bool) → either a (123 ∷ 34 ∷ 111 ∷ 34 ∷ 58 ∷ 110 ∷ 117 ∷ 108 ∷ 108 ∷ 44 ∷ 34 ∷ 116 ∷ 34 ∷ 58 ∷ 110 ∷ 117 ∷ 108 ∷ 108 ∷ 44 ∷ 34 ∷ 115 ∷ 34 ∷ 58 ∷ []) (123 ∷ 34 ∷ 98 ∷ 108 ∷ 111 ∷ 115 ∷ 115 ∷ 111 ∷ 109 ∷ 34 ∷ 58 ∷ 110 ∷ 117 ∷ 108 ∷ 108 ∷ 44 ∷ 34 ∷ 116 ∷ 111 ∷ 117 ∷ 99 ∷ 104 ∷ 105 ∷ 110 ∷ 103 ∷ 95 ∷ 99 ∷ 104 ∷ 105 ∷ 108 ∷ 100 ∷ 114 ∷ 101 ∷ 110 ∷ 34 ∷ 58 ∷ 110 ∷ 117 ∷ 108 ∷ 108 ∷ 44 ∷ 34 ∷ 100 ∷ 101 ∷ 102 ∷ 101 ∷ 99 ∷ 116 ∷ 95 ∷ 118 ∷ 101 ∷ 114 ∷ 116 ∷ 101 ∷ 120 ∷ 34 ∷ 58 ∷ [])
-      ++ (decimal v ++ rest_text (names_by a) s p) ≡ slot_text (names_by a) (some (record { shape = vertex v; state = s; parent = p }))
+      ++ (decimal v ++ rest_text (names_by a) s p) ≡ slot_text (names_by a) (Some (record { shape = vertex v; state = s; parent = p }))
   unfolding rest_text slot_text node_text circle_text touch_text vertex_text either names_by short full key quoted bytes
   defect_text v true = refl
   defect_text v false = refl
 
-  pub blossom_text : (ms : List Linked) (a : Bool) → shape_text (names_by a) (circle ms) ++ rest_text (names_by a) s p ≡ slot_text (names_by a) (some (record { shape = circle ms; state = s; parent = p }))
+  pub blossom_text : (ms : List Linked) (a : Bool) → shape_text (names_by a) (circle ms) ++ rest_text (names_by a) s p ≡ slot_text (names_by a) (Some (record { shape = circle ms; state = s; parent = p }))
   unfolding shape_text rest_text slot_text node_text
   blossom_text ms a = simp append_assoc

@@ -2,7 +2,6 @@
 // The slots of a tree in a picture, by index: null for an emptied one, or a node with its keys in the order of the original's `snapshot`. Only the lent bytes
 // are written. Assumes nothing.
 ghost use Rattle.std.specs.Prelude.{◌≡◌, map, get_or, ◌<◌};
-ghost use Rattle.std.proofs.Math.Option.{none};
 ghost use Rattle.kinds.specs.declared.Class.TheVariants.{Blossom};
 ghost use Rattle.ledger_spec.specs.Named.{state_named, parent_named};
 ghost use Rattle.ledger_spec.specs.Reads.{slots_of};
@@ -19,7 +18,7 @@ ghost use Rattle.picture_indices.specs.Indices.{Indices};
 ghost use Rattle.picture_nodes.specs.Rest.{Lowly, shape_text, rest_text};
 
 use bench_words::WORDS;
-use kinds::{Class, GrowState, Parent};
+use kinds::{Class, GrowState, Handle};
 use picture_pieces::{put, put_comma, put_either, put_number};
 
 fn put_parent(
@@ -28,15 +27,15 @@ fn put_parent(
     index: &[u64; 512],
     out: &mut [u8],
     at: usize,
-    parent: Parent,
+    parent: Option<Handle>,
 ) -> usize
     requires indices { Indices b.now unit index.now }
     requires lowly { Lowly parent }
     ensures { Drawn out.old at (parent_text (indexed (index_of (view b.now) unit) (parent_named parent))) out.new result }
 {
     match parent {
-        Parent::Outermost => put(out, at, b"null"),
-        Parent::Inside(h) => put_number(out, at, picture_circles::index_of(b, unit, index, h)),
+        None => put(out, at, b"null"),
+        Some(h) => put_number(out, at, picture_circles::index_of(b, unit, index, h)),
     }
 }
 
@@ -48,7 +47,7 @@ fn put_rest(
     out: &mut [u8],
     at: usize,
     state: GrowState,
-    parent: Parent,
+    parent: Option<Handle>,
     short: bool,
 ) -> usize
     requires indices { Indices b.now unit index.now }
@@ -101,13 +100,10 @@ fn put_slot(
     requires fit { Fit b.now }
     requires indices { Indices b.now unit index.now }
     requires at_index { AtIndex b.now unit k p }
-    ensures { Drawn out.old at (slot_text (names_by short) (slot_seen_by (view b.now) unit (get_or (slots_of (view b.now) unit) k (0, 0, none)))) out.new result }
+    ensures { Drawn out.old at (slot_text (names_by short) (slot_seen_by (view b.now) unit (get_or (slots_of (view b.now) unit) k (0, 0, None)))) out.new result }
 {
     let x = bench_words::load_node(b, p);
-    let class = x.class;
-    let state = x.state;
-    let parent = x.parent;
-    match class {
+    match x.class {
         Class::Absent => put(out, at, b"null"),
         Class::Defect(v) => {
             let q = put_either(
@@ -118,11 +114,11 @@ fn put_slot(
                 b"{\"blossom\":null,\"touching_children\":null,\"defect_vertex\":",
             );
             let r = put_number(out, q, v.0 as u64);
-            put_rest(b, unit, index, out, r, state, parent, short)
+            put_rest(b, unit, index, out, r, x.state, x.parent, short)
         }
         Class::Blossom => {
             let q = put_ring(b, unit, index, out, at, p, short);
-            put_rest(b, unit, index, out, q, state, parent, short)
+            put_rest(b, unit, index, out, q, x.state, x.parent, short)
         }
     }
 }
@@ -144,13 +140,10 @@ pub fn put_slots(
     ensures { Drawn out.old at (array (slot_text (names_by short)) (map (slot_seen_by (view b.now) unit) (slots_of (view b.now) unit))) out.new result }
 {
     let mut r = put(out, at, b"[");
-    let mut k: usize = 0;
     let mut i: u64 = 0;
-    while k < count {
-        let p = places[k];
+    for k in 0..count {
         let s = put_comma(out, r, i);
-        r = put_slot(b, unit, index, out, s, p, k, short);
-        k = k + 1;
+        r = put_slot(b, unit, index, out, s, places[k], k, short);
         i = 1;
     }
     put(out, r, b"]")

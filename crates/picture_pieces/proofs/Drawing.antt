@@ -1,14 +1,15 @@
 -- One text put after the other is the two together, and what is left of a text comes after what is put. Assumes nothing.
-use Prim.Native.Nat.{ℕ, zero, suc, ◌+◌, ◌≤◌, ◌<◌}
+use Prim.Native.Nat.{ℕ, zero, suc, ◌+◌, ◌-◌, ◌≤◌, ◌<◌}
 use native.Mathlib.Omega.{arith}
-use native.Mathlib.Numerals.{add-one}
 use mathlib.Core.Path.{◌≡◌, refl, sym, ◌∙◌, ap, subst}
 use mathlib.Core.Bool.{Bool, true, false}
 use mathlib.Core.Logic.{by_cases}
 use native.Mathlib.Decide.{dec_lt}
 use mathlib.Core.List.{List, [], ◌∷◌, ◌++◌, append_assoc, append-nil}
-use lib.ListN.{length, length-append, take, get_or, set}
-use lib.Seq.{sets, length-sets, take-suc, take_all, length-take-le}
+use borrow.Rule.Slice.PartMut.{put_mid}
+use lib.ListN.{length, length-append, take, drop}
+use lib.Seq.{sets, length-sets, drop-drop}
+use Rattle.std.proofs.lemmas.List.Edits.{sets-eq}
 use Rattle.text_decimals.specs.Wrote.{Wrote}
 use Rattle.text_decimals.proofs.Writes.{sets_append, length_wrote}
 use Rattle.picture_spec.specs.Text.{comma, items}
@@ -75,34 +76,14 @@ drawn_counted f e h = record { long = refl; next = λ k. e; full = λ m k. absur
 pub drawn_wrote : {o : List ℕ} {at : ℕ} {t o' : List ℕ} {r : ℕ} → at + length t ≤ most → Wrote o at t o' r → Drawn o at t o' r
 drawn_wrote {o} {at} {t} {o'} {r} f w = record { long = length_wrote o at t o' r w; next = λ k. w.next; full = λ m k. absurd (omega arith); stands = λ k l. w.stands }
 
--- the first j bytes of a piece stand there
-pub record Copied (o : List ℕ) (at : ℕ) (t : List ℕ) (j : ℕ) (o' : List ℕ) : Type 0 where
-  pub stands : o' ≡ sets o at (take j t)
-  pub few : j ≤ length t
-
-pub copied_none : (o : List ℕ) (at : ℕ) (t : List ℕ) → Copied o at t 0 o
-copied_none o at t = record { stands = refl; few = omega arith }
-
-module _ (o : List ℕ) (at : ℕ) (t : List ℕ) (j : ℕ) (o' : List ℕ) (C : Copied o at t j o') where
-  pub copied_long : length o' ≡ length o
-  copied_long = ap length C.stands ∙ length-sets o at (take j t)
-
-  pub copied_more : j < length t → Copied o at t (j + 1) (set o' (at + j) (get_or t j 0))
-  copied_more h =
-      let e : take (j + 1) t ≡ take j t ++ (get_or t j 0 ∷ []) = ap (λ (k : ℕ). take k t) (add-one j) ∙ take-suc t j 0 h in
-      let n : length (take j t) ≡ j = length-take-le j t C.few in
-      record {
-        stands = ap (λ (x : List ℕ). set x (at + j) (get_or t j 0)) C.stands ∙ sym (ap (sets o at) e ∙ sets_append (take j t) (get_or t j 0 ∷ []) o at ∙ ap (λ (k : ℕ). set (sets o at (take j t)) (at + k) (get_or t j 0)) n);
-        few = omega arith;
-      }
-
-  pub copied_all : length t ≤ j → (r : ℕ) → at + length t ≤ most → r ≡ at + length t → Drawn o at t o' r
-  copied_all h r f e = record {
-    long = copied_long;
-    next = λ k. e;
-    full = λ m k. absurd (omega arith);
-    stands = λ k l. C.stands ∙ ap (sets o at) (take_all j t h);
-  }
+-- std has copied the piece to its place
+pub drawn_copied : {o : List ℕ} {at : ℕ} {t r : List ℕ} {q : ℕ} → at + length t ≤ most → at + length t ≤ length o → r ≡ t → q ≡ at + length t
+    → Drawn o at t (put_mid at (at + length t - at) o r) q
+drawn_copied {o} {at} {t} f h e n =
+    let k : at + length t - at ≡ length t = omega arith in
+    let s : put_mid at (at + length t - at) o t ≡ sets o at t =
+    rw (k, drop-drop (length t) at o) (sym (sets-eq t o at h ∙ append_assoc (take at o) t (drop (at + length t) o))) in
+    rw e (record { long = ap length s ∙ length-sets o at t; next = λ k. n; full = λ m k. absurd (omega arith); stands = λ k l. s })
 
 pub either_one : (w : Bool) (s t : List ℕ) → w ≡ true → s ≡ either w s t
 unfolding either

@@ -20,11 +20,7 @@ pub fn put(out: &mut [u8], at: usize, piece: &[u8]) -> usize
     if out.len() < at + n {
         return at + n;
     }
-    let mut j: usize = 0;
-    while j < n {
-        out[at + j] = piece[j];
-        j = j + 1;
-    }
+    out[at..at + n].copy_from_slice(piece);
     at + n
 }
 

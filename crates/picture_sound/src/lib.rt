@@ -2,7 +2,6 @@
 // The picture of an interface (docs/MANUAL.md, The picture) on words that hold a sound bench: measured first, and written only where it fits. The bench does
 // not change; UNIT (3), CHILD (4), UNSOUND (24) and SMALL (19) refuse, in this order. Assumes nothing.
 ghost use Rattle.std.specs.Prelude.{◌≡◌, ◌<◌};
-ghost use Rattle.std.proofs.Math.Option.{none};
 ghost use Rattle.ledger_spec.specs.Look.{interface};
 ghost use Rattle.bench_views.specs.Fit.{Fit};
 ghost use Rattle.bench_views.specs.View.{view};
@@ -30,7 +29,7 @@ fn draw(
 ) -> usize
     requires fit { Fit b.now }
     requires unit_bound { unit < 8 }
-    requires unit_value { (interface (view b.now) unit).parent ≡ none }
+    requires unit_value { (interface (view b.now) unit).parent ≡ None }
     requires places { Places b.now unit places.now count }
     requires indices { Indices b.now unit index.now }
     ensures { Drawn out.old 0 (picture (view b.now) unit short) out.new result }
@@ -56,7 +55,7 @@ fn draw(
 fn write(b: &[u64; WORDS], unit: usize, short: bool, out: &mut [u8]) -> Counted
     requires fit { Fit b.now }
     requires unit_bound { unit < 8 }
-    requires unit_value { (interface (view b.now) unit).parent ≡ none }
+    requires unit_value { (interface (view b.now) unit).parent ≡ None }
     ensures { shown_vertices result out.new ≡ fitted (picture (view b.now) unit short) out.old }
 {
     let mut places = [0usize; 512];

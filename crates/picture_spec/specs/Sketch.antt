@@ -1,7 +1,6 @@
 -- What a picture shows of an interface: its speed and its sum, and of each slot of its tree by index nothing, or a node with others named by their index.
 -- Assumes nothing.
-use Rattle.std.specs.Prelude.{ℕ, List, map, ℤ}
-use Rattle.std.proofs.Math.Option.{Option, none, some}
+use Rattle.std.specs.Prelude.{ℕ, List, map, ℤ, None, Option, Some}
 use Rattle.ledger_spec.specs.Bench.{Handle, State, Member, Class, defect, blossom, Node, Bench}
 use Rattle.ledger_spec.specs.Look.{interface}
 use Rattle.ledger_spec.specs.Reads.{slots_of}
@@ -36,12 +35,12 @@ module _ (at : Handle → ℕ) where
   shape_of (blossom ms) = circle (map linked ms)
 
   abbrev pub indexed : Option Handle → Option ℕ
-  indexed none = none
-  indexed (some h) = some (at h)
+  indexed None = None
+  indexed (Some h) = Some (at h)
 
   unfoldable pub seen_of : Option Node → Option Seen
-  seen_of none = none
-  seen_of (some n) = some (record { shape = shape_of n.class; state = n.state; parent = indexed n.parent })
+  seen_of None = None
+  seen_of (Some n) = Some (record { shape = shape_of n.class; state = n.state; parent = indexed n.parent })
 
 -- the index of a handle's place among the slots of u's tree
 abbrev pub index_of : Bench → ℕ → Handle → ℕ

@@ -1,7 +1,6 @@
 -- The text of a picture: JSON without spaces or newline, with the names of its keys as a parameter. 34 is a quote, 44 a comma, 58 a colon, 91 and 93 are
 -- brackets, 123 and 125 braces. Assumes nothing.
-use Rattle.std.specs.Prelude.{ℕ, zero, suc, Bool, true, false, List, [], ◌∷◌, ◌++◌}
-use Rattle.std.proofs.Math.Option.{Option, none, some}
+use Rattle.std.specs.Prelude.{ℕ, zero, suc, Bool, true, false, List, [], ◌∷◌, ◌++◌, None, Option, Some}
 use Rattle.ledger_spec.specs.Bench.{State, grows, stays, shrinks, rate}
 use Rattle.ledger_spec.specs.Bytes.{bytes}
 use Rattle.ledger_spec.specs.Decimals.{decimal, signed}
@@ -100,8 +99,8 @@ unfoldable pub growth_text : State → List ℕ
 growth_text s = signed (rate s)
 
 unfoldable pub parent_text : Option ℕ → List ℕ
-parent_text none = null
-parent_text (some k) = decimal k
+parent_text None = null
+parent_text (Some k) = decimal k
 
 module _ (ns : Names) where
   unfoldable pub node_text : Seen → List ℕ
@@ -115,8 +114,8 @@ module _ (ns : Names) where
       ++ (125 ∷ []))))))))))))
 
   unfoldable pub slot_text : Option Seen → List ℕ
-  slot_text none = null
-  slot_text (some n) = node_text n
+  slot_text None = null
+  slot_text (Some n) = node_text n
 
   -- the whole
   unfoldable pub text_of : Sketch → List ℕ

@@ -1,9 +1,9 @@
 -- The links that the read of the outermost blossom answers, on any words: the length of the one parent chain, at most the present blossoms of the tree. On
 -- a sound bench the walk is the chain (ledger_spec, Chains); refused, the read follows none. Assumes nothing.
+use Rattle.std.specs.Prelude.{None, Option, Some}
 use Prim.Native.Nat.{ℕ, ◌≤◌}
 use mathlib.Core.Path.{◌≡◌, refl, sym, ap, ◌∙◌, subst}
 use mathlib.Core.Bool.{Bool, true, false}
-use mathlib.Core.Option.{Option, none, some}
 use mathlib.Core.List.{List}
 use native.Mathlib.Omega.{arith}
 use lib.ListN.{length}
@@ -28,12 +28,12 @@ use Rattle.read_sound.proofs.Saying.{outer_no, outer_yes}
 use Rattle.read_any.specs.Links.{Followed, Walked}
 
 -- a chain of no link starts at its end
-no_link : {b : Bench} {h t : Handle} {k : ℕ} → Chain b h k t → k ≡ 0 → parent_in (node_named b h) ≡ none
+no_link : {b : Bench} {h t : Handle} {k : ℕ} → Chain b h k t → k ≡ 0 → parent_in (node_named b h) ≡ None
 no_link (end e) z = e
 no_link (link p e c) z = absurd (omega arith)
 
 -- ---- of a present node
-module _ (b : Bench) (S : Sound b) (h : Handle) (n : Node) (e : node_named b h ≡ some n) where
+module _ (b : Bench) (S : Sound b) (h : Handle) (n : Node) (e : node_named b h ≡ Some n) where
   followed : Followed b h (outermost b h) (links_from 512 b h)
   followed = record {
     present = stale_no b h n e;
@@ -64,8 +64,8 @@ module _ (b : List ℕ) (h : Handle) (r : Ancestor) where
   links_answered len e = words (sound_words b) refl
     where
       node : (o : Option Node) → node_named (view b) h ≡ o → sound_words b ≡ true → shown_ancestor r ≡ outer_of (view b) h → Walked (view b) h r
-      node none f w q = none_followed (view b) h r 8 (λ z. omega arith) (q ∙ sym (outer_no (view b) h f))
-      node (some n) f w q =
+      node None f w q = none_followed (view b) h r 8 (λ z. omega arith) (q ∙ sym (outer_no (view b) h f))
+      node (Some n) f w q =
           some_followed (view b) h r (outermost (view b) h) (links_from 512 (view b) h) (followed (view b) (facts b (sound_says b len w)) h n f)
           (q ∙ sym (outer_yes (view b) h n f (outermost (view b) h) (links_from 512 (view b) h) refl refl))
 

@@ -1,12 +1,10 @@
 -- No second answer: two results that meet a read's contract are one, and so are two slices, since each contract is an equation whose one side shows every
 -- field of the result. Assumes nothing.
+use Rattle.std.specs.Prelude.{None, Option, Some}
 use Prim.Native.Nat.{ℕ}
 use mathlib.Core.Path.{◌≡◌, refl, sym, ap, ◌∙◌}
-use mathlib.Core.Option.{Option, none, some}
 use mathlib.Core.List.{List}
 use Rattle.kinds.specs.declared.Handle.{Handle as Packed}
-use Rattle.kinds.specs.declared.MaybeNode.{MaybeNode}
-use Rattle.kinds.specs.declared.MaybeNode.TheVariants.{NoNode, Node}
 use Rattle.ledger_spec.specs.Bench.{Handle}
 use Rattle.bench_views.specs.View.{view}
 use Rattle.read_sound.specs.Shown.{maybe, shown_weight, shown_count, shown_belongs, shown_node, shown_ancestor, shown_second, shown_vertex, shown_vertices}
@@ -26,13 +24,13 @@ use Rattle.ledger_spec.specs.Answers.{sum_read, speed_read, count_read, fills_re
 abbrev packed : Handle → Packed
 packed h = record { unit = h.unit; slot = h.slot; serial = record { 0 = h.serial } }
 
-abbrev node_back : Option Handle → MaybeNode
-node_back none = NoNode
-node_back (some h) = Node (packed h)
+abbrev node_back : Option Handle → Option Packed
+node_back None = None
+node_back (Some h) = Some (packed h)
 
-node_back_lem : (m : MaybeNode) → node_back (maybe m) ≡ m
-node_back_lem NoNode = refl
-node_back_lem (Node h) = refl
+node_back_lem : (m : Option Packed) → node_back (maybe m) ≡ m
+node_back_lem None = refl
+node_back_lem (Some h) = refl
 
 weight_same : (r s : Weighed) → shown_weight r ≡ shown_weight s → r ≡ s
 weight_same r s e = λ i. record { number = (e i).0; weight = (e i).1 }

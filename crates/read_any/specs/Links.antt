@@ -1,6 +1,5 @@
 -- What the read of the outermost blossom says of the links that it followed. Assumes nothing.
-use Rattle.std.specs.Prelude.{ℕ, ◌≤◌, ◌≡◌, false}
-use Rattle.std.proofs.Math.Option.{none}
+use Rattle.std.specs.Prelude.{ℕ, ◌≤◌, ◌≡◌, false, None}
 use Rattle.ledger_spec.specs.Bench.{Handle, Bench}
 use Rattle.ledger_spec.specs.Look.{node_named, top}
 use Rattle.ledger_spec.specs.Tests.{stale}
@@ -16,8 +15,8 @@ pub record Followed (b : Bench) (h t : Handle) (links : ℕ) : Type 0 where
   pub chain : Chain b h links t
   pub only : (k : ℕ) (g : Handle) → Chain b h k g → (k ≡ links) × (g ≡ t)
   pub few : links ≤ blossoms_in b (top b h.unit)
-  pub free : parent_in (node_named b h) ≡ none → links ≡ 0
-  pub bare : links ≡ 0 → parent_in (node_named b h) ≡ none
+  pub free : parent_in (node_named b h) ≡ None → links ≡ 0
+  pub bare : links ≡ 0 → parent_in (node_named b h) ≡ None
 
 -- an answer of the read: accepted, its links are the chain's; refused, 0
 pub record Walked (b : Bench) (h : Handle) (r : Ancestor) : Type 0 where

@@ -10,7 +10,7 @@ ghost use Rattle.sound_lent.specs.Verdict.{read_words};
 ghost use Rattle.ledger_spec.specs.Answers.{sum_read, speed_read, count_read, fills_read, floored_read, index_read, belongs_read, value_read, outer_read, below_read, first_read, vertices_read};
 
 use bench_words::WORDS;
-use kinds::{Handle, MaybeNode, NodeIndex, Vertex, numbers};
+use kinds::{Handle, NodeIndex, Vertex, numbers};
 use read_marks::Marked;
 use read_sound::{Ancestor, Belongs, Counted, Indexed, Represented, Second, Weighed};
 
@@ -97,7 +97,7 @@ pub fn get_node(b: &[u64; WORDS], unit: u8, index: NodeIndex) -> Indexed
     if !sound_lent::is_bench(b) {
         return Indexed {
             number: numbers::BROKEN,
-            node: MaybeNode::NoNode,
+            node: None,
         };
     }
     read_sound::get_node(b, unit, index)

@@ -1,15 +1,14 @@
 -- The slots that a map marks are those that the ledger sees: of one interface, how many and which is the first from one on. Assumes nothing.
+use Rattle.std.specs.Prelude.{None, Some, Option}
 use Prim.Native.Nat.{ℕ, zero, suc, ◌+◌, ◌-◌, ◌*◌, ◌<◌, ◌≤◌}
 use mathlib.Core.Path.{◌≡◌, ap, sym, ◌∙◌, subst}
 use mathlib.Core.Logic.{by_cases}
 use mathlib.Core.Bool.{Bool, true, false, true≢false}
-use mathlib.Core.Option.{Option, none, some}
 use mathlib.Core.List.{List, ◌++◌}
 use native.Mathlib.Nat.{zero-add}
 use native.Mathlib.Decide.{ℕ_discrete, dec_lt}
 use native.Mathlib.Omega.{arith}
 use lib.ListN.{length, get_or}
-use Rattle.slot_map.specs.declared.Found.TheVariants.{At, Nothing}
 use Rattle.slot_map.specs.Slots.{digit, bit_at, count_to, first_from}
 use Rattle.slot_map.proofs.Counts.{count_same, count_map}
 use Rattle.slot_map.proofs.Firsts.{First, first_found, first_lacks, next_map}
@@ -65,7 +64,7 @@ module _ (b : List ℕ) (F : Fit b) (u : ℕ) (lu : u < 8) where
   few : length slots ≤ 64
   few = subst (λ (n : ℕ). n ≤ 64) (sym used) (F.canon.steady.slots u lu)
 
-  seen : (s : ℕ) → s < length slots → get_or slots s none ≡ slot_seen (A (u * 64 + s)) (sum_up 8 (interface_at b) u) (circle_of A (u * 64 + s))
+  seen : (s : ℕ) → s < length slots → get_or slots s None ≡ slot_seen (A (u * 64 + s)) (sum_up 8 (interface_at b) u) (circle_of A (u * 64 + s))
   seen s l = view_slot (get_or b 0 0) (interface_at b) A u s lu (omega (arith, used))
 
   pub past : (s : ℕ) → length slots ≤ s → s < 64 → p s ≡ false
@@ -79,27 +78,27 @@ module _ (b : List ℕ) (F : Fit b) (u : ℕ) (lu : u < 8) where
   slots_present ts =
       present_slots u 0 slots ts
       ∙ ap (λ (n : ℕ). n + present_in ts)
-      (count_same (λ s. is_some (get_or slots s none)) p (length slots) (λ s l. ap is_some (seen s l) ∙ held_seen (A (u * 64 + s)) (sum_up 8 (interface_at b) u) (circle_of A (u * 64 + s)))
+      (count_same (λ s. is_some (get_or slots s None)) p (length slots) (λ s l. ap is_some (seen s l) ∙ held_seen (A (u * 64 + s)) (sum_up 8 (interface_at b) u) (circle_of A (u * 64 + s)))
       ∙ sym (count_past p (length slots) 64 few past))
 
   -- ---- which is first
   pub first_is : (w s : ℕ) → w ≡ map_at b u → first_from (bit_at w) s (64 - s) ≡ first_from p s (64 - s)
   first_is w s e = ap (λ (x : ℕ). first_from (bit_at x) s (64 - s)) (e ∙ F.canon.map u lu) ∙ next_map p 64 s (omega arith)
 
-  gone : (s : ℕ) → s < length slots → p s ≡ false → get_or slots s none ≡ none
+  gone : (s : ℕ) → s < length slots → p s ≡ false → get_or slots s None ≡ None
   gone s l e = seen s l ∙ slot_absent (A (u * 64 + s)) (sum_up 8 (interface_at b) u) (circle_of A (u * 64 + s)) (not_held (A (u * 64 + s)).class e)
 
   module _ (i k : ℕ) (ts : List (ℕ × ℕ × Option plain.Node)) where
-    pub none_here : first_from p (k - i) (64 - (k - i)) ≡ Nothing → next_from i k (slots_from u 0 slots ++ ts) ≡ next_from (i + length slots) k ts
+    pub none_here : first_from p (k - i) (64 - (k - i)) ≡ None → next_from i k (slots_from u 0 slots ++ ts) ≡ next_from (i + length slots) k ts
     none_here e = next_none i k u 0 slots ts (λ s l m. gone s l (first_lacks p (64 - (k - i)) (k - i) e s (omega arith) (omega (arith, few))))
 
     pub record Met (t : ℕ) : Type 0 where
       pub low : t < 64
       pub inside : t < length slots
       pub later : k ≤ i + t
-      pub next : next_from i k (slots_from u 0 slots ++ ts) ≡ (i + t, some (hand_in A u t))
+      pub next : next_from i k (slots_from u 0 slots ++ ts) ≡ (i + t, Some (hand_in A u t))
 
-    pub met : (t : ℕ) → first_from p (k - i) (64 - (k - i)) ≡ At t → Met t
+    pub met : (t : ℕ) → first_from p (k - i) (64 - (k - i)) ≡ Some t → Met t
     met t e = record { low = low; inside = inside; later = omega (arith, G.from); next = found }
       where
         G : First p (k - i) ((k - i) + (64 - (k - i))) t
@@ -114,8 +113,8 @@ module _ (b : List ℕ) (F : Fit b) (u : ℕ) (lu : u < 8) where
         present : (A (u * 64 + t)).class ≡ Absent → ⊥
         present a = true≢false (sym G.there ∙ held_absent a)
 
-        found : next_from i k (slots_from u 0 slots ++ ts) ≡ (i + t, some (hand_in A u t))
+        found : next_from i k (slots_from u 0 slots ++ ts) ≡ (i + t, Some (hand_in A u t))
         found =
             let h = slot_held (A (u * 64 + t)) (sum_up 8 (interface_at b) u) (circle_of A (u * 64 + t)) present in
             next_found i k u 0 slots ts t _ inside (omega (arith, G.from)) (seen t inside ∙ h.1) (λ s l m. gone s (omega (arith, inside)) (G.none s (omega arith) l))
-            ∙ ap (λ (x : ℕ). (i + t, some (record { unit = u; slot = x; serial = (A (u * 64 + t)).serial.0 }))) (omega arith)
+            ∙ ap (λ (x : ℕ). (i + t, Some (record { unit = u; slot = x; serial = (A (u * 64 + t)).serial.0 }))) (omega arith)

@@ -1,8 +1,8 @@
 -- What both reads say: a refused one its number and no value, an accepted one 0 and the value. Assumes nothing.
+use Rattle.std.specs.Prelude.{None}
 use Prim.Native.Nat.{ℕ}
 use mathlib.Core.Path.{◌≡◌, refl, ap, sym, ◌∙◌}
 use mathlib.Core.Bool.{Bool, true, false}
-use mathlib.Core.Option.{none}
 use mathlib.Core.List.{[], ◌∷◌}
 use native.Mathlib.Omega.{arith}
 use lib.Dec.{leb}
@@ -37,11 +37,11 @@ module _ (b : Bench) (u n : ℕ) (e : n ≡ first (unit_tests b u)) where
   unfolding present_of
   present_yes q = accepted (present_in (slots_of b u)) 0 n (first (unit_tests b u)) e q
 
-  pub next_no : (k : ℕ) → (n ≡ 0 → ⊥) → (n, (0, none)) ≡ next_of b u k
+  pub next_no : (k : ℕ) → (n ≡ 0 → ⊥) → (n, (0, None)) ≡ next_of b u k
   unfolding next_of index_tests unit_tests
-  next_no k q = refused (next_from 0 k (slots_of b u)) (0, none) n (first (index_tests b u k))
+  next_no k q = refused (next_from 0 k (slots_of b u)) (0, None) n (first (index_tests b u k))
       (e ∙ sym (after (outside u) (child b u) (leb (length (slots_of b u)) k) 18 (λ z. q (e ∙ z)))) q
 
   pub next_yes : (k : ℕ) → n ≡ 0 → walk_of b u k ≡ next_of b u k
   unfolding next_of walk_of index_tests unit_tests
-  next_yes k q = ap (λ (m : ℕ). said m (next_from 0 k (slots_of b u)) (0, none)) (sym (passed_on (outside u) (child b u) (leb (length (slots_of b u)) k) 18 (sym e ∙ q)))
+  next_yes k q = ap (λ (m : ℕ). said m (next_from 0 k (slots_of b u)) (0, None)) (sym (passed_on (outside u) (child b u) (leb (length (slots_of b u)) k) 18 (sym e ∙ q)))

@@ -1,14 +1,13 @@
 -- Along the interfaces of a tree: what is left is the first one's slots and then the others', so the count and the next node fall into one interface
 -- after the other. Assumes nothing.
+use Rattle.std.specs.Prelude.{None, Some, Option}
 use Prim.Native.Nat.{ℕ, zero, suc, ◌+◌, ◌-◌, ◌*◌, ◌<◌, ◌≤◌}
 use mathlib.Core.Path.{◌≡◌, refl, ap, sym, ◌∙◌}
-use mathlib.Core.Option.{Option, none, some}
 use mathlib.Core.List.{List, [], ◌∷◌, ◌++◌}
 use native.Mathlib.Omega.{arith}
 use borrow.Author.Tests.{lt-leb}
 use lib.Dec.{leb}
 use lib.ListN.{length, get_or}
-use Rattle.slot_map.specs.declared.Found.TheVariants.{At, Nothing}
 use Rattle.slot_map.specs.Slots.{count_to, first_from}
 use Rattle.bench_words.specs.Store.{node_at, interface_at}
 use Rattle.bench_words.specs.declared.Interface.{Interface}
@@ -57,7 +56,7 @@ module _ (b : List ℕ) (F : Fit b) (unit : ℕ) (lu : unit < 8) (o : Order) (L 
         record { sum = omega (arith, S.sum, c.0); small = omega (arith, S.small, c.1) }
 
     module _ (k n : ℕ) (G : Going b unit k i n) where
-      pub go_on : (f : Interface) → f ≡ interface_at b u → Nothing ≡ first_from (held_in (node_at b) u) (k - n) (64 - (k - n)) → Going b unit k (i + 1) (n + f.used)
+      pub go_on : (f : Interface) → f ≡ interface_at b u → None ≡ first_from (held_in (node_at b) u) (k - n) (64 - (k - n)) → Going b unit k (i + 1) (n + f.used)
       go_on f g q =
           let m = length_more b F unit lu o L i u l e f g in
           let s = used_small b F unit lu o L i u l e f g in
@@ -68,7 +67,7 @@ module _ (b : List ℕ) (F : Fit b) (unit : ℕ) (lu : unit < 8) (o : Order) (L 
             small = omega (arith, G.small);
           }
 
-      pub go_met : (t : ℕ) → At t ≡ first_from (held_in (node_at b) u) (k - n) (64 - (k - n)) → (t < 64) × ((0, (n + t, some (hand_in (node_at b) u t))) ≡ walk_of (view b) unit k)
+      pub go_met : (t : ℕ) → Some t ≡ first_from (held_in (node_at b) u) (k - n) (64 - (k - n)) → (t < 64) × ((0, (n + t, Some (hand_in (node_at b) u t))) ≡ walk_of (view b) unit k)
       unfolding walk_of
       go_met t q =
           let M = met b F u low n k (left (i + 1)) t (sym q) in
@@ -76,8 +75,8 @@ module _ (b : List ℕ) (F : Fit b) (unit : ℕ) (lu : unit < 8) (o : Order) (L 
           let c = view_count (get_or b 0 0) (interface_at b) (node_at b) u low in
           let in-it : k < length (slots_of (view b) unit) = omega (arith, M.inside, M.later, G.sum, m, c) in (
             M.low,
-            accepted (next_from 0 k (slots_of (view b) unit)) (0, none) 0 (first ((leb (length (slots_of (view b) unit)) k, 18) ∷ []))
-                (sym (first_no (leb (length (slots_of (view b) unit)) k) 18 [] (lt-leb (length (slots_of (view b) unit)) k in-it) ∙ first_none)) refl (n + t, some (hand_in (node_at b) u t))
+            accepted (next_from 0 k (slots_of (view b) unit)) (0, None) 0 (first ((leb (length (slots_of (view b) unit)) k, 18) ∷ []))
+                (sym (first_no (leb (length (slots_of (view b) unit)) k) 18 [] (lt-leb (length (slots_of (view b) unit)) k in-it) ∙ first_none)) refl (n + t, Some (hand_in (node_at b) u t))
                 (sym (G.next ∙ ap (next_from n k) parts ∙ M.next)),
           )
 
@@ -89,14 +88,14 @@ module _ (b : List ℕ) (F : Fit b) (unit : ℕ) (lu : unit < 8) (o : Order) (L 
     whole : n ≡ length (slots_of (view b) unit)
     whole = omega (arith, G.sum, ap length (left_none b F unit lu o L i l))
 
-    nothing_left : (0, none) ≡ next_from 0 k (slots_of (view b) unit)
+    nothing_left : (0, None) ≡ next_from 0 k (slots_of (view b) unit)
     unfolding next_from
     nothing_left = sym (G.next ∙ ap (next_from n k) (left_none b F unit lu o L i l))
 
-    pub go_ends : (r : ℕ) → r ≡ first ((leb n k, 18) ∷ []) → (r, (0, none)) ≡ walk_of (view b) unit k
+    pub go_ends : (r : ℕ) → r ≡ first ((leb n k, 18) ∷ []) → (r, (0, None)) ≡ walk_of (view b) unit k
     unfolding walk_of
     go_ends r e = done r (e ∙ ap (λ (x : ℕ). first ((leb x k, 18) ∷ [])) whole)
       where
-        done : (r : ℕ) → r ≡ first ((leb (length (slots_of (view b) unit)) k, 18) ∷ []) → (r, (0, none)) ≡ walk_of (view b) unit k
-        done zero q = accepted (next_from 0 k (slots_of (view b) unit)) (0, none) 0 (first ((leb (length (slots_of (view b) unit)) k, 18) ∷ [])) q refl (0, none) nothing_left
-        done (suc r) q = refused (next_from 0 k (slots_of (view b) unit)) (0, none) (suc r) (first ((leb (length (slots_of (view b) unit)) k, 18) ∷ [])) q (λ z. omega arith)
+        done : (r : ℕ) → r ≡ first ((leb (length (slots_of (view b) unit)) k, 18) ∷ []) → (r, (0, None)) ≡ walk_of (view b) unit k
+        done zero q = accepted (next_from 0 k (slots_of (view b) unit)) (0, None) 0 (first ((leb (length (slots_of (view b) unit)) k, 18) ∷ [])) q refl (0, None) nothing_left
+        done (suc r) q = refused (next_from 0 k (slots_of (view b) unit)) (0, None) (suc r) (first ((leb (length (slots_of (view b) unit)) k, 18) ∷ [])) q (λ z. omega arith)

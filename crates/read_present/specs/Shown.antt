@@ -1,6 +1,5 @@
 -- What the answer's fields say, in the ledger's terms, and what the walk along a tree answers. Assumes nothing.
-use Rattle.std.specs.Prelude.{ℕ, ◌+◌, ◌*◌, [], ◌∷◌, leb, length}
-use Rattle.std.proofs.Math.Option.{Option, none}
+use Rattle.std.specs.Prelude.{ℕ, ◌+◌, ◌*◌, [], ◌∷◌, leb, length, None, Option}
 use Rattle.bench_words.specs.declared.Node.{Node}
 use Rattle.ledger_spec.specs.Numbers.{RANGE}
 use Rattle.ledger_spec.specs.Bench.{Handle, Bench}
@@ -19,4 +18,4 @@ hand_in A u s = record { unit = u; slot = s; serial = (A (u * 64 + s)).serial.0 
 
 -- `next_of` past the tests of the interface
 unfoldable pub walk_of : Bench → ℕ → ℕ → ℕ × (ℕ × Option Handle)
-walk_of b u k = said (first ((leb (length (slots_of b u)) k, RANGE) ∷ [])) (next_from 0 k (slots_of b u)) (0, none)
+walk_of b u k = said (first ((leb (length (slots_of b u)) k, RANGE) ∷ [])) (next_from 0 k (slots_of b u)) (0, None)

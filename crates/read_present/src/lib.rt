@@ -2,7 +2,6 @@
 // The reads of present nodes, on words that hold a sound bench: how many a tree has, and the next one at or after an index. They look at the maps of the
 // tree's interfaces and pass over emptied slots unread. None changes the bench. Assumes nothing.
 ghost use Rattle.std.specs.Prelude.{◌≡◌, ◌∷◌, [], leb, ◌+◌, ◌-◌, ◌<◌, ◌≤◌};
-ghost use Rattle.std.proofs.Math.Option.{none, some};
 ghost use Rattle.slot_map.specs.Slots.{count_to, first_from};
 ghost use Rattle.bench_words.specs.Store.{node_at};
 ghost use Rattle.ledger_spec.specs.Look.{interface};
@@ -17,16 +16,15 @@ ghost use Rattle.read_present.specs.Present.{present_in, present_of, next_of};
 ghost use Rattle.read_present.specs.Shown.{shown_next, hand_in, walk_of};
 
 use bench_words::WORDS;
-use kinds::{Handle, MaybeNode, NodeIndex, numbers};
+use kinds::{Handle, NodeIndex, numbers};
 use read_sound::Counted;
-use slot_map::Found;
 
 // A number, and the next present node with its index: 0 and nothing where there is none.
 #[derive(Clone, Copy)]
 pub struct Next {
     pub number: u8,
     pub index: NodeIndex,
-    pub node: MaybeNode,
+    pub node: Option<Handle>,
 }
 
 // How many slots of an interface hold a node.
@@ -43,16 +41,13 @@ fn marked(b: &[u64; WORDS], u: usize) -> u64
 fn total(b: &[u64; WORDS], unit: usize) -> u64
     requires fit { Fit b.now }
     requires unit_bound { unit < 8 }
-    requires unit_value { (interface (view b.now) unit).parent ≡ none }
+    requires unit_value { (interface (view b.now) unit).parent ≡ None }
     ensures { result ≡ present_in (slots_of (view b.now) unit) }
 {
     let o = bench_orders::order_of(b, unit);
     let mut sum: u64 = 0;
-    let mut i: usize = 0;
-    while i < o.count {
-        let u = o.units[i];
-        sum = sum + marked(b, u);
-        i = i + 1;
+    for u in &o.units[..o.count] {
+        sum += marked(b, *u);
     }
     sum
 }
@@ -71,13 +66,13 @@ pub fn present_count(b: &[u64; WORDS], unit: u8) -> Counted
 }
 
 // The lowest slot of an interface, from one on, that holds a node.
-fn next_in(b: &[u64; WORDS], u: usize, from: u64) -> Found
+fn next_in(b: &[u64; WORDS], u: usize, from: u64) -> Option<u8>
     requires fit { Fit b.now }
     requires u_bound { u < 8 }
     ensures { result ≡ first_from (held_in (node_at b.now) u) from (64 - from) }
 {
     if 64 <= from {
-        return Found::Nothing;
+        return None;
     }
     let map = bench_words::load_map(b, u);
     slot_map::next_from(map, from as u8)
@@ -96,14 +91,14 @@ fn rest(index: u64, passed: u64) -> u64
 // A node found: slot s of interface u, so many slots before that interface.
 fn reached(b: &[u64; WORDS], u: usize, s: u8, passed: u64) -> Next
     requires { (u < 8) × (s < 64) × (passed ≤ 512) }
-    ensures { shown_next result ≡ (0, (passed + s, some (hand_in (node_at b.now) u s))) }
+    ensures { shown_next result ≡ (0, (passed + s, Some (hand_in (node_at b.now) u s))) }
 {
     let n = bench_words::load_node(b, u * 64 + (s as usize));
     let serial = n.serial;
     Next {
         number: 0,
         index: NodeIndex((passed + (s as u64)) as u32),
-        node: MaybeNode::Node(Handle {
+        node: Some(Handle {
             unit: u as u8,
             slot: s,
             serial,
@@ -125,27 +120,24 @@ fn past(index: u64, count: u64) -> u8
 fn walk(b: &[u64; WORDS], unit: usize, index: u64) -> Next
     requires fit { Fit b.now }
     requires unit_bound { unit < 8 }
-    requires unit_value { (interface (view b.now) unit).parent ≡ none }
+    requires unit_value { (interface (view b.now) unit).parent ≡ None }
     ensures { shown_next result ≡ walk_of (view b.now) unit index }
 {
     let o = bench_orders::order_of(b, unit);
     let mut passed: u64 = 0;
-    let mut i: usize = 0;
-    while i < o.count {
-        let u = o.units[i];
-        let found = next_in(b, u, rest(index, passed));
-        if let Found::At(s) = found {
-            return reached(b, u, s, passed);
+    for u in &o.units[..o.count] {
+        let found = next_in(b, *u, rest(index, passed));
+        if let Some(s) = found {
+            return reached(b, *u, s, passed);
         }
-        let f = bench_words::load_interface(b, u);
-        passed = passed + f.used;
-        i = i + 1;
+        let f = bench_words::load_interface(b, *u);
+        passed += f.used;
     }
     let number = past(index, passed);
     Next {
         number,
         index: NodeIndex(0),
-        node: MaybeNode::NoNode,
+        node: None,
     }
 }
 
@@ -159,7 +151,7 @@ pub fn next_present(b: &[u64; WORDS], unit: u8, index: NodeIndex) -> Next
         return Next {
             number,
             index: NodeIndex(0),
-            node: MaybeNode::NoNode,
+            node: None,
         };
     }
     walk(b, unit as usize, index.0 as u64)

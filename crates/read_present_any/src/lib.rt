@@ -9,7 +9,7 @@ ghost use Rattle.read_present.specs.Present.{present_read, next_read};
 ghost use Rattle.read_present.specs.Shown.{shown_next};
 
 use bench_words::WORDS;
-use kinds::{MaybeNode, NodeIndex, numbers};
+use kinds::{NodeIndex, numbers};
 use read_present::Next;
 use read_sound::Counted;
 
@@ -32,7 +32,7 @@ pub fn next_present(b: &[u64; WORDS], unit: u8, index: NodeIndex) -> Next
         return Next {
             number: numbers::BROKEN,
             index: NodeIndex(0),
-            node: MaybeNode::NoNode,
+            node: None,
         };
     }
     read_present::next_present(b, unit, index)

@@ -1,8 +1,8 @@
 -- What each read says: a refused one its number and no value, an accepted one 0 and the value. Assumes nothing.
+use Rattle.std.specs.Prelude.{None, Option, Some}
 use Prim.Native.Nat.{ℕ, ◌<◌, ◌≤◌}
 use mathlib.Core.Path.{◌≡◌, refl, ap, ap₂, sym, ◌∙◌}
 use mathlib.Core.Bool.{Bool, true, false, not, ◌&&◌}
-use mathlib.Core.Option.{Option, none, some}
 use mathlib.Core.List.{List, [], ◌∷◌, ◌++◌}
 use native.Mathlib.Omega.{arith}
 use borrow.Author.Tests.{le-leb, lt-leb, lt-ltb, le-ltb}
@@ -60,12 +60,12 @@ module _ (b : Bench) (u n : ℕ) (e : n ≡ first (unit_tests b u)) where
     unfolding count_of
     count_yes = accepted (length (slots_of b u)) 0 n (first (unit_tests b u)) e q
 
-    pub belongs_stale : (h : Handle) → node_named b h ≡ none → (0, false) ≡ belongs b u h
+    pub belongs_stale : (h : Handle) → node_named b h ≡ None → (0, false) ≡ belongs b u h
     unfolding belongs
     belongs_stale h s = accepted (not (stale b h) && not (foreign b u h)) false n (first (unit_tests b u)) e q false
         (sym (ap (λ (c : Bool). not c && not (foreign b u h)) (stale_yes b h s)))
 
-    pub belongs_there : (h : Handle) (x : Node) → node_named b h ≡ some x → (c : Bool) → c ≡ foreign b u h → (0, not c) ≡ belongs b u h
+    pub belongs_there : (h : Handle) (x : Node) → node_named b h ≡ Some x → (c : Bool) → c ≡ foreign b u h → (0, not c) ≡ belongs b u h
     unfolding belongs
     belongs_there h x s c f = accepted (not (stale b h) && not (foreign b u h)) false n (first (unit_tests b u)) e q (not c)
         (ap not f ∙ sym (ap (λ (c : Bool). not c && not (foreign b u h)) (stale_no b h x s)))
@@ -87,23 +87,23 @@ module _ (b : Bench) (u k n : ℕ) (e : n ≡ first (unit_tests b u)) where
   abbrev slots : List (ℕ × ℕ × Option Node)
   slots = slots_of b u
 
-  pub index_no : (n ≡ 0 → ⊥) → (n, none) ≡ handle_at_index b u k
+  pub index_no : (n ≡ 0 → ⊥) → (n, None) ≡ handle_at_index b u k
   unfolding handle_at_index index_tests unit_tests
-  index_no q = refused (as_handle (get_or slots k (0, 0, none))) none n (first (index_tests b u k))
+  index_no q = refused (as_handle (get_or slots k (0, 0, None))) None n (first (index_tests b u k))
       (e ∙ sym (after (outside u) (child b u) (leb (length slots) k) 18 (λ z. q (e ∙ z)))) q
 
-  pub index_past : n ≡ 0 → length slots ≤ k → (18, none) ≡ handle_at_index b u k
+  pub index_past : n ≡ 0 → length slots ≤ k → (18, None) ≡ handle_at_index b u k
   unfolding handle_at_index index_tests unit_tests
-  index_past q l = refused (as_handle (get_or slots k (0, 0, none))) none 18 (first (index_tests b u k))
+  index_past q l = refused (as_handle (get_or slots k (0, 0, None))) None 18 (first (index_tests b u k))
       (sym (passed_on (outside u) (child b u) (leb (length slots) k) 18 (sym e ∙ q) ∙ first_yes (leb (length slots) k) 18 [] (le-leb (length slots) k l))) (λ z. omega arith)
 
-  pub index_there : n ≡ 0 → k < length slots → (w : Option Handle) → w ≡ as_handle (get_or slots k (0, 0, none)) → (0, w) ≡ handle_at_index b u k
+  pub index_there : n ≡ 0 → k < length slots → (w : Option Handle) → w ≡ as_handle (get_or slots k (0, 0, None)) → (0, w) ≡ handle_at_index b u k
   unfolding handle_at_index index_tests unit_tests
-  index_there q l w r = accepted (as_handle (get_or slots k (0, 0, none))) none 0 (first (index_tests b u k))
+  index_there q l w r = accepted (as_handle (get_or slots k (0, 0, None))) None 0 (first (index_tests b u k))
       (sym (passed_on (outside u) (child b u) (leb (length slots) k) 18 (sym e ∙ q) ∙ first_no (leb (length slots) k) 18 [] (lt-leb (length slots) k l) ∙ first_none)) refl w r
 
 -- ---- reads of a node
-module _ (b : Bench) (h : Handle) (s : node_named b h ≡ none) where
+module _ (b : Bench) (h : Handle) (s : node_named b h ≡ None) where
   pub value_no : (8, pos 0) ≡ value_of b h
   unfolding value_of
   value_no = refused (worth (node_named b h)) (pos 0) 8 (first (node_tests b h)) (sym (node_refused b h s)) (λ z. omega arith)
@@ -126,7 +126,7 @@ module _ (b : Bench) (h : Handle) (s : node_named b h ≡ none) where
   vertices_no out = refused (length (vertices_of b h), vertices_of b h ++ drop (length (vertices_of b h)) out) (0, out) 8 (first (size_tests b h out))
       (sym (first_yes (stale b h) 8 ((ltb (length out) (size_of (node_named b h)), 19) ∷ []) (stale_yes b h s))) (λ z. omega arith)
 
-module _ (b : Bench) (h : Handle) (n : Node) (s : node_named b h ≡ some n) where
+module _ (b : Bench) (h : Handle) (n : Node) (s : node_named b h ≡ Some n) where
   pub value_yes : (w : ℤ) → w ≡ worth (node_named b h) → (0, w) ≡ value_of b h
   unfolding value_of
   value_yes = accepted (worth (node_named b h)) (pos 0) 0 (first (node_tests b h)) (sym (node_passed b h n s)) refl
@@ -140,13 +140,13 @@ module _ (b : Bench) (h : Handle) (n : Node) (s : node_named b h ≡ some n) whe
   unfolding first_vertex
   vertex_yes = accepted (get_or (vertices_of b h) 0 0) 0 0 (first (node_tests b h)) (sym (node_passed b h n s)) refl
 
-  pub under_top : parent_in (node_named b h) ≡ none → (12, nobody) ≡ below_of b h
+  pub under_top : parent_in (node_named b h) ≡ None → (12, nobody) ≡ below_of b h
   unfolding below_of below_tests
   under_top p = refused (below_from 512 b h h) nobody 12 (first (below_tests b h))
       (sym (first_no (stale b h) 8 ((not (is_some (parent_in (node_named b h))), 12) ∷ []) (stale_no b h n s)
       ∙ first_yes (not (is_some (parent_in (node_named b h)))) 12 [] (ap (λ (o : Option Handle). not (is_some o)) p))) (λ z. omega arith)
 
-  pub under_yes : (p : Handle) → parent_in (node_named b h) ≡ some p → (g : Handle) → g ≡ below_from 512 b h h → (0, g) ≡ below_of b h
+  pub under_yes : (p : Handle) → parent_in (node_named b h) ≡ Some p → (g : Handle) → g ≡ below_from 512 b h h → (0, g) ≡ below_of b h
   unfolding below_of below_tests
   under_yes p f = accepted (below_from 512 b h h) nobody 0 (first (below_tests b h))
       (sym (first_no (stale b h) 8 ((not (is_some (parent_in (node_named b h))), 12) ∷ []) (stale_no b h n s)

@@ -1,8 +1,8 @@
 -- What stands in a used slot, as a handle: nothing where the slot was emptied. Assumes nothing.
+use Rattle.std.specs.Prelude.{None, Option, Some}
 use Prim.Native.Nat.{ℕ, ◌+◌, ◌*◌, ◌/◌, ◌%◌, ◌<◌}
 use mathlib.Core.Path.{◌≡◌, ap, sym, ◌∙◌}
 use mathlib.Core.Bool.{Bool, true, false}
-use mathlib.Core.Option.{Option, none, some}
 use mathlib.Core.List.{List}
 use native.Mathlib.Omega.{arith}
 use lib.ListN.{get_or}
@@ -26,10 +26,10 @@ module _ (b : List ℕ) (k : ℕ) (l : k / 64 < 8) (m : k % 64 < (interface_at b
       ∙ ap (λ (x : ℕ). slot_seen (node_at b x) (sum_up 8 (interface_at b) (k / 64)) (circle_of (node_at b) x)) q
       ∙ ap (λ (x : Node). slot_seen x (sum_up 8 (interface_at b) (k / 64)) (circle_of (node_at b) k)) (sym e)
 
-  pub nothing_there : t ≡ true → none ≡ as_handle (k / 64, k % 64, slot_of (view b) (k / 64) (k % 64))
+  pub nothing_there : t ≡ true → None ≡ as_handle (k / 64, k % 64, slot_of (view b) (k / 64) (k % 64))
   nothing_there q = sym (ap (λ (o : Option plain.Node). as_handle (k / 64, k % 64, o))
       (slot_is ∙ slot_absent n (sum_up 8 (interface_at b) (k / 64)) (circle_of (node_at b) k) (absent_yes n.class (sym a ∙ q))))
 
-  pub node_there : t ≡ false → some (record { unit = k / 64; slot = k % 64; serial = n.serial.0 }) ≡ as_handle (k / 64, k % 64, slot_of (view b) (k / 64) (k % 64))
+  pub node_there : t ≡ false → Some (record { unit = k / 64; slot = k % 64; serial = n.serial.0 }) ≡ as_handle (k / 64, k % 64, slot_of (view b) (k / 64) (k % 64))
   node_there q =
       sym (ap (λ (o : Option plain.Node). as_handle (k / 64, k % 64, o)) (slot_is ∙ (slot_held n (sum_up 8 (interface_at b) (k / 64)) (circle_of (node_at b) k) (absent_no (sym a ∙ q))).1))

@@ -1,8 +1,6 @@
 -- What an answer's fields say, in the ledger's terms: the number, and the value or what stands for it. Assumes nothing.
-use Rattle.std.specs.Prelude.{ℕ, Bool, List, ℤ}
-use Rattle.std.proofs.Math.Option.{Option, none, some}
-use Rattle.kinds.specs.declared.MaybeNode.{MaybeNode}
-use Rattle.kinds.specs.declared.MaybeNode.TheVariants.{NoNode, Node}
+use Rattle.std.specs.Prelude.{None, Option, Some, ℕ, Bool, List, ℤ}
+use Rattle.kinds.specs.declared.Handle.{Handle as Packed}
 use Rattle.ledger_spec.specs.Bench.{Handle}
 use Rattle.ledger_spec.specs.Named.{handle_named}
 use Rattle.read_sound.specs.declared.Weighed.{Weighed}
@@ -13,9 +11,9 @@ use Rattle.read_sound.specs.declared.Ancestor.{Ancestor}
 use Rattle.read_sound.specs.declared.Second.{Second}
 use Rattle.read_sound.specs.declared.Represented.{Represented}
 
-abbrev pub maybe : MaybeNode → Option Handle
-maybe NoNode = none
-maybe (Node h) = some (handle_named h)
+abbrev pub maybe : Option Packed → Option Handle
+maybe None = None
+maybe (Some h) = Some (handle_named h)
 
 abbrev pub shown_weight : Weighed → ℕ × ℤ
 shown_weight r = (r.number, r.weight)

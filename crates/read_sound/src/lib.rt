@@ -13,10 +13,8 @@ ghost use Rattle.bench_views.specs.Fit.{Fit};
 ghost use Rattle.bench_views.specs.View.{view};
 ghost use Rattle.read_sound.specs.Shown.{maybe, shown_weight, shown_count, shown_belongs, shown_node, shown_ancestor, shown_second, shown_vertex, shown_vertices};
 
-use bench_links::Found;
-use bench_orders::Spot;
-use bench_words::{Up, WORDS};
-use kinds::{Handle, MaybeNode, NodeIndex, Vertex, numbers};
+use bench_words::WORDS;
+use kinds::{Handle, NodeIndex, Vertex, numbers};
 
 #[derive(Clone, Copy)]
 pub struct Weighed {
@@ -41,7 +39,7 @@ pub struct Belongs {
 #[derive(Clone, Copy)]
 pub struct Indexed {
     pub number: u8,
-    pub node: MaybeNode,
+    pub node: Option<Handle>,
 }
 
 // A number, the outermost blossom, and the links followed to it.
@@ -72,11 +70,9 @@ pub fn unit_number(b: &[u64; WORDS], unit: u8) -> u8
     if 8 <= unit {
         return numbers::UNIT;
     }
-    let f = bench_words::load_interface(b, unit as usize);
-    let up = f.parent;
-    match up {
-        Up::Under(_) => numbers::CHILD,
-        Up::Top => 0,
+    match bench_words::load_interface(b, unit as usize).parent {
+        Some(_) => numbers::CHILD,
+        None => 0,
     }
 }
 
@@ -88,8 +84,10 @@ pub fn sum_dual_variables(b: &[u64; WORDS], unit: u8) -> Weighed
     if number != 0 {
         return Weighed { number, weight: 0 };
     }
-    let weight = bench_links::sum(b, unit as usize);
-    Weighed { number: 0, weight }
+    Weighed {
+        number: 0,
+        weight: bench_links::sum(b, unit as usize),
+    }
 }
 
 pub fn sum_grow_speed(b: &[u64; WORDS], unit: u8) -> Weighed
@@ -100,8 +98,10 @@ pub fn sum_grow_speed(b: &[u64; WORDS], unit: u8) -> Weighed
     if number != 0 {
         return Weighed { number, weight: 0 };
     }
-    let weight = bench_links::speed(b, unit as usize);
-    Weighed { number: 0, weight }
+    Weighed {
+        number: 0,
+        weight: bench_links::speed(b, unit as usize),
+    }
 }
 
 // How many slots the tree has, used or emptied.
@@ -113,8 +113,10 @@ pub fn nodes_count(b: &[u64; WORDS], unit: u8) -> Counted
     if number != 0 {
         return Counted { number, count: 0 };
     }
-    let count = bench_orders::count(b, unit as usize);
-    Counted { number: 0, count }
+    Counted {
+        number: 0,
+        count: bench_orders::count(b, unit as usize),
+    }
 }
 
 // The node whose value is asked: STALE, or its value.
@@ -122,35 +124,32 @@ pub fn get_dual_variable(b: &[u64; WORDS], h: Handle) -> Weighed
     requires { Fit b.now }
     ensures { shown_weight result ≡ value_of (view b.now) (handle_named h) }
 {
-    let found = bench_links::find(b, h);
-    match found {
-        Found::Stale => Weighed {
+    match bench_links::find(b, h) {
+        None => Weighed {
             number: numbers::STALE,
             weight: 0,
         },
-        Found::At(_) => {
-            let weight = bench_links::value(b, h);
-            Weighed { number: 0, weight }
-        }
+        Some(_) => Weighed {
+            number: 0,
+            weight: bench_links::value(b, h),
+        },
     }
 }
 
 // What stands in a used slot, as a handle.
-fn node_at(b: &[u64; WORDS], k: usize) -> MaybeNode
+fn node_at(b: &[u64; WORDS], k: usize) -> Option<Handle>
     requires k_bound { k / 64 < 8 }
     requires k_bound_2 { k % 64 < (interface_at b.now (k / 64)).used }
     ensures { maybe result ≡ as_handle (k / 64, k % 64, slot_of (view b.now) (k / 64) (k % 64)) }
 {
     let n = bench_words::load_node(b, k);
-    let class = n.class;
-    if bench_links::is_absent(class) {
-        return MaybeNode::NoNode;
+    if bench_links::is_absent(n.class) {
+        return None;
     }
-    let serial = n.serial;
-    MaybeNode::Node(Handle {
+    Some(Handle {
         unit: (k / 64) as u8,
         slot: (k % 64) as u8,
-        serial,
+        serial: n.serial,
     })
 }
 
@@ -161,21 +160,17 @@ pub fn get_node(b: &[u64; WORDS], unit: u8, index: NodeIndex) -> Indexed
 {
     let number = unit_number(b, unit);
     if number != 0 {
-        return Indexed {
-            number,
-            node: MaybeNode::NoNode,
-        };
+        return Indexed { number, node: None };
     }
-    let spot = bench_orders::locate(b, unit as usize, index.0 as usize);
-    match spot {
-        Spot::Past => Indexed {
+    match bench_orders::locate(b, unit as usize, index.0 as usize) {
+        None => Indexed {
             number: numbers::RANGE,
-            node: MaybeNode::NoNode,
+            node: None,
         },
-        Spot::Slot(k) => {
-            let node = node_at(b, k);
-            Indexed { number: 0, node }
-        }
+        Some(k) => Indexed {
+            number: 0,
+            node: node_at(b, k),
+        },
     }
 }
 
@@ -191,19 +186,15 @@ pub fn check_ptr_belonging(b: &[u64; WORDS], unit: u8, h: Handle) -> Belongs
             inside: false,
         };
     }
-    let found = bench_links::find(b, h);
-    match found {
-        Found::Stale => Belongs {
+    match bench_links::find(b, h) {
+        None => Belongs {
             number: 0,
             inside: false,
         },
-        Found::At(_) => {
-            let foreign = bench_links::is_foreign(b, unit, h);
-            Belongs {
-                number: 0,
-                inside: !foreign,
-            }
-        }
+        Some(_) => Belongs {
+            number: 0,
+            inside: !bench_links::is_foreign(b, unit, h),
+        },
     }
 }
 
@@ -212,19 +203,17 @@ pub fn get_ancestor_blossom(b: &[u64; WORDS], h: Handle) -> Ancestor
     requires { Fit b.now }
     ensures { shown_ancestor result ≡ outer_of (view b.now) (handle_named h) }
 {
-    let found = bench_links::find(b, h);
-    match found {
-        Found::Stale => Ancestor {
+    match bench_links::find(b, h) {
+        None => Ancestor {
             number: numbers::STALE,
             node: Handle::nobody(),
             links: 0,
         },
-        Found::At(_) => {
+        Some(_) => {
             let o = bench_links::outermost(b, h);
-            let node = o.node;
             Ancestor {
                 number: 0,
-                node,
+                node: o.node,
                 links: o.links,
             }
         }
@@ -236,13 +225,12 @@ pub fn get_secondary_ancestor_blossom(b: &[u64; WORDS], h: Handle) -> Second
     requires { Fit b.now }
     ensures { shown_second result ≡ below_of (view b.now) (handle_named h) }
 {
-    let found = bench_links::find(b, h);
-    match found {
-        Found::Stale => Second {
+    match bench_links::find(b, h) {
+        None => Second {
             number: numbers::STALE,
             node: Handle::nobody(),
         },
-        Found::At(_) => {
+        Some(_) => {
             let o = bench_links::outermost(b, h);
             if o.links == 0 {
                 return Second {
@@ -250,8 +238,10 @@ pub fn get_secondary_ancestor_blossom(b: &[u64; WORDS], h: Handle) -> Second
                     node: Handle::nobody(),
                 };
             }
-            let node = o.under;
-            Second { number: 0, node }
+            Second {
+                number: 0,
+                node: o.under,
+            }
         }
     }
 }
@@ -261,16 +251,15 @@ pub fn get_representative_vertex(b: &[u64; WORDS], h: Handle) -> Represented
     requires { Fit b.now }
     ensures { shown_vertex result ≡ first_vertex (view b.now) (handle_named h) }
 {
-    let found = bench_links::find(b, h);
-    match found {
-        Found::Stale => Represented {
+    match bench_links::find(b, h) {
+        None => Represented {
             number: numbers::STALE,
             vertex: Vertex(0),
         },
-        Found::At(k) => {
-            let vertex = bench_vertices::first_vertex(b, k);
-            Represented { number: 0, vertex }
-        }
+        Some(k) => Represented {
+            number: 0,
+            vertex: bench_vertices::first_vertex(b, k),
+        },
     }
 }
 
@@ -279,13 +268,12 @@ pub fn get_all_vertices(b: &[u64; WORDS], h: Handle, out: &mut [u32]) -> Counted
     requires { Fit b.now }
     ensures { shown_vertices result out.new ≡ vertices_into (view b.now) (handle_named h) out.old }
 {
-    let found = bench_links::find(b, h);
-    match found {
-        Found::Stale => Counted {
+    match bench_links::find(b, h) {
+        None => Counted {
             number: numbers::STALE,
             count: 0,
         },
-        Found::At(k) => {
+        Some(k) => {
             let n = bench_words::load_node(b, k);
             if (out.len() as u64) < n.size {
                 return Counted {

@@ -1,10 +1,10 @@
 -- What the code does at a place is what the record there says: a blossom by its first 65 members, any other letter as its line. Assumes nothing.
+use Rattle.std.specs.Prelude.{Option, Some}
 use Prim.Native.Nat.{ℕ, ◌+◌, ◌*◌, ◌≤◌, ◌<◌}
 use native.Mathlib.Omega.{arith}
 use native.Mathlib.Decide.{dec_lt}
 use mathlib.Core.Path.{◌≡◌, refl, sym, ◌∙◌, ap, subst}
 use mathlib.Core.Logic.{by_cases}
-use mathlib.Core.Option.{Option, some}
 use mathlib.Core.List.{List, [], map}
 use lib.ListN.{length, take, drop, get_or, length-map}
 use lib.Seq.{sets, length-take-le, get_or-take, get_or-drop}
@@ -103,7 +103,7 @@ done_blossom b W s p R e count n c few m₀ t₀ m₁ t₁ m₂ t₂ room wide l
 
 -- ---- any other letter
 
-blossom_letter : (s : List ℕ) (p u : ℕ) (ms : List Member) (r : List ℕ) → Bytes (drop p s) → record_in (drop p s) ≡ some (B u ms, r) → get_or s p 0 ≡ 66
+blossom_letter : (s : List ℕ) (p u : ℕ) (ms : List Member) (r : List ℕ) → Bytes (drop p s) → record_in (drop p s) ≡ Some (B u ms, r) → get_or s p 0 ≡ 66
 unfolding bytes_of letter_of
 blossom_letter s p u ms r h e =
     let zero : p ≡ p + 0 = omega arith in
@@ -113,7 +113,7 @@ record AsLine (b : Bench) (op : Op) : Type 0 where
   none_stored : serials_in (line_said op) ≡ []
   same : says_op b op ≡ says b (line_said op)
 
-as_line : (b : Bench) (s : List ℕ) (p : ℕ) → Bytes (drop p s) → (get_or s p 0 ≡ 66 → ⊥) → (op : Op) (r : List ℕ) → record_in (drop p s) ≡ some (op, r) → AsLine b op
+as_line : (b : Bench) (s : List ℕ) (p : ℕ) → Bytes (drop p s) → (get_or s p 0 ≡ 66 → ⊥) → (op : Op) (r : List ℕ) → record_in (drop p s) ≡ Some (op, r) → AsLine b op
 unfolding says_op says
 as_line b s p h n (D u v) r e = record { none_stored = refl; same = refl }
 as_line b s p h n (B u ms) r e = absurd (n (blossom_letter s p u ms r h e))

@@ -30,33 +30,27 @@ touches_more (x ∷ ms) m = ap (λ (l : List ℕ). x.first ∷ x.second ∷ l) (
 
 -- ---- the loop
 
-pub record Laying (s : List ℕ) (q n : ℕ) (ms₀ ts₀ ms ts : List ℕ) (i p : ℕ) : Type 0 where
+pub record Laying (s : List ℕ) (q n : ℕ) (ms₀ ts₀ ms ts : List ℕ) (i : ℕ) : Type 0 where
   pub low : i ≤ n
-  pub place : p ≡ q + 12 * i
   pub long : length ms ≡ length ms₀
   pub wide : length ts ≡ length ts₀
   pub serials : take i ms ≡ map serial_of (members_at i s q)
   pub pairs : take (2 * i) ts ≡ touches (members_at i s q)
 
-pub laying : (s : List ℕ) (q n : ℕ) (ms ts : List ℕ) → Laying s q n ms ts ms ts 0 q
+pub laying : (s : List ℕ) (q n : ℕ) (ms ts : List ℕ) → Laying s q n ms ts ms ts 0
 unfolding members_at touches
-laying s q n ms ts = record { low = omega arith; place = omega arith; long = refl; wide = refl; serials = refl; pairs = refl }
+laying s q n ms ts = record { low = omega arith; long = refl; wide = refl; serials = refl; pairs = refl }
 
-module _ (s : List ℕ) (q n : ℕ) (ms₀ ts₀ ms ts : List ℕ) (i p : ℕ) (l : Laying s q n ms₀ ts₀ ms ts i p) where
-  pub laid_one : i < n → n ≤ length ms₀ → 2 * n ≤ length ts₀ → (k a c : ℕ) → k ≡ at 4 s p → a ≡ at 4 s (p + 4) → c ≡ at 4 s (p + 8)
-      → Laying s q n ms₀ ts₀ (set ms i k) (set (set ts (2 * i) a) (2 * i + 1) c) (i + 1) (p + 12)
-  laid_one h f g k a c x y z =
+module _ (s : List ℕ) (q n : ℕ) (ms₀ ts₀ ms ts : List ℕ) (i : ℕ) (l : Laying s q n ms₀ ts₀ ms ts i) where
+  pub laid_one : i < n → n ≤ length ms₀ → 2 * n ≤ length ts₀ → (k a c : ℕ) → k ≡ at 4 s (q + 12 * i) → a ≡ at 4 s (q + 12 * i + 4) → c ≡ at 4 s (q + 12 * i + 8)
+      → Laying s q n ms₀ ts₀ (set ms i k) (set (set ts (2 * i) a) (2 * i + 1) c) (i + 1)
+  laid_one h f g k a c k' a' c' =
       let m = member_at s (q + 12 * i) in
-      let e : p ≡ q + 12 * i = l.place in
       let one : i + 1 ≡ suc i = omega arith in
       let two : 2 * suc i ≡ suc (suc (2 * i)) = omega arith in
       let odd : 2 * i + 1 ≡ suc (2 * i) = omega arith in
-      let k' : k ≡ m.serial = x ∙ ap (at 4 s) e in
-      let a' : a ≡ m.first = y ∙ ap (λ (j : ℕ). at 4 s (j + 4)) e in
-      let c' : c ≡ m.second = z ∙ ap (λ (j : ℕ). at 4 s (j + 8)) e in
       record {
         low = omega arith;
-        place = omega (arith, e);
         long = length-set ms i k ∙ l.long;
         wide = length-set (set ts (2 * i) a) (2 * i + 1) c ∙ length-set ts (2 * i) a ∙ l.wide;
         serials =

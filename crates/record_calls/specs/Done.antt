@@ -1,6 +1,5 @@
 -- What an operation does on sound words: the ledger's own account of it. Assumes nothing.
-use Rattle.std.specs.Prelude.{ℕ, ◌*◌, ◌≡◌, List, [], ◌∷◌, map, length, take}
-use Rattle.std.proofs.Math.Option.{Option, none, some}
+use Rattle.std.specs.Prelude.{ℕ, ◌*◌, ◌≡◌, List, [], ◌∷◌, map, length, take, None, Option, Some}
 use Rattle.bench_views.specs.View.{view}
 use Rattle.text_numbers.specs.declared.Reply.{Reply}
 use Rattle.text_calls.specs.Turned.{Gave}
@@ -9,8 +8,8 @@ use Rattle.record_says.specs.Says.{says_op}
 
 -- what the record that was read says
 abbrev pub DoneAt : List ℕ → Option (Op × List ℕ) → Reply → List ℕ → Type 0
-DoneAt b none r b' = Unit {0}
-DoneAt b (some x) r b' = Gave (says_op (view b) x.0) r b'
+DoneAt b None r b' = Unit {0}
+DoneAt b (Some x) r b' = Gave (says_op (view b) x.0) r b'
 
 -- ---- members on their way to a call
 

@@ -22,17 +22,14 @@ fn lay(s: &[u8], q: usize, n: usize, members: &mut [u64], touching: &mut [u64])
     requires { (q + 12 * n ≤ length s.now) × ((n ≤ length members.old) × (2 * n ≤ length touching.old)) }
     ensures { Laid (members_at n s.now q) n members.old touching.old members.new touching.new }
 {
-    let mut i: usize = 0;
-    let mut at = q;
-    while i < n {
+    for i in 0..n {
+        let at = q + 12 * i;
         let serial = record_numbers::four_at(s, at);
         let first = record_numbers::four_at(s, at + 4);
         let second = record_numbers::four_at(s, at + 8);
         members[i] = serial;
         touching[2 * i] = first;
         touching[2 * i + 1] = second;
-        at = at + 12;
-        i += 1;
     }
 }
 

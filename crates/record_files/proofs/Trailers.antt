@@ -1,37 +1,19 @@
--- The trailer's numbers, tested one after the other; and the file from them on. Assumes nothing.
+-- What the trailer's numbers say of the slice, and the file from them on. Assumes nothing.
 use Prim.Native.Nat.{ℕ, ◌+◌, ◌-◌, ◌*◌, ◌≤◌, ◌<◌}
 use native.Mathlib.Omega.{arith}
 use native.Mathlib.Decide.{dec_lt}
 use mathlib.Core.Path.{◌≡◌, refl, sym, ◌∙◌, ap}
 use mathlib.Core.Bool.{Bool, true, false, true≢false}
 use mathlib.Core.List.{List}
-use lib.Dec.{leb}
 use lib.ListN.{length, take}
-use borrow.Author.Tests.{lt-ltb, le-ltb, eq-eqb, ne_eqb}
+use borrow.Author.Tests.{lt-ltb, le-ltb}
 use Rattle.record_spec.specs.Reader.{pick}
-use Rattle.record_spec.specs.Files.{mark, largest, records_in, fitting, file_ops}
+use Rattle.record_spec.specs.Files.{records_in, fitting, file_ops}
 use Rattle.record_spec.specs.Places.{at, fours_at}
 use Rattle.record_spec.proofs.Files.{fitting_true}
 use Rattle.record_spec.proofs.Places.{file_short, file_unfit, file_walk}
 use Rattle.record_files.specs.declared.Trailer.{Trailer}
 use Rattle.record_files.specs.Scans.{not_file, scanned_of, fits_at, no_trailer, trailer_at, trailer_of}
-
-module _ (size start count before letters : ℕ) where
-  pub other_letters : (letters ≡ mark → ⊥) → false ≡ fitting size start count before letters
-  unfolding fitting
-  other_letters n = rw (ne_eqb letters mark n)
-
-  pub other_before : letters ≡ mark → (before ≡ size - 16 → ⊥) → false ≡ fitting size start count before letters
-  unfolding fitting
-  other_before e n = rw (eq-eqb letters mark e, ne_eqb before (size - 16) n)
-
-  pub other_end : letters ≡ mark → before ≡ size - 16 → (start + 4 * count ≡ before → ⊥) → false ≡ fitting size start count before letters
-  unfolding fitting
-  other_end e f n = rw (eq-eqb letters mark e, eq-eqb before (size - 16) f, ne_eqb (start + 4 * count) before n)
-
-  pub last_test : letters ≡ mark → before ≡ size - 16 → start + 4 * count ≡ before → leb size largest ≡ fitting size start count before letters
-  unfolding fitting
-  last_test e f g = rw (eq-eqb letters mark e, eq-eqb before (size - 16) f, eq-eqb (start + 4 * count) before g)
 
 -- ---- the trailer
 

@@ -1,9 +1,9 @@
 -- The walk from record to record: what is scanned and what is left make the whole. Assumes nothing.
+use Rattle.std.specs.Prelude.{None, Option, Some}
 use Prim.Native.Nat.{ℕ, zero, suc, ◌+◌, ◌-◌, ◌*◌, ◌≤◌, ◌<◌}
 use native.Mathlib.Omega.{arith}
 use mathlib.Core.Path.{◌≡◌, refl, sym, ◌∙◌, ap}
 use mathlib.Core.Bool.{Bool, true, ◌&&◌}
-use mathlib.Core.Option.{Option, none, some}
 use mathlib.Core.List.{List, [], ◌∷◌}
 use lib.ListN.{length, drop, length-drop}
 use lib.Seq.{drop-drop, drop-length}
@@ -38,7 +38,7 @@ some_bytes (K u) = omega arith
 
 pub record Stands (t : List ℕ) (p : ℕ) (m : Measured) : Type 0 where
   pub op : Op
-  pub read : record_in (drop p t) ≡ some (op, drop (p + length (bytes_of op)) t)
+  pub read : record_in (drop p t) ≡ Some (op, drop (p + length (bytes_of op)) t)
   pub fits : p + length (bytes_of op) ≤ length t
   pub short : length (line_of_op op) ≤ 1023
   pub is : m ≡ sizes op
@@ -48,25 +48,25 @@ module _ (t : List ℕ) (p : ℕ) (m : Measured) (is : m ≡ measured_of (record
   stands l h n = go (record_in (drop p t)) refl
     where
       go : (o : Option (Op × List ℕ)) → record_in (drop p t) ≡ o → Stands t p m
-      go none e = absurd (n (ap (λ (x : Measured). x.size) (is ∙ ap measured_of e)))
-      go (some r) e =
+      go None e = absurd (n (ap (λ (x : Measured). x.size) (is ∙ ap measured_of e)))
+      go (Some r) e =
           let a = record_ends (drop p t) r.0 r.1 h e in
           let b = record_only (drop p t) r.0 r.1 h e in
           let f : r.1 ≡ drop (p + length (bytes_of r.0)) t = a.0 ∙ drop-drop (length (bytes_of r.0)) p t in
           record {
             op = r.0;
-            read = e ∙ ap (λ (x : List ℕ). some (r.0, x)) f;
+            read = e ∙ ap (λ (x : List ℕ). Some (r.0, x)) f;
             fits = omega (arith, a.1, length-drop p t);
             short = b.writable.short;
             is = is ∙ ap measured_of e;
           }
 
-  pub stands_not : m.size ≡ 0 → record_in (drop p t) ≡ none
+  pub stands_not : m.size ≡ 0 → record_in (drop p t) ≡ None
   stands_not z = go (record_in (drop p t)) refl
     where
-      go : (o : Option (Op × List ℕ)) → record_in (drop p t) ≡ o → record_in (drop p t) ≡ none
-      go none e = e
-      go (some r) e = absurd (omega (arith, z, ap (λ (x : Measured). x.size) (is ∙ ap measured_of e), some_bytes r.0))
+      go : (o : Option (Op × List ℕ)) → record_in (drop p t) ≡ o → record_in (drop p t) ≡ None
+      go None e = e
+      go (Some r) e = absurd (omega (arith, z, ap (λ (x : Measured). x.size) (is ∙ ap measured_of e), some_bytes r.0))
 
 -- ---- the walk
 
@@ -74,7 +74,6 @@ module _ (t : List ℕ) (p : ℕ) (m : Measured) (is : m ≡ measured_of (record
 pub record Walking (s t : List ℕ) (list count p entry left text : ℕ) (own : Bool) : Type 0 where
   pub low : p ≤ length t
   pub few : left ≤ count
-  pub entries : entry + 4 * left ≡ list + 4 * count
   pub whole : scanned_of (records_in 0 (fours_at count s list) t) ≡ more (count - left) p text own (records_in p (fours_at left s entry) (drop p t))
   pub short : text + 1024 * left ≤ 1024 * count
 
@@ -84,7 +83,6 @@ walking s t list count =
     record {
       low = omega arith;
       few = omega arith;
-      entries = refl;
       whole = more_none (records_in 0 (fours_at count s list) t) ∙ ap (λ (n : ℕ). more n 0 0 true (records_in 0 (fours_at count s list) t)) e;
       short = omega arith;
     }
@@ -109,7 +107,7 @@ module _ (s t : List ℕ) (list count p entry left text : ℕ) (own : Bool) (w :
     here : records_in p (fours_at left s entry) (drop p t) ≡ records_in p (p ∷ fours_at (left - 1) s (entry + 4)) (drop p t)
     here = ap (λ (l : List ℕ). records_in p l (drop p t)) (first_start h ∙ ap (λ (a : ℕ). a ∷ fours_at (left - 1) s (entry + 4)) (sym e ∙ is-p))
 
-    pub broken : record_in (drop p t) ≡ none → not_file ≡ scanned_of (records_in 0 (fours_at count s list) t)
+    pub broken : record_in (drop p t) ≡ None → not_file ≡ scanned_of (records_in 0 (fours_at count s list) t)
     broken n = sym (w.whole ∙ ap (more (count - left) p text own) (here ∙ loop_bad t p (fours_at (left - 1) s (entry + 4)) n))
 
     pub walk_on : (m : Measured) (b : Bool) → Stands t p m → b ≡ own && m.own → Walking s t list count (p + m.size) (entry + 4) (left - 1) (text + m.line) b
@@ -124,7 +122,6 @@ module _ (s t : List ℕ) (list count p entry left text : ℕ) (own : Bool) (w :
         record {
           low = omega (arith, g.fits, i);
           few = omega (arith, w.few);
-          entries = omega (arith, w.entries);
           whole =
               w.whole
               ∙ ap (more (count - left) p text own) (here ∙ loop_step t p (fours_at (left - 1) s (entry + 4)) op g.read)

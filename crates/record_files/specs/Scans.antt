@@ -1,6 +1,5 @@
 -- What the code answers of a trailer, and of a file: whether it is one, how many records, their bytes, its text's bytes, whether every pair is the member. Assumes nothing.
-use Rattle.std.specs.Prelude.{ℕ, ◌+◌, ◌-◌, Bool, true, false, List, ltb, length}
-use Rattle.std.proofs.Math.Option.{Option, none, some}
+use Rattle.std.specs.Prelude.{ℕ, ◌+◌, ◌-◌, Bool, true, false, List, ltb, length, None, Option, Some}
 use Rattle.record_spec.specs.Operations.{Op}
 use Rattle.record_spec.specs.Reader.{pick}
 use Rattle.record_spec.specs.Files.{records_of, fitting}
@@ -13,8 +12,8 @@ abbrev pub not_file : Scanned
 not_file = record { whole = false; count = 0; start = 0; text = 0; own = true }
 
 abbrev pub scanned_of : Option (List Op) → Scanned
-scanned_of none = not_file
-scanned_of (some ops) = record { whole = true; count = length ops; start = length (records_of ops); text = length (text_of ops); own = all_self ops }
+scanned_of None = not_file
+scanned_of (Some ops) = record { whole = true; count = length ops; start = length (records_of ops); text = length (text_of ops); own = all_self ops }
 
 -- ---- the trailer
 

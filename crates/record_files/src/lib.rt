@@ -41,18 +41,12 @@ fn not_file() -> Scanned
 }
 
 // Whether the trailer's numbers fit a file of so many bytes.
+#[tactic(auto, unfolding(record_spec::specs::Files::fitting))]
 fn is_fitting(size: usize, start: usize, count: usize, before: usize, letters: u64) -> bool
     requires { (16 ≤ size) × ((start < 4294967296) × (count < 4294967296)) }
     ensures { result ≡ fitting size start count before letters }
 {
-    if letters == MARK {
-        if before == size - 16 {
-            if start + 4 * count == before {
-                return size <= LARGEST;
-            }
-        }
-    }
-    false
+    letters == MARK && before == size - 16 && start + 4 * count == before && size <= LARGEST
 }
 
 // The records of t, each at its start: `count` starts stand in s from a place on. The last record ends where t ends.
@@ -61,25 +55,20 @@ fn walk(s: &[u8], t: &[u8], list: usize, count: usize) -> Scanned
     ensures { result ≡ scanned_of (records_in 0 (fours_at count s.now list) t.now) }
 {
     let mut p: usize = 0;
-    let mut entry = list;
-    let mut left = count;
     let mut text: usize = 0;
     let mut own = true;
-    while 0 < left {
-        let start = record_numbers::four_at(s, entry);
+    for i in 0..count {
+        let start = record_numbers::four_at(s, list + 4 * i);
         if start as usize != p {
             return not_file();
         }
         let m = record_measures::measure(t, p);
-        let size = m.size;
-        if size == 0 {
+        if m.size == 0 {
             return not_file();
         }
-        p = p + size;
-        entry = entry + 4;
-        left = left - 1;
-        text = text + m.line;
-        own = record_measures::both(own, m.own);
+        p += m.size;
+        text += m.line;
+        own = own && m.own;
     }
     if p < t.len() {
         return not_file();
@@ -132,8 +121,7 @@ pub fn scan(s: &[u8]) -> Scanned
 {
     let t = read_trailer(s);
     if t.fits {
-        let start = t.start;
-        return walk(s, &s[..start], start, t.count);
+        return walk(s, &s[..t.start], t.start, t.count);
     }
     not_file()
 }

@@ -1,9 +1,9 @@
 -- What each test of the code says of the k-th record. Assumes nothing.
+use Rattle.std.specs.Prelude.{None, Option, Some}
 use Prim.Native.Nat.{ℕ, zero, suc, ◌+◌, ◌-◌, ◌*◌, ◌≤◌, ◌<◌}
 use native.Mathlib.Omega.{arith}
 use mathlib.Core.Path.{◌≡◌, refl, sym, ◌∙◌, ap, subst}
 use mathlib.Core.Bool.{Bool, true, false}
-use mathlib.Core.Option.{Option, none, some}
 use mathlib.Core.List.{List, ◌++◌, append_assoc}
 use lib.Dec.{eqb}
 use lib.ListN.{length, take, drop, length-drop, take-append-drop}
@@ -50,7 +50,7 @@ begins_later (suc k) from h = refl
 -- ---- the record that the list gives
 
 -- what stands among the records stands in the file
-read_on : (s : List ℕ) (n p : ℕ) (op : Op) (r : List ℕ) → Bytes s → n ≤ length s → p ≤ n → record_in (drop p (take n s)) ≡ some (op, r) → record_in (drop p s) ≡ some (op, r ++ drop n s)
+read_on : (s : List ℕ) (n p : ℕ) (op : Op) (r : List ℕ) → Bytes s → n ≤ length s → p ≤ n → record_in (drop p (take n s)) ≡ Some (op, r) → record_in (drop p s) ≡ Some (op, r ++ drop n s)
 read_on s n p op r h l m e =
     let x = record_only (drop p (take n s)) op r (drop_bytes p (take n s) (take_bytes n s h)) e in
     let a : drop p s ≡ bytes_of op ++ (r ++ drop n s) =
@@ -66,26 +66,26 @@ module _ (s : List ℕ) (list count k : ℕ) (low : k < count) where
   unfolding listed standing
   no_begin b = rw (lt-ltb k count low, b) refl
 
-  pub no_record : begins k from ≡ true → record_at (take list s) from (end_of s list count k) ≡ none → listed s list count k ≡ refusal FILE
+  pub no_record : begins k from ≡ true → record_at (take list s) from (end_of s list count k) ≡ None → listed s list count k ≡ refusal FILE
   unfolding listed standing
   no_record b e = rw (lt-ltb k count low, b, e) refl
 
 module _ (t : List ℕ) (from to : ℕ) where
-  pub none_there : record_in (drop from t) ≡ none → record_at t from to ≡ none
+  pub none_there : record_in (drop from t) ≡ None → record_at t from to ≡ None
   unfolding record_at
   none_there e = rw e refl
 
-  pub ends_apart : (op : Op) (r : List ℕ) → record_in (drop from t) ≡ some (op, r) → (from + length (bytes_of op) ≡ to → ⊥) → record_at t from to ≡ none
+  pub ends_apart : (op : Op) (r : List ℕ) → record_in (drop from t) ≡ Some (op, r) → (from + length (bytes_of op) ≡ to → ⊥) → record_at t from to ≡ None
   unfolding record_at
   ends_apart op r e n =
-      then_back (record_in (drop from t)) (λ o q. pick (eqb (from + length (bytes_of o)) to) (some o) none) op r e
-      ∙ ap (λ (b : Bool). pick b (some op) none) (ne_eqb (from + length (bytes_of op)) to n)
+      then_back (record_in (drop from t)) (λ o q. pick (eqb (from + length (bytes_of o)) to) (Some o) None) op r e
+      ∙ ap (λ (b : Bool). pick b (Some op) None) (ne_eqb (from + length (bytes_of op)) to n)
 
 -- a record that was measured
 pub record Measures (t : List ℕ) (p : ℕ) (m : Measured) : Type 0 where
   pub op : Op
   pub after : List ℕ
-  pub read : record_in (drop p t) ≡ some (op, after)
+  pub read : record_in (drop p t) ≡ Some (op, after)
   pub size : m.size ≡ length (bytes_of op)
   pub inside : p + m.size ≤ length t
 
@@ -93,8 +93,8 @@ pub measures : (t : List ℕ) (p : ℕ) (m : Measured) → Bytes t → m ≡ mea
 measures t p m h is n = go (record_in (drop p t)) refl
   where
     go : (o : Option (Op × List ℕ)) → record_in (drop p t) ≡ o → Measures t p m
-    go none e = absurd (n (ap (λ (x : Measured). x.size) (is ∙ ap measured_of e)))
-    go (some r) e =
+    go None e = absurd (n (ap (λ (x : Measured). x.size) (is ∙ ap measured_of e)))
+    go (Some r) e =
         let z : m.size ≡ length (bytes_of r.0) = ap (λ (x : Measured). x.size) (is ∙ ap measured_of e) in
         let a = record_ends (drop p t) r.0 r.1 (drop_bytes p t h) e in
         record {
@@ -122,7 +122,7 @@ module _ (s : List ℕ) (list count k : ℕ) (h : Bytes s) (room : list + 4 * co
     pub nothing_there : m.size ≡ 0 → Finds (listed s list count k) s (record { number = FILE; place = 0 })
     nothing_there z =
         refuses (listed s list count k) s FILE (λ y. omega (arith, y))
-        (no_record s list count k low (begun true b) (there none (none_there (take list s) from to (stands_not (take list s) from m is z))))
+        (no_record s list count k low (begun true b) (there None (none_there (take list s) from to (stands_not (take list s) from m is z))))
 
     module _ (n : m.size ≡ 0 → ⊥) where
       measured : Measures (take list s) from m
@@ -136,7 +136,7 @@ module _ (s : List ℕ) (list count k : ℕ) (h : Bytes s) (room : list + 4 * co
           let x = measured in
           refuses (listed s list count k) s FILE (λ y. omega (arith, y))
           (no_record s list count k low (begun true b)
-          (there none (ends_apart (take list s) from to x.op x.after x.read (λ q. e (ap (λ (j : ℕ). from + j) x.size ∙ q)))))
+          (there None (ends_apart (take list s) from to x.op x.after x.read (λ q. e (ap (λ (j : ℕ). from + j) x.size ∙ q)))))
 
       pub stands_there : from + m.size ≡ to → Finds (listed s list count k) s (record { number = 0; place = from })
       stands_there e =
@@ -149,7 +149,7 @@ module _ (s : List ℕ) (list count k : ℕ) (h : Bytes s) (room : list + 4 * co
               after = x.after ++ drop list s;
               said =
                   said_by s list count k x.op low (begun true b)
-                  (there (some x.op) (record_fills (take list s) from to x.op x.after x.read (sym (ap (λ (j : ℕ). from + j) x.size) ∙ e)));
+                  (there (Some x.op) (record_fills (take list s) from to x.op x.after x.read (sym (ap (λ (j : ℕ). from + j) x.size) ∙ e)));
               read = read_on s list from x.op x.after h l (omega (arith, inside_list)) x.read;
               room = omega (arith, inside_list, room);
             };

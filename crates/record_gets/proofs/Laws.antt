@@ -1,9 +1,9 @@
 -- Laws of the call's answers, any that meet the contract: of a whole file they are the k-th operation's; a refused call leaves the slice. Assumes nothing.
+use Rattle.std.specs.Prelude.{Some}
 use Prim.Native.Nat.{ℕ, ◌≤◌}
 use native.Mathlib.Omega.{arith}
 use native.Mathlib.Decide.{dec_le}
 use mathlib.Core.Path.{◌≡◌, refl, ◌∙◌, ap}
-use mathlib.Core.Option.{some}
 use mathlib.Core.List.{List}
 use lib.ListN.{length}
 use Rattle.ledger_spec.specs.Numbers.{SMALL}
@@ -19,7 +19,7 @@ use Rattle.record_gets.specs.Words.{words_of, words_into, get_into}
 use Rattle.record_gets.proofs.Whole.{kth_of_file}
 use Rattle.record_gets.proofs.Getting.{said}
 
-pub get_of_file : (s : List ℕ) (ops : List Op) (k : ℕ) (out : List ℕ) → Bytes s → file_ops s ≡ some ops → get_into s k out ≡ words_into (kth_in ops k) out
+pub get_of_file : (s : List ℕ) (ops : List Op) (k : ℕ) (out : List ℕ) → Bytes s → file_ops s ≡ Some ops → get_into s k out ≡ words_into (kth_in ops k) out
 get_of_file s ops k out h e = said s k out (kth_in ops k) (kth_of_file s ops k h e)
 
 pub refused_get : (s : List ℕ) (k : ℕ) (out o : List ℕ) (r : Moved) → MovedAs (get_into s k out) o r → (r.number ≡ 0 → ⊥) → (r.size ≡ 0) × (o ≡ out)

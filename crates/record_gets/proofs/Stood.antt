@@ -1,8 +1,9 @@
 -- Of any bytes: an operation that is answered has a record, whose bytes stand before the list from the k-th start on. Assumes nothing.
+use Rattle.std.specs.Prelude.{None, Option, Some}
+use Rattle.std.proofs.lemmas.Option.{same_Some, none-some}
 use Prim.Native.Nat.{ℕ, ◌+◌, ◌-◌, ◌*◌}
 use mathlib.Core.Path.{◌≡◌, sym, ◌∙◌, ap, subst}
 use mathlib.Core.Bool.{Bool, true, false, true≢false}
-use mathlib.Core.Option.{Option, none, some, some-ne-none, some-injective}
 use mathlib.Core.List.{List, ◌++◌}
 use lib.Dec.{eqb, ltb}
 use lib.ListN.{length, take, drop}
@@ -35,13 +36,13 @@ this_way : (b : Bool) (n : ℕ) (a : Asked) (op : Op) → pick b a (refusal n) �
 this_way true n a op e = e
 this_way false n a op e = absurd (true≢false (sym (ap is_said e)))
 
-was_some : (o : Option Op) (op : Op) → asked o ≡ says op → o ≡ some op
-was_some none op e = absurd (true≢false (sym (ap is_said e)))
-was_some (some x) op e = ap (λ (a : Asked). some (said_op a x)) e
+was_some : (o : Option Op) (op : Op) → asked o ≡ says op → o ≡ Some op
+was_some None op e = absurd (true≢false (sym (ap is_said e)))
+was_some (Some x) op e = ap (λ (a : Asked). Some (said_op a x)) e
 
-kept : (b : Bool) (o : Option Op) (op : Op) → pick b o none ≡ some op → o ≡ some op
+kept : (b : Bool) (o : Option Op) (op : Op) → pick b o None ≡ Some op → o ≡ Some op
 kept true o op e = e
-kept false o op e = absurd (some-ne-none op (sym e))
+kept false o op e = absurd (none-some op e)
 
 -- ---- so a record was read
 
@@ -66,8 +67,8 @@ kth_stands s k op h e =
     let a : trailed s n k ≡ says op = other_way (ltb (length s) 16) 23 (trailed s n k) op e in
     let b : listed s list count k ≡ says op = this_way (fitting (length s) list count (at 4 s (n + 8)) (at 4 s (n + 12))) 23 (listed s list count k) op a in
     let c : standing s list count k from ≡ says op = this_way (ltb k count) 18 (standing s list count k from) op b in
-    let d : record_at t from to ≡ some op = kept (begins k from) (record_at t from to) op (was_some (pick (begins k from) (record_at t from to) none) op c) in
-    let x = then_only (record_in (drop from t)) (λ o r. pick (eqb (from + length (bytes_of o)) to) (some o) none) op d in
-    let y : x.value ≡ op = some-injective x.value op (kept (eqb (from + length (bytes_of x.value)) to) (some x.value) op x.goes) in
+    let d : record_at t from to ≡ Some op = kept (begins k from) (record_at t from to) op (was_some (pick (begins k from) (record_at t from to) None) op c) in
+    let x = then_only (record_in (drop from t)) (λ o r. pick (eqb (from + length (bytes_of o)) to) (Some o) None) op d in
+    let y : x.value ≡ op = same_Some x.value op (kept (eqb (from + length (bytes_of x.value)) to) (Some x.value) op x.goes) in
     let z = record_only (drop from t) x.value x.after (drop_bytes from t (take_bytes list s h)) x.read in
     record { after = x.after; stands = z.are ∙ ap (λ (o : Op). bytes_of o ++ x.after) y; writable = subst Writable y z.writable }

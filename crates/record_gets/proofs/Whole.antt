@@ -1,10 +1,11 @@
 -- A whole file's k-th record is its k-th operation, and past the last there is none: by the reading from record to record. Assumes nothing.
+use Rattle.std.specs.Prelude.{None, Some}
+use Rattle.std.proofs.lemmas.Option.{none-some}
 use Prim.Native.Nat.{ℕ, zero, suc, ◌+◌, ◌-◌, ◌*◌, ◌≤◌, ◌<◌}
 use native.Mathlib.Omega.{arith}
 use native.Mathlib.Decide.{dec_lt}
 use mathlib.Core.Path.{◌≡◌, refl, sym, ◌∙◌, ap}
 use mathlib.Core.Bool.{Bool, true, false}
-use mathlib.Core.Option.{none, some, some-ne-none}
 use mathlib.Core.List.{List, [], ◌∷◌}
 use lib.Dec.{eqb}
 use lib.ListN.{length, take, drop}
@@ -30,7 +31,7 @@ pub record Stands (s t : List ℕ) (ops : List Op) (p e n k : ℕ) : Type 0 wher
   pub after : List ℕ
   pub is : kth_in ops k ≡ says op
   pub first : k ≡ 0 → at 4 s (e + 4 * k) ≡ p
-  pub read : record_in (drop (at 4 s (e + 4 * k)) t) ≡ some (op, after)
+  pub read : record_in (drop (at 4 s (e + 4 * k)) t) ≡ Some (op, after)
   pub next : suc k < n → at 4 s (e + 4 * k) + length (bytes_of op) ≡ at 4 s (e + 4 * suc k)
   pub last : n ≤ suc k → at 4 s (e + 4 * k) + length (bytes_of op) ≡ length t
 
@@ -40,17 +41,17 @@ no_more [] e = refl
 no_more (op ∷ ops) e = absurd (omega (arith, e))
 
 -- the next start is where the record before it ends
-next_start : (n : ℕ) (s t : List ℕ) (p e : ℕ) (ops : List Op) → Bytes t → p ≤ length t → records_in p (fours_at n s e) (drop p t) ≡ some ops → 0 < n → at 4 s e ≡ p
+next_start : (n : ℕ) (s t : List ℕ) (p e : ℕ) (ops : List Op) → Bytes t → p ≤ length t → records_in p (fours_at n s e) (drop p t) ≡ Some ops → 0 < n → at 4 s e ≡ p
 unfolding fours_at
 next_start zero s t p e ops h l r m = absurd (omega arith)
 next_start (suc n) s t p e ops h l r m = (step t p (at 4 s e) (fours_at n s (e + 4)) ops h l r).place
 
-last_end : (n : ℕ) (s t : List ℕ) (p e : ℕ) (ops : List Op) → Bytes t → p ≤ length t → records_in p (fours_at n s e) (drop p t) ≡ some ops → n ≤ 0 → p ≡ length t
+last_end : (n : ℕ) (s t : List ℕ) (p e : ℕ) (ops : List Op) → Bytes t → p ≤ length t → records_in p (fours_at n s e) (drop p t) ≡ Some ops → n ≤ 0 → p ≡ length t
 unfolding fours_at
 last_end zero s t p e ops h l r m = let c = counts [] t p ops h l r in omega (arith, c.1, no_more ops c.0)
 last_end (suc n) s t p e ops h l r m = absurd (omega arith)
 
-pub stands : (k n : ℕ) (s t : List ℕ) (p e : ℕ) (ops : List Op) → Bytes t → p ≤ length t → records_in p (fours_at n s e) (drop p t) ≡ some ops → k < n
+pub stands : (k n : ℕ) (s t : List ℕ) (p e : ℕ) (ops : List Op) → Bytes t → p ≤ length t → records_in p (fours_at n s e) (drop p t) ≡ Some ops → k < n
     → Stands s t ops p e n k
 unfolding fours_at
 stands k zero s t p e ops h l r m = absurd (omega arith)
@@ -91,11 +92,11 @@ kth_past (op ∷ ops) (suc k) h = kth_past ops k (omega arith)
 
 -- ---- the answer, by what stands there
 
-pub record_fills : (s : List ℕ) (from to : ℕ) (op : Op) (r : List ℕ) → record_in (drop from s) ≡ some (op, r) → from + length (bytes_of op) ≡ to → record_at s from to ≡ some op
+pub record_fills : (s : List ℕ) (from to : ℕ) (op : Op) (r : List ℕ) → record_in (drop from s) ≡ Some (op, r) → from + length (bytes_of op) ≡ to → record_at s from to ≡ Some op
 unfolding record_at
 record_fills s from to op r e f =
-    then_back (record_in (drop from s)) (λ o q. pick (eqb (from + length (bytes_of o)) to) (some o) none) op r e
-    ∙ ap (λ (b : Bool). pick b (some op) none) (eq-eqb (from + length (bytes_of op)) to f)
+    then_back (record_in (drop from s)) (λ o q. pick (eqb (from + length (bytes_of o)) to) (Some o) None) op r e
+    ∙ ap (λ (b : Bool). pick b (Some op) None) (eq-eqb (from + length (bytes_of op)) to f)
 
 pub end_next : (s : List ℕ) (list count k : ℕ) → suc k < count → end_of s list count k ≡ at 4 s (list + 4 * suc k)
 unfolding end_of
@@ -106,7 +107,7 @@ unfolding end_of
 end_last s list count k h = ap (λ (b : Bool). pick b (at 4 s (list + 4 * suc k)) list) (le-ltb (suc k) count h)
 
 pub said_by : (s : List ℕ) (list count k : ℕ) (op : Op) → k < count → begins k (at 4 s (list + 4 * k)) ≡ true
-    → record_at (take list s) (at 4 s (list + 4 * k)) (end_of s list count k) ≡ some op → listed s list count k ≡ says op
+    → record_at (take list s) (at 4 s (list + 4 * k)) (end_of s list count k) ≡ Some op → listed s list count k ≡ says op
 unfolding listed standing
 said_by s list count k op h b e = rw (lt-ltb k count h, b, e) refl
 
@@ -140,10 +141,10 @@ begins_at (suc k) from h = refl
 
 -- ---- the law
 
-pub kth_of_file : (s : List ℕ) (ops : List Op) (k : ℕ) → Bytes s → file_ops s ≡ some ops → kth_of s k ≡ kth_in ops k
+pub kth_of_file : (s : List ℕ) (ops : List Op) (k : ℕ) → Bytes s → file_ops s ≡ Some ops → kth_of s k ≡ kth_in ops k
 kth_of_file s ops k h e = go (dec_lt (length s) 16)
   where
-    inside : (list count : ℕ) → list ≤ length s → records_in 0 (fours_at count s list) (take list s) ≡ some ops → Dec (k < count) → listed s list count k ≡ kth_in ops k
+    inside : (list count : ℕ) → list ≤ length s → records_in 0 (fours_at count s list) (take list s) ≡ Some ops → Dec (k < count) → listed s list count k ≡ kth_in ops k
     inside list count b r (no l) =
         let c = counts (fours_at count s list) (take list s) 0 ops (take_bytes list s h) (omega arith) r in
         past_range s list count k (omega arith) ∙ sym (kth_past ops k (omega (arith, c.0, fours_many count s list)))
@@ -158,12 +159,12 @@ kth_of_file s ops k h e = go (dec_lt (length s) 16)
         ends x (no m) = x.last (omega arith) ∙ length-take-le list s b ∙ sym (end_last s list count k (omega arith))
 
     fits : (n : ℕ) → length s ≡ n + 16 → (b : Bool) → fitting (length s) (at 4 s n) (at 4 s (n + 4)) (at 4 s (n + 8)) (at 4 s (n + 12)) ≡ b → kth_of s k ≡ kth_in ops k
-    fits n l false q = absurd (some-ne-none ops (sym e ∙ file_unfit s n l q))
+    fits n l false q = absurd (none-some ops (sym (sym e ∙ file_unfit s n l q)))
     fits n l true q =
         let f = fitting_true (length s) (at 4 s n) (at 4 s (n + 4)) (at 4 s (n + 8)) (at 4 s (n + 12)) q in
         from_trailer s k n l ∙ from_list s n k q
         ∙ inside (at 4 s n) (at 4 s (n + 4)) (omega (arith, f.lists, f.ends)) (sym (file_walk s n l q) ∙ e) (dec_lt k (at 4 s (n + 4)))
 
     go : Dec (length s < 16) → kth_of s k ≡ kth_in ops k
-    go (yes l) = absurd (some-ne-none ops (sym e ∙ file_short s l))
+    go (yes l) = absurd (none-some ops (sym (sym e ∙ file_short s l)))
     go (no l) = fits (length s - 16) (omega arith) (fitting (length s) (at 4 s (length s - 16)) (at 4 s (length s - 16 + 4)) (at 4 s (length s - 16 + 8)) (at 4 s (length s - 16 + 12))) refl

@@ -1,8 +1,8 @@
 -- An operation's words: those before the members and the members'; and writing them piece by piece. Assumes nothing.
+use Rattle.std.specs.Prelude.{Some}
 use Prim.Native.Nat.{ℕ, zero, suc, ◌+◌, ◌-◌, ◌*◌, ◌≤◌, ◌<◌}
 use native.Mathlib.Omega.{arith}
 use mathlib.Core.Path.{◌≡◌, refl, sym, ◌∙◌, ap}
-use mathlib.Core.Option.{some}
 use mathlib.Core.List.{List, [], ◌∷◌, ◌++◌, map}
 use lib.ListN.{length, take, drop, get_or, set, length-append}
 use lib.Seq.{sets, length-sets, get_or-drop}
@@ -104,7 +104,7 @@ module _ (s : List ℕ) (p : ℕ) (h : Bytes (drop p s)) where
   unfolding members_at
   none_there op l e f = record { are = e ∙ sym (ap (λ (n : ℕ). members_at n s (p + 4)) f); room = omega (arith, f, l) }
 
-  pub standing : (op : Op) (r : List ℕ) → record_in (drop p s) ≡ some (op, r) → p + 4 ≤ length s → Standing op
+  pub standing : (op : Op) (r : List ℕ) → record_in (drop p s) ≡ Some (op, r) → p + 4 ≤ length s → Standing op
   unfolding bytes_of letter_of
   standing (D u v) r e l = none_there (D u v) l refl refl
   standing (B u ms) r e l =
@@ -157,13 +157,11 @@ first_member (suc n) s p h =
 
 -- of `count` members from q on, `left` are left from p on, and go to `at`
 pub record Putting (s : List ℕ) (q count : ℕ) (out₀ : List ℕ) (place : ℕ) (out : List ℕ) (p to left : ℕ) : Type 0 where
-  pub places : p + 12 * left ≡ q + 12 * count
-  pub words : to + 3 * left ≡ place + 3 * count
   pub long : length out ≡ length out₀
   pub whole : sets out to (member_words (members_at left s p)) ≡ sets out₀ place (member_words (members_at count s q))
 
 pub putting : (s : List ℕ) (q count : ℕ) (out₀ : List ℕ) (place : ℕ) → Putting s q count out₀ place out₀ q place count
-putting s q count out₀ place = record { places = refl; words = refl; long = refl; whole = refl }
+putting s q count out₀ place = record { long = refl; whole = refl }
 
 module _ (s : List ℕ) (q count : ℕ) (out₀ : List ℕ) (place : ℕ) (out : List ℕ) (p to left : ℕ) (w : Putting s q count out₀ place out p to left) where
   pub put_on : 0 < left → (out' : List ℕ) → out' ≡ sets out to (at 4 s p ∷ at 4 s (p + 4) ∷ at 4 s (p + 8) ∷ []) → Putting s q count out₀ place out' (p + 12) (to + 3) (left - 1)
@@ -171,8 +169,6 @@ module _ (s : List ℕ) (q count : ℕ) (out₀ : List ℕ) (place : ℕ) (out :
       let f : to + 3 ≡ suc (suc (suc to)) = omega arith in
       let rest = member_words (members_at (left - 1) s (p + 12)) in
       record {
-        places = omega (arith, w.places, h);
-        words = omega (arith, w.words, h);
         long = ap length e ∙ length-sets out to (at 4 s p ∷ at 4 s (p + 4) ∷ at 4 s (p + 8) ∷ []) ∙ w.long;
         whole = (λ i. sets (e i) (f i) rest) ∙ sym (ap (sets out to) (first_member left s p h)) ∙ w.whole;
       }

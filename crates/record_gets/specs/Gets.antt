@@ -1,6 +1,5 @@
 -- What the code's steps answer: where a record stands, and the words before a blossom's members. Assumes nothing.
-use Rattle.std.specs.Prelude.{ℕ, ◌+◌, ◌≤◌, ◌≡◌, List, [], ◌∷◌, length, take, drop}
-use Rattle.std.proofs.Math.Option.{some}
+use Rattle.std.specs.Prelude.{ℕ, ◌+◌, ◌≤◌, ◌≡◌, List, [], ◌∷◌, length, take, drop, Some}
 use Rattle.kinds.specs.declared.GrowState.{GrowState}
 use Rattle.ledger_spec.specs.Bench.{rate}
 use Rattle.ledger_spec.specs.Named.{state_named}
@@ -20,7 +19,7 @@ pub record Holds (a : Asked) (s : List ℕ) (p : ℕ) : Type 0 where
   pub op : Op
   pub after : List ℕ
   pub said : a ≡ says op
-  pub read : record_in (drop p s) ≡ some (op, after)
+  pub read : record_in (drop p s) ≡ Some (op, after)
   pub room : p + 4 ≤ length s
 
 pub record Finds (a : Asked) (s : List ℕ) (r : Found) : Type 0 where

@@ -1,7 +1,6 @@
 -- The k-th record of any bytes, by the trailer and the list alone: two starts and one record are looked at, however many there are. Of a whole file it is the
 -- file's k-th operation (proofs/Whole.antt); whether the other records fit is not asked. Assumes nothing.
-use Rattle.std.specs.Prelude.{ℕ, zero, suc, ◌+◌, ◌-◌, ◌*◌, Bool, true, List, [], ◌∷◌, eqb, ltb, length, take, drop}
-use Rattle.std.proofs.Math.Option.{Option, none, some}
+use Rattle.std.specs.Prelude.{ℕ, zero, suc, ◌+◌, ◌-◌, ◌*◌, Bool, true, List, [], ◌∷◌, eqb, ltb, length, take, drop, None, Option, Some}
 use Rattle.ledger_spec.specs.Numbers.{RANGE, FILE}
 use Rattle.record_spec.specs.Numbers.{then}
 use Rattle.record_spec.specs.Operations.{Op}
@@ -16,8 +15,8 @@ pub data Asked : Type 0 where
   says : (op : Op) → Asked
 
 abbrev pub asked : Option Op → Asked
-asked none = refusal FILE
-asked (some op) = says op
+asked None = refusal FILE
+asked (Some op) = says op
 
 -- operation k of a list, the first being 0
 abbrev pub kth_in : List Op → ℕ → Asked
@@ -38,11 +37,11 @@ end_of s list count k = pick (ltb (suc k) count) (at 4 s (list + 4 * suc k)) lis
 
 -- the record that stands from one place to another, all of it
 unfoldable pub record_at : List ℕ → ℕ → ℕ → Option Op
-record_at s from to = then (record_in (drop from s)) (λ op r. pick (eqb (from + length (bytes_of op)) to) (some op) none)
+record_at s from to = then (record_in (drop from s)) (λ op r. pick (eqb (from + length (bytes_of op)) to) (Some op) None)
 
 -- record k, of which the list says that it starts at `from`
 unfoldable pub standing : List ℕ → ℕ → ℕ → ℕ → ℕ → Asked
-standing s list count k from = asked (pick (begins k from) (record_at (take list s) from (end_of s list count k)) none)
+standing s list count k from = asked (pick (begins k from) (record_at (take list s) from (end_of s list count k)) None)
 
 unfoldable pub listed : List ℕ → ℕ → ℕ → ℕ → Asked
 listed s list count k = pick (ltb k count) (standing s list count k (at 4 s (list + 4 * k))) (refusal RANGE)

@@ -22,10 +22,7 @@ pub struct Found {
 fn begins(k: usize, from: usize) -> bool
     ensures { result ≡ «first_begins» k from }
 {
-    if k == 0 {
-        return from == 0;
-    }
-    true
+    k != 0 || from == 0
 }
 
 // Where record k ends: where the next starts, the last where the list starts.
@@ -47,20 +44,13 @@ fn stand(s: &[u8], list: usize, count: usize, k: usize) -> Found
     let from = record_numbers::four_at(s, list + 4 * k) as usize;
     let to = end_of(s, list, count, k);
     let m = record_measures::measure(&s[..list], from);
-    let size = m.size;
-    if !begins(k, from) {
+    if !begins(k, from) || m.size == 0 {
         return Found {
             number: numbers::FILE,
             place: 0,
         };
     }
-    if size == 0 {
-        return Found {
-            number: numbers::FILE,
-            place: 0,
-        };
-    }
-    if from + size != to {
+    if from + m.size != to {
         return Found {
             number: numbers::FILE,
             place: 0,

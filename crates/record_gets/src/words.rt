@@ -124,13 +124,7 @@ pub fn put_members(s: &[u8], q: usize, count: usize, out: &mut [u64], place: usi
     requires { (q + 12 * count ≤ «long» s.now) × (place + 3 * count ≤ «long» out.old) }
     ensures { out.new ≡ sets out.old place (member_words (members_at count s.now q)) }
 {
-    let mut p = q;
-    let mut at = place;
-    let mut left = count;
-    while 0 < left {
-        put_member(s, p, out, at);
-        p = p + 12;
-        at = at + 3;
-        left = left - 1;
+    for i in 0..count {
+        put_member(s, q + 12 * i, out, place + 3 * i);
     }
 }

@@ -1,10 +1,11 @@
 -- The record that stands at a place has the line that its numbers' places say. Assumes nothing.
+use Rattle.std.specs.Prelude.{None, Option, Some}
+use Rattle.std.proofs.lemmas.Option.{same_Some, none-some}
 use Prim.Native.Nat.{ℕ, suc, ◌+◌, ◌*◌, ◌≤◌}
 use native.Mathlib.Omega.{arith}
 use native.Mathlib.Decide.{dec_le, ℕ_discrete}
 use mathlib.Core.Path.{◌≡◌, refl, sym, ◌∙◌, ap}
 use mathlib.Core.Bool.{Bool, true, false}
-use mathlib.Core.Option.{Option, none, some, some-ne-none, some-injective}
 use mathlib.Core.List.{List, [], ◌∷◌, ◌++◌, append-nil}
 use lib.ListN.{length, drop, get_or, set, length-drop, length-append, length-set}
 use borrow.Author.Tests.{ne_eqb}
@@ -37,18 +38,18 @@ line_by l u fs = (l ∷ []) ++ tail (decimal u ∷ fs)
 
 -- ---- a state
 
-state_said : (n : ℕ) (g : State) → state_in n ≡ some g → state_text n ≡ signed (rate g)
+state_said : (n : ℕ) (g : State) → state_in n ≡ Some g → state_text n ≡ signed (rate g)
 unfolding state_in state_text signed decimal digits
 state_said n g e = go (ℕ_discrete n 0) (ℕ_discrete n 1) (ℕ_discrete n 255)
   where
-    is : (k : ℕ) (f : State) → n ≡ k → state_in k ≡ some f → state_text k ≡ signed (rate f) → state_text n ≡ signed (rate g)
-    is k f a b c = ap state_text a ∙ c ∙ ap (λ (x : State). signed (rate x)) (some-injective f g (sym b ∙ sym (ap state_in a) ∙ e))
+    is : (k : ℕ) (f : State) → n ≡ k → state_in k ≡ Some f → state_text k ≡ signed (rate f) → state_text n ≡ signed (rate g)
+    is k f a b c = ap state_text a ∙ c ∙ ap (λ (x : State). signed (rate x)) (same_Some f g (sym b ∙ sym (ap state_in a) ∙ e))
 
     go : Dec (n ≡ 0) → Dec (n ≡ 1) → Dec (n ≡ 255) → state_text n ≡ signed (rate g)
     go (yes a) b c = is 0 stays a refl refl
     go (no a) (yes b) c = is 1 grows b refl refl
     go (no a) (no b) (yes c) = is 255 shrinks c refl refl
-    go (no a) (no b) (no c) = absurd (some-ne-none g (sym e ∙ rw (ne_eqb n 0 a, ne_eqb n 1 b, ne_eqb n 255 c, state_in)))
+    go (no a) (no b) (no c) = absurd (none-some g (sym (sym e ∙ rw (ne_eqb n 0 a, ne_eqb n 1 b, ne_eqb n 255 c, state_in))))
 
 -- ---- what stands after the unit
 
@@ -56,15 +57,15 @@ module _ (t : List ℕ) (q u : ℕ) (op : Op) (r : List ℕ) where
   abbrev Said : ℕ → Type 0
   Said l = (line_of_op op ≡ line_by l u (fields_at l t q)) × (q + bytes_at l t q ≤ length t)
 
-  module _ (l : ℕ) (h : rest l u (drop q t) ≡ some (op, r)) where
-    found : (k : ℕ) (fs : Fields) (n : ℕ) (o : Op) (v : List ℕ) → l ≡ k → rest k u (drop q t) ≡ some (o, v) → line_of_op o ≡ line_by k u fs
+  module _ (l : ℕ) (h : rest l u (drop q t) ≡ Some (op, r)) where
+    found : (k : ℕ) (fs : Fields) (n : ℕ) (o : Op) (v : List ℕ) → l ≡ k → rest k u (drop q t) ≡ Some (o, v) → line_of_op o ≡ line_by k u fs
         → (fields_at l t q ≡ fs) × (bytes_at l t q ≡ n) → q + n ≤ length t → Said l
     found k fs n o v e f g a b =
         let w : o ≡ op = same_value o op v r (sym f ∙ sym (ap (λ (x : ℕ). rest x u (drop q t)) e) ∙ h) in
         (sym (ap line_of_op w) ∙ g ∙ (λ i. line_by (sym e i) u (sym a.0 i)), omega (arith, a.1))
 
-    missing : (k : ℕ) → l ≡ k → rest k u (drop q t) ≡ none → Said l
-    missing k e f = absurd (some-ne-none (op, r) (sym h ∙ ap (λ (x : ℕ). rest x u (drop q t)) e ∙ f))
+    missing : (k : ℕ) → l ≡ k → rest k u (drop q t) ≡ None → Said l
+    missing k e f = absurd (none-some (op, r) (sym (sym h ∙ ap (λ (x : ℕ). rest x u (drop q t)) e ∙ f)))
 
     letter-D : l ≡ 68 → Dec (q + 4 ≤ length t) → Said l
     unfolding letter_of fields_of
@@ -92,11 +93,11 @@ module _ (t : List ℕ) (q u : ℕ) (op : Op) (r : List ℕ) where
 
     letter-S : l ≡ 83 → Dec (q + 5 ≤ length t) → (o : Option State) → state_in (at 1 t (q + 4)) ≡ o → Said l
     unfolding letter_of fields_of
-    letter-S e (yes x) (some g) z =
+    letter-S e (yes x) (Some g) z =
         found 83 (decimal (at 4 t q) ∷ state_text (at 1 t (q + 4)) ∷ []) 5 (S u (at 4 t q) g) (drop (q + 4 + 1) t) e (rest-S t q u g x z)
         (spaced_tail (83 ∷ []) (decimal u ∷ decimal (at 4 t q) ∷ signed (rate g) ∷ []) ∙ ap (λ (f : List ℕ). line_by 83 u (decimal (at 4 t q) ∷ f ∷ [])) (sym (state_said (at 1 t (q + 4)) g z)))
         (fields-S l t q e) x
-    letter-S e (yes x) none z = missing 83 e (bad-S t q u x z)
+    letter-S e (yes x) None z = missing 83 e (bad-S t q u x z)
     letter-S e (no x) o z = missing 83 e (short-S t q u (omega arith))
 
     letter-B : l ≡ 66 → Dec (q + 2 ≤ length t) → Dec (q + 2 + 12 * at 2 t q ≤ length t) → Said l
@@ -127,7 +128,7 @@ module _ (t : List ℕ) (q u : ℕ) (op : Op) (r : List ℕ) where
     by_letter x (no a) (no b) (no c) (no d) (no e) (yes f) g k = letter-F f (dec_le (q + 2) (length t))
     by_letter x (no a) (no b) (no c) (no d) (no e) (no f) (yes g) k = letter-C g x
     by_letter x (no a) (no b) (no c) (no d) (no e) (no f) (no g) (yes k) = letter-K k x
-    by_letter x (no a) (no b) (no c) (no d) (no e) (no f) (no g) (no k) = absurd (some-ne-none (op, r) (sym h ∙ rest_none l u (drop q t) a b c d e f g k))
+    by_letter x (no a) (no b) (no c) (no d) (no e) (no f) (no g) (no k) = absurd (none-some (op, r) (sym (sym h ∙ rest_none l u (drop q t) a b c d e f g k)))
 
     said : q ≤ length t → Said l
     said x = by_letter x (ℕ_discrete l 68) (ℕ_discrete l 66) (ℕ_discrete l 69) (ℕ_discrete l 83) (ℕ_discrete l 71) (ℕ_discrete l 70) (ℕ_discrete l 67) (ℕ_discrete l 75)
@@ -138,22 +139,22 @@ pub record Stood (t : List ℕ) (p : ℕ) (op : Op) : Type 0 where
   pub line : line_of_op op ≡ line_by (at 1 t p) (at 1 t (p + 1)) (fields_at (at 1 t p) t (p + 2))
   pub long : p + 2 + bytes_at (at 1 t p) t (p + 2) ≤ length t
 
-kept_only : (o : Option (Op × List ℕ)) (op : Op) (r : List ℕ) → kept o ≡ some (op, r) → o ≡ some (op, r)
-kept_only none op r e = absurd (some-ne-none (op, r) (sym e ∙ kept_none none refl))
-kept_only (some x) op r e = go (good x.0) refl
+kept_only : (o : Option (Op × List ℕ)) (op : Op) (r : List ℕ) → kept o ≡ Some (op, r) → o ≡ Some (op, r)
+kept_only None op r e = absurd (none-some (op, r) (sym (sym e ∙ kept_none None refl)))
+kept_only (Some x) op r e = go (good x.0) refl
   where
-    go : (b : Bool) → good x.0 ≡ b → some x ≡ some (op, r)
-    go true g = sym (kept_good (some x) x.0 x.1 refl g) ∙ e
-    go false g = absurd (some-ne-none (op, r) (sym e ∙ kept_bad (some x) x.0 x.1 refl g))
+    go : (b : Bool) → good x.0 ≡ b → Some x ≡ Some (op, r)
+    go true g = sym (kept_good (Some x) x.0 x.1 refl g) ∙ e
+    go false g = absurd (none-some (op, r) (sym (sym e ∙ kept_bad (Some x) x.0 x.1 refl g)))
 
-stood : (t : List ℕ) (p : ℕ) (op : Op) (r : List ℕ) → record_in (drop p t) ≡ some (op, r) → Stood t p op
+stood : (t : List ℕ) (p : ℕ) (op : Op) (r : List ℕ) → record_in (drop p t) ≡ Some (op, r) → Stood t p op
 stood t p op r e = go (dec_le (p + 2) (length t))
   where
     go : Dec (p + 2 ≤ length t) → Stood t p op
     go (yes h) =
         let a = said t (p + 2) (at 1 t (p + 1)) op r (at 1 t p) (kept_only (rest (at 1 t p) (at 1 t (p + 1)) (drop (p + 2) t)) op r (sym (opened t p h) ∙ e)) h in
         record { line = a.0; long = a.1 }
-    go (no h) = absurd (some-ne-none (op, r) (sym e ∙ too_short (drop p t) (omega (arith, length-drop p t))))
+    go (no h) = absurd (none-some (op, r) (sym (sym e ∙ too_short (drop p t) (omega (arith, length-drop p t)))))
 
 -- ---- its line written
 
@@ -167,8 +168,8 @@ pub here : (t : List ℕ) (p from room : ℕ) → Ready (record_in (drop p t)) f
 here t p from room x = go (record_in (drop p t)) refl x
   where
     go : (o : Option (Op × List ℕ)) → record_in (drop p t) ≡ o → Ready o from room → Here t p from room
-    go none e y = absurd y
-    go (some z) e y = record { op = z.0; is = ap line_in e; stood = stood t p z.0 z.1 e; fits = y }
+    go None e y = absurd y
+    go (Some z) e y = record { op = z.0; is = ap line_in e; stood = stood t p z.0 z.1 e; fits = y }
 
 module _ (t : List ℕ) (p from : ℕ) (o : List ℕ) (h : Here t p from (length o)) (l u : ℕ) (letter : l ≡ get_or t p 0) (unit : u ≡ at 1 t (p + 1)) where
   line_is : line_of_op h.op ≡ (l ∷ []) ++ ((32 ∷ decimal u) ++ tail (fields_at l t (p + 2)))

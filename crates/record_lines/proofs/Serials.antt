@@ -28,12 +28,11 @@ no_serial (suc k) t q h = absurd (omega arith)
 -- of `count` members from q on, `left` are left from `from` on, and belong at `place`
 pub record Writing (t : List ℕ) (count q : ℕ) (out₀ : List ℕ) (start : ℕ) (out : List ℕ) (place from left : ℕ) : Type 0 where
   pub long : length out ≡ length out₀
-  pub members : from + 12 * left ≡ q + 12 * count
   pub ends : place + length (serials left t from) ≡ start + length (serials count t q)
   pub stands : sets out place (serials left t from) ≡ sets out₀ start (serials count t q)
 
 pub writing : (t : List ℕ) (count q : ℕ) (out : List ℕ) (start : ℕ) → Writing t count q out start out start q count
-writing t count q out start = record { long = refl; members = refl; ends = refl; stands = refl }
+writing t count q out start = record { long = refl; ends = refl; stands = refl }
 
 module _ (t : List ℕ) (count q : ℕ) (out₀ : List ℕ) (start : ℕ) (out : List ℕ) (place from left : ℕ) (g : Writing t count q out₀ start out place from left) where
   module _ (h : 0 < left) (n : ℕ) (e : n ≡ at 4 t from) where
@@ -49,7 +48,6 @@ module _ (t : List ℕ) (count q : ℕ) (out₀ : List ℕ) (start : ℕ) (out :
     pub write_on : (out' : List ℕ) (p : ℕ) → length out' ≡ length out → Wrote out place (32 ∷ decimal n) out' p → Writing t count q out₀ start out' p (from + 12) (left - 1)
     write_on out' p l w = record {
       long = l ∙ g.long;
-      members = omega (arith, g.members);
       ends = omega (arith, g.ends, sizes, w.next);
       stands =
           (λ i. sets (w.stands i) (w.next i) (serials (left - 1) t (from + 12)))

@@ -1,6 +1,5 @@
 -- A record's line, by the places of its numbers. Assumes nothing.
-use Rattle.std.specs.Prelude.{ℕ, suc, ◌+◌, ◌*◌, ◌≤◌, List, [], ◌∷◌, ◌++◌, map, eqb, length}
-use Rattle.std.proofs.Math.Option.{Option, none, some}
+use Rattle.std.specs.Prelude.{ℕ, suc, ◌+◌, ◌*◌, ◌≤◌, List, [], ◌∷◌, ◌++◌, map, eqb, length, None, Option, Some}
 use Rattle.ledger_spec.specs.Decimals.{decimal, signed}
 use Rattle.ledger_spec.specs.Grammar.{Fields}
 use Rattle.record_spec.specs.Numbers.{length_in}
@@ -12,13 +11,13 @@ use Rattle.record_measures.specs.Measures.{members_at}
 -- ---- the line with its newline, of a record that stands there
 
 abbrev pub line_in : Option (Op × List ℕ) → List ℕ
-line_in none = []
-line_in (some p) = line_of_op p.0 ++ (10 ∷ [])
+line_in None = []
+line_in (Some p) = line_of_op p.0 ++ (10 ∷ [])
 
 -- the record is there, and so is room for its line from a place on
 abbrev pub Ready : Option (Op × List ℕ) → ℕ → ℕ → Type 0
-Ready none from room = ⊥
-Ready (some p) from room = from + suc (length (line_of_op p.0)) ≤ room
+Ready None from room = ⊥
+Ready (Some p) from room = from + suc (length (line_of_op p.0)) ≤ room
 
 -- ---- by places
 

@@ -65,13 +65,9 @@ fn put_serials(out: &mut [u8], at: usize, t: &[u8], q: usize, count: usize) -> u
     ensures { Wrote out.old at (tail (serial_fields count t.now q)) out.new result }
 {
     let mut place = at;
-    let mut from = q;
-    let mut left = count;
-    while 0 < left {
-        let n = record_numbers::four_at(t, from);
+    for i in 0..count {
+        let n = record_numbers::four_at(t, q + 12 * i);
         place = put_field(out, place, n);
-        from = from + 12;
-        left = left - 1;
     }
     place
 }

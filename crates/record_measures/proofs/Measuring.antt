@@ -1,9 +1,9 @@
 -- A record that stands after a letter and a unit, as the code measures it. Assumes nothing.
+use Rattle.std.specs.Prelude.{None, Option, Some}
 use Prim.Native.Nat.{ℕ, suc, ◌+◌, ◌*◌, ◌≤◌, ◌<◌}
 use native.Mathlib.Omega.{arith}
 use mathlib.Core.Path.{◌≡◌, refl, sym, ◌∙◌, ap}
 use mathlib.Core.Bool.{Bool, true, false}
-use mathlib.Core.Option.{Option, none, some}
 use mathlib.Core.List.{List, [], ◌∷◌, map}
 use lib.IntN.{ℤ}
 use lib.ListN.{length, drop, get_or, length-drop}
@@ -25,37 +25,37 @@ use Rattle.record_measures.specs.Measures.{nothing, measured_of, kept, tried}
 
 -- ---- kept or not
 
-pub kept_good : (o : Option (Op × List ℕ)) (op : Op) (r : List ℕ) → o ≡ some (op, r) → good op ≡ true → kept o ≡ some (op, r)
+pub kept_good : (o : Option (Op × List ℕ)) (op : Op) (r : List ℕ) → o ≡ Some (op, r) → good op ≡ true → kept o ≡ Some (op, r)
 unfolding kept
-kept_good o op r e g = then_back o (λ x q. elim (good x) [ true ↦ some (x, q) | false ↦ none ]) op r e ∙ rw g
+kept_good o op r e g = then_back o (λ x q. elim (good x) [ true ↦ Some (x, q) | false ↦ None ]) op r e ∙ rw g
 
-pub kept_bad : (o : Option (Op × List ℕ)) (op : Op) (r : List ℕ) → o ≡ some (op, r) → good op ≡ false → kept o ≡ none
+pub kept_bad : (o : Option (Op × List ℕ)) (op : Op) (r : List ℕ) → o ≡ Some (op, r) → good op ≡ false → kept o ≡ None
 unfolding kept
-kept_bad o op r e g = then_back o (λ x q. elim (good x) [ true ↦ some (x, q) | false ↦ none ]) op r e ∙ rw g
+kept_bad o op r e g = then_back o (λ x q. elim (good x) [ true ↦ Some (x, q) | false ↦ None ]) op r e ∙ rw g
 
-pub kept_none : (o : Option (Op × List ℕ)) → o ≡ none → kept o ≡ none
+pub kept_none : (o : Option (Op × List ℕ)) → o ≡ None → kept o ≡ None
 unfolding kept
 kept_none o e = ap kept e
 
-pub none_measured : (o : Option (Op × List ℕ)) → o ≡ none → nothing ≡ measured_of (kept o)
+pub none_measured : (o : Option (Op × List ℕ)) → o ≡ None → nothing ≡ measured_of (kept o)
 none_measured o e = sym (ap measured_of (kept_none o e))
 
-pub bad_measured : (o : Option (Op × List ℕ)) (op : Op) (r : List ℕ) → o ≡ some (op, r) → good op ≡ false → nothing ≡ measured_of (kept o)
+pub bad_measured : (o : Option (Op × List ℕ)) (op : Op) (r : List ℕ) → o ≡ Some (op, r) → good op ≡ false → nothing ≡ measured_of (kept o)
 bad_measured o op r e g = sym (ap measured_of (kept_bad o op r e g))
 
 -- the three numbers of an operation that is kept
-pub good_measured : (o : Option (Op × List ℕ)) (op : Op) (r : List ℕ) → o ≡ some (op, r) → good op ≡ true
+pub good_measured : (o : Option (Op × List ℕ)) (op : Op) (r : List ℕ) → o ≡ Some (op, r) → good op ≡ true
     → (a b : ℕ) (c : Bool) → a ≡ length (bytes_of op) → b ≡ suc (length (line_of_op op)) → c ≡ self op
     → ◌≡◌ {A = Measured} (record { size = a; line = b; own = c }) (measured_of (kept o))
 good_measured o op r e g a b c x y z = (λ i. record { size = x i; line = y i; own = z i }) ∙ sym (ap measured_of (kept_good o op r e g))
 
 -- no blossom: only the serials are tested
-pub plain_measured : (o : Option (Op × List ℕ)) (op : Op) (r : List ℕ) → o ≡ some (op, r) → Plain op → Held op → serials_good op ≡ true
+pub plain_measured : (o : Option (Op × List ℕ)) (op : Op) (r : List ℕ) → o ≡ Some (op, r) → Plain op → Held op → serials_good op ≡ true
     → (a b : ℕ) → a ≡ length (bytes_of op) → b ≡ suc (length (line_of_op op)) → true ≡ self op
     → ◌≡◌ {A = Measured} (record { size = a; line = b; own = true }) (measured_of (kept o))
 plain_measured o op r e p h s a b x y z = good_measured o op r e (plain_good op p h ∙ s) a b true x y z
 
-pub plain_unfit : (o : Option (Op × List ℕ)) (op : Op) (r : List ℕ) → o ≡ some (op, r) → Plain op → Held op → serials_good op ≡ false → nothing ≡ measured_of (kept o)
+pub plain_unfit : (o : Option (Op × List ℕ)) (op : Op) (r : List ℕ) → o ≡ Some (op, r) → Plain op → Held op → serials_good op ≡ false → nothing ≡ measured_of (kept o)
 plain_unfit o op r e p h s = bad_measured o op r e (plain_good op p h ∙ s)
 
 -- ---- how long a line is
@@ -109,9 +109,9 @@ opened t p h =
     let e : p + 1 + 1 ≡ p + 2 = omega arith in
     then_back (number 1 (drop p t)) (λ c v. then (number 1 v) (λ u w. kept (rest c u w))) (at 1 t p) (drop (p + 1) t) (number_at 1 t p (omega arith))
     ∙ then_back (number 1 (drop (p + 1) t)) (λ u w. kept (rest (at 1 t p) u w)) (at 1 t (p + 1)) (drop (p + 2) t)
-    (number_at 1 t (p + 1) (omega arith) ∙ ap (λ (a : ℕ). some (at 1 t (p + 1), drop a t)) e)
+    (number_at 1 t (p + 1) (omega arith) ∙ ap (λ (a : ℕ). Some (at 1 t (p + 1), drop a t)) e)
 
-pub too_short : (s : List ℕ) → length s < 2 → record_in s ≡ none
+pub too_short : (s : List ℕ) → length s < 2 → record_in s ≡ None
 unfolding record_in number
 too_short [] h = refl
 too_short (b ∷ []) h = refl
@@ -127,14 +127,14 @@ letter_is t p l u m h e f g =
     let a : l ≡ at 1 t p = omega (arith, e) in
     g ∙ (λ i. tried (a i) (f i) (drop (p + 2) t)) ∙ sym (ap measured_of (opened t p h))
 
-pub letter_none : (t : List ℕ) (p l u : ℕ) → p + 2 ≤ length t → get_or t p 0 ≡ l → u ≡ at 1 t (p + 1) → rest l u (drop (p + 2) t) ≡ none → nothing ≡ measured_of (record_in (drop p t))
+pub letter_none : (t : List ℕ) (p l u : ℕ) → p + 2 ≤ length t → get_or t p 0 ≡ l → u ≡ at 1 t (p + 1) → rest l u (drop (p + 2) t) ≡ None → nothing ≡ measured_of (record_in (drop p t))
 letter_none t p l u h e f n = letter_is t p l u nothing h e f (none_measured (rest l u (drop (p + 2) t)) n)
 
 -- the bytes after a record do not count
-pub whatever_after : (op : Op) (r : List ℕ) → measured_of (kept (some (op, r))) ≡ measured_of (kept (some (op, [])))
+pub whatever_after : (op : Op) (r : List ℕ) → measured_of (kept (Some (op, r))) ≡ measured_of (kept (Some (op, [])))
 unfolding kept
 whatever_after op r = go (good op) refl
   where
-    go : (b : Bool) → good op ≡ b → measured_of (kept (some (op, r))) ≡ measured_of (kept (some (op, [])))
-    go true e = ap measured_of (kept_good (some (op, r)) op r refl e) ∙ sym (ap measured_of (kept_good (some (op, [])) op [] refl e))
-    go false e = ap measured_of (kept_bad (some (op, r)) op r refl e) ∙ sym (ap measured_of (kept_bad (some (op, [])) op [] refl e))
+    go : (b : Bool) → good op ≡ b → measured_of (kept (Some (op, r))) ≡ measured_of (kept (Some (op, [])))
+    go true e = ap measured_of (kept_good (Some (op, r)) op r refl e) ∙ sym (ap measured_of (kept_good (Some (op, [])) op [] refl e))
+    go false e = ap measured_of (kept_bad (Some (op, r)) op r refl e) ∙ sym (ap measured_of (kept_bad (Some (op, [])) op [] refl e))

@@ -1,9 +1,9 @@
 -- A blossom's members weighed one by one: what is weighed and what is left make the whole. Assumes nothing.
+use Rattle.std.specs.Prelude.{Some}
 use Prim.Native.Nat.{ℕ, zero, suc, ◌+◌, ◌-◌, ◌*◌, ◌≤◌, ◌<◌}
 use native.Mathlib.Omega.{arith}
 use mathlib.Core.Path.{◌≡◌, refl, sym, ◌∙◌, ap}
 use mathlib.Core.Bool.{Bool, true, false, ◌&&◌, and-true}
-use mathlib.Core.Option.{some}
 use mathlib.Core.List.{List, [], ◌∷◌, map}
 use lib.Dec.{eqb, leb}
 use lib.ListN.{length}
@@ -24,7 +24,7 @@ and_none false = refl
 
 -- ---- one member
 
-abbrev serials_of : Member → Bool
+abbrev pub serials_of : Member → Bool
 serials_of m = leb 1 m.serial && (leb 1 m.first && leb 1 m.second)
 
 abbrev owned : Member → Bool
@@ -81,14 +81,13 @@ texts ms = total (map decimal (map serial_of ms))
 
 -- of n members from place q on, `left` are left from place p on; the others have so many bytes in the line
 pub record Weighing (t : List ℕ) (n q p left line : ℕ) (own : Bool) : Type 0 where
-  pub place : p + 12 * left ≡ q + 12 * n
   pub fine : members_good (members_at n t q) ≡ members_good (members_at left t p)
   pub owns : selves (members_at n t q) ≡ own && selves (members_at left t p)
   pub text : texts (members_at n t q) ≡ line + texts (members_at left t p)
   pub few : line + 21 * left ≤ 21 * n
 
 pub weighing : (t : List ℕ) (n q : ℕ) → Weighing t n q q n 0 true
-weighing t n q = record { place = refl; fine = refl; owns = refl; text = omega arith; few = omega arith }
+weighing t n q = record { fine = refl; owns = refl; text = omega arith; few = omega arith }
 
 and_assoc : (a b c : Bool) → a && (b && c) ≡ (a && b) && c
 and_assoc true b c = refl
@@ -112,7 +111,6 @@ module _ (t : List ℕ) (n q p : ℕ) (line : ℕ) (own : Bool) where
       let s : members_good (m ∷ ms) ≡ members_good ms = ap (λ (a : Bool). a && members_good ms) x.serials in
       let k : w.own ≡ owned m = ap (λ (v : Weight). v.own) e ∙ x.own in
       record {
-        place = omega (arith, c.place);
         fine = c.fine ∙ ap members_good f ∙ s;
         owns = c.owns ∙ ap (λ (a : List Member). own && selves a) f ∙ and_assoc own (owned m) (selves ms) ∙ ap (λ (a : Bool). (own && a) && selves ms) (sym k) ∙ ap (λ (a : Bool). a && selves ms) (sym o);
         text = omega (arith, c.text, ap texts f, d);
@@ -144,12 +142,12 @@ members_many (suc n) t p = ap suc (members_many n t (p + 12))
 
 pub none_tried : (u : ℕ) (t : List ℕ) (q : ℕ) → nothing ≡ tried_members u (members_at 0 t q)
 unfolding members_at good serials_good
-none_tried u t q = bad_measured (some (B u [], [])) (B u []) [] refl refl
+none_tried u t q = bad_measured (Some (B u [], [])) (B u []) [] refl refl
 
 module _ (u : ℕ) (ms : List Member) where
   pub bad_tried : members_good ms ≡ false → nothing ≡ tried_members u ms
   unfolding good serials_good
-  bad_tried e = bad_measured (some (B u ms, [])) (B u ms) [] refl (ap (λ (b : Bool). (leb 1 (length ms) && b) && leb (length (line_of_op (B u ms))) 1023) e ∙ falls (leb 1 (length ms)) (leb (length (line_of_op (B u ms))) 1023))
+  bad_tried e = bad_measured (Some (B u ms, [])) (B u ms) [] refl (ap (λ (b : Bool). (leb 1 (length ms) && b) && leb (length (line_of_op (B u ms))) 1023) e ∙ falls (leb 1 (length ms)) (leb (length (line_of_op (B u ms))) 1023))
     where
       falls : (a b : Bool) → (a && false) && b ≡ false
       falls true b = refl
@@ -157,7 +155,7 @@ module _ (u : ℕ) (ms : List Member) where
 
   pub long_tried : 1023 < length (line_of_op (B u ms)) → nothing ≡ tried_members u ms
   unfolding good
-  long_tried h = bad_measured (some (B u ms, [])) (B u ms) [] refl (ap (λ (b : Bool). serials_good (B u ms) && b) (lt-leb (length (line_of_op (B u ms))) 1023 h) ∙ falls (serials_good (B u ms)))
+  long_tried h = bad_measured (Some (B u ms, [])) (B u ms) [] refl (ap (λ (b : Bool). serials_good (B u ms) && b) (lt-leb (length (line_of_op (B u ms))) 1023 h) ∙ falls (serials_good (B u ms)))
     where
       falls : (a : Bool) → a && false ≡ false
       falls true = refl
@@ -167,4 +165,4 @@ module _ (u : ℕ) (ms : List Member) where
       → a ≡ 4 + 12 * length ms → b ≡ suc (length (line_of_op (B u ms))) → c ≡ selves ms → ◌≡◌ {A = Measured} (record { size = a; line = b; own = c }) (tried_members u ms)
   unfolding good serials_good self
   good_tried k g h a b c x y z =
-      good_measured (some (B u ms, [])) (B u ms) [] refl (rw (le-leb 1 (length ms) k, g, le-leb (length (line_of_op (B u ms))) 1023 h)) a b c (x ∙ sym (bytes-B u ms)) y z
+      good_measured (Some (B u ms, [])) (B u ms) [] refl (rw (le-leb 1 (length ms) k, g, le-leb (length (line_of_op (B u ms))) 1023 h)) a b c (x ∙ sym (bytes-B u ms)) y z

@@ -1,9 +1,9 @@
 -- The records of every letter but B, measured, from the numbers that were read. Assumes nothing.
+use Rattle.std.specs.Prelude.{None, Option, Some}
 use Prim.Native.Nat.{ℕ, ◌+◌, ◌≤◌, ◌<◌}
 use native.Mathlib.Omega.{arith}
 use mathlib.Core.Path.{◌≡◌, refl, ◌∙◌, ap}
 use mathlib.Core.Bool.{true}
-use mathlib.Core.Option.{Option, none, some}
 use mathlib.Core.List.{List}
 use lib.ListN.{length, drop}
 use borrow.Author.Tests.{le-leb, lt-leb}
@@ -71,8 +71,8 @@ module _ (t : List ℕ) (q u : ℕ) (unit : u < 256) (a : ℕ) (digits : a ≡ l
   is-S v n b d h e s g f i j z = go (state_in (at 1 t (q + 4))) refl
     where
       go : (o : Option State) → state_in (at 1 t (q + 4)) ≡ o → Is (plain 7 (5 + a + b + d)) 83 u (drop q t)
-      go none p = absurd (z (j ∙ ap (λ (k : ℕ). digits_of (state_in k)) f ∙ ap digits_of p))
-      go (some x) p =
+      go None p = absurd (z (j ∙ ap (λ (k : ℕ). digits_of (state_in k)) f ∙ ap digits_of p))
+      go (Some x) p =
           plain_measured (rest 83 u (drop q t)) (S u (at 4 t q) x) (drop (q + 4 + 1) t) (rest-S t q u x h p) tt (unit, omega arith) (le-leb 1 (at 4 t q) (omega arith)) 7 (5 + a + b + d) refl
           (omega (arith, line-S u (at 4 t q) x, digits, i, shown v (at 4 t q) e, j, ap (λ (k : ℕ). digits_of (state_in k)) f, ap digits_of p)) refl
 
@@ -86,8 +86,8 @@ module _ (t : List ℕ) (q u : ℕ) (unit : u < 256) where
   zero-S h e = go (state_in (at 1 t (q + 4))) refl
     where
       go : (o : Option State) → state_in (at 1 t (q + 4)) ≡ o → Is nothing 83 u (drop q t)
-      go none p = none_measured (rest 83 u (drop q t)) (bad-S t q u h p)
-      go (some x) p = plain_unfit (rest 83 u (drop q t)) (S u (at 4 t q) x) (drop (q + 4 + 1) t) (rest-S t q u x h p) tt (unit, omega arith) (lt-leb 1 (at 4 t q) (omega arith))
+      go None p = none_measured (rest 83 u (drop q t)) (bad-S t q u h p)
+      go (Some x) p = plain_unfit (rest 83 u (drop q t)) (S u (at 4 t q) x) (drop (q + 4 + 1) t) (rest-S t q u x h p) tt (unit, omega arith) (lt-leb 1 (at 4 t q) (omega arith))
 
   pub wrong-S : (n d : ℕ) → q + 5 ≤ length t → n ≡ at 1 t (q + 4) → d ≡ state_digits n → d ≡ 0 → Is nothing 83 u (drop q t)
   unfolding state_digits signed decimal digits_in
@@ -99,5 +99,5 @@ module _ (t : List ℕ) (q u : ℕ) (unit : u < 256) where
       some_text shrinks = omega arith
 
       go : (o : Option State) → state_in (at 1 t (q + 4)) ≡ o → Is nothing 83 u (drop q t)
-      go none p = none_measured (rest 83 u (drop q t)) (bad-S t q u h p)
-      go (some x) p = absurd (omega (arith, some_text x, j, ap (λ (k : ℕ). digits_of (state_in k)) f, ap digits_of p))
+      go None p = none_measured (rest 83 u (drop q t)) (bad-S t q u h p)
+      go (Some x) p = absurd (omega (arith, some_text x, j, ap (λ (k : ℕ). digits_of (state_in k)) f, ap digits_of p))

@@ -1,7 +1,6 @@
 -- What the code answers of a record: its bytes, its line's bytes with the newline, whether every pair is the member. And members read by places.
 -- Assumes nothing.
-use Rattle.std.specs.Prelude.{ℕ, zero, suc, ◌+◌, true, false, ◌&&◌, List, [], ◌∷◌, eqb, leb, length}
-use Rattle.std.proofs.Math.Option.{Option, none, some}
+use Rattle.std.specs.Prelude.{ℕ, zero, suc, ◌+◌, true, false, ◌&&◌, List, [], ◌∷◌, eqb, leb, length, None, Option, Some}
 use Rattle.ledger_spec.specs.Bench.{State, rate}
 use Rattle.ledger_spec.specs.Decimals.{decimal, signed}
 use Rattle.ledger_spec.specs.Operations.{B}
@@ -22,12 +21,12 @@ abbrev pub sizes : Op → Measured
 sizes op = record { size = length (bytes_of op); line = suc (length (line_of_op op)); own = self op }
 
 abbrev pub measured_of : Option (Op × List ℕ) → Measured
-measured_of none = nothing
-measured_of (some p) = sizes p.0
+measured_of None = nothing
+measured_of (Some p) = sizes p.0
 
 -- only a record whose line is not LINE
 unfoldable pub kept : Option (Op × List ℕ) → Option (Op × List ℕ)
-kept o = then o (λ op r. elim (good op) [ true ↦ some (op, r) | false ↦ none ])
+kept o = then o (λ op r. elim (good op) [ true ↦ Some (op, r) | false ↦ None ])
 
 -- after the letter and the unit
 abbrev pub tried : ℕ → ℕ → List ℕ → Measured
@@ -36,8 +35,8 @@ tried letter u s = measured_of (kept (rest letter u s))
 -- ---- a state's text
 
 abbrev pub digits_of : Option State → ℕ
-digits_of none = 0
-digits_of (some g) = length (signed (rate g))
+digits_of None = 0
+digits_of (Some g) = length (signed (rate g))
 
 unfoldable pub state_digits : ℕ → ℕ
 state_digits n = digits_of (state_in n)
@@ -58,4 +57,4 @@ member_weight m = elim (leb 1 m.serial && (leb 1 m.first && leb 1 m.second)) [
 ]
 
 abbrev pub tried_members : ℕ → List Member → Measured
-tried_members u ms = measured_of (kept (some (B u ms, [])))
+tried_members u ms = measured_of (kept (Some (B u ms, [])))

@@ -12,15 +12,6 @@ pub struct Weight {
     pub own: bool,
 }
 
-fn is_self(serial: u64, first: u64, second: u64) -> bool
-    ensures { result ≡ (eqb first serial && eqb second serial) }
-{
-    if first == serial {
-        return second == serial;
-    }
-    false
-}
-
 fn weigh_member(t: &[u8], q: usize) -> Weight
     requires { q + 12 ≤ length t.now }
     ensures { (result ≡ member_weight (member_at t.now q)) × (result.line ≤ 21) }
@@ -28,18 +19,13 @@ fn weigh_member(t: &[u8], q: usize) -> Weight
     let serial = record_numbers::four_at(t, q);
     let first = record_numbers::four_at(t, q + 4);
     let second = record_numbers::four_at(t, q + 8);
-    if serial == 0 {
+    if serial == 0 || first == 0 || second == 0 {
         return Weight { line: 0, own: true };
     }
-    if first == 0 {
-        return Weight { line: 0, own: true };
+    Weight {
+        line: 1 + crate::digits::digits(serial),
+        own: first == serial && second == serial,
     }
-    if second == 0 {
-        return Weight { line: 0, own: true };
-    }
-    let d = crate::digits::digits(serial);
-    let own = is_self(serial, first, second);
-    Weight { line: 1 + d, own }
 }
 
 // The members after the count. No sum passes the first, so a line is counted to its end, however long it is.
@@ -50,20 +36,15 @@ fn members(t: &[u8], unit: u64, q: usize, count: usize) -> Measured
     if count == 0 {
         return crate::nothing();
     }
-    let mut at = q;
-    let mut left = count;
     let mut line: usize = 0;
     let mut own = true;
-    while 0 < left {
-        let m = weigh_member(t, at);
-        let d = m.line;
-        if d == 0 {
+    for i in 0..count {
+        let m = weigh_member(t, q + 12 * i);
+        if m.line == 0 {
             return crate::nothing();
         }
-        own = crate::both(own, m.own);
-        line = line + d;
-        at = at + 12;
-        left = left - 1;
+        own = own && m.own;
+        line += m.line;
     }
     let u = crate::digits::digits(unit);
     let bytes = 2 + u + line;

@@ -8,8 +8,9 @@ pub fn digits(n: u64) -> usize
 {
     let mut k: usize = 1;
     let mut m = n;
+    // How many turns there are is what is asked.
     while 9 < m {
-        m = m / 10;
+        m /= 10;
         k += 1;
     }
     k

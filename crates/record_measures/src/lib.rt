@@ -1,7 +1,7 @@
 #![tactic(auto)]
 // A record at a place of a slice: whether one stands there, its bytes, its line's bytes with the newline, and whether every pair is the member.
 // Assumes nothing.
-ghost use Rattle.std.specs.Prelude.{◌&&◌, ◌≡◌, drop};
+ghost use Rattle.std.specs.Prelude.{◌≡◌, drop};
 ghost use Rattle.record_spec.specs.Reader.{record_in};
 ghost use Rattle.record_measures.specs.Measures.{measured_of, nothing as «no_record»};
 
@@ -25,16 +25,6 @@ fn nothing() -> Measured
         line: 0,
         own: true,
     }
-}
-
-// Whether both are.
-pub fn both(a: bool, b: bool) -> bool
-    ensures { result ≡ (a && b) }
-{
-    if a {
-        return b;
-    }
-    false
 }
 
 // The record at a place, measured.

@@ -1,9 +1,10 @@
 -- Records and list filled line by line: what is written and what is left make the whole. Assumes nothing.
+use Rattle.std.specs.Prelude.{None, Option, Some}
+use Rattle.std.proofs.lemmas.Option.{same_Some, none-some}
 use Prim.Native.Nat.{ℕ, suc, ◌+◌, ◌-◌, ◌*◌, ◌≤◌, ◌<◌}
 use native.Mathlib.Omega.{arith}
 use native.Mathlib.Decide.{dec_lt}
 use mathlib.Core.Path.{◌≡◌, refl, sym, ◌∙◌, ap}
-use mathlib.Core.Option.{Option, none, some, some-ne-none, some-injective}
 use mathlib.Core.List.{List, [], ◌∷◌, ◌++◌, map}
 use lib.ListN.{length, take, drop, length-append, length-map}
 use lib.Seq.{sets}
@@ -38,20 +39,20 @@ use Rattle.record_packs.proofs.Stores.{sets_apart}
 pub record Filling (text out₀ : List ℕ) (start from p entry : ℕ) (out : List ℕ) : Type 0 where
   pub rest : List Op
   pub low : from ≤ length text
-  pub left : ops_of (lines_of (drop from text)) ≡ some rest
+  pub left : ops_of (lines_of (drop from text)) ≡ Some rest
   pub long : length out ≡ length out₀
   pub records : p + length (records_of rest) ≡ start
   pub list : start ≤ entry
   pub room : entry + 4 * length rest ≤ length out
-  pub stands : (ops : List Op) → text_ops text ≡ some ops → sets (sets out p (records_of rest)) entry (fours (starts p rest)) ≡ sets (sets out₀ 0 (records_of ops)) start (fours (starts 0 ops))
+  pub stands : (ops : List Op) → text_ops text ≡ Some ops → sets (sets out p (records_of rest)) entry (fours (starts p rest)) ≡ sets (sets out₀ 0 (records_of ops)) start (fours (starts 0 ops))
 
 pub filling : (text out : List ℕ) (start : ℕ) → Ready (text_ops text) start (length out) → Filling text out start 0 0 start out
 unfolding text_ops
 filling text out start r = go (ops_of (lines_of text)) refl r
   where
     go : (o : Option (List Op)) → ops_of (lines_of text) ≡ o → Ready o start (length out) → Filling text out start 0 0 start out
-    go none e r = absurd r
-    go (some ops) e r = record {
+    go None e r = absurd r
+    go (Some ops) e r = record {
       rest = ops;
       low = omega arith;
       left = e;
@@ -59,26 +60,26 @@ filling text out start r = go (ops_of (lines_of text)) refl r
       records = omega (arith, r.0);
       list = omega arith;
       room = r.1;
-      stands = λ ops' e'. ap (λ (x : List Op). sets (sets out 0 (records_of x)) start (fours (starts 0 x))) (some-injective ops ops' (sym e ∙ e'));
+      stands = λ ops' e'. ap (λ (x : List Op). sets (sets out 0 (records_of x)) start (fours (starts 0 x))) (same_Some ops ops' (sym e ∙ e'));
     }
 
 -- ---- a line that was read
 
 -- a line has fewer serials than bytes
-few_serials : (f : List ℕ) (op : Op) (l : Said) → line_of f ≡ l → op_of_line l ≡ some op → length (serials_in l) ≤ 1023
+few_serials : (f : List ℕ) (op : Op) (l : Said) → line_of f ≡ l → op_of_line l ≡ Some op → length (serials_in l) ≤ 1023
 unfolding letter_of fields_of
-few_serials f op (some (D u v)) e q = omega arith
-few_serials f op (some (B u ns)) e q =
+few_serials f op (Some (D u v)) e q = omega arith
+few_serials f op (Some (B u ns)) e q =
     let w = line_only f (B u (map itself ns)) (ap op_of_line e) in
     let a = spaced_long (66 ∷ []) (decimal u ∷ map decimal (map serial_of (map itself ns))) in
     omega (arith, a, w.writable.short, length-map (map serial_of (map itself ns)) decimal, length-map (map itself ns) serial_of, length-map ns itself)
-few_serials f op (some (E u n)) e q = omega arith
-few_serials f op (some (S u n g)) e q = omega arith
-few_serials f op (some (G u l)) e q = omega arith
-few_serials f op (some (F p l r)) e q = omega arith
-few_serials f op (some (C u)) e q = omega arith
-few_serials f op (some (K u)) e q = omega arith
-few_serials f op none e q = omega arith
+few_serials f op (Some (E u n)) e q = omega arith
+few_serials f op (Some (S u n g)) e q = omega arith
+few_serials f op (Some (G u l)) e q = omega arith
+few_serials f op (Some (F p l r)) e q = omega arith
+few_serials f op (Some (C u)) e q = omega arith
+few_serials f op (Some (K u)) e q = omega arith
+few_serials f op None e q = omega arith
 
 count_same : (r : Line) → count_by r ≡ count_in r
 count_same r = refl
@@ -90,21 +91,21 @@ named shrinks = refl
 
 -- the code's bytes of the line are its record's
 record_said : (l : Said) (ns : List ℕ) → take (count_by (line_shown l)) ns ≡ serials_in l → record_by (line_shown l) ns ≡ bytes_said (op_of_line l)
-record_said (some (D u v)) ns e = refl
-record_said (some (B u ks)) ns e = ap (λ (x : List ℕ). bytes_of (B u (map itself x))) e
-record_said (some (E u n)) ns e = refl
-record_said (some (S u n g)) ns e = ap (λ (x : State). bytes_of (S u n x)) (named g)
-record_said (some (G u l)) ns e = refl
-record_said (some (F p l r)) ns e = refl
-record_said (some (C u)) ns e = refl
-record_said (some (K u)) ns e = refl
-record_said none ns e = refl
+record_said (Some (D u v)) ns e = refl
+record_said (Some (B u ks)) ns e = ap (λ (x : List ℕ). bytes_of (B u (map itself x))) e
+record_said (Some (E u n)) ns e = refl
+record_said (Some (S u n g)) ns e = ap (λ (x : State). bytes_of (S u n x)) (named g)
+record_said (Some (G u l)) ns e = refl
+record_said (Some (F p l r)) ns e = refl
+record_said (Some (C u)) ns e = refl
+record_said (Some (K u)) ns e = refl
+record_said None ns e = refl
 
 pub record LineRead (f serials : List ℕ) (r : Line) (op : Op) : Type 0 where
   pub bytes : record_by r serials ≡ bytes_of op
   pub stored : count_by r ≤ length serials
 
-pub line_read : (f before after : List ℕ) (r : Line) (op : Op) → ReadAs (line_of f) before after r → length before ≡ 1024 → length after ≡ 1024 → op_of_line (line_of f) ≡ some op → LineRead f after r op
+pub line_read : (f before after : List ℕ) (r : Line) (op : Op) → ReadAs (line_of f) before after r → length before ≡ 1024 → length after ≡ 1024 → op_of_line (line_of f) ≡ Some op → LineRead f after r op
 line_read f before after r op is l m q =
     let n = few_serials f op (line_of f) refl q in
     let k = told_count (line_of f) before after r is in
@@ -123,8 +124,8 @@ module _ (text out₀ : List ℕ) (start from p entry : ℕ) (out : List ℕ) (g
     pub op : Op
     pub more : List Op
     pub inside : e < length text
-    pub said : op_of_line (line_of (take (e - from) (drop from text))) ≡ some op
-    pub after : ops_of (lines_of (drop (e + 1) text)) ≡ some more
+    pub said : op_of_line (line_of (take (e - from) (drop from text))) ≡ Some op
+    pub after : ops_of (lines_of (drop (e + 1) text)) ≡ Some more
     pub first : g.rest ≡ op ∷ more
 
   pub next : Next
@@ -134,24 +135,24 @@ module _ (text out₀ : List ℕ) (start from p entry : ℕ) (out : List ℕ) (g
       f : List ℕ
       f = take (e - from) (drop from text)
 
-      tail : (h' : e < length text) (op : Op) → op_of_line (line_of f) ≡ some op → (o : Option (List Op)) → ops_of (lines_of (drop (e + 1) text)) ≡ o → Next
-      tail h' op q none r = absurd (some-ne-none g.rest (sym g.left ∙ ops_line text from e ends h' op q ∙ ap (onto op) r))
-      tail h' op q (some more) r = record {
+      tail : (h' : e < length text) (op : Op) → op_of_line (line_of f) ≡ Some op → (o : Option (List Op)) → ops_of (lines_of (drop (e + 1) text)) ≡ o → Next
+      tail h' op q None r = absurd (none-some g.rest (sym (sym g.left ∙ ops_line text from e ends h' op q ∙ ap (onto op) r)))
+      tail h' op q (Some more) r = record {
         op = op;
         more = more;
         inside = h';
         said = q;
         after = r;
-        first = some-injective g.rest (op ∷ more) (sym g.left ∙ ops_line text from e ends h' op q ∙ ap (onto op) r);
+        first = same_Some g.rest (op ∷ more) (sym g.left ∙ ops_line text from e ends h' op q ∙ ap (onto op) r);
       }
 
       said : (h' : e < length text) (o : Option Op) → op_of_line (line_of f) ≡ o → Next
-      said h' none q = absurd (some-ne-none g.rest (sym g.left ∙ ops_wrong text from e ends h' q))
-      said h' (some op) q = tail h' op q (ops_of (lines_of (drop (e + 1) text))) refl
+      said h' None q = absurd (none-some g.rest (sym (sym g.left ∙ ops_wrong text from e ends h' q)))
+      said h' (Some op) q = tail h' op q (ops_of (lines_of (drop (e + 1) text))) refl
 
       inside : Dec (e < length text) → Next
       inside (yes l) = said l (op_of_line (line_of f)) refl
-      inside (no l) = absurd (some-ne-none g.rest (sym g.left ∙ ops_unended text from e ends h (omega (arith, ends.high))))
+      inside (no l) = absurd (none-some g.rest (sym (sym g.left ∙ ops_unended text from e ends h (omega (arith, ends.high)))))
 
   module _ (n : Next) where
     sizes : length (records_of g.rest) ≡ length (bytes_of n.op) + length (records_of n.more)
@@ -198,8 +199,8 @@ unfolding records_of starts fours
 filled text out₀ start from p entry out g h = go (text_ops text) refl
   where
     none_left : g.rest ≡ []
-    none_left = some-injective g.rest [] (sym g.left ∙ ops_none text from h g.low)
+    none_left = same_Some g.rest [] (sym g.left ∙ ops_none text from h g.low)
 
     go : (o : Option (List Op)) → text_ops text ≡ o → Filled o out₀ start out
-    go none e = tt
-    go (some ops) e = ap (λ (x : List Op). sets (sets out p (records_of x)) entry (fours (starts p x))) (sym none_left) ∙ g.stands ops e
+    go None e = tt
+    go (Some ops) e = ap (λ (x : List Op). sets (sets out p (records_of x)) entry (fours (starts p x))) (sym none_left) ∙ g.stands ops e

@@ -1,10 +1,10 @@
 -- The file from its three parts, and what the move answers. Assumes nothing.
+use Rattle.std.specs.Prelude.{None, Option, Some}
 use Prim.Native.Nat.{ℕ, suc, ◌+◌, ◌*◌, ◌≤◌, ◌<◌}
 use native.Mathlib.Omega.{arith}
 use native.Mathlib.Decide.{dec_le}
 use mathlib.Core.Path.{◌≡◌, refl, sym, ◌∙◌, ap, subst}
 use mathlib.Core.Bool.{true, false, true≢false}
-use mathlib.Core.Option.{Option, none, some}
 use mathlib.Core.List.{List, [], ◌∷◌, ◌++◌}
 use lib.ListN.{length, drop}
 use lib.Seq.{sets}
@@ -29,7 +29,7 @@ use Rattle.record_packs.proofs.Stores.{sets_front}
 
 pub record Moves (text : List ℕ) (w : Weighed) : Type 0 where
   pub ops : List Op
-  pub said : text_ops text ≡ some ops
+  pub said : text_ops text ≡ Some ops
   pub small : length (file_of ops) ≤ largest
   pub count : w.count ≡ length ops
   pub size : w.size ≡ length (records_of ops)
@@ -38,26 +38,26 @@ module _ (text : List ℕ) (w : Weighed) (is : w ≡ weighed_of (text_ops text))
   pub moves : w.whole ≡ true → Moves text w
   moves t = go (text_ops text) refl
     where
-      fits : (ops : List Op) → text_ops text ≡ some ops → Dec (length (records_of ops) + (4 * length ops + 16) ≤ largest) → Moves text w
+      fits : (ops : List Op) → text_ops text ≡ Some ops → Dec (length (records_of ops) + (4 * length ops + 16) ≤ largest) → Moves text w
       fits ops e (yes h) =
           let q : w ≡ record { whole = true; count = length ops; size = length (records_of ops) } = is ∙ ap weighed_of e ∙ told_fits (length ops) (length (records_of ops)) h in
           record { ops = ops; said = e; small = omega (arith, length_file ops, h); count = ap (λ (x : Weighed). x.count) q; size = ap (λ (x : Weighed). x.size) q }
       fits ops e (no h) = absurd (true≢false (sym t ∙ ap (λ (x : Weighed). x.whole) (is ∙ ap weighed_of e ∙ told_large (length ops) (length (records_of ops)) (omega arith))))
 
       go : (o : Option (List Op)) → text_ops text ≡ o → Moves text w
-      go none e = absurd (true≢false (sym t ∙ ap (λ (x : Weighed). x.whole) (is ∙ ap weighed_of e)))
-      go (some ops) e = fits ops e (dec_le (length (records_of ops) + (4 * length ops + 16)) largest)
+      go None e = absurd (true≢false (sym t ∙ ap (λ (x : Weighed). x.whole) (is ∙ ap weighed_of e)))
+      go (Some ops) e = fits ops e (dec_le (length (records_of ops) + (4 * length ops + 16)) largest)
 
   pub moves_not : (out : List ℕ) → w.whole ≡ false → MovedAs (to_records text out) out (record { number = FILE; size = 0 })
   moves_not out t = subst (λ m. MovedAs m out (record { number = FILE; size = 0 })) (sym (go (text_ops text) refl)) (record { number = refl; size = refl; output = refl })
     where
-      fits : (ops : List Op) → text_ops text ≡ some ops → Dec (length (records_of ops) + (4 * length ops + 16) ≤ largest) → to_records text out ≡ refused FILE out
+      fits : (ops : List Op) → text_ops text ≡ Some ops → Dec (length (records_of ops) + (4 * length ops + 16) ≤ largest) → to_records text out ≡ refused FILE out
       fits ops e (yes h) = absurd (true≢false (sym (ap (λ (x : Weighed). x.whole) (is ∙ ap weighed_of e ∙ told_fits (length ops) (length (records_of ops)) h)) ∙ t))
       fits ops e (no h) = records_large text out ops e (omega (arith, length_file ops))
 
       go : (o : Option (List Op)) → text_ops text ≡ o → to_records text out ≡ refused FILE out
-      go none e = records_none text out e
-      go (some ops) e = fits ops e (dec_le (length (records_of ops) + (4 * length ops + 16)) largest)
+      go None e = records_none text out e
+      go (Some ops) e = fits ops e (dec_le (length (records_of ops) + (4 * length ops + 16)) largest)
 
 -- ---- the three parts
 

@@ -39,13 +39,14 @@ fn fill(text: &[u8], out: &mut [u8], start: usize)
     let mut from: usize = 0;
     let mut p: usize = 0;
     let mut entry = start;
+    // A turn goes on by the line that it moved, so the number of turns is not known beforehand.
     while from < text.len() {
         let e = text_fields::part_end(text, from, b'\n');
         let line = text_lines::read_line(&text[from..e], &mut serials);
         let next = record_puts::put_record(out, p, line, &serials);
         record_numbers::put_four(out, entry, p as u64);
         p = next;
-        entry = entry + 4;
+        entry += 4;
         from = e + 1;
     }
 }

@@ -1,8 +1,8 @@
 -- The list of a whole file gives each record's start. Assumes nothing.
+use Rattle.std.proofs.lemmas.Option.{same_Some}
 use Prim.Native.Nat.{ℕ, zero, suc, ◌+◌, ◌*◌, ◌^◌, ◌≤◌, ◌<◌}
 use native.Mathlib.Omega.{arith}
 use mathlib.Core.Path.{◌≡◌, refl, sym, ◌∙◌, ap, subst}
-use mathlib.Core.Option.{some-injective}
 use mathlib.Core.List.{List, [], ◌∷◌, ◌++◌, append_assoc}
 use lib.ListN.{length, take, drop, get_or, length-append}
 use lib.Seq.{length-take-le, drop-cons, split_at, drop-append_seam}
@@ -27,7 +27,7 @@ at_of k pre n post h =
     let s = pre ++ (bytes k n ++ post) in
     let fits : length pre + k ≤ length s = omega (arith, length-append pre (bytes k n ++ post), length-append (bytes k n) post, length_bytes k n) in
     ap (λ (x : ℕ × List ℕ). x.0)
-    (some-injective (at k s (length pre), drop (length pre + k) s) (n, post)
+    (same_Some (at k s (length pre), drop (length pre + k) s) (n, post)
     (sym (number_at k s (length pre) fits) ∙ ap (number k) (drop-append_seam pre (bytes k n ++ post)) ∙ number_back k n post h))
 
 -- ---- one of the operations
@@ -126,7 +126,7 @@ module _ (ops : List Op) (i : ℕ) (l : i < length ops) where
 pub listed : (s : List ℕ) (list k : ℕ) → Bytes s → Listed s list k → (p : ℕ) → p ≡ at 4 s (list + 4 * k) → Placed s k p
 listed s list k h L p e ops w =
     let f = file_only s ops h w in
-    let same : L.ops ≡ ops = some-injective L.ops ops (sym L.whole ∙ w) in
+    let same : L.ops ≡ ops = same_Some L.ops ops (sym L.whole ∙ w) in
     let q : p ≡ at 4 (file_of ops) (length (records_of ops) + 4 * k) =
     e ∙ (λ i. at 4 (f.0 i) ((L.starts ∙ ap (λ (x : List Op). length (records_of x)) same) i + 4 * k)) in
     let low : k < length ops = subst (λ (x : List Op). k < length x) same L.low in

@@ -92,11 +92,8 @@ fn put_members(out: &mut [u8], at: usize, serials: &[u64], count: usize) -> usiz
     ensures { Wrote out.old at (spelled (member_fields (map itself (take count serials.now)))) out.new result }
 {
     let mut p = at;
-    let mut i: usize = 0;
-    while i < count {
-        let n = serials[i];
+    for &n in &serials[..count] {
         p = put_member(out, p, n);
-        i += 1;
     }
     p
 }

@@ -1,10 +1,11 @@
 -- The record that is known to stand at a place: by its letter there are bytes enough, and the operation is the one of the numbers there. Assumes nothing.
+use Rattle.std.specs.Prelude.{None, Option, Some}
+use Rattle.std.proofs.lemmas.Option.{same_Some, none-some}
 use Prim.Native.Nat.{ℕ, ◌+◌, ◌*◌, ◌≤◌, ◌<◌}
 use native.Mathlib.Omega.{arith}
 use native.Mathlib.Decide.{dec_le, ℕ_discrete}
 use mathlib.Core.Path.{◌≡◌, refl, sym, ◌∙◌, ap}
 use mathlib.Core.Bool.{Bool, true, false}
-use mathlib.Core.Option.{Option, none, some, some-ne-none, some-injective}
 use mathlib.Core.List.{List}
 use lib.Dec.{ltb}
 use lib.ListN.{length, drop, get_or, length-drop}
@@ -52,35 +53,35 @@ pub state_other : (n : ℕ) → (n ≡ 0 → ⊥) → (n ≡ 1 → ⊥) → Shri
 unfolding state_of
 state_other n a b = rw (ne_eqb n 0 a, ne_eqb n 1 b)
 
-state_known : (n : ℕ) (g : State) → state_in n ≡ some g → state_of n ≡ state_shown g
+state_known : (n : ℕ) (g : State) → state_in n ≡ Some g → state_of n ≡ state_shown g
 unfolding state_in state_of
 state_known n g e = zero (ℕ_discrete n 0)
   where
     other : (n ≡ 0 → ⊥) → (n ≡ 1 → ⊥) → Dec (n ≡ 255) → state_of n ≡ state_shown g
-    other a b (yes p) = rw (p, state_of) (ap state_shown (some-injective shrinks g (rw p at e)))
-    other a b (no p) = absurd (some-ne-none g (sym (rw (ne_eqb n 0 a, ne_eqb n 1 b, ne_eqb n 255 p) at e)))
+    other a b (yes p) = rw (p, state_of) (ap state_shown (same_Some shrinks g (rw p at e)))
+    other a b (no p) = absurd (none-some g (rw (ne_eqb n 0 a, ne_eqb n 1 b, ne_eqb n 255 p) at e))
 
     one : (n ≡ 0 → ⊥) → Dec (n ≡ 1) → state_of n ≡ state_shown g
-    one a (yes p) = rw (p, state_of) (ap state_shown (some-injective grows g (rw p at e)))
+    one a (yes p) = rw (p, state_of) (ap state_shown (same_Some grows g (rw p at e)))
     one a (no p) = other a p (ℕ_discrete n 255)
 
     zero : Dec (n ≡ 0) → state_of n ≡ state_shown g
-    zero (yes p) = rw (p, state_of) (ap state_shown (some-injective stays g (rw p at e)))
+    zero (yes p) = rw (p, state_of) (ap state_shown (same_Some stays g (rw p at e)))
     zero (no p) = one p (ℕ_discrete n 1)
 
 -- ---- what is read is what stands there
 
-kept_only : (o : Option (Op × List ℕ)) (op : Op) (r : List ℕ) → kept o ≡ some (op, r) → o ≡ some (op, r)
-kept_only none op r e = absurd (some-ne-none (op, r) (sym e ∙ kept_none none refl))
-kept_only (some x) op r e = go (good x.0) refl
+kept_only : (o : Option (Op × List ℕ)) (op : Op) (r : List ℕ) → kept o ≡ Some (op, r) → o ≡ Some (op, r)
+kept_only None op r e = absurd (none-some (op, r) (sym (sym e ∙ kept_none None refl)))
+kept_only (Some x) op r e = go (good x.0) refl
   where
-    go : (b : Bool) → good x.0 ≡ b → some x ≡ some (op, r)
-    go true g = sym (kept_good (some x) x.0 x.1 refl g) ∙ e
-    go false g = absurd (some-ne-none (op, r) (sym e ∙ kept_bad (some x) x.0 x.1 refl g))
+    go : (b : Bool) → good x.0 ≡ b → Some x ≡ Some (op, r)
+    go true g = sym (kept_good (Some x) x.0 x.1 refl g) ∙ e
+    go false g = absurd (none-some (op, r) (sym (sym e ∙ kept_bad (Some x) x.0 x.1 refl g)))
 
 module _ (s : List ℕ) (p : ℕ) (R : Recorded s p) where
-  never : record_in (drop p s) ≡ none → ⊥
-  never e = some-ne-none (R.op, R.after) (sym R.read ∙ e)
+  never : record_in (drop p s) ≡ None → ⊥
+  never e = none-some (R.op, R.after) (sym (sym R.read ∙ e))
 
   pub two : p + 2 ≤ length s
   two = go (dec_le (p + 2) (length s))
@@ -93,19 +94,19 @@ module _ (s : List ℕ) (p : ℕ) (R : Recorded s p) where
   unit = get_or s (p + 1) 0
 
   -- after the letter and the unit
-  rest_is : (l : ℕ) → get_or s p 0 ≡ l → rest l unit (drop (p + 2) s) ≡ some (R.op, R.after)
+  rest_is : (l : ℕ) → get_or s p 0 ≡ l → rest l unit (drop (p + 2) s) ≡ Some (R.op, R.after)
   rest_is l e =
       kept_only (rest l unit (drop (p + 2) s)) R.op R.after
       ((λ i. kept (rest (sym (one_byte s p ∙ e) i) (sym (one_byte s (p + 1)) i) (drop (p + 2) s))) ∙ sym (opened s p two) ∙ R.read)
 
   -- an operation found there
-  same_op : (l : ℕ) → get_or s p 0 ≡ l → (op : Op) (r : List ℕ) → rest l unit (drop (p + 2) s) ≡ some (op, r) → R.op ≡ op
-  same_op l e op r q = ap (λ (x : Op × List ℕ). x.0) (some-injective (R.op, R.after) (op, r) (sym (rest_is l e) ∙ q))
+  same_op : (l : ℕ) → get_or s p 0 ≡ l → (op : Op) (r : List ℕ) → rest l unit (drop (p + 2) s) ≡ Some (op, r) → R.op ≡ op
+  same_op l e op r q = ap (λ (x : Op × List ℕ). x.0) (same_Some (R.op, R.after) (op, r) (sym (rest_is l e) ∙ q))
 
-  nothing_there : (l : ℕ) → get_or s p 0 ≡ l → rest l unit (drop (p + 2) s) ≡ none → ⊥
-  nothing_there l e q = some-ne-none (R.op, R.after) (sym (rest_is l e) ∙ q)
+  nothing_there : (l : ℕ) → get_or s p 0 ≡ l → rest l unit (drop (p + 2) s) ≡ None → ⊥
+  nothing_there l e q = none-some (R.op, R.after) (sym (sym (rest_is l e) ∙ q))
 
-  enough : (l k : ℕ) → get_or s p 0 ≡ l → (length s < p + 2 + k → rest l unit (drop (p + 2) s) ≡ none) → p + 2 + k ≤ length s
+  enough : (l k : ℕ) → get_or s p 0 ≡ l → (length s < p + 2 + k → rest l unit (drop (p + 2) s) ≡ None) → p + 2 + k ≤ length s
   enough l k e q = go (dec_le (p + 2 + k) (length s))
     where
       go : Dec (p + 2 + k ≤ length s) → p + 2 + k ≤ length s
@@ -135,8 +136,8 @@ module _ (s : List ℕ) (p : ℕ) (R : Recorded s p) where
   line-S x e q = go (state_in (at 1 s (p + 2 + 4))) refl
     where
       go : (o : Option State) → state_in (at 1 s (p + 2 + 4)) ≡ o → x ≡ line_found (record_in (drop p s))
-      go none i = absurd (nothing_there 83 e (bad-S s (p + 2) unit (room-S e) i))
-      go (some g) i =
+      go None i = absurd (nothing_there 83 e (bad-S s (p + 2) unit (room-S e) i))
+      go (Some g) i =
           line_is x (S unit (at 4 s (p + 2)) g) (same_op 83 e (S unit (at 4 s (p + 2)) g) (drop (p + 2 + 4 + 1) s) (rest-S s (p + 2) unit g (room-S e) i))
           (q ∙ ap (λ (h : GrowState). SetState unit (record { 0 = at 4 s (p + 2) }) h) (state_known (at 1 s (p + 2 + 4)) g i))
 

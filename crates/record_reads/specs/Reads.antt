@@ -1,6 +1,5 @@
 -- A record that stands at a place, and its line as the code answers it. Assumes nothing.
-use Rattle.std.specs.Prelude.{ℕ, ◌≡◌, List, eqb, drop}
-use Rattle.std.proofs.Math.Option.{Option, none, some}
+use Rattle.std.specs.Prelude.{ℕ, ◌≡◌, List, eqb, drop, None, Option, Some}
 use Rattle.kinds.specs.declared.GrowState.{GrowState}
 use Rattle.kinds.specs.declared.GrowState.TheVariants.{Grow as Grows, Stay, Shrink}
 use Rattle.text_lines.specs.declared.Line.{Line}
@@ -13,14 +12,14 @@ use Rattle.record_spec.specs.Reader.{record_in, pick}
 pub record Recorded (s : List ℕ) (p : ℕ) : Type 0 where
   pub op : Op
   pub after : List ℕ
-  pub read : record_in (drop p s) ≡ some (op, after)
+  pub read : record_in (drop p s) ≡ Some (op, after)
 
 abbrev pub line_of_record : Op → Line
 line_of_record op = line_shown (line_said op)
 
 abbrev pub line_found : Option (Op × List ℕ) → Line
-line_found none = Wrong
-line_found (some x) = line_of_record x.0
+line_found None = Wrong
+line_found (Some x) = line_of_record x.0
 
 unfoldable pub state_of : ℕ → GrowState
 state_of n = pick (eqb n 0) Stay (pick (eqb n 1) Grows Shrink)

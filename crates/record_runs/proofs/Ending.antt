@@ -1,9 +1,9 @@
 -- A run's answer by what was scanned of the file. Assumes nothing.
+use Rattle.std.specs.Prelude.{None, Option, Some}
 use Prim.Native.Nat.{ℕ, ◌*◌, ◌/◌, ◌≤◌, ◌<◌}
 use native.Mathlib.Omega.{arith}
 use mathlib.Core.Path.{◌≡◌, refl, sym, ◌∙◌, ap, subst}
 use mathlib.Core.Bool.{true, false, true≢false}
-use mathlib.Core.Option.{Option, none, some}
 use mathlib.Core.List.{List}
 use lib.IntN.{ℤ}
 use lib.ListN.{length}
@@ -28,30 +28,30 @@ module _ (file : List ℕ) (x : Scanned) (is : x ≡ scanned_of (file_ops file))
   listing t = go (file_ops file) refl
     where
       go : (o : Option (List Op)) → file_ops file ≡ o → Listing file x.start x.count
-      go none e = absurd (true≢false (sym t ∙ ap (λ (y : Scanned). y.whole) (is ∙ ap scanned_of e)))
-      go (some ops) e =
+      go None e = absurd (true≢false (sym t ∙ ap (λ (y : Scanned). y.whole) (is ∙ ap scanned_of e)))
+      go (Some ops) e =
           let q = is ∙ ap scanned_of e in
           record { ops = ops; whole = e; starts = ap (λ (y : Scanned). y.start) q; many = ap (λ (y : Scanned). y.count) q }
 
-  pub no_file : x.whole ≡ false → file_ops file ≡ none
+  pub no_file : x.whole ≡ false → file_ops file ≡ None
   no_file t = go (file_ops file) refl
     where
-      go : (o : Option (List Op)) → file_ops file ≡ o → file_ops file ≡ none
-      go none e = e
-      go (some ops) e = absurd (true≢false (sym (ap (λ (y : Scanned). y.whole) (is ∙ ap scanned_of e)) ∙ t))
+      go : (o : Option (List Op)) → file_ops file ≡ o → file_ops file ≡ None
+      go None e = e
+      go (Some ops) e = absurd (true≢false (sym (ap (λ (y : Scanned). y.whole) (is ∙ ap scanned_of e)) ∙ t))
 
 -- ---- the run's answer
 
 module _ (b : Bench) (file : List ℕ) (slice : List ℤ) where
-  none_run : file_ops file ≡ none → run_file b file slice ≡ refused 23 b slice
+  none_run : file_ops file ≡ None → run_file b file slice ≡ refused 23 b slice
   unfolding run_file
   none_run e = rw (e, run_file)
 
-  small_run : (ops : List Op) → file_ops file ≡ some ops → length slice < 4 * length ops → run_file b file slice ≡ refused 19 b slice
+  small_run : (ops : List Op) → file_ops file ≡ Some ops → length slice < 4 * length ops → run_file b file slice ≡ refused 19 b slice
   unfolding run_file run_ops
   small_run ops e h = rw (e, run_file) (rw (lt-leb (4 * length ops) (length slice) h, run_ops))
 
-  whole_run : (ops : List Op) → file_ops file ≡ some ops → 4 * length ops ≤ length slice → run_file b file slice ≡ answered b ops slice
+  whole_run : (ops : List Op) → file_ops file ≡ Some ops → 4 * length ops ≤ length slice → run_file b file slice ≡ answered b ops slice
   unfolding run_file run_ops
   whole_run ops e h = rw (e, run_file) (rw (le-leb (4 * length ops) (length slice) h, run_ops))
 
@@ -66,7 +66,7 @@ module _ (b file : List ℕ) (slice : List ℤ) (W : SoundWords b) where
     refused = λ x. refl;
   })
 
-  pub ran_no_file : file_ops file ≡ none → (r : Said) → r ≡ record { number = 23; count = 0 } → Ran b file slice r b slice
+  pub ran_no_file : file_ops file ≡ None → (r : Said) → r ≡ record { number = 23; count = 0 } → Ran b file slice r b slice
   ran_no_file e r q = stays 23 (λ z. omega arith) (none_run (view b) file slice e) r q
 
   module _ (list count : ℕ) (h : Listing file list count) where
@@ -90,7 +90,7 @@ module _ (b file : List ℕ) (slice : List ℤ) (W : SoundWords b) where
 -- ---- on any words
 
 module _ (b file : List ℕ) (slice : List ℤ) where
-  pub any_no_file : file_ops file ≡ none → (r : Said) → r ≡ record { number = 23; count = 0 } → RanAny b file slice r b slice
+  pub any_no_file : file_ops file ≡ None → (r : Said) → r ≡ record { number = 23; count = 0 } → RanAny b file slice r b slice
   any_no_file e r q = subst (λ (o : Option (List Op)). RanOf o b file slice r b slice) (sym e) (record { is = q; words = refl; slices = refl })
 
   module _ (list count : ℕ) (h : Listing file list count) (r : Said) (b' : List ℕ) (slice' : List ℤ) where

@@ -1,8 +1,8 @@
 -- No second answer: two results that meet a run's contract have one number, one count, one bench, one slice. Assumes nothing.
+use Rattle.std.specs.Prelude.{None, Option, Some}
 use Prim.Native.Nat.{ℕ}
 use mathlib.Core.Path.{◌≡◌, sym, ◌∙◌, ap}
 use mathlib.Core.Bool.{Bool, true, false}
-use mathlib.Core.Option.{Option, none, some}
 use mathlib.Core.List.{List}
 use lib.IntN.{ℤ}
 use Rattle.bench_words.specs.Codec.{pick}
@@ -49,5 +49,5 @@ module _ (b file : List ℕ) (s : List ℤ) (r q : Said) (b' b'' : List ℕ) (s'
       tested false x y = refused_once 2 b s r q b' b'' s' s'' x y
 
       go : (o : Option (List Op)) → RanOf o b file s r b' s' → RanOf o b file s q b'' s'' → Same r q b' b'' s' s''
-      go none x y = refused_once 23 b s r q b' b'' s' s'' x y
-      go (some ops) x y = tested (sound_words b) x y
+      go None x y = refused_once 23 b s r q b' b'' s' s'' x y
+      go (Some ops) x y = tested (sound_words b) x y

@@ -1,8 +1,9 @@
 -- What is answered and what is left make the whole run. Assumes nothing.
+use Rattle.std.specs.Prelude.{Option, Some}
+use Rattle.std.proofs.lemmas.Option.{same_Some}
 use Prim.Native.Nat.{ℕ, suc, ◌+◌, ◌*◌, ◌≤◌, ◌<◌}
 use native.Mathlib.Omega.{arith}
 use mathlib.Core.Path.{◌≡◌, refl, sym, ◌∙◌, ap, subst}
-use mathlib.Core.Option.{Option, some, some-injective}
 use mathlib.Core.List.{List, [], ◌∷◌, ◌++◌, append_assoc, append-nil}
 use lib.IntN.{ℤ, pos}
 use lib.ListN.{length, take, drop, take-append-drop}
@@ -85,7 +86,7 @@ module _ (b₀ : List ℕ) (ops : List Op) (slice₀ : List ℤ) (b : List ℕ) 
 -- ---- a turn of the loop
 
 abbrev pub AllRunning : List ℕ → List ℕ → List ℤ → List ℕ → List ℤ → ℕ → Type 0
-AllRunning b₀ file slice₀ b slice i = (ops : List Op) → file_ops file ≡ some ops → Running b₀ ops slice₀ b slice i
+AllRunning b₀ file slice₀ b slice i = (ops : List Op) → file_ops file ≡ Some ops → Running b₀ ops slice₀ b slice i
 
 module _ (file : List ℕ) (list count room : ℕ) (y : Ready file list count room) where
   pub listed_at : (i : ℕ) → i < count → Listed file list i
@@ -94,8 +95,8 @@ module _ (file : List ℕ) (list count room : ℕ) (y : Ready file list count ro
   pub recorded_at : (i p : ℕ) → Placed file i p → Recorded file p
   recorded_at i p q = let s = q y.listing.ops y.listing.whole in record { op = s.op; after = s.after; read = s.read }
 
-  same_many : (ops : List Op) → file_ops file ≡ some ops → count ≡ length ops
-  same_many ops e = y.listing.many ∙ ap length (some-injective y.listing.ops ops (sym y.listing.whole ∙ e))
+  same_many : (ops : List Op) → file_ops file ≡ Some ops → count ≡ length ops
+  same_many ops e = y.listing.many ∙ ap length (same_Some y.listing.ops ops (sym y.listing.whole ∙ e))
 
   module _ (b₀ : List ℕ) (slice₀ : List ℤ) (same : length slice₀ ≡ room) (b : List ℕ) (slice : List ℤ) (i : ℕ) (w : AllRunning b₀ file slice₀ b slice i) where
     pub sound_now : SoundWords b

@@ -1,6 +1,5 @@
 -- A run on lent words: what record_says has for the bench that they hold; BROKEN where they hold none, after FILE and before SMALL. Assumes nothing.
-use Rattle.std.specs.Prelude.{ℕ, ◌*◌, ◌≤◌, ◌≡◌, List, [], ◌∷◌, ◌++◌, ℤ, pos, length, drop}
-use Rattle.std.proofs.Math.Option.{Option, none, some}
+use Rattle.std.specs.Prelude.{ℕ, ◌*◌, ◌≤◌, ◌≡◌, List, [], ◌∷◌, ◌++◌, ℤ, pos, length, drop, None, Option, Some}
 use Rattle.ledger_spec.specs.Numbers.{BROKEN}
 use Rattle.bench_words.specs.Codec.{pick}
 use Rattle.bench_views.specs.View.{view}
@@ -37,8 +36,8 @@ pub record Refused (number : ℕ) (b : List ℕ) (slice : List ℤ) (r : Said) (
 
 -- on any words: FILE, then BROKEN, then what the run answers
 abbrev pub RanOf : Option (List Op) → List ℕ → List ℕ → List ℤ → Said → List ℕ → List ℤ → Type 0
-RanOf none b file slice r b' slice' = Refused 23 b slice r b' slice'
-RanOf (some ops) b file slice r b' slice' = pick (sound_words b) (Ran b file slice r b' slice') (Refused 2 b slice r b' slice')
+RanOf None b file slice r b' slice' = Refused 23 b slice r b' slice'
+RanOf (Some ops) b file slice r b' slice' = pick (sound_words b) (Ran b file slice r b' slice') (Refused 2 b slice r b' slice')
 
 abbrev pub RanAny : List ℕ → List ℕ → List ℤ → Said → List ℕ → List ℤ → Type 0
 RanAny b file slice r b' slice' = RanOf (file_ops file) b file slice r b' slice'
@@ -48,7 +47,7 @@ RanAny b file slice r b' slice' = RanOf (file_ops file) b file slice r b' slice'
 -- the file is whole, with its list at a place, and as many records
 pub record Listing (file : List ℕ) (list count : ℕ) : Type 0 where
   pub ops : List Op
-  pub whole : file_ops file ≡ some ops
+  pub whole : file_ops file ≡ Some ops
   pub starts : list ≡ length (records_of ops)
   pub many : count ≡ length ops
 
@@ -63,4 +62,4 @@ pub record AnswersOf (ops : List Op) (b : List ℕ) (slice : List ℤ) (b' : Lis
   pub slices : slice' ≡ in_fours (answers_ops (view b) ops) ++ drop (4 * length ops) slice
 
 abbrev pub Answers : List ℕ → List ℕ → List ℤ → List ℕ → List ℤ → Type 0
-Answers b file slice b' slice' = (ops : List Op) → file_ops file ≡ some ops → AnswersOf ops b slice b' slice'
+Answers b file slice b' slice' = (ops : List Op) → file_ops file ≡ Some ops → AnswersOf ops b slice b' slice'

@@ -46,12 +46,10 @@ fn go(b: &mut [u64; WORDS], file: &[u8], list: usize, count: usize, answers: &mu
     let mut members: [u64; MEMBERS] = [0; MEMBERS];
     let mut touching: [u64; TOUCHING] = [0; TOUCHING];
     let mut hints: [u16; HINTS] = [0; HINTS];
-    let mut i: usize = 0;
-    while i < count {
+    for i in 0..count {
         let p = record_places::place_in(file, list, i);
         let r = record_calls::perform(b, file, p, &mut members, &mut touching, &mut hints);
         put(answers, 4 * i, r);
-        i += 1;
     }
 }
 

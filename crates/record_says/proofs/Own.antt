@@ -1,8 +1,8 @@
 -- Where every pair is the member itself, an operation answers as its line, and a run as the text program on the moved-back file. Assumes nothing.
+use Rattle.std.specs.Prelude.{Some}
 use Prim.Native.Nat.{ℕ}
 use mathlib.Core.Path.{◌≡◌, refl, sym, ◌∙◌, ap}
 use mathlib.Core.Bool.{true, ◌&&◌}
-use mathlib.Core.Option.{some}
 use mathlib.Core.List.{List, [], ◌∷◌, map}
 use lib.Dec.{eqb}
 use lib.IntN.{ℤ}
@@ -81,15 +81,15 @@ text_lines (op ∷ ops) h =
     ∙ (λ i. line_reads op h.0 i ∷ text_lines ops h.1 i)
 
 -- a file that moves back is run as its text is
-pub file_as_text : (b : Bench) (f : List ℕ) (ops : List Op) → Bytes f → file_ops f ≡ some ops → all_self ops ≡ true → AsLines b ops (lines_of (text_of ops))
+pub file_as_text : (b : Bench) (f : List ℕ) (ops : List Op) → Bytes f → file_ops f ≡ Some ops → all_self ops ≡ true → AsLines b ops (lines_of (text_of ops))
 file_as_text b f ops h e o = rw (text_lines ops (file_only f ops h e).1.each) (own_lines b ops o)
 
 -- a text that moves to records is answered as they are
-pub text_as_file : (b : Bench) (t : List ℕ) (ops : List Op) → text_ops t ≡ some ops → AsLines b ops (lines_of t)
+pub text_as_file : (b : Bench) (t : List ℕ) (ops : List Op) → text_ops t ≡ Some ops → AsLines b ops (lines_of t)
 text_as_file b t ops e =
     let x = text_only t ops e in
     rw (x.are, text_lines ops x.each) (own_lines b ops x.own)
 
 -- the text program on the moved-back file writes the run's answers: no line that an operation has chooses an engine
-pub program_as_run : (f : List ℕ) (ops : List Op) → Bytes f → file_ops f ≡ some ops → all_self ops ≡ true → program (text_of ops) ≡ texts (answers_ops (set_up 1) ops)
+pub program_as_run : (f : List ℕ) (ops : List Op) → Bytes f → file_ops f ≡ Some ops → all_self ops ≡ true → program (text_of ops) ≡ texts (answers_ops (set_up 1) ops)
 program_as_run f ops h e o = program_lazy (text_of ops) (text_unchosen ops (file_only f ops h e).1.each) ∙ ap texts (sym (file_as_text (set_up 1) f ops h e o).answers)

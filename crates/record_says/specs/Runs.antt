@@ -1,7 +1,6 @@
 -- The run over a whole file, as a call: four signed numbers an operation into a lent slice. FILE first, SMALL last (BROKEN stands between them, where
 -- words are lent). Assumes nothing.
-use Rattle.std.specs.Prelude.{ℕ, ◌*◌, true, false, List, [], ◌∷◌, ◌++◌, leb, ℤ, pos, length, drop}
-use Rattle.std.proofs.Math.Option.{none, some}
+use Rattle.std.specs.Prelude.{ℕ, ◌*◌, true, false, List, [], ◌∷◌, ◌++◌, leb, ℤ, pos, length, drop, None, Some}
 use Rattle.ledger_spec.specs.Numbers.{SMALL, FILE}
 use Rattle.ledger_spec.specs.Bench.{Bench}
 use Rattle.record_spec.specs.Operations.{Op}
@@ -33,4 +32,4 @@ unfoldable pub run_ops : Bench → List Op → List ℤ → Run
 run_ops b ops slice = elim (leb (4 * length ops) (length slice)) [ true ↦ answered b ops slice | false ↦ refused SMALL b slice ]
 
 unfoldable pub run_file : Bench → List ℕ → List ℤ → Run
-run_file b file slice = elim (file_ops file) [ none ↦ refused FILE b slice | some ops ↦ run_ops b ops slice ]
+run_file b file slice = elim (file_ops file) [ None ↦ refused FILE b slice | Some ops ↦ run_ops b ops slice ]

@@ -1,9 +1,9 @@
 -- The two moves on one file with every letter, written out by another program, and each refusal. Each holds by running the definitions.
 -- Assumes nothing.
+use Rattle.std.specs.Prelude.{None, Some}
 use Prim.Native.Nat.{ℕ}
 use mathlib.Core.Path.{◌≡◌, refl}
 use mathlib.Core.Bool.{true, false}
-use mathlib.Core.Option.{none, some}
 use mathlib.Core.List.{List, [], ◌∷◌, ◌++◌}
 use lib.ListN.{replicate}
 use Rattle.ledger_spec.specs.Decimals.{digits, decimal, signed, after_digits, natural, between, integer}
@@ -82,10 +82,10 @@ unfolding good serials_good members_good spaced fields_of letter_of digits decim
 too_long = refl
 
 -- a gap: the second record's start is one further
-gap : file_ops (75 ∷ 0 ∷ 75 ∷ 1 ∷ fours (0 ∷ 3 ∷ 4 ∷ 2 ∷ 12 ∷ mark ∷ [])) ≡ none
+gap : file_ops (75 ∷ 0 ∷ 75 ∷ 1 ∷ fours (0 ∷ 3 ∷ 4 ∷ 2 ∷ 12 ∷ mark ∷ [])) ≡ None
 unfolding file_ops number fours_in records_in fitting record_in rest good serials_good spaced fields_of letter_of digits decimal bytes_of fields spelled bytes fours
 gap = refl
 
-no_gap : file_ops (75 ∷ 0 ∷ 75 ∷ 1 ∷ fours (0 ∷ 2 ∷ 4 ∷ 2 ∷ 12 ∷ mark ∷ [])) ≡ some (K 0 ∷ K 1 ∷ [])
+no_gap : file_ops (75 ∷ 0 ∷ 75 ∷ 1 ∷ fours (0 ∷ 2 ∷ 4 ∷ 2 ∷ 12 ∷ mark ∷ [])) ≡ Some (K 0 ∷ K 1 ∷ [])
 unfolding file_ops number fours_in records_in fitting record_in rest good serials_good spaced fields_of letter_of digits decimal bytes_of fields spelled bytes fours
 no_gap = refl

@@ -1,12 +1,12 @@
 -- What the reader tests is what is asked: of numbers that bytes hold, with pairs that are serials, `good` says that the line is not LINE.
 -- Assumes nothing.
+use Rattle.std.specs.Prelude.{None, Option, Some}
 use Prim.Native.Nat.{ℕ, suc, ◌≤◌, ◌<◌}
 use native.Mathlib.Omega.{arith}
 use native.Mathlib.Decide.{dec_le}
 use mathlib.Core.Logic.{◌↔◌}
 use mathlib.Core.Path.{◌≡◌, refl, sym, ◌∙◌, ap, subst}
 use mathlib.Core.Bool.{Bool, true, false, true≢false}
-use mathlib.Core.Option.{Option, none, some}
 use mathlib.Core.List.{List, [], ◌∷◌, map}
 use lib.Dec.{leb}
 use lib.ListN.{length}
@@ -34,10 +34,10 @@ line_reads op w = text_reads (line_said op) w.fit w.short
 
 -- ---- a line after letter and unit
 
-goes : {A : Type 0} (r : List ℕ → Option A) (k : A → Fields → Line) (f : List ℕ) (fs : Fields) (a : A) → r f ≡ some a → then r k (f ∷ fs) ≡ k a fs
+goes : {A : Type 0} (r : List ℕ → Option A) (k : A → Fields → Line) (f : List ℕ) (fs : Fields) (a : A) → r f ≡ Some a → then r k (f ∷ fs) ≡ k a fs
 goes r k f fs a e = ap (λ (o : Option (_ × Fields)). follow o k) (step_some r f fs a e)
 
-stops : {A : Type 0} (r : List ℕ → Option A) (k : A → Fields → Line) (f : List ℕ) (fs : Fields) → r f ≡ none → then r k (f ∷ fs) ≡ wrong
+stops : {A : Type 0} (r : List ℕ → Option A) (k : A → Fields → Line) (f : List ℕ) (fs : Fields) → r f ≡ None → then r k (f ∷ fs) ≡ wrong
 stops r k f fs e = ap (λ (o : Option (_ × Fields)). follow o k) (step_none r f fs e)
 
 opened : (c u : ℕ) (fs : Fields) → (c ≡ 32 → ⊥) → AllFree fs → u ≤ 255 → length (spaced (c ∷ []) (decimal u ∷ fs)) ≤ 1023
@@ -50,15 +50,15 @@ opened c u fs n free h short =
 
 -- ---- a serial 0
 
-serial_zero : (k : ℕ) → k < 1 → a_serial (decimal k) ≡ none
+serial_zero : (k : ℕ) → k < 1 → a_serial (decimal k) ≡ None
 serial_zero k h = ap (between 1 4294967295) (read_back k) ∙ between_low 1 4294967295 k h
 
-serials_zero : (ms : List Member) → Words ms → Pairs ms → members_good ms ≡ false → all_serials (map decimal (map serial_of ms)) ≡ none
+serials_zero : (ms : List Member) → Words ms → Pairs ms → members_good ms ≡ false → all_serials (map decimal (map serial_of ms)) ≡ None
 unfolding members_good
 serials_zero [] h p e = absurd (true≢false e)
 serials_zero (m ∷ ms) h p e = go (dec_le 1 m.serial) (serials_zero ms h.3 p.2)
   where
-    go : Dec (1 ≤ m.serial) → (members_good ms ≡ false → all_serials (map decimal (map serial_of ms)) ≡ none) → all_serials (decimal m.serial ∷ map decimal (map serial_of ms)) ≡ none
+    go : Dec (1 ≤ m.serial) → (members_good ms ≡ false → all_serials (map decimal (map serial_of ms)) ≡ None) → all_serials (decimal m.serial ∷ map decimal (map serial_of ms)) ≡ None
     go (no n) i = serials_bad (decimal m.serial) (map decimal (map serial_of ms)) (serial_zero m.serial (omega arith))
     go (yes y) i =
         let word : m.serial < 4294967296 = h.0 in
@@ -78,10 +78,10 @@ serials_wrong (B u (m ∷ ms)) h p s e =
     ∙ ap (gathered u) (serials_zero (m ∷ ms) h.2 p (rw (le-leb 1 (suc (length ms)) (omega arith)) at e))
 serials_wrong (E u k) h p s e =
     opened 69 u (decimal k ∷ []) (λ x. omega arith) (free_decimal k, tt) (omega (arith, h.0)) s
-    ∙ stops a_serial (λ n. no_more (some (E u n))) (decimal k) [] (serial_zero k (leb-false 1 k e))
+    ∙ stops a_serial (λ n. no_more (Some (E u n))) (decimal k) [] (serial_zero k (leb-false 1 k e))
 serials_wrong (S u k g) h p s e =
     opened 83 u (decimal k ∷ signed (rate g) ∷ []) (λ x. omega arith) (free_decimal k, (free_signed (rate g), tt)) (omega (arith, h.0)) s
-    ∙ stops a_serial (λ n. then a_state (λ y. no_more (some (S u n y)))) (decimal k) (signed (rate g) ∷ []) (serial_zero k (leb-false 1 k e))
+    ∙ stops a_serial (λ n. then a_state (λ y. no_more (Some (S u n y)))) (decimal k) (signed (rate g) ∷ []) (serial_zero k (leb-false 1 k e))
 serials_wrong (G u l) h p s e = absurd (true≢false e)
 serials_wrong (F q l r) h p s e = absurd (true≢false e)
 serials_wrong (C u) h p s e = absurd (true≢false e)

@@ -1,9 +1,10 @@
 -- A text whose lines all read is the text of its operations, which are writable with every pair the member itself; and the text of such
 -- operations reads as them. Assumes nothing.
+use Rattle.std.specs.Prelude.{None, Option, Some}
+use Rattle.std.proofs.lemmas.Option.{same_Some, none-some}
 use Prim.Native.Nat.{ℕ, ◌≤◌}
 use mathlib.Core.Path.{◌≡◌, refl, sym, ◌∙◌, ap, subst}
 use mathlib.Core.Bool.{true, ◌&&◌}
-use mathlib.Core.Option.{Option, none, some, some-ne-none, some-injective}
 use mathlib.Core.List.{List, [], ◌∷◌, ◌++◌, map}
 use lib.Dec.{eqb}
 use lib.ListN.{length}
@@ -34,10 +35,10 @@ members_back (m ∷ ms) e =
     let q = eqb-true m.second m.serial b.1 in
     λ i. record { serial = m.serial; first = sym p i; second = sym q i } ∷ members_back ms a.1 i
 
-op_back : (op : Op) → self op ≡ true → op_of_line (line_said op) ≡ some op
+op_back : (op : Op) → self op ≡ true → op_of_line (line_said op) ≡ Some op
 unfolding self
 op_back (D u v) e = refl
-op_back (B u ms) e = ap (λ (l : List Member). some (B u l)) (members_back ms e)
+op_back (B u ms) e = ap (λ (l : List Member). Some (B u l)) (members_back ms e)
 op_back (E u k) e = refl
 op_back (S u k g) e = refl
 op_back (G u l) e = refl
@@ -63,10 +64,10 @@ record OfLine (l : Line) (op : Op) : Type 0 where
   own : self op ≡ true
   pairs : Fit l → PairsOf op
 
-op_own : (a : Operation ℕ) → OfLine (some a) (written_by itself a)
+op_own : (a : Operation ℕ) → OfLine (Some a) (written_by itself a)
 unfolding self
 op_own (D u v) = record { said = refl; own = refl; pairs = λ h. tt }
-op_own (B u ks) = record { said = ap (λ (l : List ℕ). some (B u l)) (serials_same ks); own = selves_true ks; pairs = λ h. pairs_fit ks h.2 }
+op_own (B u ks) = record { said = ap (λ (l : List ℕ). Some (B u l)) (serials_same ks); own = selves_true ks; pairs = λ h. pairs_fit ks h.2 }
 op_own (E u k) = record { said = refl; own = refl; pairs = λ h. tt }
 op_own (S u k g) = record { said = refl; own = refl; pairs = λ h. tt }
 op_own (G u l) = record { said = refl; own = refl; pairs = λ h. tt }
@@ -74,9 +75,9 @@ op_own (F p l r) = record { said = refl; own = refl; pairs = λ h. tt }
 op_own (C u) = record { said = refl; own = refl; pairs = λ h. tt }
 op_own (K u) = record { said = refl; own = refl; pairs = λ h. tt }
 
-op_only : (l : Line) (op : Op) → op_of_line l ≡ some op → OfLine l op
-op_only none op e = absurd (some-ne-none op (sym e))
-op_only (some a) op e = subst (λ (o : Op). OfLine (some a) o) (some-injective (written_by itself a) op e) (op_own a)
+op_only : (l : Line) (op : Op) → op_of_line l ≡ Some op → OfLine l op
+op_only None op e = absurd (none-some op e)
+op_only (Some a) op e = subst (λ (o : Op). OfLine (Some a) o) (same_Some (written_by itself a) op e) (op_own a)
 
 -- a line that has an operation is its text, byte for byte
 pub record Spelt (f : List ℕ) (op : Op) : Type 0 where
@@ -84,10 +85,10 @@ pub record Spelt (f : List ℕ) (op : Op) : Type 0 where
   pub own : self op ≡ true
   pub writable : Writable op
 
-pub line_only : (f : List ℕ) (op : Op) → op_of_line (line_of f) ≡ some op → Spelt f op
+pub line_only : (f : List ℕ) (op : Op) → op_of_line (line_of f) ≡ Some op → Spelt f op
 line_only f op e =
     let a = op_only (line_of f) op e in
-    let b = line_spelt f (line_of f) (λ p. some-ne-none op (sym e ∙ ap op_of_line p)) refl in
+    let b = line_spelt f (line_of f) (λ p. none-some op (sym (sym e ∙ ap op_of_line p))) refl in
     let are : f ≡ line_of_op op = b.text ∙ ap line_text (sym a.said) in
     record {
       are = are;
@@ -98,18 +99,18 @@ line_only f op e =
 -- ---- the text of operations, read
 
 unfoldable pub onto : Op → Option (List Op) → Option (List Op)
-onto op none = none
-onto op (some ops) = some (op ∷ ops)
+onto op None = None
+onto op (Some ops) = Some (op ∷ ops)
 
-pub ops_step : (l : Line) (ls : List Line) (op : Op) → op_of_line l ≡ some op → ops_of (l ∷ ls) ≡ onto op (ops_of ls)
+pub ops_step : (l : Line) (ls : List Line) (op : Op) → op_of_line l ≡ Some op → ops_of (l ∷ ls) ≡ onto op (ops_of ls)
 unfolding ops_of onto
 ops_step l ls op e = rw (e, ops_of) (go (ops_of ls))
   where
-    go : (o : Option (List Op)) → elim o [ none ↦ none | some ops ↦ some (op ∷ ops) ] ≡ onto op o
-    go none = refl
-    go (some ops) = refl
+    go : (o : Option (List Op)) → elim o [ None ↦ None | Some ops ↦ Some (op ∷ ops) ] ≡ onto op o
+    go None = refl
+    go (Some ops) = refl
 
-pub text_back : (ops : List Op) → AllWritable ops → all_self ops ≡ true → text_ops (text_of ops) ≡ some ops
+pub text_back : (ops : List Op) → AllWritable ops → all_self ops ≡ true → text_ops (text_of ops) ≡ Some ops
 unfolding text_ops text_of lines_of ended all_self ops_of onto
 text_back [] h e = ap (λ (l : Fields). ops_of (ended l)) cut_none
 text_back (op ∷ ops) h e =
@@ -126,31 +127,31 @@ pub record Text (s : List ℕ) (ops : List Op) : Type 0 where
   pub each : AllWritable ops
   pub own : all_self ops ≡ true
 
-parts_only : (fs : Fields) (f : List ℕ) (ops : List Op) → ops_of (ended (f ∷ fs)) ≡ some ops → Text (joined f fs) ops
+parts_only : (fs : Fields) (f : List ℕ) (ops : List Op) → ops_of (ended (f ∷ fs)) ≡ Some ops → Text (joined f fs) ops
 unfolding ended ops_of joined text_of all_self
-parts_only [] [] ops e = subst (λ (l : List Op). Text [] l) (some-injective [] ops e) (record { are = refl; each = tt; own = refl })
-parts_only [] (c ∷ s) ops e = absurd (some-ne-none ops (sym e))
+parts_only [] [] ops e = subst (λ (l : List Op). Text [] l) (same_Some [] ops e) (record { are = refl; each = tt; own = refl })
+parts_only [] (c ∷ s) ops e = absurd (none-some ops e)
 parts_only (g ∷ gs) f ops e = go (op_of_line (line_of f)) refl e (parts_only gs g)
   where
-    here : (op : Op) → op_of_line (line_of f) ≡ some op → (o : Option (List Op)) → ops_of (ended (g ∷ gs)) ≡ o
-        → elim o [ none ↦ none | some l ↦ some (op ∷ l) ] ≡ some ops
-        → ((l : List Op) → ops_of (ended (g ∷ gs)) ≡ some l → Text (joined g gs) l) → Text (f ++ (10 ∷ joined g gs)) ops
-    here op p none q r i = absurd (some-ne-none ops (sym r))
-    here op p (some l) q r i =
+    here : (op : Op) → op_of_line (line_of f) ≡ Some op → (o : Option (List Op)) → ops_of (ended (g ∷ gs)) ≡ o
+        → elim o [ None ↦ None | Some l ↦ Some (op ∷ l) ] ≡ Some ops
+        → ((l : List Op) → ops_of (ended (g ∷ gs)) ≡ Some l → Text (joined g gs) l) → Text (f ++ (10 ∷ joined g gs)) ops
+    here op p None q r i = absurd (none-some ops r)
+    here op p (Some l) q r i =
         let a = line_only f op p in
         let b = i l q in
-        subst (λ (x : List Op). Text (f ++ (10 ∷ joined g gs)) x) (some-injective (op ∷ l) ops r) (record {
+        subst (λ (x : List Op). Text (f ++ (10 ∷ joined g gs)) x) (same_Some (op ∷ l) ops r) (record {
           are = λ j. a.are j ++ (10 ∷ b.are j);
           each = (a.writable, b.each);
           own = joined-tests (self op) (all_self l) a.own b.own;
         })
 
     go : (o : Option Op) → op_of_line (line_of f) ≡ o
-        → elim o [ none ↦ none | some op ↦ elim (ops_of (ended (g ∷ gs))) [ none ↦ none | some l ↦ some (op ∷ l) ] ] ≡ some ops
-        → ((l : List Op) → ops_of (ended (g ∷ gs)) ≡ some l → Text (joined g gs) l) → Text (f ++ (10 ∷ joined g gs)) ops
-    go none p q i = absurd (some-ne-none ops (sym q))
-    go (some op) p q i = here op p (ops_of (ended (g ∷ gs))) refl q i
+        → elim o [ None ↦ None | Some op ↦ elim (ops_of (ended (g ∷ gs))) [ None ↦ None | Some l ↦ Some (op ∷ l) ] ] ≡ Some ops
+        → ((l : List Op) → ops_of (ended (g ∷ gs)) ≡ Some l → Text (joined g gs) l) → Text (f ++ (10 ∷ joined g gs)) ops
+    go None p q i = absurd (none-some ops q)
+    go (Some op) p q i = here op p (ops_of (ended (g ∷ gs))) refl q i
 
-pub text_only : (s : List ℕ) (ops : List Op) → text_ops s ≡ some ops → Text s ops
+pub text_only : (s : List ℕ) (ops : List Op) → text_ops s ≡ Some ops → Text s ops
 unfolding text_ops lines_of
 text_only s ops e = subst (λ (l : List ℕ). Text l ops) (joined_cut s) (parts_only (parts_after 10 s) (upto 10 s) ops e)

@@ -1,6 +1,5 @@
 -- The two moves as calls: a text file to a file of records, and back, into a lent output. Assumes nothing.
-use Rattle.std.specs.Prelude.{ℕ, Bool, true, false, ◌&&◌, List, [], ◌∷◌, ◌++◌, leb, length, drop}
-use Rattle.std.proofs.Math.Option.{Option, none, some}
+use Rattle.std.specs.Prelude.{ℕ, Bool, true, false, ◌&&◌, List, [], ◌∷◌, ◌++◌, leb, length, drop, None, Option, Some}
 use Rattle.ledger_spec.specs.Numbers.{SMALL, SELF, FILE}
 use Rattle.ledger_spec.specs.Grammar.{Line}
 use Rattle.ledger_spec.specs.Program.{lines_of}
@@ -11,8 +10,8 @@ use Rattle.record_spec.specs.Files.{file_of, file_ops, largest}
 
 -- the operations of lines, none of which is LINE
 unfoldable pub ops_of : List Line → Option (List Op)
-ops_of [] = some []
-ops_of (l ∷ ls) = elim (op_of_line l) [ none ↦ none | some op ↦ elim (ops_of ls) [ none ↦ none | some ops ↦ some (op ∷ ops) ] ]
+ops_of [] = Some []
+ops_of (l ∷ ls) = elim (op_of_line l) [ None ↦ None | Some op ↦ elim (ops_of ls) [ None ↦ None | Some ops ↦ Some (op ∷ ops) ] ]
 
 unfoldable pub text_ops : List ℕ → Option (List Op)
 text_ops s = ops_of (lines_of s)
@@ -47,13 +46,13 @@ written result out = elim (leb (length result) (length out)) [
 -- FILE: a bad line, or a result past 4,294,967,295 bytes
 unfoldable pub to_records : List ℕ → List ℕ → Moved
 to_records text out = elim (text_ops text) [
-  | none ↦ refused FILE out
-  | some ops ↦ elim (leb (length (file_of ops)) largest) [ true ↦ written (file_of ops) out | false ↦ refused FILE out ]
+  | None ↦ refused FILE out
+  | Some ops ↦ elim (leb (length (file_of ops)) largest) [ true ↦ written (file_of ops) out | false ↦ refused FILE out ]
 ]
 
 -- FILE: not a whole file; SELF: a pair that is not the member
 unfoldable pub to_text : List ℕ → List ℕ → Moved
 to_text file out = elim (file_ops file) [
-  | none ↦ refused FILE out
-  | some ops ↦ elim (all_self ops) [ true ↦ written (text_of ops) out | false ↦ refused SELF out ]
+  | None ↦ refused FILE out
+  | Some ops ↦ elim (all_self ops) [ true ↦ written (text_of ops) out | false ↦ refused SELF out ]
 ]

@@ -1,6 +1,5 @@
 -- What one record says: a line's operation, with a pair of serials beside each member of a blossom. And its line in the text form. Assumes nothing.
-use Rattle.std.specs.Prelude.{ℕ, Bool, true, ◌&&◌, List, [], ◌∷◌, eqb}
-use Rattle.std.proofs.Math.Option.{Option, none, some}
+use Rattle.std.specs.Prelude.{ℕ, Bool, true, ◌&&◌, List, [], ◌∷◌, eqb, None, Option, Some}
 use Rattle.ledger_spec.specs.Operations.{Operation, D, B, E, S, G, F, C, K, written_by}
 use Rattle.ledger_spec.specs.Grammar.{Line}
 use Rattle.text_lines.specs.Texts.{line_text}
@@ -20,7 +19,7 @@ abbrev pub serial_of : Member → ℕ
 serial_of m = m.serial
 
 abbrev pub line_said : Op → Line
-line_said op = some (written_by serial_of op)
+line_said op = Some (written_by serial_of op)
 
 -- the line's bytes without the newline
 abbrev pub line_of_op : Op → List ℕ
@@ -32,8 +31,8 @@ abbrev pub itself : ℕ → Member
 itself k = record { serial = k; first = k; second = k }
 
 abbrev pub op_of_line : Line → Option Op
-op_of_line none = none
-op_of_line (some op) = some (written_by itself op)
+op_of_line None = None
+op_of_line (Some op) = Some (written_by itself op)
 
 -- is every pair the member itself
 unfoldable pub selves : List Member → Bool

@@ -1,8 +1,9 @@
 -- The text filled record by record: what is written and what is left make the whole. Assumes nothing.
+use Rattle.std.specs.Prelude.{None, Option, Some}
+use Rattle.std.proofs.lemmas.Option.{same_Some}
 use Prim.Native.Nat.{ℕ, zero, suc, ◌+◌, ◌-◌, ◌*◌, ◌≤◌, ◌<◌}
 use native.Mathlib.Omega.{arith}
 use mathlib.Core.Path.{◌≡◌, refl, sym, ◌∙◌, ap, subst}
-use mathlib.Core.Option.{Option, none, some, some-injective}
 use mathlib.Core.List.{List, [], ◌∷◌, ◌++◌, append_assoc}
 use lib.ListN.{length, drop, length-append}
 use lib.Seq.{sets}
@@ -34,26 +35,24 @@ pub record Filling (s t : List ℕ) (list count : ℕ) (out₀ : List ℕ) (entr
   pub rest : List Op
   pub p : ℕ
   pub low : p ≤ length t
-  pub records : records_in p (fours_at left s entry) (drop p t) ≡ some rest
-  pub entries : entry + 4 * left ≡ list + 4 * count
+  pub records : records_in p (fours_at left s entry) (drop p t) ≡ Some rest
   pub long : length out ≡ length out₀
   pub room : from + length (text_of rest) ≤ length out
-  pub stands : (ops : List Op) → records_in 0 (fours_at count s list) t ≡ some ops → sets out from (text_of rest) ≡ sets out₀ 0 (text_of ops)
+  pub stands : (ops : List Op) → records_in 0 (fours_at count s list) t ≡ Some ops → sets out from (text_of rest) ≡ sets out₀ 0 (text_of ops)
 
 pub filling : (s t : List ℕ) (list count : ℕ) (out : List ℕ) → Ready (records_in 0 (fours_at count s list) t) (length out) → Filling s t list count out list count 0 out
 filling s t list count out r = go (records_in 0 (fours_at count s list) t) refl r
   where
     go : (o : Option (List Op)) → records_in 0 (fours_at count s list) t ≡ o → Ready o (length out) → Filling s t list count out list count 0 out
-    go none e x = absurd x
-    go (some ops) e x = record {
+    go None e x = absurd x
+    go (Some ops) e x = record {
       rest = ops;
       p = 0;
       low = omega arith;
       records = e;
-      entries = refl;
       long = refl;
       room = omega (arith, x);
-      stands = λ ops' e'. ap (λ (y : List Op). sets out 0 (text_of y)) (some-injective ops ops' (sym e ∙ e'));
+      stands = λ ops' e'. ap (λ (y : List Op). sets out 0 (text_of y)) (same_Some ops ops' (sym e ∙ e'));
     }
 
 module _ (s t : List ℕ) (list count : ℕ) (out₀ : List ℕ) (entry left from : ℕ) (out : List ℕ) (bytes : Bytes t) (g : Filling s t list count out₀ entry left from out) where
@@ -74,7 +73,7 @@ module _ (s t : List ℕ) (list count : ℕ) (out₀ : List ℕ) (entry left fro
     text_sizes = omega (arith, ap length text_splits, length-append line (text_of next.more), length-append (line_of_op next.op) (10 ∷ []))
 
     module _ (q : ℕ) (e : q ≡ at 4 s entry) where
-      stands_there : record_in (drop q t) ≡ some (next.op, drop (g.p + length (bytes_of next.op)) t)
+      stands_there : record_in (drop q t) ≡ Some (next.op, drop (g.p + length (bytes_of next.op)) t)
       stands_there = ap (λ (k : ℕ). record_in (drop k t)) (e ∙ next.place) ∙ next.read
 
       pub line_ready : LineReady (record_in (drop q t)) from (length out)
@@ -91,7 +90,6 @@ module _ (s t : List ℕ) (list count : ℕ) (out₀ : List ℕ) (entry left fro
             p = g.p + length (bytes_of next.op);
             low = next.fits;
             records = next.after;
-            entries = omega (arith, g.entries);
             long = l ∙ g.long;
             room = omega (arith, g.room, text_sizes, w₁, l, length-append (line_of_op next.op) (10 ∷ []));
             stands = λ ops o.
@@ -110,7 +108,7 @@ module _ (s t : List ℕ) (list count : ℕ) (out₀ : List ℕ) (entry left fro
       no_more (op ∷ ops) e = absurd (omega (arith, e))
 
       go : (o : Option (List Op)) → records_in 0 (fours_at count s list) t ≡ o → Filled o out₀ out
-      go none e = tt
-      go (some ops) e =
+      go None e = tt
+      go (Some ops) e =
           let n = counts (fours_at left s entry) t g.p g.rest bytes g.low g.records in
           sym (no_more g.rest (omega (arith, n.0, fours_none left s entry h))) ∙ g.stands ops e

@@ -1,10 +1,11 @@
 -- What a file that was scanned holds, and what the move answers. Assumes nothing.
+use Rattle.std.specs.Prelude.{None, Option, Some}
+use Rattle.std.proofs.lemmas.Option.{none-some}
 use Prim.Native.Nat.{ℕ, zero, suc, ◌+◌, ◌-◌, ◌*◌, ◌≤◌, ◌<◌}
 use native.Mathlib.Omega.{arith}
 use native.Mathlib.Decide.{dec_lt}
 use mathlib.Core.Path.{◌≡◌, refl, sym, ◌∙◌, ap, subst}
 use mathlib.Core.Bool.{Bool, true, false, true≢false}
-use mathlib.Core.Option.{Option, none, some, some-ne-none}
 use mathlib.Core.List.{List}
 use lib.ListN.{length, take}
 use lib.Seq.{sets, length-take-le}
@@ -33,18 +34,18 @@ fours_many (suc n) s p = ap suc (fours_many n s (p + 4))
 
 pub record Walked (s : List ℕ) (ops : List Op) : Type 0 where
   pub inside : length (records_of ops) + 4 * length ops ≤ length s
-  pub records : records_in 0 (fours_at (length ops) s (length (records_of ops))) (take (length (records_of ops)) s) ≡ some ops
+  pub records : records_in 0 (fours_at (length ops) s (length (records_of ops))) (take (length (records_of ops)) s) ≡ Some ops
 
-pub walked : (s : List ℕ) (ops : List Op) → Bytes s → file_ops s ≡ some ops → Walked s ops
+pub walked : (s : List ℕ) (ops : List Op) → Bytes s → file_ops s ≡ Some ops → Walked s ops
 walked s ops h e = go (dec_lt (length s) 16)
   where
     fits : (n : ℕ) → length s ≡ n + 16 → (b : Bool) → fitting (length s) (at 4 s n) (at 4 s (n + 4)) (at 4 s (n + 8)) (at 4 s (n + 12)) ≡ b → Walked s ops
-    fits n l false q = absurd (some-ne-none ops (sym e ∙ file_unfit s n l q))
+    fits n l false q = absurd (none-some ops (sym (sym e ∙ file_unfit s n l q)))
     fits n l true q =
         let f = fitting_true (length s) (at 4 s n) (at 4 s (n + 4)) (at 4 s (n + 8)) (at 4 s (n + 12)) q in
         let a = at 4 s n in
         let k = at 4 s (n + 4) in
-        let w : records_in 0 (fours_at k s a) (take a s) ≡ some ops = sym (file_walk s n l q) ∙ e in
+        let w : records_in 0 (fours_at k s a) (take a s) ≡ Some ops = sym (file_walk s n l q) ∙ e in
         let c = counts (fours_at k s a) (take a s) 0 ops (take_bytes a s h) (omega arith) w in
         let i : a ≤ length s = omega (arith, f.lists, f.ends) in
         let x : k ≡ length ops = sym (fours_many k s a) ∙ c.0 in
@@ -55,14 +56,14 @@ walked s ops h e = go (dec_lt (length s) 16)
         }
 
     go : Dec (length s < 16) → Walked s ops
-    go (yes l) = absurd (some-ne-none ops (sym e ∙ file_short s l))
+    go (yes l) = absurd (none-some ops (sym (sym e ∙ file_short s l)))
     go (no l) = fits (length s - 16) (omega arith) (fitting (length s) (at 4 s (length s - 16)) (at 4 s (length s - 16 + 4)) (at 4 s (length s - 16 + 8)) (at 4 s (length s - 16 + 12))) refl
 
 -- ---- what was scanned
 
 pub record Holds (s : List ℕ) (w : Scanned) : Type 0 where
   pub ops : List Op
-  pub said : file_ops s ≡ some ops
+  pub said : file_ops s ≡ Some ops
   pub count : w.count ≡ length ops
   pub start : w.start ≡ length (records_of ops)
   pub text : w.text ≡ length (text_of ops)
@@ -73,8 +74,8 @@ module _ (s : List ℕ) (w : Scanned) (is : w ≡ scanned_of (file_ops s)) where
   holds t = go (file_ops s) refl
     where
       go : (o : Option (List Op)) → file_ops s ≡ o → Holds s w
-      go none e = absurd (true≢false (sym t ∙ ap (λ (x : Scanned). x.whole) (is ∙ ap scanned_of e)))
-      go (some ops) e =
+      go None e = absurd (true≢false (sym t ∙ ap (λ (x : Scanned). x.whole) (is ∙ ap scanned_of e)))
+      go (Some ops) e =
           let q = is ∙ ap scanned_of e in
           record {
             ops = ops;
@@ -89,8 +90,8 @@ module _ (s : List ℕ) (w : Scanned) (is : w ≡ scanned_of (file_ops s)) where
   no_file out t = subst (λ m. MovedAs m out (record { number = FILE; size = 0 })) (sym (go (file_ops s) refl)) (record { number = refl; size = refl; output = refl })
     where
       go : (o : Option (List Op)) → file_ops s ≡ o → to_text s out ≡ refused FILE out
-      go none e = text_none s out e
-      go (some ops) e = absurd (true≢false (sym (ap (λ (x : Scanned). x.whole) (is ∙ ap scanned_of e)) ∙ t))
+      go None e = text_none s out e
+      go (Some ops) e = absurd (true≢false (sym (ap (λ (x : Scanned). x.whole) (is ∙ ap scanned_of e)) ∙ t))
 
 -- ---- the answers
 
@@ -111,7 +112,7 @@ module _ (s : List ℕ) (w : Scanned) (m : Holds s w) where
       pub start_inside : w.start + 4 * w.count ≤ length s
       start_inside = omega (arith, (walked s m.ops bytes m.said).inside, m.start, m.count)
 
-      records_are : records_in 0 (fours_at w.count s w.start) (take w.start s) ≡ some m.ops
+      records_are : records_in 0 (fours_at w.count s w.start) (take w.start s) ≡ Some m.ops
       records_are = (λ i. records_in 0 (fours_at (m.count i) s (m.start i)) (take (m.start i) s)) ∙ (walked s m.ops bytes m.said).records
 
       pub ready : (out : List ℕ) → w.text ≤ length out → Ready (records_in 0 (fours_at w.count s w.start) (take w.start s)) (length out)

@@ -1,12 +1,12 @@
 -- Laws of the two moves' answers: any that meet the contracts. There is no second one; a refused move leaves the slice; what moved comes back as the same
 -- bytes, a file of records exactly if every pair is the member itself. Assumes nothing.
+use Rattle.std.specs.Prelude.{None, Option, Some}
 use Prim.Native.Nat.{ℕ, ◌≤◌}
 use native.Mathlib.Omega.{arith}
 use native.Mathlib.Decide.{dec_le}
 use mathlib.Core.Logic.{◌↔◌}
 use mathlib.Core.Path.{◌≡◌, refl, sym, ◌∙◌, ap}
 use mathlib.Core.Bool.{Bool, true, false, true≢false}
-use mathlib.Core.Option.{Option, none, some}
 use mathlib.Core.List.{List}
 use lib.ListN.{length, take}
 use Rattle.ledger_spec.specs.Numbers.{SELF, FILE, SMALL}
@@ -49,24 +49,24 @@ written_leaves result out m e h = go (dec_le (length result) (length out))
 records_leave : (t out : List ℕ) → Untouched out (to_records t out)
 records_leave t out = go (text_ops t) refl
   where
-    sized : (ops : List Op) → text_ops t ≡ some ops → Dec (length (file_of ops) ≤ largest) → Untouched out (to_records t out)
+    sized : (ops : List Op) → text_ops t ≡ Some ops → Dec (length (file_of ops) ≤ largest) → Untouched out (to_records t out)
     sized ops e (yes l) = written_leaves (file_of ops) out (to_records t out) (records_some t out ops e l)
     sized ops e (no l) = refused_leaves FILE out (to_records t out) (records_large t out ops e (omega arith))
 
     go : (o : Option (List Op)) → text_ops t ≡ o → Untouched out (to_records t out)
-    go none e = refused_leaves FILE out (to_records t out) (records_none t out e)
-    go (some ops) e = sized ops e (dec_le (length (file_of ops)) largest)
+    go None e = refused_leaves FILE out (to_records t out) (records_none t out e)
+    go (Some ops) e = sized ops e (dec_le (length (file_of ops)) largest)
 
 text_leaves : (f out : List ℕ) → Untouched out (to_text f out)
 text_leaves f out = go (file_ops f) refl
   where
-    owned : (ops : List Op) → file_ops f ≡ some ops → (b : Bool) → all_self ops ≡ b → Untouched out (to_text f out)
+    owned : (ops : List Op) → file_ops f ≡ Some ops → (b : Bool) → all_self ops ≡ b → Untouched out (to_text f out)
     owned ops e true b = written_leaves (text_of ops) out (to_text f out) (text_some f out ops e b)
     owned ops e false b = refused_leaves SELF out (to_text f out) (text_self f out ops e b)
 
     go : (o : Option (List Op)) → file_ops f ≡ o → Untouched out (to_text f out)
-    go none e = refused_leaves FILE out (to_text f out) (text_none f out e)
-    go (some ops) e = owned ops e (all_self ops) refl
+    go None e = refused_leaves FILE out (to_text f out) (text_none f out e)
+    go (Some ops) e = owned ops e (all_self ops) refl
 
 module _ (m : Answer) (out : List ℕ) (u : Untouched out m) (o : List ℕ) (r : Moved) (is : MovedAs m o r) (h : r.number ≡ 0 → ⊥) where
   left_alone : (r.size ≡ 0) × (o ≡ out)
@@ -105,7 +105,7 @@ pub moves_exactly_own : (f out o : List ℕ) (r : Moved) (w : Scanned) → w ≡
     → (r.number ≡ 0) ↔ (w.own ≡ true)
 moves_exactly_own f out o r w e t l is = go (file_ops f) refl
   where
-    scanned : (ops : List Op) → file_ops f ≡ some ops → (b : Bool) → all_self ops ≡ b → (r.number ≡ 0) ↔ (w.own ≡ true)
+    scanned : (ops : List Op) → file_ops f ≡ Some ops → (b : Bool) → all_self ops ≡ b → (r.number ≡ 0) ↔ (w.own ≡ true)
     scanned ops q true b =
         let x = e ∙ ap scanned_of q in
         let y : to_text f out ≡ accepted (text_of ops) out = text_some f out ops q b ∙ room (text_of ops) out (omega (arith, l, ap (λ (v : Scanned). v.text) x)) in
@@ -116,5 +116,5 @@ moves_exactly_own f out o r w e t l is = go (file_ops f) refl
         ((λ z. absurd (omega (arith, y, z))), (λ z. absurd (true≢false (sym z ∙ x))))
 
     go : (p : Option (List Op)) → file_ops f ≡ p → (r.number ≡ 0) ↔ (w.own ≡ true)
-    go none q = absurd (true≢false (sym t ∙ ap (λ (v : Scanned). v.whole) (e ∙ ap scanned_of q)))
-    go (some ops) q = scanned ops q (all_self ops) refl
+    go None q = absurd (true≢false (sym t ∙ ap (λ (v : Scanned). v.whole) (e ∙ ap scanned_of q)))
+    go (Some ops) q = scanned ops q (all_self ops) refl

@@ -16,14 +16,10 @@ fn fill(s: &[u8], t: &[u8], list: usize, count: usize, out: &mut [u8])
     requires { (list + 4 * count ≤ length s.now) × Ready (records_in 0 (fours_at count s.now list) t.now) (length out.old) }
     ensures { Filled (records_in 0 (fours_at count s.now list) t.now) out.old out.new }
 {
-    let mut entry = list;
-    let mut left = count;
     let mut at: usize = 0;
-    while 0 < left {
-        let p = record_numbers::four_at(s, entry) as usize;
+    for i in 0..count {
+        let p = record_numbers::four_at(s, list + 4 * i) as usize;
         at = record_lines::put_line(out, at, t, p);
-        entry = entry + 4;
-        left = left - 1;
     }
 }
 

@@ -1,9 +1,9 @@
 -- The lines weighed one by one: what is weighed and what is left make the whole. Assumes nothing.
+use Rattle.std.specs.Prelude.{None, Option, Some}
 use Prim.Native.Nat.{ℕ, ◌+◌, ◌-◌, ◌*◌, ◌≤◌, ◌<◌}
 use native.Mathlib.Omega.{arith}
 use mathlib.Core.Path.{◌≡◌, refl, sym, ◌∙◌, ap}
 use mathlib.Core.Bool.{true}
-use mathlib.Core.Option.{Option, none, some}
 use mathlib.Core.List.{List}
 use lib.ListN.{length, take, drop, length-append}
 use borrow.Author.Tests.{le-leb, lt-leb}
@@ -29,24 +29,24 @@ told_large count size h = rw (lt-leb (size + (4 * count + 16)) largest h, told_b
 
 -- so many records and bytes more
 abbrev more : ℕ → ℕ → Option (List Op) → Weighed
-more c n none = not_text
-more c n (some ops) = told_by (c + length ops) (n + length (records_of ops))
+more c n None = not_text
+more c n (Some ops) = told_by (c + length ops) (n + length (records_of ops))
 
 same_told : (c n c' n' : ℕ) → c ≡ c' → n ≡ n' → told_by c n ≡ told_by c' n'
 same_told c n c' n' p q = λ i. told_by (p i) (q i)
 
 more_none : (o : Option (List Op)) → weighed_of o ≡ more 0 0 o
-more_none none = refl
-more_none (some ops) = same_told _ _ _ _ (omega arith) (omega arith)
+more_none None = refl
+more_none (Some ops) = same_told _ _ _ _ (omega arith) (omega arith)
 
 more_onto : (c n : ℕ) (op : Op) (o : Option (List Op)) → more c n (onto op o) ≡ more (c + 1) (n + length (bytes_of op)) o
 unfolding onto records_of
-more_onto c n op none = refl
-more_onto c n op (some ops) = same_told _ _ _ _ (omega arith) (omega (arith, length-append (bytes_of op) (records_of ops)))
+more_onto c n op None = refl
+more_onto c n op (Some ops) = same_told _ _ _ _ (omega arith) (omega (arith, length-append (bytes_of op) (records_of ops)))
 
 more_large : (c n : ℕ) (o : Option (List Op)) → largest < n + (4 * c + 16) → more c n o ≡ not_text
-more_large c n none h = refl
-more_large c n (some ops) h = told_large (c + length ops) (n + length (records_of ops)) (omega arith)
+more_large c n None h = refl
+more_large c n (Some ops) h = told_large (c + length ops) (n + length (records_of ops)) (omega arith)
 
 -- the lines before a are so many records of so many bytes
 pub record Weighing (s : List ℕ) (a count size : ℕ) : Type 0 where
@@ -64,10 +64,10 @@ module _ (s : List ℕ) (a count size : ℕ) (w : Weighing s a count size) where
     unended l q = sym (w.whole ∙ ap (more count size) (ops_unended s a e g l q))
 
     module _ (h : e < length s) where
-      pub bad_line : op_of_line (line_of (take (e - a) (drop a s))) ≡ none → not_text ≡ weighed_of (text_ops s)
+      pub bad_line : op_of_line (line_of (take (e - a) (drop a s))) ≡ None → not_text ≡ weighed_of (text_ops s)
       bad_line q = sym (w.whole ∙ ap (more count size) (ops_wrong s a e g h q))
 
-      module _ (op : Op) (said : op_of_line (line_of (take (e - a) (drop a s))) ≡ some op) (n : ℕ) (is : n ≡ length (bytes_of op)) where
+      module _ (op : Op) (said : op_of_line (line_of (take (e - a) (drop a s))) ≡ Some op) (n : ℕ) (is : n ≡ length (bytes_of op)) where
         step : weighed_of (text_ops s) ≡ more (count + 1) (size + n) (ops_of (lines_of (drop (e + 1) s)))
         step =
             w.whole ∙ ap (more count size) (ops_line s a e g h op said) ∙ more_onto count size op (ops_of (lines_of (drop (e + 1) s)))

@@ -1,6 +1,5 @@
 -- What the code answers of a text: how many records its lines are and how many bytes they take, if it moves. Assumes nothing.
-use Rattle.std.specs.Prelude.{ℕ, ◌+◌, ◌*◌, true, false, List, [], leb, length}
-use Rattle.std.proofs.Math.Option.{Option, none, some}
+use Rattle.std.specs.Prelude.{ℕ, ◌+◌, ◌*◌, true, false, List, [], leb, length, None, Option, Some}
 use Rattle.text_lines.specs.declared.Line.{Line}
 use Rattle.text_lines.specs.declared.Line.TheVariants.{Defect, Blossom, Expand, SetState, Grow, Fuse, Clear, Check, Wrong}
 use Rattle.record_spec.specs.Operations.{Op}
@@ -10,8 +9,8 @@ use Rattle.record_weights.specs.declared.Weighed.{Weighed}
 
 -- the bytes of a line's record, if it has one
 abbrev pub bytes_said : Option Op → List ℕ
-bytes_said none = []
-bytes_said (some op) = bytes_of op
+bytes_said None = []
+bytes_said (Some op) = bytes_of op
 
 -- how many they are
 abbrev pub size_by : Line → ℕ
@@ -35,5 +34,5 @@ unfoldable pub told_by : ℕ → ℕ → Weighed
 told_by count size = elim (leb (size + (4 * count + 16)) largest) [ true ↦ record { whole = true; count = count; size = size } | false ↦ not_text ]
 
 abbrev pub weighed_of : Option (List Op) → Weighed
-weighed_of none = not_text
-weighed_of (some ops) = told_by (length ops) (length (records_of ops))
+weighed_of None = not_text
+weighed_of (Some ops) = told_by (length ops) (length (records_of ops))

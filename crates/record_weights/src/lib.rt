@@ -59,6 +59,7 @@ pub fn weigh(text: &[u8]) -> Weighed
     let mut start: usize = 0;
     let mut count: usize = 0;
     let mut size: usize = 0;
+    // A turn goes on by the line that it read, so the number of turns is not known beforehand.
     while start < text.len() {
         let e = text_fields::part_end(text, start, b'\n');
         if e == text.len() {
@@ -69,8 +70,8 @@ pub fn weigh(text: &[u8]) -> Weighed
         if n == 0 {
             return not_text();
         }
-        size = size + n;
-        count = count + 1;
+        size += n;
+        count += 1;
         if record_files::LARGEST < size + (4 * count + 16) {
             return not_text();
         }

@@ -1,8 +1,8 @@
 -- What the words of one position say, case by case. Assumes nothing.
+use Rattle.std.specs.Prelude.{None, Option, Some}
 use Prim.Native.Nat.{ℕ, ◌-◌, ◌<◌, ◌≤◌}
 use mathlib.Core.Path.{◌≡◌, refl, sym, ◌∙◌, ap, ap₂}
 use mathlib.Core.Bool.{Bool, true, false, ◌&&◌, not}
-use mathlib.Core.Option.{Option, none, some}
 use mathlib.Core.List.{List, [], ◌∷◌}
 use native.Mathlib.Omega.{arith}
 use native.Mathlib.Decide.{ℕ_discrete}
@@ -23,21 +23,21 @@ use Rattle.recorded_spec.proofs.Lengths.{group_grows, above}
 use Rattle.recorded_groups.specs.Recording.{growth_played, played}
 
 -- ---- numbers
-pub broken_number : first (group_tests none) ≡ 2
+pub broken_number : first (group_tests None) ≡ 2
 unfolding first group_tests
 broken_number = refl
 
-pub stuck_number : (g : Option Group) → g ≡ none → first (group_tests g) ≡ 2
+pub stuck_number : (g : Option Group) → g ≡ None → first (group_tests g) ≡ 2
 stuck_number g e = ap (λ (x : Option Group). first (group_tests x)) e ∙ broken_number
 
 module _ (n f : ℕ) where
   pub flag_bad : 1 < f → first (group_tests (growth_played n f)) ≡ 2
-  flag_bad h = stuck_number (growth_played n f) (ap (λ (t : Bool). pick t (some (growth (length_of n) (eqb f 1))) none) (lt-leb f 1 h))
+  flag_bad h = stuck_number (growth_played n f) (ap (λ (t : Bool). pick t (Some (growth (length_of n) (eqb f 1))) None) (lt-leb f 1 h))
 
   -- the two tests of a growth
   tests : (a c : Bool) (k : ℕ) → first ((a, NOTHING) ∷ (not c, STUCK) ∷ []) ≡ k → eq_z (length_of n) largest ≡ a → lt_z (pos 0) (length_of n) ≡ c → f ≤ 1 → first (group_tests (growth_played n f)) ≡ k
   unfolding group_tests
-  tests a c k e p q h = ap (λ (t : Bool). first (group_tests (pick t (some (growth (length_of n) (eqb f 1))) none))) (le-leb f 1 h)
+  tests a c k e p q h = ap (λ (t : Bool). first (group_tests (pick t (Some (growth (length_of n) (eqb f 1))) None))) (le-leb f 1 h)
       ∙ ap₂ (λ (x y : Bool). first ((x, NOTHING) ∷ (not y, STUCK) ∷ [])) p q ∙ e
 
   small_length : n < 9223372036854775808 → length_of n ≡ pos n
@@ -76,15 +76,15 @@ never n m e = let z : ◌≡◌ {A = ℕ} 0 1 = cc in omega arith
 
 -- ---- words
 module _ (w : List ℕ) where
-  pub played_short : (length w ≡ 1413 → ⊥) → played w ≡ none
+  pub played_short : (length w ≡ 1413 → ⊥) → played w ≡ None
   unfolding played
-  played_short h = ap (λ (t : Bool). pick (t && sound_in w) (some (group_in w)) none) (ne_eqb (length w) 1413 h)
+  played_short h = ap (λ (t : Bool). pick (t && sound_in w) (Some (group_in w)) None) (ne_eqb (length w) 1413 h)
 
-  pub played_broken : sound_in w ≡ false → played w ≡ none
+  pub played_broken : sound_in w ≡ false → played w ≡ None
   unfolding played
-  played_broken h = ap (λ (t : Bool). pick (eqb (length w) 1413 && t) (some (group_in w)) none) h ∙ go (eqb (length w) 1413)
+  played_broken h = ap (λ (t : Bool). pick (eqb (length w) 1413 && t) (Some (group_in w)) None) h ∙ go (eqb (length w) 1413)
     where
-      go : (t : Bool) → pick (t && false) (some (group_in w)) none ≡ none
+      go : (t : Bool) → pick (t && false) (Some (group_in w)) None ≡ None
       go true = refl
       go false = refl
 
@@ -102,13 +102,13 @@ module _ (w : List ℕ) where
 
   pub played_growth : length w ≡ 1413 → get_or w 0 0 ≡ 1 → played w ≡ growth_played (get_or w 1 0) (get_or w 2 0)
   unfolding played
-  played_growth e k = ap (λ (t : Bool). pick (t && sound_in w) (some (group_in w)) none) (eq-eqb (length w) 1413 e)
-      ∙ ap₂ (λ (t : Bool) (g : Group). pick t (some g) none) (sound_growth k) (group_growth k)
+  played_growth e k = ap (λ (t : Bool). pick (t && sound_in w) (Some (group_in w)) None) (eq-eqb (length w) 1413 e)
+      ∙ ap₂ (λ (t : Bool) (g : Group). pick t (Some g) None) (sound_growth k) (group_growth k)
 
   pub played_listed : length w ≡ 1413 → (get_or w 0 0 ≡ 1 → ⊥) → sound_in w ≡ true → first (group_tests (played w)) ≡ 27
   unfolding played group_tests first
-  played_listed e k h = ap (λ (t : Bool). first (group_tests (pick (t && sound_in w) (some (group_in w)) none))) (eq-eqb (length w) 1413 e)
-      ∙ ap₂ (λ (t : Bool) (g : Group). first (group_tests (pick t (some g) none))) h (group_listed k)
+  played_listed e k h = ap (λ (t : Bool). first (group_tests (pick (t && sound_in w) (Some (group_in w)) None))) (eq-eqb (length w) 1413 e)
+      ∙ ap₂ (λ (t : Bool) (g : Group). first (group_tests (pick t (Some g) None))) h (group_listed k)
 
   -- ---- where a step goes on
   -- the words are a growth's, of a length above 0 and below the largest
@@ -120,11 +120,11 @@ module _ (w : List ℕ) where
   going z = at_length (ℕ_discrete (length w) 1413)
     where
       flagged : length w ≡ 1413 → played w ≡ growth_played (get_or w 1 0) (get_or w 2 0) → (t : Bool) → leb (get_or w 2 0) 1 ≡ t → Going
-      flagged e p false q = absurd (omega (arith, sym (stuck_number (played w) (p ∙ ap (λ (t : Bool). pick t (some (growth (length_of (get_or w 1 0)) (eqb (get_or w 2 0) 1))) none) q)) ∙ z))
+      flagged e p false q = absurd (omega (arith, sym (stuck_number (played w) (p ∙ ap (λ (t : Bool). pick t (Some (growth (length_of (get_or w 1 0)) (eqb (get_or w 2 0) 1))) None) q)) ∙ z))
       flagged e p true q = record { long = e; is = n ∙ up (length_of (get_or w 1 0)) (above (length_of (get_or w 1 0)) (ap (lt_z (pos 0)) (sym n) ∙ group_grows (played w) z)) (ltb (get_or w 1 0) 9223372036854775808) refl refl }
         where
           n : growth_in (played w) ≡ length_of (get_or w 1 0)
-          n = ap growth_in (p ∙ ap (λ (t : Bool). pick t (some (growth (length_of (get_or w 1 0)) (eqb (get_or w 2 0) 1))) none) q)
+          n = ap growth_in (p ∙ ap (λ (t : Bool). pick t (Some (growth (length_of (get_or w 1 0)) (eqb (get_or w 2 0) 1))) None) q)
 
           up : (z : ℤ) → ((n : ℕ) × (z ≡ pos n) × (0 < n)) → (t : Bool) → ltb (get_or w 1 0) 9223372036854775808 ≡ t → z ≡ length_of (get_or w 1 0) → z ≡ pos (get_or w 1 0)
           up z a true q e = e ∙ small_length (get_or w 1 0) 0 (ltb-true (get_or w 1 0) 9223372036854775808 q)

@@ -1,8 +1,8 @@
 -- A step's length: neither it nor what it leaves is negative. Assumes nothing.
+use Rattle.std.specs.Prelude.{None, Option, Some}
 use Prim.Native.Nat.{ℕ, zero, suc, ◌+◌, ◌-◌, ◌≤◌, ◌<◌}
 use mathlib.Core.Path.{◌≡◌, refl, sym, ◌∙◌, ap}
 use mathlib.Core.Bool.{Bool, true, false, not, cond, true≢false}
-use mathlib.Core.Option.{Option, none, some}
 use mathlib.Core.List.{◌∷◌, []}
 use native.Mathlib.Omega.{arith}
 use lib.Dec.{ltb}
@@ -46,9 +46,9 @@ least_some a c h k = go (ltb c a)
 -- ---- where a group lets a step go on, its growth is above 0
 pub group_grows : (g : Option Group) → first (group_tests g) ≡ 0 → lt_z (pos 0) (growth_in g) ≡ true
 unfolding first group_tests
-group_grows none e = absurd (omega (arith, e))
-group_grows (some (conflicts es ss)) e = absurd (omega (arith, e))
-group_grows (some (growth n f)) e = go (eq_z n largest) (lt_z (pos 0) n) e
+group_grows None e = absurd (omega (arith, e))
+group_grows (Some (conflicts es ss)) e = absurd (omega (arith, e))
+group_grows (Some (growth n f)) e = go (eq_z n largest) (lt_z (pos 0) n) e
   where
     go : (x y : Bool) → first ((x, NOTHING) ∷ (not y, STUCK) ∷ []) ≡ 0 → y ≡ true
     go true y d = absurd (omega (arith, d))

@@ -1,8 +1,8 @@
 -- What a step is refused for on a bench that has grown already is what the growth in all is refused for on the bench before. Assumes nothing.
+use Rattle.std.specs.Prelude.{None, Option, Some}
 use Prim.Native.Nat.{ℕ, zero, suc, ◌+◌, ◌<◌}
 use mathlib.Core.Path.{◌≡◌, refl, sym, ◌∙◌, ap, ap₂}
 use mathlib.Core.Bool.{Bool, true, false, not, ◌||◌, true≢false}
-use mathlib.Core.Option.{Option, none, some}
 use mathlib.Core.List.{List, [], ◌∷◌, ◌++◌}
 use native.Mathlib.Omega.{arith}
 use borrow.Author.Tests.{le-ltb}
@@ -38,9 +38,9 @@ module _ (b : Bench) (F : Frame b) (u : ℕ) (low : u < 8) (d s : ℤ) (ahead : 
 -- a group's own tests come first
 pub group_first : (g : Option Group) (ts : List (Bool × ℕ)) → first (group_tests g ++ ts) ≡ or_else (first (group_tests g)) (first ts)
 unfolding first group_tests
-group_first none ts = refl
-group_first (some (conflicts es ss)) ts = refl
-group_first (some (growth n f)) ts = go (eq_z n largest) (not (lt_z (pos 0) n))
+group_first None ts = refl
+group_first (Some (conflicts es ss)) ts = refl
+group_first (Some (growth n f)) ts = go (eq_z n largest) (not (lt_z (pos 0) n))
   where
     go : (x y : Bool) → first ((x, NOTHING) ∷ (y, STUCK) ∷ ts) ≡ or_else (first ((x, NOTHING) ∷ (y, STUCK) ∷ [])) (first ts)
     go true y = refl

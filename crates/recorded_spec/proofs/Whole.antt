@@ -1,8 +1,8 @@
 -- Growing against a recording that is accepted is one growth by the whole length, and the same as its steps one by one. Assumes nothing.
+use Rattle.std.specs.Prelude.{None, Option, Some}
 use Prim.Native.Nat.{ℕ, zero, suc}
 use mathlib.Core.Path.{◌≡◌, refl, sym, ◌∙◌, ap}
 use mathlib.Core.Bool.{Bool, true, false, ◌&&◌, true≢false}
-use mathlib.Core.Option.{Option, none, some}
 use mathlib.Core.List.{List, [], ◌∷◌}
 use native.Mathlib.Omega.{arith}
 use lib.ListN.{length}
@@ -35,8 +35,8 @@ use Rattle.recorded_spec.proofs.Totals.{first_zero, nothing_left, Through, throu
 
 -- what is not below 0 does not sink by 0
 float_stays : (o : Option Node) → afloat o ≡ true → sinks (pos 0) o ≡ false
-float_stays none h = refl
-float_stays (some n) h = go n.state n.value h
+float_stays None h = refl
+float_stays (Some n) h = go n.state n.value h
   where
     go : (s : State) (v : ℤ) → le_z (pos 0) v ≡ true → (is_shrink s && lt_z v (pos 0)) ≡ false
     go grows v e = refl

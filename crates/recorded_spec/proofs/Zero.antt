@@ -1,8 +1,8 @@
 -- A growth by 0 leaves the very bench. Assumes nothing.
+use Rattle.std.specs.Prelude.{None, Option, Some}
 use Prim.Native.Nat.{ℕ, ◌<◌}
 use mathlib.Core.Path.{◌≡◌, refl, ◌∙◌, ap, ap₂}
 use mathlib.Core.Bool.{Bool, true, false}
-use mathlib.Core.Option.{Option, none, some}
 use mathlib.Core.List.{List, [], ◌∷◌, map}
 use lib.Dec.{eqb}
 use lib.ListN.{length}
@@ -18,8 +18,8 @@ no_more x y = ap (λ (z : ℤ). x +ℤ z) (zero-*ℤ y) ∙ +ℤ_idr x
 
 slot_zero : (o : Option Node) → grow_slot (pos 0) o ≡ o
 unfolding grow_slot
-slot_zero none = refl
-slot_zero (some n) = λ i. some (record { serial = n.serial; class = n.class; state = n.state; parent = n.parent; value = no_more n.value (rate n.state) i; size = n.size })
+slot_zero None = refl
+slot_zero (Some n) = λ i. Some (record { serial = n.serial; class = n.class; state = n.state; parent = n.parent; value = no_more n.value (rate n.state) i; size = n.size })
 
 slots_zero : (l : List (Option Node)) → map (grow_slot (pos 0)) l ≡ l
 slots_zero [] = refl

@@ -1,7 +1,6 @@
 -- Growing against a recorded list of groups, as the original's `grow_iterative` does against a dual module's answers: while length is left, the next group is
 -- taken, and the tree grows by the smaller of its growth and what is left. Assumes nothing.
-use Rattle.std.specs.Prelude.{ℕ, zero, suc, Bool, true, false, not, List, [], ◌∷◌, ◌++◌, ltb, length, ℤ, pos, ◌-ℤ◌}
-use Rattle.std.proofs.Math.Option.{Option, none, some}
+use Rattle.std.specs.Prelude.{ℕ, zero, suc, Bool, true, false, not, List, [], ◌∷◌, ◌++◌, ltb, length, ℤ, pos, ◌-ℤ◌, None, Option, Some}
 use Rattle.std.specs.Int.Signed.{lt_z}
 use Rattle.ledger_spec.specs.Numbers.{BROKEN, LENGTH, SMALL, NOTHING, STUCK, SHORT}
 use Rattle.ledger_spec.specs.Bench.{Bench}
@@ -15,14 +14,14 @@ use Rattle.ledger_spec.specs.Groups.{Group, growth, conflicts, largest, eq_z, sm
 
 -- what a step is refused for there, before the bench is asked
 unfoldable pub group_tests : Option Group → List (Bool × ℕ)
-group_tests none = (true, BROKEN) ∷ []
-group_tests (some (growth n f)) = (eq_z n largest, NOTHING) ∷ (not (lt_z (pos 0) n), STUCK) ∷ []
-group_tests (some (conflicts es ss)) = (true, STUCK) ∷ []
+group_tests None = (true, BROKEN) ∷ []
+group_tests (Some (growth n f)) = (eq_z n largest, NOTHING) ∷ (not (lt_z (pos 0) n), STUCK) ∷ []
+group_tests (Some (conflicts es ss)) = (true, STUCK) ∷ []
 
 abbrev pub growth_in : Option Group → ℤ
-growth_in none = pos 0
-growth_in (some (growth n f)) = n
-growth_in (some (conflicts es ss)) = pos 0
+growth_in None = pos 0
+growth_in (Some (growth n f)) = n
+growth_in (Some (conflicts es ss)) = pos 0
 
 -- how far the step goes
 abbrev pub step_by : ℤ → Option Group → ℤ

@@ -1,7 +1,6 @@
 -- The same steps by what has been grown so far, for code that tests first and grows once: `test` gives the number that a growth by so much in all is refused
 -- with. Assumes nothing.
-use Rattle.std.specs.Prelude.{ℕ, zero, suc, true, false, List, [], ◌∷◌, ℤ, pos, ◌+ℤ◌, ◌-ℤ◌}
-use Rattle.std.proofs.Math.Option.{Option}
+use Rattle.std.specs.Prelude.{ℕ, zero, suc, true, false, List, [], ◌∷◌, ℤ, pos, ◌+ℤ◌, ◌-ℤ◌, Option}
 use Rattle.std.specs.Int.Signed.{lt_z}
 use Rattle.ledger_spec.specs.Numbers.{SHORT}
 use Rattle.ledger_spec.specs.Tests.{first}

@@ -83,19 +83,20 @@ pub fn pass(ws: &[u64], length: u64, reach: u64, floor: u64) -> Passed
     let mut at: usize = 0;
     let mut taken: usize = 0;
     let mut done: u64 = 0;
+    // A turn goes on by the step that it read, so the number of turns is not known beforehand.
     while done < length {
         let s = step_at(ws, at, length - done);
         let number = s.number;
         if number != 0 {
             return refused(number);
         }
-        done = done + s.by;
+        done += s.by;
         let past = limit_number(done, reach, floor);
         if past != 0 {
             return refused(past);
         }
         at = s.end;
-        taken = taken + 1;
+        taken += 1;
     }
     Passed { number: 0, taken }
 }
@@ -108,11 +109,12 @@ pub fn put_lengths(ws: &[u64], length: u64, out: &mut [u64])
     let mut at: usize = 0;
     let mut i: usize = 0;
     let mut done: u64 = 0;
+    // As in `pass`.
     while done < length {
         let s = step_at(ws, at, length - done);
         out[i] = s.by;
-        done = done + s.by;
+        done += s.by;
         at = s.end;
-        i = i + 1;
+        i += 1;
     }
 }

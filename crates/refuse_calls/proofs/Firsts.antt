@@ -2,7 +2,7 @@
 use Prim.Native.Nat.{ℕ}
 use mathlib.Core.Path.{◌≡◌, refl, sym, ◌∙◌}
 use mathlib.Core.Logic.{◌≢◌}
-use mathlib.Core.Bool.{Bool, true, false, ◌||◌}
+use mathlib.Core.Bool.{Bool, true, false}
 use mathlib.Core.List.{List, [], ◌∷◌, ◌++◌}
 use Rattle.ledger_spec.specs.Tests.{first}
 use Rattle.ledger_spec.proofs.Passed.{Failed}
@@ -30,19 +30,3 @@ module _ (ts rest : List (Bool × ℕ)) where
 
   pub decided_by : Failed ts → (n : ℕ) → n ≡ first rest → n ≡ first (ts ++ rest)
   decided_by f n e = e ∙ sym (passed_on ts rest f)
-
--- ---- one of two, one of three
-pub or_first : (a b : Bool) → a ≡ true → true ≡ (a || b)
-or_first a b e = rw e
-
-pub or_second : (a b : Bool) → a ≡ false → b ≡ (a || b)
-or_second a b e = rw e
-
-pub or_one : (a b c : Bool) → a ≡ true → true ≡ (a || (b || c))
-or_one a b c e = rw e
-
-pub or_two : (a b c : Bool) → a ≡ false → b ≡ true → true ≡ (a || (b || c))
-or_two a b c e f = rw (e, f)
-
-pub or_three : (a b c : Bool) → a ≡ false → b ≡ false → c ≡ (a || (b || c))
-or_three a b c e f = rw (e, f)

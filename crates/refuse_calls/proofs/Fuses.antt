@@ -1,8 +1,8 @@
 -- The number of fuse: its five tests, read off the interfaces' words. Assumes nothing.
+use Rattle.std.specs.Prelude.{None, Some}
 use Prim.Native.Nat.{ℕ, suc, ◌-◌, ◌<◌}
 use mathlib.Core.Path.{◌≡◌, refl, ap, ap₂, sym, ◌∙◌}
-use mathlib.Core.Bool.{Bool, true, false, ◌||◌, not, true≢false}
-use mathlib.Core.Option.{none, some}
+use mathlib.Core.Bool.{Bool, true, false, ◌||◌, not}
 use mathlib.Core.List.{List, [], ◌∷◌}
 use lib.Dec.{eqb, leb}
 use lib.IntN.{nat_abs}
@@ -30,7 +30,7 @@ empty_counts (x ∷ xs) = sym (ne_eqb (suc (length xs)) 0 (λ e. omega arith))
 halves_given : (l r : ℕ) → is_some (halves_seen l r) ≡ not (eqb l 0)
 halves_given l r = go (eqb l 0)
   where
-    go : (c : Bool) → is_some {A = ℕ × ℕ} (pick c none (some (l - 1, r - 1))) ≡ not c
+    go : (c : Bool) → is_some {A = ℕ × ℕ} (pick c None (Some (l - 1, r - 1))) ≡ not c
     go true = refl
     go false = refl
 
@@ -58,15 +58,6 @@ module _ (b : List ℕ) (u : ℕ) (low : u < 8) (f : Interface) (i : f ≡ inter
 
   pub late_is : late (interface (view b) u) ≡ (not (eqb f.used 0) || not (eqb f.left 0))
   late_is = ap₂ ◌||◌ slots_are fused_is
-
--- ---- two marks
-pub differ_yes : (x y : Bool) → x ≡ true → not y ≡ not (same x y)
-differ_yes x y e = rw e
-
-pub differ_no : (x y : Bool) → x ≡ false → y ≡ not (same x y)
-differ_no true y e = absurd (true≢false e)
-differ_no false true e = refl
-differ_no false false e = refl
 
 -- ---- the five tests
 module _ (B : Bench) (p l r : ℕ) where

@@ -1,9 +1,10 @@
 -- The numbers of set state and expand: the handle's tests, then what stands in its slot. Assumes nothing.
+use Rattle.std.specs.Option.{is_some as some}
+use Rattle.std.specs.Prelude.{None, Option, Some}
 use Prim.Native.Nat.{ℕ, ◌+◌, ◌*◌, ◌<◌}
 use mathlib.Core.Path.{◌≡◌, refl, ap, sym, ◌∙◌}
 use mathlib.Core.Logic.{◌≢◌}
-use mathlib.Core.Bool.{Bool, true, false, not}
-use mathlib.Core.Option.{none}
+use mathlib.Core.Bool.{Bool, true, false, not, true≢false}
 use mathlib.Core.List.{List, [], ◌∷◌}
 use native.Mathlib.Omega.{arith}
 use Rattle.bench_words.specs.Store.{node_at, interface_at}
@@ -12,8 +13,6 @@ use Rattle.kinds.specs.States.{blossom_of}
 use Rattle.kinds.specs.declared.Class.{Class}
 use Rattle.kinds.specs.declared.Class.TheVariants.{Absent, Blossom, Defect}
 use Rattle.kinds.specs.declared.Handle.{Handle as Code}
-use Rattle.kinds.specs.declared.Parent.{Parent}
-use Rattle.kinds.specs.declared.Parent.TheVariants.{Outermost, Inside}
 use Rattle.ledger_spec.specs.Bench.{Handle, Member}
 use Rattle.ledger_spec.specs.Look as look
 use Rattle.ledger_spec.specs.Named.{parent_named}
@@ -22,13 +21,27 @@ use Rattle.ledger_spec.specs.Refuse.{unit_tests, state_tests, expand_tests}
 use Rattle.ledger_spec.proofs.Passed.{Failed, passed, has_of}
 use Rattle.bench_views.specs.View.{view, slot_seen, sum_up, circle_of}
 use Rattle.bench_views.specs.Canon.{Canon}
-use Rattle.bench_links.specs.Find.{spot, Stands}
+use Rattle.bench_links.specs.Find.{spot, Stands, Finds}
 use Rattle.bench_links.proofs.Finding.{stands_by}
 use Rattle.bench_links.proofs.Rising.{seen_node}
 use Rattle.read_sound.proofs.Numbers.{first_yes, first_no, first_none, stale_yes, stale_no}
 use Rattle.refuse_calls.specs.Named.{named_tests}
 use Rattle.refuse_calls.proofs.Firsts.{refused_by, decided_by}
 use Rattle.refuse_calls.proofs.Units.{unit_failed}
+
+-- ---- what a search says, by whether it found
+module _ (b : List ℕ) (h : Handle) where
+  pub found : (r : Option ℕ) → Finds b h r → (t : Bool) → some r ≡ not t → t ≡ false → Stands b h
+  found None f t e g = absurd (true≢false (sym (e ∙ ap not g)))
+  found (Some k) f t e g = f.stands
+
+  pub gone : (r : Option ℕ) → Finds b h r → (t : Bool) → some r ≡ not t → t ≡ true → look.node_named (view b) h ≡ None
+  gone None f t e g = f
+  gone (Some k) f t e g = absurd (true≢false (e ∙ ap not g))
+
+parent_some : (p : Option Code) → is_some (parent_named p) ≡ some p
+parent_some None = refl
+parent_some (Some q) = refl
 
 -- ---- a handle
 module _ (b : List ℕ) (u n : ℕ) (e : n ≡ first (unit_tests (view b) u)) (h : Handle) where
@@ -41,7 +54,7 @@ module _ (b : List ℕ) (u n : ℕ) (e : n ≡ first (unit_tests (view b) u)) (h
     unfolding unit_tests named_tests
     named_rest k r = decided_by (unit_tests (view b) u) ((stale (view b) h, 8) ∷ (foreign (view b) u h, 9) ∷ []) (unit_failed b u n e z) k r
 
-    pub named_stale : look.node_named (view b) h ≡ none → 8 ≡ first (named_tests (view b) u h)
+    pub named_stale : look.node_named (view b) h ≡ None → 8 ≡ first (named_tests (view b) u h)
     named_stale s = named_rest 8 (sym (first_yes (stale (view b) h) 8 ((foreign (view b) u h, 9) ∷ []) (stale_yes (view b) h s)))
 
     module _ (S : Stands b h) where
@@ -86,14 +99,8 @@ module _ (b : List ℕ) (C : Canon b) (u n : ℕ) (h : Handle) (e : n ≡ first 
     named_low = let S = named_stands in omega arith
 
     module _ (x : Node) (i : x ≡ node_at b (spot h)) where
-      parent_is : has_parent (look.node_named (view b) h) ≡ is_some (parent_named x.parent)
-      parent_is = ap has_parent (seen_node b h named_stands).1 ∙ ap (λ (y : Node). is_some (parent_named y.parent)) (sym i)
-
-      free : x.parent ≡ Outermost → has_parent (look.node_named (view b) h) ≡ false
-      free p = parent_is ∙ ap (λ (q : Parent). is_some (parent_named q)) p
-
-      held : (q : Code) → x.parent ≡ Inside q → has_parent (look.node_named (view b) h) ≡ true
-      held q p = parent_is ∙ ap (λ (q : Parent). is_some (parent_named q)) p
+      parent_is : has_parent (look.node_named (view b) h) ≡ some x.parent
+      parent_is = ap has_parent (seen_node b h named_stands).1 ∙ ap (λ (y : Node). is_some (parent_named y.parent)) (sym i) ∙ parent_some x.parent
 
       class_is : is_defect (look.node_named (view b) h) ≡ not (blossom_of x.class)
       class_is =
@@ -105,11 +112,11 @@ module _ (b : List ℕ) (C : Canon b) (u n : ℕ) (h : Handle) (e : n ≡ first 
       unfolding named_tests state_tests
       state_rest k r = decided_by (named_tests (view b) u h) ((has_parent (look.node_named (view b) h), 11) ∷ []) named_failed k r
 
-      pub state_fine : x.parent ≡ Outermost → 0 ≡ first (state_tests (view b) u h)
-      state_fine p = state_rest 0 (sym (first_no (has_parent (look.node_named (view b) h)) 11 [] (free p) ∙ first_none))
+      pub state_fine : some x.parent ≡ false → 0 ≡ first (state_tests (view b) u h)
+      state_fine p = state_rest 0 (sym (first_no (has_parent (look.node_named (view b) h)) 11 [] (parent_is ∙ p) ∙ first_none))
 
-      pub state_member : (q : Code) → x.parent ≡ Inside q → 11 ≡ first (state_tests (view b) u h)
-      state_member q p = state_rest 11 (sym (first_yes (has_parent (look.node_named (view b) h)) 11 [] (held q p)))
+      pub state_member : some x.parent ≡ true → 11 ≡ first (state_tests (view b) u h)
+      state_member p = state_rest 11 (sym (first_yes (has_parent (look.node_named (view b) h)) 11 [] (parent_is ∙ p)))
 
       -- ---- expand
       expand_rest : (k : ℕ) → k ≡ first ((is_defect (look.node_named (view b) h), 10) ∷ (has_parent (look.node_named (view b) h), 11) ∷ []) → k ≡ first (expand_tests (view b) u h)
@@ -124,8 +131,8 @@ module _ (b : List ℕ) (C : Canon b) (u n : ℕ) (h : Handle) (e : n ≡ first 
           ring : first ((is_defect (look.node_named (view b) h), 10) ∷ (has_parent (look.node_named (view b) h), 11) ∷ []) ≡ first ((has_parent (look.node_named (view b) h), 11) ∷ [])
           ring = first_no (is_defect (look.node_named (view b) h)) 10 ((has_parent (look.node_named (view b) h), 11) ∷ []) (class_is ∙ ap not (sym j ∙ t))
 
-          pub expand_fine : x.parent ≡ Outermost → 0 ≡ first (expand_tests (view b) u h)
-          expand_fine p = expand_rest 0 (sym (ring ∙ first_no (has_parent (look.node_named (view b) h)) 11 [] (free p) ∙ first_none))
+          pub expand_fine : some x.parent ≡ false → 0 ≡ first (expand_tests (view b) u h)
+          expand_fine p = expand_rest 0 (sym (ring ∙ first_no (has_parent (look.node_named (view b) h)) 11 [] (parent_is ∙ p) ∙ first_none))
 
-          pub expand_member : (q : Code) → x.parent ≡ Inside q → 11 ≡ first (expand_tests (view b) u h)
-          expand_member q p = expand_rest 11 (sym (ring ∙ first_yes (has_parent (look.node_named (view b) h)) 11 [] (held q p)))
+          pub expand_member : some x.parent ≡ true → 11 ≡ first (expand_tests (view b) u h)
+          expand_member p = expand_rest 11 (sym (ring ∙ first_yes (has_parent (look.node_named (view b) h)) 11 [] (parent_is ∙ p)))

@@ -14,9 +14,8 @@ ghost use Rattle.refuse_calls.specs.Length.{length_tests};
 ghost use Rattle.refuse_calls.specs.Named.{named_tests};
 ghost use Rattle.refuse_calls.specs.Room.{room_tests};
 
-use bench_links::Found;
-use bench_words::{Interface, Up, WORDS};
-use kinds::{Handle, Parent, Serial, numbers};
+use bench_words::{Interface, WORDS};
+use kinds::{Handle, Serial, numbers};
 
 // No room for one more node: no free slot (14), no serial left (15), or 0.
 pub fn room_number(b: &[u64; WORDS], unit: u8) -> u8
@@ -91,16 +90,13 @@ pub fn named_number(b: &[u64; WORDS], unit: u8, h: Handle) -> u8
     if number != 0 {
         return number;
     }
-    let found = bench_links::find(b, h);
-    match found {
-        Found::Stale => numbers::STALE,
-        Found::At(_) => {
-            if bench_links::is_foreign(b, unit, h) {
-                return numbers::FOREIGN;
-            }
-            0
-        }
+    if bench_links::find(b, h).is_none() {
+        return numbers::STALE;
     }
+    if bench_links::is_foreign(b, unit, h) {
+        return numbers::FOREIGN;
+    }
+    0
 }
 
 // And INSIDE (11).
@@ -113,11 +109,10 @@ pub fn state_number(b: &[u64; WORDS], unit: u8, h: Handle) -> u8
         return number;
     }
     let node = bench_words::load_node(b, (h.unit as usize) * 64 + (h.slot as usize));
-    let parent = node.parent;
-    match parent {
-        Parent::Outermost => 0,
-        Parent::Inside(_) => numbers::INSIDE,
+    if node.parent.is_some() {
+        return numbers::INSIDE;
     }
+    0
 }
 
 // And KIND (10) before INSIDE.
@@ -130,89 +125,61 @@ pub fn expand_number(b: &[u64; WORDS], unit: u8, h: Handle) -> u8
         return number;
     }
     let n = bench_words::load_node(b, (h.unit as usize) * 64 + (h.slot as usize));
-    let class = n.class;
-    if !class.is_blossom() {
+    if !n.class.is_blossom() {
         return numbers::KIND;
     }
-    let parent = n.parent;
-    match parent {
-        Parent::Outermost => 0,
-        Parent::Inside(_) => numbers::INSIDE,
+    if n.parent.is_some() {
+        return numbers::INSIDE;
     }
+    0
 }
 
 fn any_outside(p: u8, l: u8, r: u8) -> bool
     ensures { result ≡ (outside p || (outside l || outside r)) }
 {
-    if 8 <= p {
-        return true;
-    }
-    if 8 <= l {
-        return true;
-    }
-    8 <= r
+    8 <= p || 8 <= l || 8 <= r
 }
 
+#[tactic(auto, using(crate::proofs::Fuses::child_is))]
 fn is_child(b: &[u64; WORDS], unit: u8) -> bool
     requires { unit < 8 }
     ensures { result ≡ child (view b.now) unit }
 {
-    let f = bench_words::load_interface(b, unit as usize);
-    let up = f.parent;
-    match up {
-        Up::Top => false,
-        Up::Under(_) => true,
-    }
+    bench_words::load_interface(b, unit as usize)
+        .parent
+        .is_some()
 }
 
 fn any_child(b: &[u64; WORDS], p: u8, l: u8, r: u8) -> bool
     requires { (p < 8) × (l < 8) × (r < 8) }
     ensures { result ≡ (child (view b.now) p || (child (view b.now) l || child (view b.now) r)) }
 {
-    if is_child(b, p) {
-        return true;
-    }
-    if is_child(b, l) {
-        return true;
-    }
-    is_child(b, r)
+    is_child(b, p) || is_child(b, l) || is_child(b, r)
 }
 
 // The halves are two, and numbered below their parent.
 fn out_of_order(p: u8, l: u8, r: u8) -> bool
     ensures { result ≡ (eqb l r || (leb p l || leb p r)) }
 {
-    if l == r {
-        return true;
-    }
-    if p <= l {
-        return true;
-    }
-    p <= r
+    l == r || p <= l || p <= r
 }
 
 // Has nodes, has grown, or has been fused.
+#[tactic(auto, using(crate::proofs::Fuses::used_is))]
 fn is_used(b: &[u64; WORDS], unit: u8) -> bool
     requires { unit < 8 }
     ensures { result ≡ used (interface (view b.now) unit) }
 {
     let f = bench_words::load_interface(b, unit as usize);
-    if f.used != 0 {
-        return true;
-    }
-    if f.progress != 0 {
-        return true;
-    }
-    f.left != 0
+    f.used != 0 || f.progress != 0 || f.left != 0
 }
 
+#[tactic(auto, using(crate::proofs::Fuses::floored_is))]
 fn is_floored(b: &[u64; WORDS], unit: u8) -> bool
     requires { unit < 8 }
     ensures { result ≡ floored (view b.now) unit }
 {
-    let f = bench_words::load_interface(b, unit as usize);
-    let marks = f.marks;
-    marks.floored
+    bench_words::load_interface(b, unit as usize).marks.floored
 }
 
 // One of two is floored, and the other not.
@@ -220,10 +187,7 @@ fn floors_differ(b: &[u64; WORDS], l: u8, r: u8) -> bool
     requires { (l < 8) × (r < 8) }
     ensures { result ≡ not (same (floored (view b.now) l) (floored (view b.now) r)) }
 {
-    if is_floored(b, l) {
-        return !is_floored(b, r);
-    }
-    is_floored(b, r)
+    is_floored(b, l) != is_floored(b, r)
 }
 
 // UNIT, CHILD, PAIR (16), USED (17), MARK (26).
@@ -249,15 +213,13 @@ pub fn fuse_number(b: &[u64; WORDS], parent: u8, left: u8, right: u8) -> u8
 }
 
 // Has used a slot, or has been fused: too late for a mark. Progress does not hinder.
+#[tactic(auto, using(crate::proofs::Fuses::late_is))]
 fn is_late(b: &[u64; WORDS], unit: u8) -> bool
     requires { unit < 8 }
     ensures { result ≡ late (interface (view b.now) unit) }
 {
     let f = bench_words::load_interface(b, unit as usize);
-    if f.used != 0 {
-        return true;
-    }
-    f.left != 0
+    f.used != 0 || f.left != 0
 }
 
 // UNIT, CHILD, MARK (26).

@@ -1,9 +1,9 @@
 -- Touching handles are their words two by two; where one is left over, the handle that it goes with is stale. What members and touching handles are
 -- refused by is the lower of each list's number, without "inside a blossom" for the touching ones. Assumes nothing.
+use Rattle.std.specs.Prelude.{Option}
 use Prim.Native.Nat.{ℕ, ◌%◌}
 use mathlib.Core.Path.{◌≡◌, refl, sym, ◌∙◌, ap}
 use mathlib.Core.Bool.{Bool, true, false, ◌||◌, not}
-use mathlib.Core.Option.{Option}
 use mathlib.Core.List.{List, [], ◌∷◌}
 use native.Mathlib.Omega.{arith}
 use lib.ListN.{length}

@@ -2,7 +2,6 @@
 // What a circle, given as words, is refused by: a node that is stale, foreign or inside a blossom, and a member given twice. Lists of any length,
 // words of any kind. Everything here only reads. Assumes nothing.
 ghost use Rattle.std.specs.Prelude.{◌≡◌, not, ◌<◌, eqb, drop};
-ghost use Rattle.std.proofs.Math.Option.{none};
 ghost use Rattle.ledger_spec.specs.Look.{interface, top, same_handle};
 ghost use Rattle.ledger_spec.specs.Tests.{first, any, twice, both};
 ghost use Rattle.ledger_spec.specs.Knit.{In};
@@ -16,9 +15,8 @@ ghost use Rattle.refuse_circles.specs.Placed.{Placed, Blank};
 ghost use Rattle.refuse_circles.specs.Parts.{shape_tests, nodes_tests};
 ghost use Rattle.refuse_circles.specs.Marks as marks;
 
-use bench_links::Found;
 use bench_words::WORDS;
-use kinds::{Parent, numbers};
+use kinds::numbers;
 
 // The lower of two numbers, where 0 is none.
 fn lower(x: u8, y: u8) -> u8
@@ -38,7 +36,7 @@ fn lower(x: u8, y: u8) -> u8
 
 // Whether an interface stands in another tree than that of one without a parent.
 fn is_far(b: &[u64; WORDS], unit: u8, home: usize) -> bool
-    requires { Steady b.now × (home < 8) × ((interface (view b.now) unit).parent ≡ none) }
+    requires { Steady b.now × (home < 8) × ((interface (view b.now) unit).parent ≡ None) }
     ensures { result ≡ not (eqb (top (view b.now) home) unit) }
 {
     if home == (unit as usize) {
@@ -49,36 +47,30 @@ fn is_far(b: &[u64; WORDS], unit: u8, home: usize) -> bool
 
 // What one node is refused by: STALE (8), FOREIGN (9), inside a blossom (11), or 0.
 fn word_number(b: &[u64; WORDS], unit: u8, w: u64) -> u8
-    requires { Canon b.now × ((interface (view b.now) unit).parent ≡ none) }
+    requires { Canon b.now × ((interface (view b.now) unit).parent ≡ None) }
     ensures { result ≡ node_mark (view b.now) unit (hand_given w) }
 {
-    let found = bench_links::find_word(b, w);
-    match found {
-        Found::Stale => numbers::STALE,
-        Found::At(k) => {
-            if is_far(b, unit, k / 64) {
-                return numbers::FOREIGN;
-            }
-            let n = bench_words::load_node(b, k);
-            let parent = n.parent;
-            match parent {
-                Parent::Inside(_) => numbers::INSIDE,
-                Parent::Outermost => 0,
-            }
-        }
+    let Some(k) = bench_links::find_word(b, w) else {
+        return numbers::STALE;
+    };
+    if is_far(b, unit, k / 64) {
+        return numbers::FOREIGN;
     }
+    let n = bench_words::load_node(b, k);
+    if n.parent.is_some() {
+        return numbers::INSIDE;
+    }
+    0
 }
 
 // The lowest number that any of the words is refused by.
 fn list_number(b: &[u64; WORDS], unit: u8, ws: &[u64]) -> u8
-    requires { Canon b.now × ((interface (view b.now) unit).parent ≡ none) }
+    requires { Canon b.now × ((interface (view b.now) unit).parent ≡ None) }
     ensures { result ≡ list_mark (view b.now) unit (hands_given ws.now) }
 {
     let mut number: u8 = 0;
-    let mut i: usize = 0;
-    while i < ws.len() {
-        number = lower(number, word_number(b, unit, ws[i]));
-        i = i + 1;
+    for w in ws {
+        number = lower(number, word_number(b, unit, *w));
     }
     number
 }
@@ -88,12 +80,11 @@ fn again(ws: &[u64], from: usize, w: u64) -> bool
     requires { Placed ws.now × In w ws.now }
     ensures { result ≡ any (same_handle (hand_given w)) (hands_given (drop from ws.now)) }
 {
-    let mut i = from;
-    while i < ws.len() {
+    // `from` may be past the end, so the rest is no slice: the place itself is counted.
+    for i in from..ws.len() {
         if ws[i] == w {
             return true;
         }
-        i = i + 1;
     }
     false
 }
@@ -103,12 +94,10 @@ fn compared_twice(ws: &[u64]) -> bool
     requires { Placed ws.now }
     ensures { result ≡ twice (hands_given ws.now) }
 {
-    let mut i: usize = 0;
-    while i < ws.len() {
-        if again(ws, i + 1, ws[i]) {
+    for (i, w) in ws.iter().enumerate() {
+        if again(ws, i + 1, *w) {
             return true;
         }
-        i = i + 1;
     }
     false
 }
@@ -118,14 +107,12 @@ fn marked_twice(ws: &[u64], seen: &mut [u8; 512]) -> bool
     requires { Placed ws.now × Blank seen.old }
     ensures { result ≡ twice (hands_given ws.now) }
 {
-    let mut i: usize = 0;
-    while i < ws.len() {
-        let k = deed_circles::spot(ws[i]);
+    for w in ws {
+        let k = deed_circles::spot(*w);
         if seen[k] == 1 {
             return true;
         }
         seen[k] = 1;
-        i = i + 1;
     }
     false
 }
@@ -165,7 +152,7 @@ pub fn shape_number(members: &[u64], touching: &[u64]) -> u8
 
 // What touching handles are refused by: STALE (8), FOREIGN (9), or 0. They may be inside a blossom. One left over goes with a stale one.
 fn touching_number(b: &[u64; WORDS], unit: u8, touching: &[u64]) -> u8
-    requires { Canon b.now × ((interface (view b.now) unit).parent ≡ none) }
+    requires { Canon b.now × ((interface (view b.now) unit).parent ≡ None) }
     ensures { result ≡ touch_mark (view b.now) unit (both (pairs_given touching.now)) }
 {
     if touching.len() % 2 == 1 {
@@ -180,7 +167,7 @@ fn touching_number(b: &[u64; WORDS], unit: u8, touching: &[u64]) -> u8
 
 // What members and touching handles are refused by: STALE (8) and FOREIGN (9) of all, inside a blossom (11) of a member, or 0.
 pub fn nodes_number(b: &[u64; WORDS], unit: u8, members: &[u64], touching: &[u64]) -> u8
-    requires { Canon b.now × ((interface (view b.now) unit).parent ≡ none) }
+    requires { Canon b.now × ((interface (view b.now) unit).parent ≡ None) }
     ensures { result ≡ first (nodes_tests (view b.now) unit (hands_given members.now) (pairs_given touching.now)) }
 {
     let number = list_number(b, unit, members);

@@ -23,14 +23,12 @@ fn packed(b: &[u64; WORDS], row: &[i64; ROOM], n: usize, i: usize) -> u64 {
 // The serials of a row from one place up to another, as packed handles; how many there are.
 fn gather(b: &[u64; WORDS], row: &[i64; ROOM], from: usize, to: usize, list: &mut [u64]) -> usize {
     let mut n: usize = 0;
-    let mut i = from;
-    while n < 1280 {
-        if to <= i {
+    for i in from..to {
+        if n == LIST {
             return n;
         }
         keep(list, n, packed(b, row, to, i));
         n += 1;
-        i += 1;
     }
     n
 }
@@ -45,8 +43,7 @@ fn triples(
 ) -> usize
     ensures { result ≤ 640 }
 {
-    let mut k: usize = 0;
-    while k < 640 {
+    for k in 0..640 {
         let i = k * 3 + 1;
         if n <= i {
             return k;
@@ -54,9 +51,8 @@ fn triples(
         keep(members, k, packed(b, row, n, i));
         keep(touching, k * 2, packed(b, row, n, i + 1));
         keep(touching, k * 2 + 1, packed(b, row, n, i + 2));
-        k += 1;
     }
-    k
+    640
 }
 
 // A blossom of the first m members, with the first t touching handles.

@@ -48,12 +48,10 @@ fn more(sum: u64, yes: u8) -> u64 {
 fn bits(b: &mut [u64; WORDS], out: &mut [i64; ROOM], i: usize) -> usize {
     let mut sum: u64 = 0;
     let mut bit: u64 = 1;
-    let mut n: u32 = 0;
-    while n < 64 {
+    for _ in 0..64 {
         let w = get(b, i);
         sum = more(sum, with(b, i, w ^ bit));
         bit = std::num::wrapping_add_u64(bit, bit);
-        n += 1;
     }
     tapes::say(out, 0, told::small(sum))
 }

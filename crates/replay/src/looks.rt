@@ -88,13 +88,6 @@ fn wide(v: u32) -> i64 {
     v as i64
 }
 
-fn vertex(vs: &[u32], i: usize) -> i64 {
-    if i < vs.len() {
-        return wide(vs[i]);
-    }
-    -1
-}
-
 // All vertices into the first entries of a slice; each of those is shown, those past the vertices too.
 fn vertices_in(
     b: &[u64; WORDS],
@@ -112,10 +105,8 @@ fn vertices_in(
         &mut count,
     );
     let mut n = two(out, r, told::small(count));
-    let mut i: usize = 0;
-    while i < most {
-        n = tapes::say(out, n, vertex(vs, i));
-        i += 1;
+    for &v in &vs[..most] {
+        n = tapes::say(out, n, wide(v));
     }
     n
 }

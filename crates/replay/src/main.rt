@@ -122,13 +122,6 @@ fn keep(line: &mut [u8; LINE], held: usize, c: u8) -> usize {
     held
 }
 
-fn byte(chunk: &[u8; CHUNK], i: usize) -> u8 {
-    if i < 4096 {
-        return chunk[i];
-    }
-    b'\n'
-}
-
 fn ended<P: Print>(rt: &P, c: Count) -> io::Result<()> {
     println!(rt; "{} answers compared, {} differ", c.answers, c.wrong)
 }
@@ -159,23 +152,19 @@ fn run<P: Print, R: Read>(
         said: 0,
     };
     let mut held: usize = 0;
-    let mut budget: u64 = 4294967296;
-    while 0 < budget {
+    for _ in 0..4294967296u64 {
         let n = fill(input, chunk)?;
         if n == 0 {
             break;
         }
-        let mut i: usize = 0;
-        while i < n {
-            if byte(chunk, i) == b'\n' {
+        for &byte in chunk.iter().take(n) {
+            if byte == b'\n' {
                 count = line_done(rt, b, p, q, r, s, count, line, held, row, out)?;
                 held = 0;
             } else {
-                held = keep(line, held, byte(chunk, i));
+                held = keep(line, held, byte);
             }
-            i += 1;
         }
-        budget -= 1;
     }
     ended(rt, count)
 }

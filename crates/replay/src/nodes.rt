@@ -2,7 +2,7 @@
 use crate::tapes::ROOM;
 use crate::{tapes, told};
 use bench_words::{Node, WORDS};
-use kinds::{Class, GrowState, Parent};
+use kinds::{Class, GrowState, Handle};
 
 // The word that names no node.
 pub const NO_NODE: u64 = bench_words::PAST_HANDLES;
@@ -32,12 +32,10 @@ fn handle_at(b: &[u64; WORDS], k: usize) -> u64 {
 
 // The present node with a serial, or the word that names none.
 pub fn named(b: &[u64; WORDS], serial: i64) -> u64 {
-    let mut k: usize = 0;
-    while k < 512 {
+    for k in 0..512 {
         if holds(b, k, serial) {
             return handle_at(b, k);
         }
-        k += 1;
     }
     NO_NODE
 }
@@ -50,10 +48,10 @@ fn rate(s: GrowState) -> i64 {
     }
 }
 
-fn parent(out: &mut [i64; ROOM], n: usize, p: Parent) -> usize {
+fn parent(out: &mut [i64; ROOM], n: usize, p: Option<Handle>) -> usize {
     match p {
-        Parent::Outermost => tapes::say(out, n, 0),
-        Parent::Inside(h) => tapes::say(out, n, h.serial.0 as i64),
+        None => tapes::say(out, n, 0),
+        Some(h) => tapes::say(out, n, h.serial.0 as i64),
     }
 }
 
@@ -83,12 +81,10 @@ fn member(b: &[u64; WORDS], out: &mut [i64; ROOM], n: usize, at: u64) -> Step {
 fn circle(b: &[u64; WORDS], out: &mut [i64; ROOM], n: usize, count: u64, first: u64) -> usize {
     let mut said = tapes::say(out, n, told::small(count));
     let mut at = first;
-    let mut i: u64 = 0;
-    while i < count {
+    for _ in 0..count {
         let s = member(b, out, said, at);
         said = s.said;
         at = s.next;
-        i += 1;
     }
     said
 }
@@ -148,13 +144,11 @@ pub fn dump(b: &[u64; WORDS], out: &mut [i64; ROOM], unit: u8) -> usize {
     let number = dual_ledger::open_reads::dual_ledger_nodes_count(b, unit, &mut count);
     let a = tapes::say(out, 0, number as i64);
     let mut n = tapes::say(out, a, told::small(count));
-    let mut i: u32 = 0;
-    while i < 512 {
+    for i in 0..512 {
         if count <= (i as u64) {
             return n;
         }
         n = slot(b, out, n, unit, i);
-        i += 1;
     }
     n
 }

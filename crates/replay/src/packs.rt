@@ -180,26 +180,22 @@ fn stop(out: &mut [i64; ROOM], n: usize, g: &[u64; GROUP], at: usize) -> usize {
 
 fn list(out: &mut [i64; ROOM], n: usize, g: &[u64; GROUP]) -> usize {
     let mut at = tapes::say(out, n, told::small(g[3]));
-    let mut i: usize = 0;
-    while i < 128 {
+    for i in 0..128 {
         if g[3] <= (i as u64) {
             return at;
         }
         at = entry(out, at, g, 5 + 5 * i);
-        i += 1;
     }
     at
 }
 
 fn stops(out: &mut [i64; ROOM], n: usize, g: &[u64; GROUP]) -> usize {
     let mut at = tapes::say(out, n, told::small(g[4]));
-    let mut i: usize = 0;
-    while i < 128 {
+    for i in 0..128 {
         if g[4] <= (i as u64) {
             return at;
         }
         at = stop(out, at, g, 645 + 6 * i);
-        i += 1;
     }
     at
 }

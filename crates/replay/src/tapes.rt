@@ -2,8 +2,6 @@
 // then does not compare. Assumes nothing.
 ghost use Rattle.replay.specs.Counts.{Counts};
 
-use text_fields::NextLength;
-
 pub const ROOM: usize = 8192;
 
 // The number at a place of a row of n, 0 past its end.
@@ -28,20 +26,18 @@ pub fn say(row: &mut [i64; ROOM], n: usize, z: i64) -> usize {
 // Reads the numbers of a line, which follow its letter; answers how many there are.
 pub fn numbers(s: &[u8], row: &mut [i64; ROOM]) -> usize {
     let mut place: usize = 1;
-    let mut n: usize = 0;
-    while n < 8192 {
+    for n in 0..ROOM {
         match text_fields::next_length(s, place) {
-            NextLength::Length(z, e) => {
+            Some((z, e)) => {
                 say(row, n, z);
                 place = e;
             }
-            NextLength::NoLength => {
+            None => {
                 return n;
             }
         }
-        n += 1;
     }
-    n
+    ROOM
 }
 
 // Whether two rows hold the same numbers.
@@ -49,14 +45,7 @@ pub fn same(a: &[i64; ROOM], m: usize, b: &[i64; ROOM], n: usize) -> bool {
     if m != n {
         return false;
     }
-    let mut i: usize = 0;
-    while i < m {
-        if number(a, m, i) != number(b, n, i) {
-            return false;
-        }
-        i += 1;
-    }
-    true
+    (0..m).all(|i: usize| number(a, m, i) == number(b, n, i))
 }
 
 // A number that is not negative; 0 for one that is.

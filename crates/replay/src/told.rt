@@ -31,23 +31,11 @@ fn three(out: &mut [i64; ROOM], n: usize, node: i64, state: i64) -> usize {
     tapes::say(out, a, state)
 }
 
-fn member(out: &mut [i64; ROOM], n: usize, words: &[u64; ANSWER], i: usize) -> usize {
-    if i < 64 {
-        return tapes::say(out, n, serial(words[135 + i]));
-    }
-    n
-}
-
 fn circle(out: &mut [i64; ROOM], n: usize, words: &[u64; ANSWER]) -> usize {
     let a = tapes::say(out, n, 3);
     let mut at = tapes::say(out, a, small(words[2]));
-    let mut i: usize = 0;
-    while i < 64 {
-        if words[2] <= (i as u64) {
-            return at;
-        }
-        at = member(out, at, words, i);
-        i += 1;
+    for &h in words[135..199].iter().take(words[2] as usize) {
+        at = tapes::say(out, at, serial(h));
     }
     at
 }
@@ -74,13 +62,11 @@ fn entry(out: &mut [i64; ROOM], n: usize, words: &[u64; ANSWER], i: usize) -> us
 
 pub fn notices(out: &mut [i64; ROOM], n: usize, words: &[u64; ANSWER]) -> usize {
     let mut at = tapes::say(out, n, small(words[1]));
-    let mut i: usize = 0;
-    while i < 66 {
+    for i in 0..66 {
         if words[1] <= (i as u64) {
             return at;
         }
         at = entry(out, at, words, i);
-        i += 1;
     }
     at
 }

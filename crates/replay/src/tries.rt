@@ -7,22 +7,8 @@ use bench_words::WORDS;
 // A number that no answer ends in: said where a refused line did what it should not.
 const WRONG: i64 = -77;
 
-fn same_word(a: &[u64; WORDS], b: &[u64; WORDS], k: usize) -> bool {
-    if k < 6273 {
-        return a[k] == b[k];
-    }
-    true
-}
-
 pub fn same_words(a: &[u64; WORDS], b: &[u64; WORDS]) -> bool {
-    let mut k: usize = 0;
-    while k < 6273 {
-        if !same_word(a, b, k) {
-            return false;
-        }
-        k += 1;
-    }
-    true
+    a == b
 }
 
 // The answer as it was said, with one number more where it is wrong.

@@ -1,8 +1,8 @@
 -- A serial is never used again, of the stored words: in any run of public calls on words that hold a sound bench, as set-up's do, the next serial never
 -- falls, the handles that calls answered as made are all different, and one that names no node any more never names one again. Assumes nothing.
+use Rattle.std.specs.Prelude.{None, Some}
 use Prim.Native.Nat.{ℕ, ◌≤◌, ◌<◌}
 use mathlib.Core.Path.{◌≡◌, refl, sym, ◌∙◌, ap, subst}
-use mathlib.Core.Option.{none, some}
 use mathlib.Core.List.{List, [], ◌∷◌, ◌++◌}
 use native.Mathlib.Omega.{arith}
 use lib.ListN.{get_or}
@@ -58,16 +58,16 @@ module _ {b : List ℕ} (W : SoundWords b) {cs : List Call} {rs : List Answer} {
   made_words = subst Different (sym (ap (made_in cs) followed.answers ∙ made_same book cs)) (made_different book cs)
 
   -- a handle of a serial given out before, naming no node of the words, names none of the words after
-  pub never_words : (h : Handle) → h.serial < get_or b 0 0 → node_named (view b) h ≡ none → node_named (view b') h ≡ none
+  pub never_words : (h : Handle) → h.serial < get_or b 0 0 → node_named (view b) h ≡ None → node_named (view b') h ≡ None
   never_words h l e = ap (λ (d : Bench). node_named d h) followed.seen ∙ never_again book cs h (omega (arith, l, next_is b)) e
 
   -- so every read of a node answers 8 there, belonging no, and every call that names it is refused
-  pub stale_words : (h : Handle) → h.serial < get_or b 0 0 → node_named (view b) h ≡ none → Nameless (view b') h
+  pub stale_words : (h : Handle) → h.serial < get_or b 0 0 → node_named (view b) h ≡ None → Nameless (view b') h
   stale_words h l e = nameless (view b') h (never_words h l e)
 
 -- a handle that named a node of the words once, and later none, names none ever after
 pub gone_words : {b b₁ b₂ : List ℕ} (W : SoundWords b) {cs ds : List Call} {rs qs : List Answer} → Ran b cs rs b₁ → Ran b₁ ds qs b₂
-    → (h : Handle) (n : Node) → node_named (view b) h ≡ some n → node_named (view b₁) h ≡ none → Nameless (view b₂) h
+    → (h : Handle) (n : Node) → node_named (view b) h ≡ Some n → node_named (view b₁) h ≡ None → Nameless (view b₂) h
 gone_words {b} {b₁} W R Q h n e f = stale_words (followed W R).words Q h (omega (arith, next_word W R, low)) f
   where
     H : Has (slot_of (view b)) h n

@@ -1,16 +1,15 @@
 -- Any run of public calls from set-up answers as the plain ledger does, never meets BROKEN, and leaves words whose stored sums and speeds are right;
 -- growing in two steps leaves the words that one step leaves. Assumes nothing.
+use Rattle.std.specs.Prelude.{None}
 use Prim.Native.Nat.{ℕ, ◌<◌}
 use mathlib.Core.Path.{◌≡◌, refl, sym, ◌∙◌, ap, ap₂, subst}
 use mathlib.Core.Logic.{◌≢◌}
 use mathlib.Core.Bool.{true≢false}
-use mathlib.Core.Option.{none}
 use mathlib.Core.List.{List, [], ◌∷◌}
 use lib.ListN.{get_or}
 use lib.IntN.{ℤ, ◌+ℤ◌}
 use Rattle.bench_words.specs.Codec.{sum_offset, speed_offset}
 use Rattle.bench_words.specs.Store.{node_at, interface_at}
-use Rattle.bench_words.specs.declared.Up.TheVariants.{Top}
 use Rattle.ledger_spec.specs.Bench.{Bench}
 use Rattle.ledger_spec.specs.Bench as plain
 use Rattle.ledger_spec.specs.Look.{interface, top}
@@ -90,11 +89,11 @@ module _ {n : ℕ} {b : List ℕ} (O : Opened n b) {cs : List Call} {rs : List A
     pub sum : off sum_offset (interface_at b' i).sum ≡ tree_sum (top (view b')) (values_at book) i
     pub speed : off speed_offset (interface_at b' i).speed ≡ tree_sum (top (view b')) (rates_at book) i
 
-  pub right_words : (i : ℕ) → i < 8 → (interface_at b' i).parent ≡ Top → RightWords i
+  pub right_words : (i : ℕ) → i < 8 → (interface_at b' i).parent ≡ None → RightWords i
   right_words i l t =
       let e : (turns (new_book n) cs).bench ≡ view b' = sym from_set_up.seen in
       let f : turns (new_book n) cs ≡ book = λ j. record { bench = e j; gone = (turns (new_book n) cs).gone } in
-      let free : (interface (turns (new_book n) cs).bench i).parent ≡ none
+      let free : (interface (turns (new_book n) cs).bench i).parent ≡ None
       = ap (λ (d : Bench). (interface d i).parent) e ∙ view_parent (get_or b' 0 0) (interface_at b') (node_at b') i l ∙ ap up_seen t in
       let Q : Right book i = subst (λ (k : Book). Right k i) f (right n cs i l free) in
       let at = interface_in_lem (get_or b' 0 0) (interface_at b') (node_at b') i l in

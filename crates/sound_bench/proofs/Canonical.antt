@@ -1,4 +1,5 @@
 -- Words that pass the test are canonical: a slot is blank, or coded and with a node whose class and place say the rest. Assumes nothing.
+use Rattle.std.specs.Prelude.{None, Option, Some}
 use Prim.Native.Nat.{ℕ, zero, suc, ◌+◌, ◌*◌, ◌<◌, ◌≤◌}
 use mathlib.Core.Path.{◌≡◌, refl, sym, ◌∙◌, ap, subst}
 use mathlib.Core.List.{List}
@@ -10,8 +11,6 @@ use Rattle.slot_map.proofs.Maps.{is_low_map}
 use Rattle.kinds.specs.declared.Class.{Class}
 use Rattle.kinds.specs.declared.Class.TheVariants.{Absent, Blossom, Defect}
 use Rattle.kinds.specs.declared.Handle.{Handle}
-use Rattle.kinds.specs.declared.Parent.{Parent}
-use Rattle.kinds.specs.declared.Parent.TheVariants.{Outermost, Inside}
 use Rattle.kinds.specs.declared.Vertex.{Vertex}
 use Rattle.bench_words.specs.Store.{node_at, interface_at, map_at, base, node_words}
 use Rattle.bench_words.specs.declared.Node.{Node}
@@ -35,13 +34,13 @@ absent_blossom e f = let z : ◌≡◌ {A = ℕ} 0 1 = cc in omega arith
 absent_defect : {c : Class} {v : Vertex} → c ≡ Absent → c ≡ Defect v → ⊥
 absent_defect e f = let z : ◌≡◌ {A = ℕ} 0 1 = cc in omega arith
 
-outer_inside : {p : Parent} {q : Handle} → p ≡ Outermost → p ≡ Inside q → ⊥
+outer_inside : {p : Option Handle} {q : Handle} → p ≡ None → p ≡ Some q → ⊥
 outer_inside e f = let z : ◌≡◌ {A = ℕ} 0 1 = cc in omega arith
 
 none_class : {n : Node} → n ≡ no_node → n.class ≡ Absent
 none_class e = ap (λ (x : Node). x.class) e
 
-none_parent : {n : Node} → n ≡ no_node → n.parent ≡ Outermost
+none_parent : {n : Node} → n ≡ no_node → n.parent ≡ None
 none_parent e = ap (λ (x : Node). x.parent) e
 
 module _ (b : List ℕ) (P : Parts b) (len : length b ≡ 6273) where
@@ -108,7 +107,7 @@ module _ (b : List ℕ) (P : Parts b) (len : length b ≡ 6273) where
         positive zero z = absurd (z refl)
         positive (suc m) z = omega arith
 
-    alone : n.parent ≡ Outermost → Alone n
+    alone : n.parent ≡ None → Alone n
     alone q = go (P.slot u s lu ls)
       where
         go : Slot b u s → Alone n
@@ -116,18 +115,18 @@ module _ (b : List ℕ) (P : Parts b) (len : length b ≡ 6273) where
         go (held m l K) = parent_alone b (u * 64 + s) (climb 8 (view b) u) n K.parent q
 
     -- a member is used and has its seat
-    pub seated : (q : Handle) → n.parent ≡ Inside q → (s < (interface_at b u).used) × Kept b u s × Seat b (u * 64 + s) (climb 8 (view b) u) n q (node_at b (q.unit * 64 + q.slot))
+    pub seated : (q : Handle) → n.parent ≡ Some q → (s < (interface_at b u).used) × Kept b u s × Seat b (u * 64 + s) (climb 8 (view b) u) n q (node_at b (q.unit * 64 + q.slot))
     seated q e = go (P.slot u s lu ls)
       where
         go : Slot b u s → (s < (interface_at b u).used) × Kept b u s × Seat b (u * 64 + s) (climb 8 (view b) u) n q (node_at b (q.unit * 64 + q.slot))
         go (blank m z) = absurd (outer_inside (none_parent (blank_none b (u * 64 + s) z)) e)
         go (held m l K) = (l, K, parent_seat b (u * 64 + s) (climb 8 (view b) u) n K.parent q e)
 
-    pub good_inside : (q : Handle) → n.parent ≡ Inside q → GoodHandle q
+    pub good_inside : (q : Handle) → n.parent ≡ Some q → GoodHandle q
     good_inside q e = subst GoodParent e (good_node b (u * 64 + s)).parent
 
   module _ (u s : ℕ) (lu : u < 8) (ls : s < 64) where
-    inside : (q : Handle) → (node_at b (u * 64 + s)).parent ≡ Inside q → Seated b (u * 64 + s) q
+    inside : (q : Handle) → (node_at b (u * 64 + s)).parent ≡ Some q → Seated b (u * 64 + s) q
     unfolding walk
     inside q e =
         let g = good_inside u s lu ls q e in
@@ -167,6 +166,6 @@ module _ (b : List ℕ) (P : Parts b) (len : length b ≡ 6273) where
     defect = λ k v l. by_place (λ k. (node_at b k).class ≡ Defect v → ((node_at b k).first ≡ 0) × ((node_at b k).count ≡ 0)) (λ u s lu ls. defect u s lu ls v) k l;
     ring = by_place (λ k. (node_at b k).class ≡ Blossom → 0 < (node_at b k).count) ring;
     chain = λ k i l. by_place (λ k. (node_at b k).class ≡ Blossom → i < (node_at b k).count → (node_at b (walk i (node_at b) (node_at b k).first)).place ≡ i) (λ u s lu ls q li. ((ring_kept u s lu ls q).member i li).place) k l;
-    alone = by_place (λ k. (node_at b k).parent ≡ Outermost → Alone (node_at b k)) alone;
-    inside = λ k q l. by_place (λ k. (node_at b k).parent ≡ Inside q → Seated b k q) (λ u s lu ls. inside u s lu ls q) k l;
+    alone = by_place (λ k. (node_at b k).parent ≡ None → Alone (node_at b k)) alone;
+    inside = λ k q l. by_place (λ k. (node_at b k).parent ≡ Some q → Seated b k q) (λ u s lu ls. inside u s lu ls q) k l;
   }

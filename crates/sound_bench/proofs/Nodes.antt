@@ -1,4 +1,5 @@
 -- The tests of a node and the facts that they say, both ways: its class and circle, its parent and place, its value. Assumes nothing.
+use Rattle.std.specs.Prelude.{None, Option, Some}
 use Prim.Native.Nat.{ℕ, ◌+◌, ◌-◌, ◌*◌, ◌<◌, ◌≤◌}
 use mathlib.Core.Path.{◌≡◌, refl, sym, ◌∙◌, ap}
 use mathlib.Core.Bool.{true, not, ◌&&◌, true≢false}
@@ -12,8 +13,6 @@ use Rattle.kinds.specs.declared.GrowState.TheVariants.{Grow, Stay, Shrink}
 use Rattle.kinds.specs.declared.Class.{Class}
 use Rattle.kinds.specs.declared.Class.TheVariants.{Absent, Blossom, Defect}
 use Rattle.kinds.specs.declared.Handle.{Handle}
-use Rattle.kinds.specs.declared.Parent.{Parent}
-use Rattle.kinds.specs.declared.Parent.TheVariants.{Outermost, Inside}
 use Rattle.kinds.specs.declared.Vertex.{Vertex}
 use Rattle.bench_words.specs.Store.{node_at}
 use Rattle.bench_words.specs.declared.Node.{Node}
@@ -36,17 +35,17 @@ same_packed g h e =
 same_self : (g h : Handle) → g ≡ h → same_code g h ≡ true
 same_self g h e = ap (same_code g) (sym e) ∙ both_true (eq-eqb g.unit g.unit refl) (both_true (eq-eqb g.slot g.slot refl) (eq-eqb g.serial.0 g.serial.0 refl))
 
-inside_is : (p : Parent) (h : Handle) → is_inside p h ≡ true → p ≡ Inside h
-inside_is Outermost h e = absurd (true≢false (sym e))
-inside_is (Inside q) h e = ap Inside (same_packed q h e)
+inside_is : (p : Option Handle) (h : Handle) → is_inside p h ≡ true → p ≡ Some h
+inside_is None h e = absurd (true≢false (sym e))
+inside_is (Some q) h e = ap Some (same_packed q h e)
 
-is_inside_lem : (p : Parent) (h : Handle) → p ≡ Inside h → is_inside p h ≡ true
-is_inside_lem p h e = ap (λ (x : Parent). is_inside x h) e ∙ same_self h h refl
+is_inside_lem : (p : Option Handle) (h : Handle) → p ≡ Some h → is_inside p h ≡ true
+is_inside_lem p h e = ap (λ (x : Option Handle). is_inside x h) e ∙ same_self h h refl
 
 -- ---- a circle
 pub record Member (A : ℕ → Node) (next : ℕ) (h : Handle) (first i : ℕ) : Type 0 where
   pub low : walk i A first < 512
-  pub back : (A (walk i A first)).parent ≡ Inside h
+  pub back : (A (walk i A first)).parent ≡ Some h
   pub place : (A (walk i A first)).place ≡ i
   pub small : (A (walk i A first)).size ≤ 512
   pub left : (A (walk i A first)).left.serial.0 < next
@@ -179,7 +178,7 @@ seat_holds b k t n q m S =
     (both_true (both_true (eq-eqb m.serial.0 q.serial.0 S.serial) (ap blossom_of S.ring)) (both_true (eq-eqb (climb 8 (view b) q.unit) t S.near) (eq-eqb (walk n.place (node_at b) m.first) k S.seat)))))
 
 module _ (b : List ℕ) (k t : ℕ) (n : Node) where
-  pub parent_alone : parent_test b k t n ≡ true → n.parent ≡ Outermost → Alone n
+  pub parent_alone : parent_test b k t n ≡ true → n.parent ≡ None → Alone n
   unfolding parent_test alone_test
   parent_alone e q =
       let x = and_true (eqb n.place 0 && eqb n.next 0) _ (rw q at e) in
@@ -187,15 +186,15 @@ module _ (b : List ℕ) (k t : ℕ) (n : Node) where
       let z = and_true (same_code n.left no_code) (same_code n.right no_code) x.1 in
       record { place = eqb-true n.place 0 y.0; next = eqb-true n.next 0 y.1; left = same_packed n.left no_code z.0; right = same_packed n.right no_code z.1 }
 
-  pub parent_seat : parent_test b k t n ≡ true → (q : Handle) → n.parent ≡ Inside q → Seat b k t n q (node_at b (q.unit * 64 + q.slot))
+  pub parent_seat : parent_test b k t n ≡ true → (q : Handle) → n.parent ≡ Some q → Seat b k t n q (node_at b (q.unit * 64 + q.slot))
   unfolding parent_test seat_in
   parent_seat e q p = seat_says b k t n q (node_at b (q.unit * 64 + q.slot)) (rw p at e)
 
-  pub alone_parent : n.parent ≡ Outermost → Alone n → parent_test b k t n ≡ true
+  pub alone_parent : n.parent ≡ None → Alone n → parent_test b k t n ≡ true
   unfolding parent_test alone_test
   alone_parent q L = rw q (both_true (both_true (eq-eqb n.place 0 L.place) (eq-eqb n.next 0 L.next)) (both_true (same_self n.left no_code L.left) (same_self n.right no_code L.right)))
 
-  pub seat_parent : (q : Handle) → n.parent ≡ Inside q → Seat b k t n q (node_at b (q.unit * 64 + q.slot)) → parent_test b k t n ≡ true
+  pub seat_parent : (q : Handle) → n.parent ≡ Some q → Seat b k t n q (node_at b (q.unit * 64 + q.slot)) → parent_test b k t n ≡ true
   unfolding parent_test seat_in
   seat_parent q p S = rw p (seat_holds b k t n q (node_at b (q.unit * 64 + q.slot)) S)
 

@@ -1,8 +1,8 @@
 -- The words of a sound bench pass the test: each part of it from the fact of the same thing. Assumes nothing.
+use Rattle.std.specs.Prelude.{None, Option, Some}
 use Prim.Native.Nat.{ℕ, zero, suc, ◌+◌, ◌-◌, ◌*◌, ◌/◌, ◌%◌, ◌<◌, ◌≤◌}
 use mathlib.Core.Path.{◌≡◌, refl, sym, ◌∙◌, ap, subst}
 use mathlib.Core.Bool.{Bool, true, not, ◌&&◌, ◌||◌, or-true}
-use mathlib.Core.Option.{some}
 use mathlib.Core.List.{List}
 use native.Mathlib.Decide.{ℕ_discrete, dec_lt}
 use native.Mathlib.Omega.{arith}
@@ -15,14 +15,10 @@ use Rattle.kinds.specs.declared.Class.TheVariants.{Absent, Blossom, Defect}
 use Rattle.kinds.specs.declared.GrowState.{GrowState}
 use Rattle.kinds.specs.declared.GrowState.TheVariants.{Grow, Stay, Shrink}
 use Rattle.kinds.specs.declared.Handle.{Handle as Packed}
-use Rattle.kinds.specs.declared.Parent.{Parent}
-use Rattle.kinds.specs.declared.Parent.TheVariants.{Outermost, Inside}
 use Rattle.slot_map.specs.Slots.{bit_at}
 use Rattle.slot_map.proofs.Maps.{map_lt, bit_map}
 use Rattle.bench_words.specs.Store.{node_at, interface_at, map_at}
 use Rattle.bench_words.specs.declared.Node.{Node}
-use Rattle.bench_words.specs.declared.Up.{Up}
-use Rattle.bench_words.specs.declared.Up.TheVariants.{Top, Under}
 use Rattle.ledger_spec.specs.Bench.{Member, stays, defect, blossom}
 use Rattle.ledger_spec.specs.Bench as plain
 use Rattle.ledger_spec.specs.Look.{interface, slot_of, climb, node_named}
@@ -105,7 +101,7 @@ module _ (b : List ℕ) (Z : SoundWords b) where
     abbrev c : Node
     c = A (u * 64 + s)
 
-    stands : slot_of (view b) u s ≡ some (shown_as b u s (blossom (circle_of A (u * 64 + s))))
+    stands : slot_of (view b) u s ≡ Some (shown_as b u s (blossom (circle_of A (u * 64 + s))))
     stands = see_ring b u s lu used rung
 
     circle : Circle (view b) (shown_as b u s (blossom (circle_of A (u * 64 + s)))) (circle_of A (u * 64 + s))
@@ -133,8 +129,8 @@ module _ (b : List ℕ) (Z : SoundWords b) where
       size_is : size_of (node_named (view b) (handle_at A p)) ≡ (A p).size
       size_is = ap size_of (has_node (view b) (handle_at A p) G.node (record { stands = G.stands; serial = G.own })) ∙ size_of_lem
 
-      inside : (A p).parent ≡ Inside (handle_in u s c)
-      inside = let r = parent_named_lem (A p).parent _ G.parent in r.1 ∙ ap Inside (packed_is r.0 u s c r.2)
+      inside : (A p).parent ≡ Some (handle_in u s c)
+      inside = let r = parent_named_lem (A p).parent _ G.parent in r.1 ∙ ap Some (packed_is r.0 u s c r.2)
 
       low : p < 512
       low = omega (arith, G.unit)
@@ -172,7 +168,7 @@ module _ (b : List ℕ) (Z : SoundWords b) where
     }
 
   -- ---- a node
-  module _ (u s : ℕ) (lu : u < 8) (ls : s < 64) (used : s < (interface_at b u).used) (d : plain.Class) (stands : slot_of (view b) u s ≡ some (shown_as b u s d)) (present : (A (u * 64 + s)).class ≡ Absent → ⊥) where
+  module _ (u s : ℕ) (lu : u < 8) (ls : s < 64) (used : s < (interface_at b u).used) (d : plain.Class) (stands : slot_of (view b) u s ≡ Some (shown_as b u s d)) (present : (A (u * 64 + s)).class ≡ Absent → ⊥) where
     abbrev n : Node
     n = A (u * 64 + s)
 
@@ -189,7 +185,7 @@ module _ (b : List ℕ) (Z : SoundWords b) where
         let x = off_range 1152921504606846975 (value_by n.state n.bias t) (W (view b) i) (S.values u s (shown_as b u s d) stands) in
         near_holds n.state n.bias t (width_of b i) r.least r.most (omega (arith, x.0, w)) (omega (arith, x.1, w))
 
-    seat : (q : Packed) → n.parent ≡ Inside q → nodes-in.Seat b (u * 64 + s) (climb 8 (view b) u) n q (A (q.unit * 64 + q.slot))
+    seat : (q : Packed) → n.parent ≡ Some q → nodes-in.Seat b (u * 64 + s) (climb 8 (view b) u) n q (A (q.unit * 64 + q.slot))
     seat q e = record {
       few = few q.unit q.slot T.unit low T.slot T.ring;
       within = T.within;
@@ -213,9 +209,9 @@ module _ (b : List ℕ) (Z : SoundWords b) where
     parent : parent_test b (u * 64 + s) (climb 8 (view b) u) n ≡ true
     parent = go n.parent refl
       where
-        go : (p : Parent) → n.parent ≡ p → parent_test b (u * 64 + s) (climb 8 (view b) u) n ≡ true
-        go Outermost e = alone_parent b (u * 64 + s) i n e (C.alone (u * 64 + s) (place_low u s lu ls) e)
-        go (Inside q) e = seat_parent b (u * 64 + s) i n q e (seat q e)
+        go : (p : Option Packed) → n.parent ≡ p → parent_test b (u * 64 + s) (climb 8 (view b) u) n ≡ true
+        go None e = alone_parent b (u * 64 + s) i n e (C.alone (u * 64 + s) (place_low u s lu ls) e)
+        go (Some q) e = seat_parent b (u * 64 + s) i n q e (seat q e)
 
     kept : class_test A N (handle_in u s n) n ≡ true → Kept b u s
     kept k =
@@ -248,12 +244,12 @@ module _ (b : List ℕ) (Z : SoundWords b) where
   unfolding top_in
   top j l = go (interface_at b j).parent refl
     where
-      rule : Up → Bool
+      rule : Option ℕ → Bool
       rule x = over x (between 4611686018427387904 (width_of b j * 512) (interface_at b j).sum && eqb (interface_at b j).speed (512 + pace_of b j)) (λ p. true)
 
-      go : (p : Up) → (interface_at b j).parent ≡ p → rule (interface_at b j).parent ≡ true
-      go (Under p) e = ap rule e
-      go Top e =
+      go : (p : Option ℕ) → (interface_at b j).parent ≡ p → rule (interface_at b j).parent ≡ true
+      go (Some p) e = ap rule e
+      go None e =
           let free = view_parent (get_or b 0 0) (interface_at b) (node_at b) j l ∙ ap up_seen e in
           let w = width_is b S.frame j l free in
           let x = off_range 4611686018427387903 (interface_at b j).sum (512 * W (view b) j) (subst (λ (f : plain.Interface). nat_abs f.sum ≤ 512 * W (view b) j) (interface_in_lem (get_or b 0 0) (interface_at b) (node_at b) j l) (S.sums j l free)) in
@@ -262,7 +258,7 @@ module _ (b : List ℕ) (Z : SoundWords b) where
           ap rule e ∙ both_true (both_true (le-leb (4611686018427387904 - width_of b j * 512) (interface_at b j).sum (omega (arith, x.0, w))) (le-leb (interface_at b j).sum (4611686018427387904 + width_of b j * 512) (omega (arith, x.1, w)))) (eq-eqb (interface_at b j).speed (512 + pace_of b j) (v ∙ m))
 
   -- ---- serials
-  standing : (k : ℕ) → k < 512 → (serial_at b k ≡ 0 → ⊥) → (m : plain.Node) × (slot_of (view b) (k / 64) (k % 64) ≡ some m) × (m.serial ≡ serial_at b k)
+  standing : (k : ℕ) → k < 512 → (serial_at b k ≡ 0 → ⊥) → (m : plain.Node) × (slot_of (view b) (k / 64) (k % 64) ≡ Some m) × (m.serial ≡ serial_at b k)
   standing k l z =
       let back : k / 64 * 64 + k % 64 ≡ k = omega arith in
       let p : (A (k / 64 * 64 + k % 64)).class ≡ Absent → ⊥ = λ a. z (ap (λ (x : Node). x.serial.0) (C.empty k l (ap (λ (x : ℕ). (A x).class) (sym back) ∙ a))) in

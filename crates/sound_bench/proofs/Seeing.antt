@@ -1,7 +1,7 @@
 -- What a slot of the view shows, and what the words hold where it shows a node. Assumes nothing.
+use Rattle.std.specs.Prelude.{None, Some}
 use Prim.Native.Nat.{ℕ, ◌+◌, ◌*◌, ◌/◌, ◌%◌, ◌<◌}
 use mathlib.Core.Path.{◌≡◌, refl, sym, ◌∙◌, subst}
-use mathlib.Core.Option.{none, some}
 use mathlib.Core.List.{List}
 use native.Mathlib.Decide.{dec_lt}
 use native.Mathlib.Omega.{arith}
@@ -35,16 +35,16 @@ module _ (b : List ℕ) (u s : ℕ) where
     pub slot : s < (interface_at b u).used
     pub shown : Shown n
 
-  shown_of : (n : plain.Node) → slot_seen at (sum_up 8 (interface_at b) u) (circle_of (node_at b) (u * 64 + s)) ≡ some n → Shown n
+  shown_of : (n : plain.Node) → slot_seen at (sum_up 8 (interface_at b) u) (circle_of (node_at b) (u * 64 + s)) ≡ Some n → Shown n
   unfolding slot_seen
   shown_of n e = go at.class refl
     where
       go : (c : Class) → at.class ≡ c → Shown n
-      go Absent q = absurd (none_some {o = none} refl (rw q at e))
-      go Blossom q = ring q (sym (some_eq {o = some (shown_as (blossom (circle_of (node_at b) (u * 64 + s))))} refl (rw q at e)))
-      go (Defect v) q = single v q (sym (some_eq {o = some (shown_as (defect v.0))} refl (rw q at e)))
+      go Absent q = absurd (none_some {o = None} refl (rw q at e))
+      go Blossom q = ring q (sym (some_eq {o = Some (shown_as (blossom (circle_of (node_at b) (u * 64 + s))))} refl (rw q at e)))
+      go (Defect v) q = single v q (sym (some_eq {o = Some (shown_as (defect v.0))} refl (rw q at e)))
 
-  pub seen : (n : plain.Node) → slot_of (view b) u s ≡ some n → Seen n
+  pub seen : (n : plain.Node) → slot_of (view b) u s ≡ Some n → Seen n
   seen n e = go (dec_lt u 8) (dec_lt s (interface_at b u).used)
     where
       go : Dec (u < 8) → Dec (s < (interface_at b u).used) → Seen n
@@ -54,11 +54,11 @@ module _ (b : List ℕ) (u s : ℕ) where
 
   -- and the other way round
   module _ (lu : u < 8) (ls : s < (interface_at b u).used) where
-    pub see_ring : at.class ≡ Blossom → slot_of (view b) u s ≡ some (shown_as (blossom (circle_of (node_at b) (u * 64 + s))))
+    pub see_ring : at.class ≡ Blossom → slot_of (view b) u s ≡ Some (shown_as (blossom (circle_of (node_at b) (u * 64 + s))))
     unfolding slot_seen
     see_ring e = view_slot (get_or b 0 0) (interface_at b) (node_at b) u s lu ls ∙ rw e
 
-    pub see_single : (v : Vertex) → at.class ≡ Defect v → slot_of (view b) u s ≡ some (shown_as (defect v.0))
+    pub see_single : (v : Vertex) → at.class ≡ Defect v → slot_of (view b) u s ≡ Some (shown_as (defect v.0))
     unfolding slot_seen
     see_single v e = view_slot (get_or b 0 0) (interface_at b) (node_at b) u s lu ls ∙ rw e
 

@@ -1,8 +1,8 @@
 -- Words that pass the test show a sound bench: each fact of the ledger's own account from the test of the same thing in words. Assumes nothing.
+use Rattle.std.specs.Prelude.{None, Option, Some}
 use Prim.Native.Nat.{ℕ, zero, suc, ◌+◌, ◌-◌, ◌*◌, ◌/◌, ◌%◌, ◌<◌, ◌≤◌, ◌^◌}
 use mathlib.Core.Path.{◌≡◌, refl, sym, ◌∙◌, ap, subst}
 use mathlib.Core.Bool.{Bool, true, false, ◌&&◌, ◌||◌, true≢false}
-use mathlib.Core.Option.{none, some}
 use mathlib.Core.List.{List}
 use native.Mathlib.Decide.{dec_lt}
 use native.Mathlib.Omega.{arith}
@@ -12,13 +12,9 @@ use lib.IntN.{ℤ, pos, nat_abs}
 use borrow.Author.Tests.{eqb-true, eqb-false, ne_eqb, leb-true, not-true}
 use Rattle.kinds.specs.declared.Class.TheVariants.{Absent, Blossom, Defect}
 use Rattle.kinds.specs.declared.Handle.{Handle as Packed}
-use Rattle.kinds.specs.declared.Parent.{Parent}
-use Rattle.kinds.specs.declared.Parent.TheVariants.{Outermost, Inside}
 use Rattle.bench_words.specs.Store.{node_at, interface_at}
 use Rattle.bench_words.specs.declared.Interface.{Interface}
 use Rattle.bench_words.specs.declared.Node.{Node}
-use Rattle.bench_words.specs.declared.Up.{Up}
-use Rattle.bench_words.specs.declared.Up.TheVariants.{Top, Under}
 use Rattle.bench_words.proofs.Laws.{GoodHandle, good_node}
 use Rattle.ledger_spec.specs.Bench.{Handle, Member, defect, blossom, stays, fresh}
 use Rattle.ledger_spec.specs.Bench as plain
@@ -57,9 +53,9 @@ pub of_shown : (b : List ℕ) (u s : ℕ) {X : Type 0} (φ : plain.Node → X) (
 of_shown b u s φ x h n (ring q e) = ap φ e ∙ h (blossom (circle_of (node_at b) (u * 64 + s)))
 of_shown b u s φ x h n (single v q e) = ap φ e ∙ h (defect v.0)
 
-pub parent_named_lem : (p : Parent) (h : Handle) → parent_named p ≡ some h → (q : Packed) × (p ≡ Inside q) × (handle_named q ≡ h)
-parent_named_lem Outermost h e = absurd (none_some {o = none} refl e)
-parent_named_lem (Inside q) h e = (q, refl, some_eq {o = some (handle_named q)} refl e)
+pub parent_named_lem : (p : Option Packed) (h : Handle) → parent_named p ≡ Some h → (q : Packed) × (p ≡ Some q) × (handle_named q ≡ h)
+parent_named_lem None h e = absurd (none_some {o = None} refl e)
+parent_named_lem (Some q) h e = (q, refl, some_eq {o = Some (handle_named q)} refl e)
 
 shown_present : (b : List ℕ) (u s : ℕ) (n : plain.Node) → Shown b u s n → (node_at b (u * 64 + s)).class ≡ Absent → ⊥
 shown_present b u s n (ring q e) a = let z : Absent ≡ Blossom = sym a ∙ q in let z2 : ◌≡◌ {A = ℕ} 0 1 = cc in omega arith
@@ -87,7 +83,7 @@ module _ (b : List ℕ) (P : Parts b) (len : length b ≡ 6273) where
     kept : Kept b u s
     serial : n.serial ≡ (A (u * 64 + s)).serial.0
 
-  here : (u s : ℕ) (n : plain.Node) → slot_of (view b) u s ≡ some n → Here u s n
+  here : (u s : ℕ) (n : plain.Node) → slot_of (view b) u s ≡ Some n → Here u s n
   here u s n e =
       let S = seen b u s n e in
       let l : s < 64 = omega (arith, S.slot, few u S.unit) in
@@ -104,7 +100,7 @@ module _ (b : List ℕ) (P : Parts b) (len : length b ≡ 6273) where
   next_is = view_next (get_or b 0 0) (interface_at b) (node_at b)
 
   -- ---- serials
-  low : (u s : ℕ) (n : plain.Node) → slot_of (view b) u s ≡ some n → (1 ≤ n.serial) × (n.serial < (view b).next)
+  low : (u s : ℕ) (n : plain.Node) → slot_of (view b) u s ≡ Some n → (1 ≤ n.serial) × (n.serial < (view b).next)
   low u s n e = let H = here u s n e in (omega (arith, H.serial, H.kept.least), omega (arith, H.serial, H.kept.below, next_is))
 
   before : (j k : ℕ) → j < k → k < 512 → 1 ≤ serial_at b k → serial_at b j ≡ serial_at b k → ⊥
@@ -116,7 +112,7 @@ module _ (b : List ℕ) (P : Parts b) (len : length b ≡ 6273) where
       rest true q e = absurd (true≢false q)
       rest false q e = e
 
-  one : (u s v r : ℕ) (n m : plain.Node) → slot_of (view b) u s ≡ some n → slot_of (view b) v r ≡ some m → n.serial ≡ m.serial → (u ≡ v) × (s ≡ r)
+  one : (u s v r : ℕ) (n m : plain.Node) → slot_of (view b) u s ≡ Some n → slot_of (view b) v r ≡ Some m → n.serial ≡ m.serial → (u ≡ v) × (s ≡ r)
   one u s v r n m e f q = go (dec_lt (u * 64 + s) (v * 64 + r)) (dec_lt (v * 64 + r) (u * 64 + s))
     where
       H : Here u s n
@@ -134,11 +130,11 @@ module _ (b : List ℕ) (P : Parts b) (len : length b ≡ 6273) where
       go (no l) (no w) = (omega (arith, l, w, H.slot, G.slot), omega (arith, l, w, H.slot, G.slot))
 
   -- ---- up
-  module _ (u s : ℕ) (n : plain.Node) (e : slot_of (view b) u s ≡ some n) where
+  module _ (u s : ℕ) (n : plain.Node) (e : slot_of (view b) u s ≡ Some n) where
     abbrev k : ℕ
     k = u * 64 + s
 
-    up_at : (q : Packed) → (A k).parent ≡ Inside q → Above (slot_of (view b)) (climb 8 (view b)) u s n (handle_named q)
+    up_at : (q : Packed) → (A k).parent ≡ Some q → Above (slot_of (view b)) (climb 8 (view b)) u s n (handle_named q)
     up_at q p = record {
       over = shown_as b q.unit q.slot (blossom (circle_of A (q.unit * 64 + q.slot)));
       ms = circle_of A (q.unit * 64 + q.slot);
@@ -178,7 +174,7 @@ module _ (b : List ℕ) (P : Parts b) (len : length b ≡ 6273) where
             let w : walk i A m.first ≡ k = omega arith in
             sym (R.member i l).place ∙ ap (λ (p : ℕ). (A p).place) w
 
-    up : (h : Handle) → n.parent ≡ some h → Above (slot_of (view b)) (climb 8 (view b)) u s n h
+    up : (h : Handle) → n.parent ≡ Some h → Above (slot_of (view b)) (climb 8 (view b)) u s n h
     up h f =
         let r = parent_named_lem (A k).parent h (sym (of_shown b u s (λ x. x.parent) (parent_named (A k).parent) (λ c. refl) n (here u s n e).shown) ∙ f) in
         subst (λ (x : Handle). Above (slot_of (view b)) (climb 8 (view b)) u s n x) r.2 (up_at r.0 r.1)
@@ -204,7 +200,7 @@ module _ (b : List ℕ) (P : Parts b) (len : length b ≡ 6273) where
       held : (p % 64 < (interface_at b (p / 64)).used) × Kept b (p / 64) (p % 64)
       held = let r = seated b P len (p / 64) (p % 64) (omega (arith, M.low)) (omega arith) (handle_in u s c) (ap (λ (x : ℕ). (A x).parent) back ∙ M.back) in (r.0, r.1)
 
-      standing : (d : plain.Class) × (slot_of (view b) (p / 64) (p % 64) ≡ some (shown_as b (p / 64) (p % 64) d))
+      standing : (d : plain.Class) × (slot_of (view b) (p / 64) (p % 64) ≡ Some (shown_as b (p / 64) (p % 64) d))
       standing =
           let h = slot_held (A (p / 64 * 64 + p % 64)) (sum_up 8 (interface_at b) (p / 64)) (circle_of A (p / 64 * 64 + p % 64)) (class_present A N (handle_in (p / 64) (p % 64) (A (p / 64 * 64 + p % 64))) (A (p / 64 * 64 + p % 64)) held.1.class) in
           (h.0, view_slot (get_or b 0 0) (interface_at b) (node_at b) (p / 64) (p % 64) (omega (arith, M.low)) held.0 ∙ h.1)
@@ -212,7 +208,7 @@ module _ (b : List ℕ) (P : Parts b) (len : length b ≡ 6273) where
       standing_has : Has (slot_of (view b)) (handle_at A p) (shown_as b (p / 64) (p % 64) standing.0)
       standing_has = record { stands = standing.1; serial = ap (λ (x : ℕ). (A x).serial.0) back }
 
-      standing_parent : parent_named (A (p / 64 * 64 + p % 64)).parent ≡ some (handle_named (handle_in u s c))
+      standing_parent : parent_named (A (p / 64 * 64 + p % 64)).parent ≡ Some (handle_named (handle_in u s c))
       standing_parent = ap parent_named (ap (λ (x : ℕ). (A x).parent) back ∙ M.back)
 
       size_is : size_of (node_named (view b) (handle_at A p)) ≡ (A p).size
@@ -228,7 +224,7 @@ module _ (b : List ℕ) (P : Parts b) (len : length b ≡ 6273) where
   ring_class u s n ms (ring q e) f = (q, blossom_eq f (ap (λ (x : plain.Node). x.class) e))
   ring_class u s n ms (single v q e) f = absurd (class_apart (ap (λ (x : plain.Node). x.class) e) f)
 
-  down : (u s : ℕ) (m : plain.Node) (ms : List Member) (g : Handle) → slot_of (view b) u s ≡ some m → m.class ≡ blossom ms → In g (nodes ms) → Down (slot_of (view b)) g (mk u s m)
+  down : (u s : ℕ) (m : plain.Node) (ms : List Member) (g : Handle) → slot_of (view b) u s ≡ Some m → m.class ≡ blossom ms → In g (nodes ms) → Down (slot_of (view b)) g (mk u s m)
   down u s m ms g e f i =
       let H = here u s m e in
       let r = ring_class u s m ms H.shown f in
@@ -237,7 +233,7 @@ module _ (b : List ℕ) (P : Parts b) (len : length b ≡ 6273) where
       record {
         node = shown_as b (walk t.0 A (A (u * 64 + s)).first / 64) (walk t.0 A (A (u * 64 + s)).first % 64) (standing u s H.unit H.slot r.0 t.0 t.1).0;
         has = standing_has u s H.unit H.slot r.0 t.0 t.1;
-        parent = standing_parent u s H.unit H.slot r.0 t.0 t.1 ∙ ap some (handle_is u s (A (u * 64 + s)).serial.0 u s m.serial refl refl (sym H.serial));
+        parent = standing_parent u s H.unit H.slot r.0 t.0 t.1 ∙ ap Some (handle_is u s (A (u * 64 + s)).serial.0 u s m.serial refl refl (sym H.serial));
       } in
       subst (λ (x : Handle). Down (slot_of (view b)) x (mk u s m)) (sym t.2) D
 
@@ -266,10 +262,10 @@ module _ (b : List ℕ) (P : Parts b) (len : length b ≡ 6273) where
       positive (suc m) z = omega arith
 
   -- ---- tops
-  W-is : (i : ℕ) → i < 8 → (interface (view b) i).parent ≡ none → width_of b i ≡ W (view b) i
+  W-is : (i : ℕ) → i < 8 → (interface (view b) i).parent ≡ None → width_of b i ≡ W (view b) i
   W-is = width_is b (frame b P len)
 
-  value_near : (u s : ℕ) (n : plain.Node) → slot_of (view b) u s ≡ some n → nat_abs n.value ≤ W (view b) (climb 8 (view b) u)
+  value_near : (u s : ℕ) (n : plain.Node) → slot_of (view b) u s ≡ Some n → nat_abs n.value ≤ W (view b) (climb 8 (view b) u)
   value_near u s n e =
       let H = here u s n e in
       let m = A (u * 64 + s) in
@@ -279,26 +275,26 @@ module _ (b : List ℕ) (P : Parts b) (len : length b ≡ 6273) where
       subst (λ (z : ℤ). nat_abs z ≤ W (view b) (climb 8 (view b) u)) (sym (of_shown b u s (λ y. y.value) (off 1152921504606846976 (value_by m.state m.bias t)) (λ c. refl) n H.shown))
       (subst (λ (y : ℕ). nat_abs (off 1152921504606846976 (value_by m.state m.bias t)) ≤ y) w (range_off 1152921504606846975 (value_by m.state m.bias t) (width_of b (climb 8 (view b) u)) x.0 x.1))
 
-  top_none : (p : Up) → up_seen p ≡ none → p ≡ Top
-  top_none Top e = refl
-  top_none (Under p) e = absurd (none_some e refl)
+  top_none : (p : Option ℕ) → up_seen p ≡ None → p ≡ None
+  top_none None e = refl
+  top_none (Some p) e = absurd (none_some e refl)
 
-  top_says : (i : ℕ) → i < 8 → (interface (view b) i).parent ≡ none → (between 4611686018427387904 (width_of b i * 512) (interface_at b i).sum ≡ true) × ((interface_at b i).speed ≡ 512 + pace_of b i)
+  top_says : (i : ℕ) → i < 8 → (interface (view b) i).parent ≡ None → (between 4611686018427387904 (width_of b i * 512) (interface_at b i).sum ≡ true) × ((interface_at b i).speed ≡ 512 + pace_of b i)
   unfolding top_in
   top_says i l free =
       let q = top_none (interface_at b i).parent (sym (view_parent (get_or b 0 0) (interface_at b) (node_at b) i l) ∙ free) in
-      let t = ap (λ (x : Up). over x (between 4611686018427387904 (width_of b i * 512) (interface_at b i).sum && eqb (interface_at b i).speed (512 + pace_of b i)) (λ p. true)) (sym q) ∙ P.top i l in
+      let t = ap (λ (x : Option ℕ). over x (between 4611686018427387904 (width_of b i * 512) (interface_at b i).sum && eqb (interface_at b i).speed (512 + pace_of b i)) (λ p. true)) (sym q) ∙ P.top i l in
       let a = and_true (between 4611686018427387904 (width_of b i * 512) (interface_at b i).sum) (eqb (interface_at b i).speed (512 + pace_of b i)) t in
       (a.0, eqb-true (interface_at b i).speed (512 + pace_of b i) a.1)
 
-  sum_near : (i : ℕ) → i < 8 → (interface (view b) i).parent ≡ none → nat_abs (interface (view b) i).sum ≤ 512 * W (view b) i
+  sum_near : (i : ℕ) → i < 8 → (interface (view b) i).parent ≡ None → nat_abs (interface (view b) i).sum ≤ 512 * W (view b) i
   sum_near i l free =
       let a = top_says i l free in
       let x = and_true (leb (4611686018427387904 - width_of b i * 512) (interface_at b i).sum) _ a.0 in
       let r = range_off 4611686018427387903 (interface_at b i).sum (width_of b i * 512) (leb-true (4611686018427387904 - width_of b i * 512) (interface_at b i).sum x.0) (leb-true (interface_at b i).sum (4611686018427387904 + width_of b i * 512) x.1) in
       subst (λ (f : plain.Interface). nat_abs f.sum ≤ 512 * W (view b) i) (sym (interface_in_lem (get_or b 0 0) (interface_at b) (node_at b) i l)) (omega (arith, r, W-is i l free))
 
-  speed_is : (i : ℕ) → i < 8 → (interface (view b) i).parent ≡ none → (interface (view b) i).speed ≡ Sum (climb 8 (view b)) (rates_in (view b)) i
+  speed_is : (i : ℕ) → i < 8 → (interface (view b) i).parent ≡ None → (interface (view b) i).speed ≡ Sum (climb 8 (view b)) (rates_in (view b)) i
   speed_is i l free =
       let e : 512 + pace_of b i ≡ pace_of b i + 512 = omega arith in
       ap (λ (f : plain.Interface). f.speed) (interface_in_lem (get_or b 0 0) (interface_at b) (node_at b) i l) ∙ ap (off 1024) ((top_says i l free).1 ∙ e) ∙ off_both_sides 512 512 (pace_of b i) ∙ sym (under_pace b few (empty_slot b P len) i)

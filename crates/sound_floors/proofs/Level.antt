@@ -1,8 +1,8 @@
 -- The test of floors and the ledger's own rule, either from the other. Assumes nothing.
+use Rattle.std.specs.Prelude.{None, Option, Some}
 use Prim.Native.Nat.{ℕ, suc, ◌+◌, ◌-◌, ◌*◌, ◌<◌, ◌≤◌}
 use mathlib.Core.Path.{◌≡◌, refl, sym, ◌∙◌, ap, subst}
 use mathlib.Core.Bool.{Bool, true, false, not, ◌||◌, true≢false}
-use mathlib.Core.Option.{some}
 use mathlib.Core.List.{List}
 use native.Mathlib.Decide.{dec_lt}
 use native.Mathlib.Omega.{arith}
@@ -15,8 +15,6 @@ use Rattle.kinds.specs.declared.Class.{Class}
 use Rattle.kinds.specs.declared.Class.TheVariants.{Absent, Blossom, Defect}
 use Rattle.bench_words.specs.Store.{node_at, interface_at}
 use Rattle.bench_words.specs.declared.Node.{Node}
-use Rattle.bench_words.specs.declared.Up.{Up}
-use Rattle.bench_words.specs.declared.Up.TheVariants.{Top, Under}
 use Rattle.bench_words.proofs.Laws.{GoodUp, good_interface}
 use Rattle.ledger_spec.specs.Bench.{Member, fresh}
 use Rattle.ledger_spec.specs.Bench as plain
@@ -50,9 +48,9 @@ seen_afloat n t ms = go n.class refl
     go Blossom e = rw e (off_high 1152921504606846975 (value_by n.state n.bias t))
     go (Defect v) e = rw e (off_high 1152921504606846975 (value_by n.state n.bias t))
 
-under_is : (p : Up) (q : ℕ) → up_seen p ≡ some q → p ≡ Under q
-under_is Top q e = absurd (none_some refl e)
-under_is (Under x) q e = let z : x ≡ q = cc in ap Under z
+under_is : (p : Option ℕ) (q : ℕ) → up_seen p ≡ Some q → p ≡ Some q
+under_is None q e = absurd (none_some refl e)
+under_is (Some x) q e = let z : x ≡ q = cc in ap Some z
 
 module _ (b : List ℕ) where
   marks_in : (u : ℕ) → u < 8 → floored (view b) u ≡ (interface_at b u).marks.floored
@@ -71,7 +69,7 @@ module _ (b : List ℕ) where
     unfolding floor_test
     parts u l = and_true (level_test (interface_at b) (interface_at b u).parent (interface_at b u).marks.floored) _ (T u l)
 
-    level : (u p : ℕ) → (interface (view b) u).parent ≡ some p → floored (view b) u ≡ floored (view b) p
+    level : (u p : ℕ) → (interface (view b) u).parent ≡ Some p → floored (view b) u ≡ floored (view b) p
     level u p e = go (dec_lt u 8)
       where
         go : Dec (u < 8) → floored (view b) u ≡ floored (view b) p
@@ -79,7 +77,7 @@ module _ (b : List ℕ) where
         go (yes l) =
             let q = under_is (interface_at b u).parent p (sym (view_parent (get_or b 0 0) (interface_at b) (node_at b) u l) ∙ e) in
             let lp : p < 8 = subst GoodUp q (good_interface b u) in
-            let h : level_test (interface_at b) (Under p) (interface_at b u).marks.floored ≡ true = ap (λ (x : Up). level_test (interface_at b) x (interface_at b u).marks.floored) (sym q) ∙ (parts u l).0 in
+            let h : level_test (interface_at b) (Some p) (interface_at b u).marks.floored ≡ true = ap (λ (x : Option ℕ). level_test (interface_at b) x (interface_at b u).marks.floored) (sym q) ∙ (parts u l).0 in
             marks_in u l ∙ same_eq (interface_at b u).marks.floored (interface_at b p).marks.floored h ∙ sym (marks_in p lp)
 
     values : (u s : ℕ) → floored (view b) u ≡ true → afloat (slot_of (view b) u s) ≡ true
@@ -97,9 +95,9 @@ module _ (b : List ℕ) where
 
   -- ---- from the rule
   module _ (S : Floors (view b)) (u : ℕ) (l : u < 8) where
-    holds_level : (p : Up) → (interface_at b u).parent ≡ p → level_test (interface_at b) p (interface_at b u).marks.floored ≡ true
-    holds_level Top e = refl
-    holds_level (Under p) e =
+    holds_level : (p : Option ℕ) → (interface_at b u).parent ≡ p → level_test (interface_at b) p (interface_at b u).marks.floored ≡ true
+    holds_level None e = refl
+    holds_level (Some p) e =
         let lp : p < 8 = subst GoodUp e (good_interface b u) in
         let h = S.level u p (view_parent (get_or b 0 0) (interface_at b) (node_at b) u l ∙ ap up_seen e) in
         eq_same (interface_at b u).marks.floored (interface_at b p).marks.floored (sym (marks_in u l) ∙ h ∙ marks_in p lp)

@@ -1,4 +1,5 @@
 -- The code's tests are the definition's: no sum in them wraps, and each way out is a part of the test. Assumes nothing.
+use Rattle.std.specs.Prelude.{Option, Some}
 use Prim.Native.Nat.{ℕ, ◌+◌, ◌-◌, ◌<◌, ◌≤◌}
 use mathlib.Core.Path.{◌≡◌, refl, sym, ◌∙◌, ap}
 use mathlib.Core.Bool.{Bool, true, false, not, ◌&&◌, ◌||◌}
@@ -8,15 +9,12 @@ use native.Mathlib.Decide.{dec_lt}
 use native.Mathlib.Omega.{arith}
 use lib.Dec.{leb}
 use borrow.Author.Tests.{le-leb, lt-leb, not-true, not-false}
-use Rattle.kinds.specs.declared.GrowState.{GrowState}
 use Rattle.kinds.specs.declared.GrowState.TheVariants.{Grow, Shrink}
 use Rattle.kinds.specs.declared.Class.TheVariants.{Absent, Blossom, Defect}
 use Rattle.kinds.specs.declared.Vertex.{Vertex}
 use Rattle.bench_words.specs.Store.{interface_at}
 use Rattle.bench_words.specs.declared.Node.{Node}
 use Rattle.bench_words.specs.declared.Interface.{Interface}
-use Rattle.bench_words.specs.declared.Up.{Up}
-use Rattle.bench_words.specs.declared.Up.TheVariants.{Under}
 use Rattle.bench_words.proofs.Laws.{GoodUp, good_interface}
 use Rattle.ledger_spec.specs.Tests.{same}
 use Rattle.bench_views.specs.View.{sum_up}
@@ -58,7 +56,7 @@ level_same true false = refl
 level_same false true = refl
 level_same false false = refl
 
-pub level_under : (U : ℕ → Interface) (p : Up) (q : ℕ) (c : Bool) (f : Interface) → p ≡ Under q → f ≡ U q → ((c && f.marks.floored) || (not c && not f.marks.floored)) ≡ level_test U p c
+pub level_under : (U : ℕ → Interface) (p : Option ℕ) (q : ℕ) (c : Bool) (f : Interface) → p ≡ Some q → f ≡ U q → ((c && f.marks.floored) || (not c && not f.marks.floored)) ≡ level_test U p c
 level_under U p q c f e ef = level_same c f.marks.floored ∙ rw (e, ef)
 
 -- ---- an interface

@@ -8,7 +8,7 @@ ghost use Rattle.bench_views.specs.Records.{Steady};
 ghost use Rattle.sound_trees.specs.Below.{all_to};
 ghost use Rattle.sound_floors.specs.Floors.{high_test, afloat_test, level_test, slot_afloat, floor_test};
 
-use bench_words::{Node, Up, WORDS};
+use bench_words::{Node, WORDS};
 use kinds::{Class, GrowState};
 
 // A value of zero or more, without a sum that could wrap.
@@ -38,13 +38,13 @@ fn is_afloat(b: &[u64; WORDS], k: usize, t: u64) -> bool
     }
 }
 
-fn is_level(b: &[u64; WORDS], p: Up, floored: bool) -> bool
+fn is_level(b: &[u64; WORDS], p: Option<u8>, floored: bool) -> bool
     requires { GoodUp p }
     ensures { result ≡ level_test (interface_at b.now) p floored }
 {
     match p {
-        Up::Top => true,
-        Up::Under(q) => {
+        None => true,
+        Some(q) => {
             let f = bench_words::load_interface(b, q as usize);
             let marks = f.marks;
             (floored & marks.floored) | (!floored & !marks.floored)
@@ -58,14 +58,7 @@ fn are_afloat(b: &[u64; WORDS], u: usize, used: usize, t: u64) -> bool
     requires t_bound { t ≤ 8796093022208 }
     ensures { result ≡ all_to (slot_afloat b.now u t) used }
 {
-    let mut s: usize = 0;
-    while s < used {
-        if !is_afloat(b, u * 64 + s, t) {
-            return false;
-        }
-        s = s + 1;
-    }
-    true
+    (0..used).all(|s: usize| is_afloat(b, u * 64 + s, t))
 }
 
 fn is_floor(b: &[u64; WORDS], u: usize) -> bool
@@ -91,12 +84,5 @@ pub fn are_floors(b: &[u64; WORDS]) -> bool
     requires { Steady b.now }
     ensures { result ≡ all_to (floor_test b.now) 8 }
 {
-    let mut u: usize = 0;
-    while u < 8 {
-        if !is_floor(b, u) {
-            return false;
-        }
-        u = u + 1;
-    }
-    true
+    (0..8).all(|u: usize| is_floor(b, u))
 }

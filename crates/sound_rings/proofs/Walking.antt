@@ -1,4 +1,5 @@
 -- The walk along a circle: one turn is one step of the definition, and every way out is a test that holds or fails. Assumes nothing.
+use Rattle.std.specs.Prelude.{Option, Some}
 use Prim.Native.Nat.{ℕ, ◌+◌, ◌*◌, ◌<◌, ◌≤◌}
 use mathlib.Core.Path.{◌≡◌, refl, sym, ◌∙◌, ap, ap₂}
 use mathlib.Core.Bool.{Bool, true, false, ◌&&◌}
@@ -6,11 +7,8 @@ use native.Mathlib.Numerals.{add-one}
 use native.Mathlib.Omega.{arith}
 use lib.Dec.{eqb, leb, ltb}
 use borrow.Author.Tests.{eq-eqb, ne_eqb, le-leb, lt-leb, lt-ltb, le-ltb, leb-true}
-use Rattle.kinds.specs.Names.{same_code}
 use Rattle.kinds.specs.declared.Class.TheVariants.{Absent, Blossom, Defect}
 use Rattle.kinds.specs.declared.Handle.{Handle}
-use Rattle.kinds.specs.declared.Parent.{Parent}
-use Rattle.kinds.specs.declared.Parent.TheVariants.{Inside}
 use Rattle.kinds.specs.declared.Vertex.{Vertex}
 use Rattle.bench_words.specs.declared.Node.{Node}
 use Rattle.ledger_spec.proofs.Lists.{and_true}
@@ -18,9 +16,6 @@ use Rattle.bench_views.specs.Canon.{walk}
 use Rattle.sound_trees.specs.Below.{all_to, sum_to}
 use Rattle.sound_trees.proofs.Belows.{all_none, all_more, all_not, sum_none, sum_more}
 use Rattle.sound_rings.specs.Rings.{is_inside, member_of, member_test, size_in, ring_test, class_test}
-
-pub inside_known : (p : Parent) (q h : Handle) (t : Bool) → p ≡ Inside q → t ≡ same_code q h → t ≡ is_inside p h
-inside_known p q h t e s = s ∙ sym (ap (λ (x : Parent). is_inside x h) e)
 
 pub member_row : (m : Node) (h : Handle) (i next : ℕ) (t : Bool) → t ≡ is_inside m.parent h
     → (t && (eqb m.place i && (leb m.size 512 && (ltb m.left.serial.0 next && ltb m.right.serial.0 next)))) ≡ member_of m h i next

@@ -1,17 +1,15 @@
 -- The tests of a node's class and circle. Assumes nothing.
-use Rattle.std.specs.Prelude.{ℕ, Bool, false, not, ◌&&◌, eqb, leb, ltb}
+use Rattle.std.specs.Prelude.{None, Option, Some, ℕ, Bool, false, not, ◌&&◌, eqb, leb, ltb}
 use Rattle.kinds.specs.Names.{same_code}
 use Rattle.kinds.specs.declared.Handle.{Handle}
-use Rattle.kinds.specs.declared.Parent.{Parent}
-use Rattle.kinds.specs.declared.Parent.TheVariants.{Outermost, Inside}
 use Rattle.bench_words.specs.declared.Node.{Node}
 use Rattle.bench_views.specs.View.{by_class}
 use Rattle.bench_views.specs.Canon.{walk}
 use Rattle.sound_trees.specs.Below.{all_to, sum_to}
 
-abbrev pub is_inside : Parent → Handle → Bool
-is_inside Outermost h = false
-is_inside (Inside q) h = same_code q h
+abbrev pub is_inside : Option Handle → Handle → Bool
+is_inside None h = false
+is_inside (Some q) h = same_code q h
 
 -- m links back to the blossom h from place i
 unfoldable pub member_of : Node → Handle → ℕ → ℕ → Bool

@@ -6,26 +6,20 @@ ghost use Rattle.bench_words.specs.Store.{node_at};
 ghost use Rattle.sound_rings.specs.Rings.{is_inside, member_of, ring_test, class_test};
 
 use bench_words::{Node, WORDS};
-use kinds::{Class, Handle, Parent};
+use kinds::{Class, Handle};
 
-fn is_inside(p: Parent, h: Handle) -> bool
+fn is_inside(p: Option<Handle>, h: Handle) -> bool
     ensures { result ≡ is_inside p h }
 {
-    match p {
-        Parent::Outermost => false,
-        Parent::Inside(q) => q.same(h),
-    }
+    p == Some(h)
 }
 
 // A member links back from place i; no size is larger than the bench; its touching handles were given out.
 fn is_member(m: Node, h: Handle, i: u64, next: u64) -> bool
     ensures { result ≡ member_of m h i next }
 {
-    let parent = m.parent;
-    let left = m.left;
-    let right = m.right;
-    let back = is_inside(parent, h);
-    let touching = ((left.serial.0 as u64) < next) & ((right.serial.0 as u64) < next);
+    let back = is_inside(m.parent, h);
+    let touching = ((m.left.serial.0 as u64) < next) & ((m.right.serial.0 as u64) < next);
     back & ((m.place == i) & ((m.size <= 512) & touching))
 }
 
@@ -41,8 +35,7 @@ fn is_ring(b: &[u64; WORDS], h: Handle, n: Node, next: u64) -> bool
     }
     let mut p = n.first;
     let mut total: u64 = 0;
-    let mut i: u64 = 0;
-    while i < n.count {
+    for i in 0..n.count {
         if 512 <= p {
             return false;
         }
@@ -50,9 +43,8 @@ fn is_ring(b: &[u64; WORDS], h: Handle, n: Node, next: u64) -> bool
         if !is_member(m, h, i, next) {
             return false;
         }
-        total = total + m.size;
+        total += m.size;
         p = m.next;
-        i = i + 1;
     }
     (n.size == total) & (p == 0)
 }

@@ -1,5 +1,6 @@
 -- The code's steps and tests, put together as the definitions have them. Past the last slot every word is 0, so a walk may come to any number.
 -- Assumes nothing.
+use Rattle.std.specs.Prelude.{None, Some}
 use Prim.Native.Nat.{ℕ, ◌+◌, ◌*◌, ◌<◌, ◌≤◌}
 use mathlib.Core.Path.{◌≡◌, refl, sym, ◌∙◌, ap, ap₂, subst}
 use mathlib.Core.Bool.{Bool, false, ◌&&◌}
@@ -12,7 +13,6 @@ use borrow.Author.Tests.{le-leb, lt-leb, lt-ltb, le-ltb}
 use Rattle.kinds.specs.Names.{same_code, no_code}
 use Rattle.kinds.specs.States.{blossom_of}
 use Rattle.kinds.specs.declared.Handle.{Handle}
-use Rattle.kinds.specs.declared.Parent.TheVariants.{Outermost, Inside}
 use Rattle.bench_words.specs.Store.{node_at, base}
 use Rattle.bench_words.specs.declared.Node.{Node}
 use Rattle.bench_words.proofs.Laws.{GoodHandle, GoodParent}
@@ -41,12 +41,6 @@ going_on A first steps p i q G l e = record { at = e ∙ ap (λ (x : ℕ). (A x)
 pub going_ends : (A : ℕ → Node) (first steps p i : ℕ) → Going A first steps p i → steps ≤ i → p ≡ walk steps A first
 going_ends A first steps p i G l = let e : i ≡ steps = omega (arith, G.low) in G.at ∙ ap (λ (k : ℕ). walk k A first) e
 
--- ---- a node alone
-pub alone_row : (n : Node) (x y : Handle) (s t : Bool) → x ≡ no_code → y ≡ no_code → s ≡ same_code n.left x → t ≡ same_code n.right y → ((eqb n.place 0 && eqb n.next 0) && (s && t)) ≡ alone_test n
-unfolding alone_test
-alone_row n x y s t p q e f =
-    ap₂ (λ (a b : Bool). (eqb n.place 0 && eqb n.next 0) && (a && b)) (e ∙ ap (same_code n.left) p) (f ∙ ap (same_code n.right) q)
-
 -- ---- a member
 module _ (b : List ℕ) (k t : ℕ) (n : Node) (q : Handle) (m : Node) (e : m ≡ node_at b (q.unit * 64 + q.slot)) where
   same : seat_in b k t n q m ≡ seat_test b k t n q
@@ -69,13 +63,13 @@ module _ (b : List ℕ) (k t : ℕ) (n : Node) (q : Handle) (m : Node) (e : m �
 
 -- ---- by parent
 module _ (b : List ℕ) (k t : ℕ) (n : Node) where
-  pub parent_none : n.parent ≡ Outermost → (r : Bool) → r ≡ alone_test n → r ≡ parent_test b k t n
+  pub parent_none : n.parent ≡ None → (r : Bool) → r ≡ alone_test n → r ≡ parent_test b k t n
   unfolding parent_test
   parent_none e r h = h ∙ rw e
 
-  pub parent_some : (q : Handle) → n.parent ≡ Inside q → (r : Bool) → r ≡ seat_test b k t n q → r ≡ parent_test b k t n
+  pub parent_some : (q : Handle) → n.parent ≡ Some q → (r : Bool) → r ≡ seat_test b k t n q → r ≡ parent_test b k t n
   unfolding parent_test
   parent_some q e r h = h ∙ rw e
 
-  pub good_inside : (q : Handle) → GoodParent n.parent → n.parent ≡ Inside q → GoodHandle q
+  pub good_inside : (q : Handle) → GoodParent n.parent → n.parent ≡ Some q → GoodHandle q
   good_inside q g e = subst GoodParent e g

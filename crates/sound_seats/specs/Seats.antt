@@ -1,12 +1,10 @@
 -- The tests of a node's parent and place. Assumes nothing.
-use Rattle.std.specs.Prelude.{ℕ, ◌+◌, ◌*◌, Bool, true, false, ◌&&◌, List, eqb, leb, ltb}
+use Rattle.std.specs.Prelude.{None, Option, Some, ℕ, ◌+◌, ◌*◌, Bool, true, false, ◌&&◌, List, eqb, leb, ltb}
 use Rattle.kinds.specs.Names.{same_code, no_code}
 use Rattle.kinds.specs.States.{blossom_of}
 use Rattle.kinds.specs.declared.GrowState.{GrowState}
 use Rattle.kinds.specs.declared.GrowState.TheVariants.{Grow, Stay, Shrink}
 use Rattle.kinds.specs.declared.Handle.{Handle}
-use Rattle.kinds.specs.declared.Parent.{Parent}
-use Rattle.kinds.specs.declared.Parent.TheVariants.{Outermost, Inside}
 use Rattle.bench_words.specs.Store.{node_at}
 use Rattle.bench_words.specs.declared.Node.{Node}
 use Rattle.ledger_spec.specs.Look.{climb}
@@ -32,9 +30,9 @@ seat_in b k t n q m = leb m.count 64
 abbrev pub seat_test : List ℕ → ℕ → ℕ → Node → Handle → Bool
 seat_test b k t n q = seat_in b k t n q (node_at b (q.unit * 64 + q.slot))
 
-abbrev pub by_parent : {A : Type 0} → Parent → A → (Handle → A) → A
-by_parent Outermost a f = a
-by_parent (Inside q) a f = f q
+abbrev pub by_parent : {A : Type 0} → Option Handle → A → (Handle → A) → A
+by_parent None a f = a
+by_parent (Some q) a f = f q
 
 unfoldable pub parent_test : List ℕ → ℕ → ℕ → Node → Bool
 parent_test b k t n = by_parent n.parent (alone_test n) (seat_test b k t n)

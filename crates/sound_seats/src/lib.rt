@@ -9,16 +9,12 @@ ghost use Rattle.bench_views.specs.Canon.{walk};
 ghost use Rattle.sound_seats.specs.Seats.{is_stay, alone_test, seat_test, parent_test};
 
 use bench_words::{Node, WORDS};
-use kinds::{GrowState, Handle, Parent};
+use kinds::{GrowState, Handle};
 
 fn is_stay(g: GrowState) -> bool
     ensures { result ≡ is_stay g }
 {
-    match g {
-        GrowState::Grow => false,
-        GrowState::Stay => true,
-        GrowState::Shrink => false,
-    }
+    g == GrowState::Stay
 }
 
 // The link of the node at any position: there is none past the last slot.
@@ -39,22 +35,18 @@ fn walk(b: &[u64; WORDS], first: u64, steps: u64) -> u64
     ensures { result ≡ walk steps (node_at b.now) first }
 {
     let mut p = first;
-    let mut i: u64 = 0;
-    while i < steps {
+    for _ in 0..steps {
         p = next_of(b, p);
-        i = i + 1;
     }
     p
 }
 
+#[tactic(auto, unfolding(crate::specs::Seats::alone_test))]
 fn is_alone(n: Node) -> bool
     ensures { result ≡ alone_test n }
 {
-    let left = n.left;
-    let right = n.right;
-    let apart = left.same(Handle::nobody());
-    let untouched = right.same(Handle::nobody());
-    ((n.place == 0) & (n.next == 0)) & (apart & untouched)
+    let untouched = (n.left == Handle::nobody()) & (n.right == Handle::nobody());
+    ((n.place == 0) & (n.next == 0)) & untouched
 }
 
 // The node n at position k, in a tree with this top, is a member of the blossom q.
@@ -88,7 +80,7 @@ pub fn is_parent(b: &[u64; WORDS], k: usize, top: usize, n: Node) -> bool
 {
     let parent = n.parent;
     match parent {
-        Parent::Outermost => is_alone(n),
-        Parent::Inside(q) => is_seated(b, k, top, n, q),
+        None => is_alone(n),
+        Some(q) => is_seated(b, k, top, n, q),
     }
 }

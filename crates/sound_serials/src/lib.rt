@@ -20,14 +20,7 @@ fn is_new(b: &[u64; WORDS], k: usize, serial: u32) -> bool
     requires { k ≤ 512 }
     ensures { result ≡ all_to (unlike b.now serial) k }
 {
-    let mut j: usize = 0;
-    while j < k {
-        if serial_at(b, j) == serial {
-            return false;
-        }
-        j = j + 1;
-    }
-    true
+    (0..k).all(|j: usize| serial_at(b, j) != serial)
 }
 
 fn is_once(b: &[u64; WORDS], k: usize) -> bool
@@ -45,14 +38,7 @@ fn is_once(b: &[u64; WORDS], k: usize) -> bool
 fn are_compared(b: &[u64; WORDS]) -> bool
     ensures { result ≡ all_to (once_test b.now) 512 }
 {
-    let mut k: usize = 0;
-    while k < 512 {
-        if !is_once(b, k) {
-            return false;
-        }
-        k = k + 1;
-    }
-    true
+    (0..512).all(|k: usize| is_once(b, k))
 }
 
 fn none(s: &[u8]) {}
@@ -87,13 +73,11 @@ pub fn are_different(b: &[u64; WORDS]) -> bool
 {
     let mut t = [0u8; 512];
     all_marks(&t);
-    let mut k: usize = 0;
-    while k < 512 {
+    for k in 0..512 {
         let serial = serial_at(b, k);
         if !mark(&mut t, serial) {
             return are_compared(b);
         }
-        k = k + 1;
     }
     true
 }

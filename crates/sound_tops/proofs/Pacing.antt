@@ -1,4 +1,5 @@
 -- The code's sums and tests, put together as the definitions have them. Assumes nothing.
+use Rattle.std.specs.Prelude.{None, Option, Some}
 use Prim.Native.Nat.{ℕ, ◌+◌, ◌-◌, ◌*◌, ◌<◌, ◌≤◌}
 use mathlib.Core.Path.{◌≡◌, sym, ◌∙◌, ap, ap₂}
 use mathlib.Core.Bool.{true, ◌&&◌}
@@ -9,8 +10,6 @@ use borrow.Author.Tests.{eq-eqb, ne_eqb}
 use Rattle.bench_words.specs.Store.{node_at, interface_at}
 use Rattle.bench_words.specs.declared.Interface.{Interface}
 use Rattle.bench_words.specs.declared.Node.{Node}
-use Rattle.bench_words.specs.declared.Up.{Up}
-use Rattle.bench_words.specs.declared.Up.TheVariants.{Top, Under}
 use Rattle.ledger_spec.specs.Look.{climb, top}
 use Rattle.bench_views.specs.Records.{rate_of, Steady}
 use Rattle.bench_views.specs.View.{over, view}
@@ -57,13 +56,13 @@ paced b i total e = e
 
 -- ---- a top
 module _ (b : List ℕ) (i : ℕ) (f : Interface) (e : f ≡ interface_at b i) where
-  pub top_under : (p : ℕ) → f.parent ≡ Under p → true ≡ top_test b i
+  pub top_under : (p : ℕ) → f.parent ≡ Some p → true ≡ top_test b i
   unfolding top_in
-  top_under p q = sym (ap (λ (x : Up). over x (between 4611686018427387904 (width_of b i * 512) f.sum && eqb f.speed (512 + pace_of b i)) (λ p. true)) q) ∙ ap (top_in b i) e
+  top_under p q = sym (ap (λ (x : Option ℕ). over x (between 4611686018427387904 (width_of b i * 512) f.sum && eqb f.speed (512 + pace_of b i)) (λ p. true)) q) ∙ ap (top_in b i) e
 
-  pub top_row : f.parent ≡ Top → (w p : ℕ) → (w ≡ width_of b i) × (w ≤ 8796093022208) → (p ≡ pace_of b i) × (p ≤ 1536)
+  pub top_row : f.parent ≡ None → (w p : ℕ) → (w ≡ width_of b i) × (w ≤ 8796093022208) → (p ≡ pace_of b i) × (p ≤ 1536)
       → ((leb (4611686018427387904 - w * 512) f.sum && leb f.sum (4611686018427387904 + w * 512)) && eqb f.speed (512 + p)) ≡ top_test b i
   unfolding top_in
   top_row q w p x y =
       ap₂ (λ (a c : ℕ). between 4611686018427387904 (a * 512) f.sum && eqb f.speed (512 + c)) x.0 y.0
-      ∙ sym (ap (λ (z : Up). over z (between 4611686018427387904 (width_of b i * 512) f.sum && eqb f.speed (512 + pace_of b i)) (λ p. true)) q) ∙ ap (top_in b i) e
+      ∙ sym (ap (λ (z : Option ℕ). over z (between 4611686018427387904 (width_of b i * 512) f.sum && eqb f.speed (512 + pace_of b i)) (λ p. true)) q) ∙ ap (top_in b i) e

@@ -6,7 +6,7 @@ ghost use Rattle.bench_views.specs.Records.{Steady};
 ghost use Rattle.sound_trees.specs.Below.{all_to, sum_to};
 ghost use Rattle.sound_tops.specs.Tops.{rate_in, pace_under, pace_of, top_test};
 
-use bench_words::{Interface, Up, WORDS};
+use bench_words::{Interface, WORDS};
 
 // The shares of the speed of an interface's first slots, each one higher than it is.
 fn rates(b: &[u64; WORDS], u: usize, used: usize) -> u64
@@ -15,12 +15,9 @@ fn rates(b: &[u64; WORDS], u: usize, used: usize) -> u64
     ensures { (result ≡ sum_to (rate_in b.now u) used) × (result ≤ 128) }
 {
     let mut total: u64 = 0;
-    let mut s: usize = 0;
-    while s < used {
+    for s in 0..used {
         let n = bench_words::load_node(b, u * 64 + s);
-        let state = n.state;
-        total = total + bench_trees::rate_of(state);
-        s = s + 1;
+        total += bench_trees::rate_of(n.state);
     }
     total
 }
@@ -44,10 +41,8 @@ fn pace(b: &[u64; WORDS], top: usize) -> u64
     ensures { (result ≡ pace_of b.now top) × (result ≤ 1536) }
 {
     let mut total: u64 = 0;
-    let mut u: usize = 0;
-    while u < 8 {
-        total = total + pace_under(b, top, u);
-        u = u + 1;
+    for u in 0..8 {
+        total += pace_under(b, top, u);
     }
     total
 }
@@ -60,8 +55,8 @@ fn is_top(b: &[u64; WORDS], u: usize) -> bool
     let f = bench_words::load_interface(b, u);
     let up = f.parent;
     match up {
-        Up::Under(_p) => true,
-        Up::Top => {
+        Some(_p) => true,
+        None => {
             let w = sound_trees::width(b, u) * 512;
             let p = pace(b, u);
             let near = (Interface::OFFSET - w <= f.sum) & (f.sum <= Interface::OFFSET + w);
@@ -75,12 +70,5 @@ pub fn are_tops(b: &[u64; WORDS]) -> bool
     requires { Steady b.now }
     ensures { result ≡ all_to (top_test b.now) 8 }
 {
-    let mut u: usize = 0;
-    while u < 8 {
-        if !is_top(b, u) {
-            return false;
-        }
-        u = u + 1;
-    }
-    true
+    (0..8).all(|u: usize| is_top(b, u))
 }

@@ -1,10 +1,22 @@
 -- What holds of every number below n passes the test of all, and the other way round. Assumes nothing.
 use Prim.Native.Nat.{ℕ, zero, suc, ◌+◌, ◌<◌}
 use mathlib.Core.Path.{◌≡◌, refl, sym, ◌∙◌, ap, ap₂}
-use mathlib.Core.Bool.{Bool, true, false, true≢false}
+use mathlib.Core.Bool.{Bool, true, false, true≢false, ◌&&◌}
 use native.Mathlib.Decide.{ℕ_discrete}
 use native.Mathlib.Numerals.{add-one}
 use native.Mathlib.Omega.{arith}
+use Rattle.std.proofs.Math.Bool.{and_assoc}
+use Rattle.std.proofs.iter.Yields.{nat_range_steps}
+use Rattle.std.proofs.lemmas.Iterator.{YieldsList-from_range}
+use Rattle.std.proofs.lemmas.Iterator.Search.{all_from_yields_List}
+use Rattle.std.specs.Fn.{Called}
+use Rattle.std.specs.Iterator.{YieldsThen}
+use Rattle.std.specs.List.{list_all, range_with_len, FoldsTo}
+use Rattle.std.specs.Option.{MatchOption}
+use Rattle.std.specs.Prelude.{Option}
+use Rattle.std.specs.declared.ops.Range.{Range}
+use denote.Param.Members.{Mut}
+use mathlib.Core.List.{List}
 use Rattle.ledger_spec.proofs.Lists.{and_true, both_true}
 use Rattle.sound_trees.specs.Below.{all_to, sum_to}
 
@@ -40,6 +52,28 @@ all_not f n i l e = go (all_to f n) refl
 
 pub all_done : (f : ℕ → Bool) (n i : ℕ) → all_to f i ≡ true → i ≡ n → true ≡ all_to f n
 all_done f n i e q = sym (sym (ap (all_to f) q) ∙ e)
+
+-- ---- `(0..n).all(..)`
+all_next : (f : ℕ → Bool) (a n : ℕ) → list_all f (range_with_len a (suc n)) ≡ (list_all f (range_with_len a n) && f (a + n))
+all_next f a zero = grind arith
+all_next f a (suc n) =
+    let e : a + 1 + n ≡ a + suc n = omega arith in
+    ap (λ (x : Bool). f a && x) (all_next f (a + 1) n) ∙ sym (and_assoc (f a) (list_all f (range_with_len (a + 1) n)) (f (a + 1 + n)))
+    ∙ ap (λ (k : ℕ). (f a && list_all f (range_with_len (a + 1) n)) && f k) e
+
+all_ranged : (f : ℕ → Bool) (n : ℕ) → list_all f (range_with_len 0 n) ≡ all_to f n
+unfolding all_to
+all_ranged f zero = refl
+all_ranged f (suc n) = all_next f 0 n ∙ ap₂ (λ (x y : Bool). x && y) (all_ranged f n) (let e : 0 + n ≡ n = omega arith in ap f e)
+
+-- the second premise is the call's clause `ran`, the third says that the closure computes f
+pub all_chained : {F : Type 0} {g : Mut F (ℕ × Unit {0}) Bool} {s : Range ℕ} (f : ℕ → Bool) (n : ℕ) (u : Range ℕ) (h : F) (r : Bool)
+    → s ≡ record { start = 0; end = n }
+    → (xs : List ℕ) × (o : Option ℕ) × (j : F) × YieldsThen nat_range_steps s xs o u
+    × FoldsTo (λ p x q. Called g p (x, tt) true q) h xs j
+    × MatchOption o (r ≡ true) (λ x. (r ≡ false) × ((k : F) × Called g j (x, tt) false k))
+    → ((x : ℕ) (b : Bool) (q : F) → Called g h (x, tt) b q → (q ≡ h) × (b ≡ f x)) → r ≡ all_to f n
+all_chained f n u h r e ran k = all_from_yields_List f u h r ran (YieldsList-from_range 0 n n e (omega arith)) k ∙ all_ranged f n
 
 -- ---- a loop that adds up
 pub sum_none : (f : ℕ → ℕ) → sum_to f 0 ≡ 0

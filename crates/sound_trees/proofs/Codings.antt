@@ -1,4 +1,5 @@
 -- Words in range are the code of what is loaded from them, and a code is in range: by cases of what is coded. Assumes nothing.
+use Rattle.std.specs.Prelude.{None, Option, Some}
 use Prim.Native.Nat.{ℕ, zero, suc, ◌+◌, ◌-◌, ◌/◌, ◌%◌, ◌<◌, ◌≤◌}
 use mathlib.Core.Path.{◌≡◌, refl, sym, ◌∙◌, ap}
 use mathlib.Core.Bool.{Bool, true, false}
@@ -13,12 +14,8 @@ use Rattle.kinds.specs.declared.Class.TheVariants.{Absent, Blossom, Defect}
 use Rattle.kinds.specs.declared.GrowState.{GrowState}
 use Rattle.kinds.specs.declared.GrowState.TheVariants.{Grow, Stay, Shrink}
 use Rattle.kinds.specs.declared.Handle.{Handle}
-use Rattle.kinds.specs.declared.Parent.{Parent}
-use Rattle.kinds.specs.declared.Parent.TheVariants.{Outermost, Inside}
 use Rattle.bench_words.specs.declared.Node.{Node}
 use Rattle.bench_words.specs.declared.Marks.{Marks}
-use Rattle.bench_words.specs.declared.Up.{Up}
-use Rattle.bench_words.specs.declared.Up.TheVariants.{Top, Under}
 use Rattle.bench_words.specs.Codec.{state_of, state_word, handle_of, handle_word, class_of, class_word, parent_of, parent_word, up_of, up_word, marks_of, marks_word, pick}
 use Rattle.bench_words.specs.Store.{base, ibase, node_at, node_words, interface_at, interface_words}
 use Rattle.bench_words.proofs.Laws.{GoodHandle, GoodParent, GoodClass, GoodUp, good_node, good_interface}
@@ -65,13 +62,13 @@ class_small (Defect v) g = omega arith
 handle_small : (h : Handle) → GoodHandle h → handle_word h < 2199023255552
 handle_small h g = omega arith
 
-parent_small : (p : Parent) → GoodParent p → parent_word p ≤ 2199023255552
-parent_small Outermost g = omega arith
-parent_small (Inside h) g = omega (arith, handle_small h g)
+parent_small : (p : Option Handle) → GoodParent p → parent_word p ≤ 2199023255552
+parent_small None g = omega arith
+parent_small (Some h) g = omega (arith, handle_small h g)
 
-up_small : (p : Up) → GoodUp p → up_word p ≤ 8
-up_small Top g = omega arith
-up_small (Under p) g = omega arith
+up_small : (p : Option ℕ) → GoodUp p → up_word p ≤ 8
+up_small None g = omega arith
+up_small (Some p) g = omega arith
 
 -- ---- row by row
 seven : (P : ℕ → Type 0) → P 10 → P 11 → P 12 → P 13 → P 14 → P 15 → P 16 → (j : ℕ) → j < 7 → P (10 + j)

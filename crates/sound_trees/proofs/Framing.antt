@@ -1,10 +1,10 @@
 -- The tests of the eight interfaces hold exactly where the interfaces' words are canonical and their view is a frame: each test says its fact
 -- of the words, and the view shows the same links. Assumes nothing.
+use Rattle.std.specs.Prelude.{None, Option, Some}
 use Prim.Native.Nat.{ℕ, zero, suc, ◌+◌, ◌-◌, ◌<◌, ◌≤◌}
 use mathlib.Core.Path.{◌≡◌, refl, sym, ◌∙◌, ap, subst}
 use mathlib.Core.Logic.{◌≢◌, ◌⊎◌, inl, inr}
 use mathlib.Core.Bool.{Bool, true, false, not, ◌&&◌, ◌||◌, true≢false, or-true}
-use mathlib.Core.Option.{none, some}
 use mathlib.Core.List.{List}
 use native.Mathlib.Decide.{ℕ_discrete, dec_lt}
 use native.Mathlib.Omega.{arith}
@@ -14,8 +14,6 @@ use borrow.Author.Tests.{eqb-true, eqb-false, eq-eqb, ne_eqb, leb-true, le-leb, 
 use Rattle.bench_words.specs.Codec.{pick}
 use Rattle.bench_words.specs.Store.{node_at, interface_at}
 use Rattle.bench_words.specs.declared.Interface.{Interface}
-use Rattle.bench_words.specs.declared.Up.{Up}
-use Rattle.bench_words.specs.declared.Up.TheVariants.{Top, Under}
 use Rattle.bench_words.proofs.Laws.{GoodUp, good_interface}
 use Rattle.ledger_spec.specs.Bench.{Bench, fresh}
 use Rattle.ledger_spec.specs.Bench as plain
@@ -36,40 +34,40 @@ pub record Halves (U : ℕ → Interface) (u : ℕ) : Type 0 where
   pub right : (U u).right ≤ u
   pub some : 0 < (U u).right
   pub apart : (U u).left ≢ (U u).right
-  pub left_up : (U ((U u).left - 1)).parent ≡ Under u
-  pub right_up : (U ((U u).right - 1)).parent ≡ Under u
+  pub left_up : (U ((U u).left - 1)).parent ≡ Some u
+  pub right_up : (U ((U u).right - 1)).parent ≡ Some u
 
 pub record Linked (U : ℕ → Interface) (u : ℕ) : Type 0 where
   pub used : (U u).used ≤ 64
   pub progress : (U u).progress ≤ 1099511627776
-  pub above : (p : ℕ) → (U u).parent ≡ Under p → (u < p) × (((U p).left ≡ u + 1) ⊎ ((U p).right ≡ u + 1))
+  pub above : (p : ℕ) → (U u).parent ≡ Some p → (u < p) × (((U p).left ≡ u + 1) ⊎ ((U p).right ≡ u + 1))
   pub none : (U u).left ≡ 0 → (U u).right ≡ 0
   pub both : ((U u).left ≡ 0 → ⊥) → Halves U u
 
-under_is : (p : Up) (u : ℕ) → is_under p u ≡ true → p ≡ Under u
-under_is Top u e = absurd (true≢false (sym e))
-under_is (Under q) u e = ap Under (eqb-true q u e)
+under_is : (p : Option ℕ) (u : ℕ) → is_under p u ≡ true → p ≡ Some u
+under_is None u e = absurd (true≢false (sym e))
+under_is (Some q) u e = ap Some (eqb-true q u e)
 
-is_under_lem : (p : Up) (u : ℕ) → p ≡ Under u → is_under p u ≡ true
-is_under_lem p u e = ap (λ (x : Up). is_under x u) e ∙ eq-eqb u u refl
+is_under_lem : (p : Option ℕ) (u : ℕ) → p ≡ Some u → is_under p u ≡ true
+is_under_lem p u e = ap (λ (x : Option ℕ). is_under x u) e ∙ eq-eqb u u refl
 
 or_cases : (a b : Bool) → (a || b) ≡ true → (a ≡ true) ⊎ (b ≡ true)
 or_cases true b e = inl refl
 or_cases false b e = inr e
 
 module _ (U : ℕ → Interface) (u : ℕ) where
-  above_says : (q p : Up) → (n : ℕ) → up_test U p u ≡ true → p ≡ Under n → (u < n) × (((U n).left ≡ u + 1) ⊎ ((U n).right ≡ u + 1))
+  above_says : (q p : Option ℕ) → (n : ℕ) → up_test U p u ≡ true → p ≡ Some n → (u < n) × (((U n).left ≡ u + 1) ⊎ ((U n).right ≡ u + 1))
   above_says q p n e k =
-      let a = and_true (ltb u n) (eqb (U n).left (u + 1) || eqb (U n).right (u + 1)) (sym (ap (λ (x : Up). up_test U x u) k) ∙ e) in
+      let a = and_true (ltb u n) (eqb (U n).left (u + 1) || eqb (U n).right (u + 1)) (sym (ap (λ (x : Option ℕ). up_test U x u) k) ∙ e) in
       (ltb-true u n a.0, either (or_cases (eqb (U n).left (u + 1)) (eqb (U n).right (u + 1)) a.1))
     where
       either : (eqb (U n).left (u + 1) ≡ true) ⊎ (eqb (U n).right (u + 1) ≡ true) → ((U n).left ≡ u + 1) ⊎ ((U n).right ≡ u + 1)
       either (inl x) = inl (eqb-true (U n).left (u + 1) x)
       either (inr x) = inr (eqb-true (U n).right (u + 1) x)
 
-  above_holds : (p : Up) → ((n : ℕ) → p ≡ Under n → (u < n) × (((U n).left ≡ u + 1) ⊎ ((U n).right ≡ u + 1))) → up_test U p u ≡ true
-  above_holds Top h = refl
-  above_holds (Under n) h = both_true (lt-ltb u n (h n refl).0) (either (h n refl).1)
+  above_holds : (p : Option ℕ) → ((n : ℕ) → p ≡ Some n → (u < n) × (((U n).left ≡ u + 1) ⊎ ((U n).right ≡ u + 1))) → up_test U p u ≡ true
+  above_holds None h = refl
+  above_holds (Some n) h = both_true (lt-ltb u n (h n refl).0) (either (h n refl).1)
     where
       either : ((U n).left ≡ u + 1) ⊎ ((U n).right ≡ u + 1) → (eqb (U n).left (u + 1) || eqb (U n).right (u + 1)) ≡ true
       either (inl x) = ap (λ (c : Bool). c || eqb (U n).right (u + 1)) (eq-eqb (U n).left (u + 1) x)
@@ -149,9 +147,9 @@ module _ (b : List ℕ) (u : ℕ) where
       (both_true (above_holds U u (U u).parent L.above) (down_holds U u L.none L.both)))
 
 -- ---- the view's links are the words'
-up_back : (p : Up) (n : ℕ) → up_seen p ≡ some n → p ≡ Under n
-up_back Top n e = absurd (none_some refl e)
-up_back (Under q) n e = let z : q ≡ n = cc in ap Under z
+up_back : (p : Option ℕ) (n : ℕ) → up_seen p ≡ Some n → p ≡ Some n
+up_back None n e = absurd (none_some refl e)
+up_back (Some q) n e = let z : q ≡ n = cc in ap Some z
 
 module _ (b : List ℕ) where
   abbrev B : Bench
@@ -169,17 +167,17 @@ module _ (b : List ℕ) where
   parent_in : (v : ℕ) → v < 8 → (interface B v).parent ≡ up_seen (I v).parent
   parent_in v l = view_parent (get_or b 0 0) (interface_at b) (node_at b) v l
 
-  some_halves : (v : ℕ) → v < 8 → ((I v).left ≡ 0 → ⊥) → (interface B v).halves ≡ some ((I v).left - 1, (I v).right - 1)
+  some_halves : (v : ℕ) → v < 8 → ((I v).left ≡ 0 → ⊥) → (interface B v).halves ≡ Some ((I v).left - 1, (I v).right - 1)
   some_halves v l z = halves_in v l ∙ rw (ne_eqb (I v).left 0 z)
 
-  no_halves : (v : ℕ) → v < 8 → (I v).left ≡ 0 → (interface B v).halves ≡ none
+  no_halves : (v : ℕ) → v < 8 → (I v).left ≡ 0 → (interface B v).halves ≡ None
   no_halves v l z = halves_in v l ∙ rw (eq-eqb (I v).left 0 z)
 
   -- what is seen of a parent and of halves is held by one of eight
-  parent_held : (v p : ℕ) → (interface B v).parent ≡ some p → (v < 8) × ((I v).parent ≡ Under p)
+  parent_held : (v p : ℕ) → (interface B v).parent ≡ Some p → (v < 8) × ((I v).parent ≡ Some p)
   parent_held v p e = go (dec_lt v 8)
     where
-      go : Dec (v < 8) → (v < 8) × ((I v).parent ≡ Under p)
+      go : Dec (v < 8) → (v < 8) × ((I v).parent ≡ Some p)
       go (yes q) = (q, up_back (I v).parent p (sym (parent_in v q) ∙ e))
       go (no q) = absurd (none_some (ap (λ (f : plain.Interface). f.parent) (out v (omega arith))) e)
 
@@ -189,7 +187,7 @@ module _ (b : List ℕ) where
     left : x ≡ (I v).left - 1
     right : y ≡ (I v).right - 1
 
-  halves_held : (v x y : ℕ) → (interface B v).halves ≡ some (x, y) → Held v x y
+  halves_held : (v x y : ℕ) → (interface B v).halves ≡ Some (x, y) → Held v x y
   halves_held v x y e = go (dec_lt v 8)
     where
       two : v < 8 → Dec ((I v).left ≡ 0) → Held v x y
@@ -218,7 +216,7 @@ module _ (b : List ℕ) where
       apart = λ u x y f k. let g = halves_held u x y f in let H = (L u g.low).both g.some in differ u x y g H k;
     }
       where
-        good : (u p : ℕ) → (I u).parent ≡ Under p → p < 8
+        good : (u p : ℕ) → (I u).parent ≡ Some p → p < 8
         good u p e = subst GoodUp e (good_interface b u)
 
         not_none : (u p : ℕ) → ((I p).left ≡ u + 1) ⊎ ((I p).right ≡ u + 1) → p < 8 → (I p).left ≡ 0 → ⊥
@@ -244,10 +242,10 @@ module _ (b : List ℕ) where
     pub frame_linked : (u : ℕ) → u < 8 → Linked (interface_at b) u
     frame_linked u lu = record { used = st.slots u lu; progress = st.progress u lu; above = above; none = whole u lu; both = halves }
       where
-        above : (p : ℕ) → (I u).parent ≡ Under p → (u < p) × (((I p).left ≡ u + 1) ⊎ ((I p).right ≡ u + 1))
+        above : (p : ℕ) → (I u).parent ≡ Some p → (u < p) × (((I p).left ≡ u + 1) ⊎ ((I p).right ≡ u + 1))
         above p e = ((F.rising u p seen).0, go (ℕ_discrete (I p).left 0))
           where
-            seen : (interface B u).parent ≡ some p
+            seen : (interface B u).parent ≡ Some p
             seen = parent_in u lu ∙ ap up_seen e
 
             low : p < 8
@@ -275,10 +273,10 @@ module _ (b : List ℕ) where
           right_up = (parent_held ((I u).right - 1) u y).1;
         }
           where
-            x : (interface B ((I u).left - 1)).parent ≡ some u
+            x : (interface B ((I u).left - 1)).parent ≡ Some u
             x = F.left u ((I u).left - 1) ((I u).right - 1) (some_halves u lu z)
 
-            y : (interface B ((I u).right - 1)).parent ≡ some u
+            y : (interface B ((I u).right - 1)).parent ≡ Some u
             y = F.right u ((I u).left - 1) ((I u).right - 1) (some_halves u lu z)
 
             below : (n : ℕ) → (n ≡ 0 → ⊥) → n - 1 < u → n ≤ u

@@ -1,4 +1,5 @@
 -- The code's tests of an interface, put together as the definitions have them. Assumes nothing.
+use Rattle.std.specs.Prelude.{Option, Some}
 use Prim.Native.Nat.{ℕ, ◌+◌, ◌-◌, ◌*◌, ◌<◌, ◌≤◌}
 use mathlib.Core.Path.{◌≡◌, sym, ◌∙◌, ap, ap₂, subst}
 use mathlib.Core.Bool.{Bool, false, not, ◌&&◌, ◌||◌}
@@ -8,8 +9,6 @@ use lib.Dec.{eqb, leb, ltb}
 use borrow.Author.Tests.{eq-eqb, ne_eqb, le-leb, lt-leb}
 use Rattle.bench_words.specs.Store.{interface_at}
 use Rattle.bench_words.specs.declared.Interface.{Interface}
-use Rattle.bench_words.specs.declared.Up.{Up}
-use Rattle.bench_words.specs.declared.Up.TheVariants.{Under}
 use Rattle.bench_words.proofs.Laws.{GoodUp, good_interface}
 use Rattle.ledger_spec.specs.Look.{top}
 use Rattle.bench_views.specs.Records.{Steady}
@@ -21,17 +20,17 @@ use Rattle.sound_trees.proofs.Belows.{sum_none, sum_more}
 use Rattle.sound_trees.specs.Links.{is_under, up_test, down_test, interface_test}
 use Rattle.sound_trees.specs.Width.{progress_under, width_of}
 
-pub under_known : (p : Up) (q u : ℕ) → p ≡ Under q → eqb q u ≡ is_under p u
-under_known p q u e = sym (ap (λ (x : Up). is_under x u) e)
+pub under_known : (p : Option ℕ) (q u : ℕ) → p ≡ Some q → eqb q u ≡ is_under p u
+under_known p q u e = sym (ap (λ (x : Option ℕ). is_under x u) e)
 
 pub good_loaded : (b : List ℕ) (u : ℕ) (f : Interface) → f ≡ interface_at b u → GoodUp f.parent
 good_loaded b u f e = subst (λ (x : Interface). GoodUp x.parent) (sym e) (good_interface b u)
 
-pub good_under : (p : Up) (q : ℕ) → GoodUp p → p ≡ Under q → q < 8
+pub good_under : (p : Option ℕ) (q : ℕ) → GoodUp p → p ≡ Some q → q < 8
 good_under p q g e = subst GoodUp e g
 
-pub half_known : (U : ℕ → Interface) (p : Up) (q u : ℕ) (f : Interface) → p ≡ Under q → f ≡ U q → (ltb u q && (eqb f.left (u + 1) || eqb f.right (u + 1))) ≡ up_test U p u
-half_known U p q u f e g = ap (λ (x : Interface). ltb u q && (eqb x.left (u + 1) || eqb x.right (u + 1))) g ∙ sym (ap (λ (x : Up). up_test U x u) e)
+pub half_known : (U : ℕ → Interface) (p : Option ℕ) (q u : ℕ) (f : Interface) → p ≡ Some q → f ≡ U q → (ltb u q && (eqb f.left (u + 1) || eqb f.right (u + 1))) ≡ up_test U p u
+half_known U p q u f e g = ap (λ (x : Interface). ltb u q && (eqb x.left (u + 1) || eqb x.right (u + 1))) g ∙ sym (ap (λ (x : Option ℕ). up_test U x u) e)
 
 module _ (U : ℕ → Interface) (l r u : ℕ) where
   pub down_none : l ≡ 0 → eqb r 0 ≡ down_test U l r u

@@ -1,8 +1,8 @@
 -- W by tops is the ledger's W down the halves. Assumes nothing.
+use Rattle.std.specs.Prelude.{None}
 use Prim.Native.Nat.{ℕ, zero, suc, ◌<◌}
 use mathlib.Core.Path.{◌≡◌, refl, sym, ◌∙◌, ap, ap₂}
 use mathlib.Core.Bool.{Bool, true, false}
-use mathlib.Core.Option.{none}
 use mathlib.Core.List.{List}
 use lib.Dec.{eqb}
 use lib.ListN.{get_or}
@@ -31,7 +31,7 @@ unfolding Σ sum_to
 sum_pos c f zero = refl
 sum_pos c f (suc n) = ap₂ (λ (x y : ℤ). x +ℤ y) (sum_pos c f n) (gate_pos (c n) (f n))
 
-pub width_is : (b : List ℕ) → Frame (view b) → (i : ℕ) → i < 8 → (interface (view b) i).parent ≡ none → width_of b i ≡ W (view b) i
+pub width_is : (b : List ℕ) → Frame (view b) → (i : ℕ) → i < 8 → (interface (view b) i).parent ≡ None → width_of b i ≡ W (view b) i
 unfolding width_of
 width_is b F i l free = ap nat_abs (sym (W-under (view b) F i l free
     ∙ Σ_same 8 (λ u. gate (eqb (top (view b) u) i) (pos (interface_at b u).progress)) (λ u. gate (eqb (top (view b) u) i) (progress_in (view b) u))

@@ -1,21 +1,19 @@
 -- The tests of an interface: its words, its ranges, its links up and down. Assumes nothing.
-use Rattle.std.specs.Prelude.{ℕ, ◌+◌, ◌-◌, Bool, true, false, not, ◌&&◌, ◌||◌, List, eqb, leb, ltb}
+use Rattle.std.specs.Prelude.{None, Option, Some, ℕ, ◌+◌, ◌-◌, Bool, true, false, not, ◌&&◌, ◌||◌, List, eqb, leb, ltb}
 use Rattle.ledger_spec.specs.Numbers.{progress_limit}
 use Rattle.bench_words.specs.Codec.{pick}
 use Rattle.bench_words.specs.Store.{interface_at}
 use Rattle.bench_words.specs.declared.Interface.{Interface}
-use Rattle.bench_words.specs.declared.Up.{Up}
-use Rattle.bench_words.specs.declared.Up.TheVariants.{Top, Under}
 use Rattle.bench_words.specs.Coding.{spare_at, link_at, flags_at}
 
-abbrev pub is_under : Up → ℕ → Bool
-is_under Top u = false
-is_under (Under p) u = eqb p u
+abbrev pub is_under : Option ℕ → ℕ → Bool
+is_under None u = false
+is_under (Some p) u = eqb p u
 
 -- a parent has a higher number, and u for a half
-abbrev pub up_test : (ℕ → Interface) → Up → ℕ → Bool
-up_test U Top u = true
-up_test U (Under p) u = ltb u p && (eqb (U p).left (u + 1) || eqb (U p).right (u + 1))
+abbrev pub up_test : (ℕ → Interface) → Option ℕ → ℕ → Bool
+up_test U None u = true
+up_test U (Some p) u = ltb u p && (eqb (U p).left (u + 1) || eqb (U p).right (u + 1))
 
 -- halves (each with one added) are none, or two different ones of lower numbers whose parent is u
 abbrev pub down_test : (ℕ → Interface) → ℕ → ℕ → ℕ → Bool

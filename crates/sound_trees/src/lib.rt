@@ -9,26 +9,26 @@ ghost use Rattle.sound_trees.specs.Below.{all_to};
 ghost use Rattle.sound_trees.specs.Links.{is_under, up_test, down_test, interface_test};
 ghost use Rattle.sound_trees.specs.Width.{progress_under, width_of};
 
-use bench_words::{Interface, Up, WORDS};
+use bench_words::{Interface, WORDS};
 
-fn is_under(p: Up, u: usize) -> bool
+fn is_under(p: Option<u8>, u: usize) -> bool
     ensures { result ≡ is_under p u }
 {
     match p {
-        Up::Top => false,
-        Up::Under(q) => (q as usize) == u,
+        None => false,
+        Some(q) => (q as usize) == u,
     }
 }
 
 // An interface's parent, if any, has a higher number and has the interface for a half.
-fn is_half(b: &[u64; WORDS], p: Up, u: usize) -> bool
+fn is_half(b: &[u64; WORDS], p: Option<u8>, u: usize) -> bool
     requires good_up { GoodUp p }
     requires u_bound { u < 8 }
     ensures { result ≡ up_test (interface_at b.now) p u }
 {
     match p {
-        Up::Top => true,
-        Up::Under(q) => {
+        None => true,
+        Some(q) => {
             let f = bench_words::load_interface(b, q as usize);
             let n = (u as u64) + 1;
             (u < (q as usize)) & ((f.left == n) | (f.right == n))
@@ -77,14 +77,7 @@ fn is_interface(b: &[u64; WORDS], u: usize) -> bool
 pub fn are_trees(b: &[u64; WORDS]) -> bool
     ensures { result ≡ all_to (interface_test b.now) 8 }
 {
-    let mut u: usize = 0;
-    while u < 8 {
-        if !is_interface(b, u) {
-            return false;
-        }
-        u = u + 1;
-    }
-    true
+    (0..8).all(|u: usize| is_interface(b, u))
 }
 
 // The progress of an interface that climbs to `top`, and 0 of another.
@@ -106,10 +99,8 @@ pub fn width(b: &[u64; WORDS], top: usize) -> u64
     ensures { (result ≡ width_of b.now top) × (result ≤ 8796093022208) }
 {
     let mut w: u64 = 0;
-    let mut u: usize = 0;
-    while u < 8 {
-        w = w + progress_under(b, top, u);
-        u = u + 1;
+    for u in 0..8 {
+        w += progress_under(b, top, u);
     }
     w
 }

@@ -1,11 +1,11 @@
 -- A blossom's line by its first 65 serials: fewer are all of them, and with 65 it is refused whatever they are. Assumes nothing.
+use Rattle.std.specs.Prelude.{Some}
 use Prim.Native.Nat.{ℕ, ◌≤◌, ◌<◌}
 use mathlib.Core.Path.{◌≡◌, refl, sym, ◌∙◌, ap}
 use mathlib.Core.Logic.{by_cases}
 use mathlib.Core.List.{List, [], map}
 use native.Mathlib.Decide.{dec_lt}
 use native.Mathlib.Omega.{arith}
-use mathlib.Core.Option.{some}
 use lib.ListN.{length, take}
 use lib.Seq.{take_all}
 use Rattle.kinds.specs.declared.Handle.{Handle}
@@ -25,10 +25,10 @@ use Rattle.text_numbers.specs.Numbers.{numbers_of}
 use Rattle.text_calls.specs.Turned.{Few, TurnedBlossom}
 use Rattle.text_calls.proofs.Turning.{turned}
 
-front_says : (b : Bench) (u : ℕ) (ks : List ℕ) (n : ℕ) → Few (length ks) n → says b (some (B u ks)) ≡ says b (some (B u (take n ks)))
+front_says : (b : Bench) (u : ℕ) (ks : List ℕ) (n : ℕ) → Few (length ks) n → says b (Some (B u ks)) ≡ says b (Some (B u (take n ks)))
 front_says b u ks n f = by_cases (dec_lt 64 (length ks))
-    (λ (l : 64 < length ks). first_65 b u ks l ∙ ap (λ (m : ℕ). says b (some (B u (take m ks)))) (sym (f.many l)))
-    (λ (l : 64 < length ks → ⊥). ap (λ (js : List ℕ). says b (some (B u js))) (sym (take_all n ks (omega (arith, f.all (omega arith))))))
+    (λ (l : 64 < length ks). first_65 b u ks l ∙ ap (λ (m : ℕ). says b (Some (B u (take m ks)))) (sym (f.many l)))
+    (λ (l : 64 < length ks → ⊥). ap (λ (js : List ℕ). says b (Some (B u js))) (sym (take_all n ks (omega (arith, f.all (omega arith))))))
 
 pub few_low : (count n : ℕ) → Few count n → n ≤ count
 few_low count n f = by_cases (dec_lt 64 count) (λ (l : 64 < count). omega (arith, f.many l)) (λ (l : 64 < count → ⊥). omega (arith, f.all (omega arith)))
@@ -44,8 +44,8 @@ pub turned_blossom : (b : List ℕ) → SoundWords b → (u : ℕ) (stored : Lis
 unfolding says
 turned_blossom b W u stored count long n f ws a m h b' A r t ks c front =
     let e : take n stored ≡ take n ks = front n f.most (few_low count n f) in
-    turned b W (some (B u ks)) u (Blossom u (map (named (view b)) (take n stored)) [])
-    (front_says (view b) u ks n (rw c f) ∙ ap (λ (js : List ℕ). says (view b) (some (B u js))) (sym e))
+    turned b W (Some (B u ks)) u (Blossom u (map (named (view b)) (take n stored)) [])
+    (front_says (view b) u ks n (rw c f) ∙ ap (λ (js : List ℕ). says (view b) (Some (B u js))) (sym e))
     (Blossom u (hands_given (take n ws)) (pairs_given []))
     (rw no_pairs (same_blossom (view b) u n stored ws (omega (arith, f.most)) a))
     m h b' A r t

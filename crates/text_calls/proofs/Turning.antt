@@ -1,8 +1,8 @@
 -- A call's answer on sound words is the line's: BROKEN does not come up, and what the line shows is read off the words after the call. Assumes nothing.
+use Rattle.std.specs.Prelude.{Some}
 use Prim.Native.Nat.{ℕ}
 use mathlib.Core.Path.{◌≡◌, refl, sym, ◌∙◌, ap}
 use mathlib.Core.Bool.{true}
-use mathlib.Core.Option.{some}
 use mathlib.Core.List.{List}
 use lib.IntN.{pos}
 use Rattle.kinds.specs.declared.Handle.{Handle}
@@ -54,7 +54,7 @@ module _ (b : List ℕ) (W : SoundWords b) where
   turned l = gave (says (view b) l)
 
   -- a check
-  pub turned_check : (u n v : ℕ) (i : ℕ) → (n, (v, i)) ≡ check_of (view b) u → (r : Reply) → numbers_of r ≡ shown n v (view b) u → Turned b (some (K u)) r b
+  pub turned_check : (u n v : ℕ) (i : ℕ) → (n, (v, i)) ≡ check_of (view b) u → (r : Reply) → numbers_of r ≡ shown n v (view b) u → Turned b (Some (K u)) r b
   unfolding says checks
   turned_check u n v i e r t =
       let p : (n, (v, i)) ≡ ask (view b) (0, 0) (check_of (view b) u) = e ∙ sym (ask_true (view b) (0, 0) (check_of (view b) u) W.sound) in

@@ -1,6 +1,5 @@
 -- What a line does on sound words: the ledger's own account of it. Assumes nothing.
-use Rattle.std.specs.Prelude.{ℕ, ◌≤◌, ◌<◌, ◌≡◌, List, length, take}
-use Rattle.std.proofs.Math.Option.{some}
+use Rattle.std.specs.Prelude.{ℕ, ◌≤◌, ◌<◌, ◌≡◌, List, length, take, Some}
 use Rattle.ledger_spec.specs.Operations.{B}
 use Rattle.ledger_spec.specs.Grammar.{Line}
 use Rattle.ledger_spec.specs.Lines.{LineAnswer, says}
@@ -28,4 +27,4 @@ pub record Few (count n : ℕ) : Type 0 where
 -- a blossom of the serials ks, of which the front stands in a slice
 abbrev pub TurnedBlossom : List ℕ → ℕ → List ℕ → ℕ → Reply → List ℕ → Type 0
 TurnedBlossom b u stored count r b' =
-    (ks : List ℕ) → length ks ≡ count → ((n : ℕ) → n ≤ 65 → n ≤ count → take n stored ≡ take n ks) → Turned b (some (B u ks)) r b'
+    (ks : List ℕ) → length ks ≡ count → ((n : ℕ) → n ≤ 65 → n ≤ count → take n stored ≡ take n ks) → Turned b (Some (B u ks)) r b'

@@ -2,7 +2,6 @@
 // One line of the text program: the call that it says on a sound bench, and its four numbers. Serials become nodes by hints that no answer depends on.
 // Every line leaves the bench sound. Assumes nothing.
 ghost use Rattle.std.specs.Prelude.{◌≡◌, List, ℕ, ◌≤◌, length};
-ghost use Rattle.std.proofs.Math.Option.{some};
 ghost use Rattle.ledger_spec.specs.Operations.{D, E, S, G, F, C, K};
 ghost use Rattle.ledger_spec.specs.Grammar.{Line as Said};
 ghost use Rattle.ledger_spec.specs.Lines.{shown};
@@ -45,7 +44,7 @@ pub fn keep(made: Made, hints: &mut [u16; HINTS]) {
 
 fn defect(b: &mut [u64; WORDS], unit: u8, vertex: Vertex, hints: &mut [u16; HINTS]) -> Reply
     requires { SoundWords b.old }
-    ensures { Turned b.old (some (D unit vertex.0)) result b.new }
+    ensures { Turned b.old (Some (D unit vertex.0)) result b.new }
 {
     let made = call_sound::create_defect_node(b, unit, vertex);
     keep(made, hints);
@@ -81,7 +80,7 @@ fn blossom(
 
 fn expand(b: &mut [u64; WORDS], unit: u8, serial: Serial, hints: &mut [u16; HINTS]) -> Reply
     requires { SoundWords b.old }
-    ensures { Turned b.old (some (E unit serial.0)) result b.new }
+    ensures { Turned b.old (Some (E unit serial.0)) result b.new }
 {
     let node = bench_serials::named(b, serial, hints);
     let made = call_sound::expand_blossom(b, unit, node);
@@ -96,7 +95,7 @@ fn set_state(
     hints: &mut [u16; HINTS],
 ) -> Reply
     requires { SoundWords b.old }
-    ensures { Turned b.old (some (S unit serial.0 (state_named state))) result b.new }
+    ensures { Turned b.old (Some (S unit serial.0 (state_named state))) result b.new }
 {
     let node = bench_serials::named(b, serial, hints);
     let made = call_sound::set_grow_state(b, unit, node, state);
@@ -105,7 +104,7 @@ fn set_state(
 
 fn grow(b: &mut [u64; WORDS], unit: u8, length: i64) -> Reply
     requires { SoundWords b.old }
-    ensures { Turned b.old (some (G unit length)) result b.new }
+    ensures { Turned b.old (Some (G unit length)) result b.new }
 {
     let made = call_sound::grow(b, unit, length);
     tell(b, unit, made)
@@ -113,7 +112,7 @@ fn grow(b: &mut [u64; WORDS], unit: u8, length: i64) -> Reply
 
 fn fuse(b: &mut [u64; WORDS], parent: u8, left: u8, right: u8) -> Reply
     requires { SoundWords b.old }
-    ensures { Turned b.old (some (F parent left right)) result b.new }
+    ensures { Turned b.old (Some (F parent left right)) result b.new }
 {
     let made = call_sound::fuse(b, parent, left, right);
     tell(b, parent, made)
@@ -121,7 +120,7 @@ fn fuse(b: &mut [u64; WORDS], parent: u8, left: u8, right: u8) -> Reply
 
 fn clear(b: &mut [u64; WORDS], unit: u8) -> Reply
     requires { SoundWords b.old }
-    ensures { Turned b.old (some (C unit)) result b.new }
+    ensures { Turned b.old (Some (C unit)) result b.new }
 {
     let made = call_sound::clear(b, unit);
     tell(b, unit, made)
@@ -129,7 +128,7 @@ fn clear(b: &mut [u64; WORDS], unit: u8) -> Reply
 
 fn check(b: &mut [u64; WORDS], unit: u8) -> Reply
     requires { SoundWords b.old }
-    ensures { Turned b.old (some (K unit)) result b.new }
+    ensures { Turned b.old (Some (K unit)) result b.new }
 {
     let checked = check_sound::sanity_check(b, unit);
     text_numbers::show(b, unit, checked.number, checked.verdict as u32)

@@ -1,9 +1,9 @@
 -- However an input is cut into chunks, its lines are those of the whole: what is held of a line is enough to go on. Assumes nothing.
+use Rattle.std.specs.Prelude.{None, Some}
 use Prim.Native.Nat.{ℕ, ◌≤◌, ◌<◌}
 use native.Mathlib.Omega.{arith}
 use native.Mathlib.Decide.{ℕ_discrete, dec_le}
 use mathlib.Core.Path.{◌≡◌, refl, sym, ◌∙◌, ap}
-use mathlib.Core.Option.{none, some}
 use mathlib.Core.List.{List, [], ◌∷◌, ◌++◌, append_assoc, append-nil}
 use lib.Dec.{lit<}
 use lib.ListN.{length, take}
@@ -41,11 +41,11 @@ pub left_on : (p : List ℕ) (c : ℕ) (s : List ℕ) → (c ≡ 10 → ⊥) →
 unfolding left
 left_on p c s e = rw (ne_eqb c 10 e, left)
 
-pub first_none : (p : List ℕ) → first_line p [] ≡ none
+pub first_none : (p : List ℕ) → first_line p [] ≡ None
 unfolding first_line
 first_none p = refl
 
-pub first_end : (p : List ℕ) (c : ℕ) (s : List ℕ) → c ≡ 10 → first_line p (c ∷ s) ≡ some (p, s)
+pub first_end : (p : List ℕ) (c : ℕ) (s : List ℕ) → c ≡ 10 → first_line p (c ∷ s) ≡ Some (p, s)
 unfolding first_line
 first_end p c s e = rw (eq-eqb c 10 e, first_line)
 

@@ -1,10 +1,10 @@
 -- A blossom of more than 64 members is refused whatever they are, so that a program may hold the first 65 serials of a line and drop the rest.
 -- Assumes nothing.
+use Rattle.std.specs.Prelude.{Some}
 use Prim.Native.Nat.{ℕ, ◌<◌}
 use native.Mathlib.Omega.{arith}
 use mathlib.Core.Bool.{Bool, true, false, ◌||◌}
 use mathlib.Core.Path.{◌≡◌, refl, sym, ◌∙◌, ap}
-use mathlib.Core.Option.{some}
 use mathlib.Core.List.{List, [], ◌∷◌, map}
 use lib.Dec.{ltb}
 use lib.ListN.{length, take, length-map}
@@ -73,12 +73,12 @@ module _ (b : Bench) (u : ℕ) (hs : List Handle) (h : 64 < length hs) where
   unfolding answer large
   answered = ap (λ (x : Answer). elim (sound b) as (λ (s : Bool). Answer) [ true ↦ x | false ↦ broken b ]) (replied (tells b (Blossom u hs [])))
 
-pub large_circle : (b : Bench) (u : ℕ) (ks js : List ℕ) → 64 < length ks → 64 < length js → says b (some (B u ks)) ≡ says b (some (B u js))
+pub large_circle : (b : Bench) (u : ℕ) (ks js : List ℕ) → 64 < length ks → 64 < length js → says b (Some (B u ks)) ≡ says b (Some (B u js))
 unfolding says calls
 large_circle b u ks js h k =
     let e = answered b u (map (named b) ks) (rw length-map h) ∙ sym (answered b u (map (named b) js) (rw length-map k)) in
     ap (λ (a : Answer). record { numbers = shown a.number a.node.serial a.bench u; bench = a.bench }) e
 
 -- 65 of them are enough
-pub first_65 : (b : Bench) (u : ℕ) (ks : List ℕ) → 64 < length ks → says b (some (B u ks)) ≡ says b (some (B u (take 65 ks)))
+pub first_65 : (b : Bench) (u : ℕ) (ks : List ℕ) → 64 < length ks → says b (Some (B u ks)) ≡ says b (Some (B u (take 65 ks)))
 first_65 b u ks h = large_circle b u ks (take 65 ks) h (omega (arith, length-take-le 65 ks h))

@@ -60,13 +60,13 @@ module _ (a : ℕ) (t p chunk buf : List ℕ) (n i : ℕ) (g : Feeding a t p chu
     no_first = λ q. absurd (true≢false q);
   })
 
-  pub feed_part : length chunk ≤ i → Feeds a t p chunk buf false n i
+  pub feed_part : length chunk ≤ i → Feeds a t p chunk buf false n (length chunk)
   feed_part h =
       let d : drop i chunk ≡ [] = drop_of_length-le chunk h in
       record {
         on = λ q. absurd (true≢false (sym q));
         short = g.short;
-        in_chunk = g.in_chunk;
+        in_chunk = omega arith;
         long = g.long;
         line = λ q. absurd (true≢false (sym q));
         part = λ _. (g.lns ∙ ap (lines (take n buf)) d ∙ lines_none (take n buf), g.lft ∙ ap (left (take n buf)) d ∙ left_none (take n buf));

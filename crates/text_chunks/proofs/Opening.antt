@@ -1,10 +1,10 @@
 -- However an input is cut into chunks, what is written for it from its beginning is the program's: what is held of its first line is enough to tell whether
 -- that line chooses an engine. Assumes nothing.
+use Rattle.std.specs.Prelude.{None, Some}
 use Prim.Native.Nat.{ℕ, ◌≤◌, ◌<◌}
 use native.Mathlib.Omega.{arith}
 use native.Mathlib.Decide.{ℕ_discrete, dec_le}
 use mathlib.Core.Path.{◌≡◌, refl, sym, ◌∙◌, ap}
-use mathlib.Core.Option.{none, some}
 use mathlib.Core.List.{List, [], ◌∷◌, ◌++◌, append_assoc, append-nil}
 use lib.ListN.{length, take}
 use lib.Seq.{take_all, length-take-le}
@@ -24,7 +24,7 @@ use Rattle.text_chunks.proofs.Answering.{after_append, texts_more, replies_lines
 
 -- ---- the first 1,024 bytes of a line tell whether it chooses
 
-pub chosen_long : (l : List ℕ) → 3 < length l → chosen l ≡ none
+pub chosen_long : (l : List ℕ) → 3 < length l → chosen l ≡ None
 unfolding chosen
 chosen_long [] h = absurd (omega arith)
 chosen_long (m ∷ []) h = absurd (omega arith)
@@ -45,9 +45,9 @@ opening_kept l = go (dec_le (length l) 1024)
 -- ---- a chunk, where p is what stands before it of the first line: it goes on with that line, or ends it
 
 pub data Met (p c : List ℕ) : Type 0 where
-  goes : first_line (take 1024 p) c ≡ none → left (take 1024 p) c ≡ take 1024 (p ++ c)
+  goes : first_line (take 1024 p) c ≡ None → left (take 1024 p) c ≡ take 1024 (p ++ c)
       → ((r : List ℕ) → (upto 10 (c ++ r) ≡ c ++ upto 10 r) × (parts_after 10 (c ++ r) ≡ parts_after 10 r)) → Met p c
-  ends : (l t : List ℕ) → first_line (take 1024 p) c ≡ some (take 1024 (p ++ l), t) → left (take 1024 p) c ≡ left [] t
+  ends : (l t : List ℕ) → first_line (take 1024 p) c ≡ Some (take 1024 (p ++ l), t) → left (take 1024 p) c ≡ left [] t
       → ((r : List ℕ) → (upto 10 (c ++ r) ≡ l) × (parts_after 10 (c ++ r) ≡ upto 10 (t ++ r) ∷ parts_after 10 (t ++ r))) → Met p c
 
 first_met : (c p : List ℕ) → Met p c
@@ -62,13 +62,13 @@ first_met (x ∷ c) p = go (ℕ_discrete x 10) (first_met c (p ++ (x ∷ [])))
 
     go : Dec (x ≡ 10) → Met (p ++ (x ∷ [])) c → Met p (x ∷ c)
     go (yes e) m =
-        ends [] c (first_end (take 1024 p) x c e ∙ ap (λ (q : List ℕ). some (take 1024 q, c)) (sym (append-nil p))) (left_end (take 1024 p) x c e)
+        ends [] c (first_end (take 1024 p) x c e ∙ ap (λ (q : List ℕ). Some (take 1024 q, c)) (sym (append-nil p))) (left_end (take 1024 p) x c e)
         (λ r. (upto_here 10 x (c ++ r) e, after_here 10 x (c ++ r) e))
     go (no e) (goes f k w) =
         goes (on e ∙ f) (left_more e ∙ k ∙ ap (take 1024) (append_assoc p (x ∷ []) c))
         (λ r. (upto_on 10 x (c ++ r) e ∙ ap (λ (q : List ℕ). x ∷ q) (w r).0, after_on 10 x (c ++ r) e ∙ (w r).1))
     go (no e) (ends l t f k w) =
-        ends (x ∷ l) t (on e ∙ f ∙ ap (λ (q : List ℕ). some (take 1024 q, t)) (append_assoc p (x ∷ []) l)) (left_more e ∙ k)
+        ends (x ∷ l) t (on e ∙ f ∙ ap (λ (q : List ℕ). Some (take 1024 q, t)) (append_assoc p (x ∷ []) l)) (left_more e ∙ k)
         (λ r. (upto_on 10 x (c ++ r) e ∙ ap (λ (q : List ℕ). x ∷ q) (w r).0, after_on 10 x (c ++ r) e ∙ (w r).1))
 
 -- ---- chunks one after the other
@@ -104,7 +104,7 @@ followed x t cs =
     ∙ sym (texts_more x.numbers (answers x.bench (lines_of (t ++ joined cs))))
 
 after_first : (l t : List ℕ) (cs : List (List ℕ)) (q : List ℕ) → q ≡ left [] t → (later : List ℕ)
-    → open_on (some (take 1024 l, t)) q cs later ≡ texts (open_answers (l ∷ upto 10 (t ++ joined cs) ∷ parts_after 10 (t ++ joined cs)))
+    → open_on (Some (take 1024 l, t)) q cs later ≡ texts (open_answers (l ∷ upto 10 (t ++ joined cs) ∷ parts_after 10 (t ++ joined cs)))
 unfolding lines_of
 after_first l t cs q e later =
     (λ i. texts ((opening_kept l i).numbers ∷ answers (opening_kept l i).bench (lines [] t)) ++ replies (after_lines (opening_kept l i).bench (lines [] t)) (e i) cs)

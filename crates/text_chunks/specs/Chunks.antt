@@ -1,6 +1,5 @@
 -- The lines of an input that comes in chunks, where p is what is held of the line that is not ended yet: its first 1,024 bytes. Assumes nothing.
-use Rattle.std.specs.Prelude.{ℕ, ◌≤◌, ◌<◌, Bool, true, false, ◌≡◌, List, [], ◌∷◌, ◌++◌, eqb, length, take, drop}
-use Rattle.std.proofs.Math.Option.{Option, none, some}
+use Rattle.std.specs.Prelude.{ℕ, ◌≤◌, ◌<◌, Bool, true, false, ◌≡◌, List, [], ◌∷◌, ◌++◌, eqb, length, take, drop, None, Option, Some}
 use Rattle.ledger_spec.specs.Grammar.{Line, wrong, line_of}
 
 -- the lines that a chunk ends
@@ -15,8 +14,8 @@ left p (c ∷ s) = elim (eqb c 10) [ true ↦ left [] s | false ↦ left (take 1
 
 -- the bytes of the first line that it ends, and what stands after that line's newline in the chunk
 unfoldable pub first_line : List ℕ → List ℕ → Option (List ℕ × List ℕ)
-first_line p [] = none
-first_line p (c ∷ s) = elim (eqb c 10) [ true ↦ some (p, s) | false ↦ first_line (take 1024 (p ++ (c ∷ []))) s ]
+first_line p [] = None
+first_line p (c ∷ s) = elim (eqb c 10) [ true ↦ Some (p, s) | false ↦ first_line (take 1024 (p ++ (c ∷ []))) s ]
 
 -- the input ends: a last line without newline is wrong
 abbrev pub last : List ℕ → List Line
@@ -44,5 +43,5 @@ pub record Feeds (a : ℕ) (t p chunk buf : List ℕ) (ended : Bool) (held at : 
   pub long : length buf ≡ 1024
   pub line : ended ≡ true → (lines p t ≡ line_of (take held buf) ∷ lines [] (drop at chunk)) × (left p t ≡ left [] (drop at chunk))
   pub part : ended ≡ false → (lines p t ≡ []) × (left p t ≡ take held buf)
-  pub first : ended ≡ true → first_line p t ≡ some (take held buf, drop at chunk)
-  pub no_first : ended ≡ false → first_line p t ≡ none
+  pub first : ended ≡ true → first_line p t ≡ Some (take held buf, drop at chunk)
+  pub no_first : ended ≡ false → first_line p t ≡ None

@@ -1,6 +1,5 @@
 -- An input from its beginning, chunk by chunk: until its first line has ended, that line may choose the engine. Assumes nothing.
-use Rattle.std.specs.Prelude.{ℕ, ◌≤◌, Bool, true, false, ◌≡◌, List, [], ◌∷◌, ◌++◌, eqb, ℤ, length, take}
-use Rattle.std.proofs.Math.Option.{Option, none, some}
+use Rattle.std.specs.Prelude.{ℕ, ◌≤◌, Bool, true, false, ◌≡◌, List, [], ◌∷◌, ◌++◌, eqb, ℤ, length, take, None, Option, Some}
 use Rattle.text_decimals.specs.Wrote.{Wrote}
 use Rattle.ledger_spec.specs.Bench.{Bench, set_up}
 use Rattle.ledger_spec.specs.Lines.{LineAnswer}
@@ -12,16 +11,16 @@ use Rattle.text_chunks.specs.Answering.{replies}
 -- ---- a chunk, by the first line that it ends and what stands after it: nothing is said while there is none
 
 abbrev pub open_said : Option (List ℕ × List ℕ) → List (ℕ × ℕ × ℤ × ℤ)
-open_said none = []
-open_said (some x) = (opening x.0).numbers ∷ answers (opening x.0).bench (lines [] x.1)
+open_said None = []
+open_said (Some x) = (opening x.0).numbers ∷ answers (opening x.0).bench (lines [] x.1)
 
 abbrev pub open_bench : Option (List ℕ × List ℕ) → Bench
-open_bench none = set_up 1
-open_bench (some x) = after_lines (opening x.0).bench (lines [] x.1)
+open_bench None = set_up 1
+open_bench (Some x) = after_lines (opening x.0).bench (lines [] x.1)
 
 abbrev pub is_none : Option (List ℕ × List ℕ) → Bool
-is_none none = true
-is_none (some x) = false
+is_none None = true
+is_none (Some x) = false
 
 -- ---- into a lent slice
 
@@ -45,8 +44,8 @@ pub record OpeningAnswered (chunk p out : List ℕ) (b' : Bench) (buf' out' : Li
 
 -- what is written for an input that comes in these chunks, where p is held of its first line
 abbrev pub open_on : Option (List ℕ × List ℕ) → List ℕ → List (List ℕ) → List ℕ → List ℕ
-open_on none p cs later = later
-open_on (some x) p cs later = texts (open_said (some x)) ++ replies (open_bench (some x)) p cs
+open_on None p cs later = later
+open_on (Some x) p cs later = texts (open_said (Some x)) ++ replies (open_bench (Some x)) p cs
 
 unfoldable pub open_replies : List ℕ → List (List ℕ) → List ℕ
 open_replies p [] = texts (answers (set_up 1) (last p))

@@ -15,13 +15,6 @@ pub struct Fed {
     pub at: usize,
 }
 
-// The engine that a line chooses: none, or one: is it the plain one?
-#[derive(Clone, Copy)]
-pub enum Choice {
-    NoEngine,
-    Engine(bool),
-}
-
 impl Fed {
     // The most bytes that are held of a line.
     pub const MOST: usize = 1024;
@@ -45,8 +38,7 @@ pub fn feed(chunk: &[u8], at: usize, buf: &mut [u8], held: usize) -> Fed
     ensures { Feeds at (drop at chunk.now) (take held buf.old) chunk.now buf.new result.ended result.held result.at }
 {
     let mut n = held;
-    let mut i = at;
-    while i < chunk.len() {
+    for i in at..chunk.len() {
         let b = chunk[i];
         if b == b'\n' {
             return Fed {
@@ -56,34 +48,21 @@ pub fn feed(chunk: &[u8], at: usize, buf: &mut [u8], held: usize) -> Fed
             };
         }
         n = push(buf, n, b);
-        i += 1;
     }
     Fed {
         ended: false,
         held: n,
-        at: i,
+        at: chunk.len(),
     }
 }
 
 // The engine that a line of these bytes chooses where it is the first of its input.
-pub fn engine_chosen(line: &[u8]) -> Choice
+pub fn engine_chosen(line: &[u8]) -> Option<bool>
     ensures { choice_of result ≡ chosen line.now }
 {
-    if line.len() != 3 {
-        return Choice::NoEngine;
+    match line {
+        b"M 1" => Some(true),
+        b"M 0" => Some(false),
+        _ => None,
     }
-    if line[0] != b'M' {
-        return Choice::NoEngine;
-    }
-    if line[1] != b' ' {
-        return Choice::NoEngine;
-    }
-    let digit = line[2];
-    if digit == b'1' {
-        return Choice::Engine(true);
-    }
-    if digit == b'0' {
-        return Choice::Engine(false);
-    }
-    Choice::NoEngine
 }

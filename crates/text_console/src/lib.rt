@@ -80,7 +80,7 @@ fn end<P: Print + Eprint>(rt: &P, held: usize, out: &mut [u8])
     send(rt, &out[..n]);
 }
 
-// A proved loop has to end, and nothing says that an input does: it counts its pieces down, from a number that no input has.
+// A proved loop has to end, and nothing says that an input does: it counts its pieces, up to a number that no input has.
 fn serve<P: Print + Eprint, R: Read>(
     rt: &P,
     input: &mut R,
@@ -95,14 +95,12 @@ fn serve<P: Print + Eprint, R: Read>(
 {
     let mut held: usize = 0;
     let mut fresh = true;
-    let mut pieces = u64::MAX;
-    while 0 < pieces {
+    for _ in 0..u64::MAX {
         let next = step(rt, input, b, piece, buf, held, fresh, serials, hints, out);
         match next {
             Next::More(h, f) => {
                 held = h;
                 fresh = f;
-                pieces -= 1;
             }
             Next::Ended => {
                 end(rt, held, out);

@@ -1,15 +1,15 @@
 -- What a field says as a number, and as a signed number, by its length and its first byte. Assumes nothing.
+use Rattle.std.specs.Prelude.{None}
 use Prim.Native.Nat.{ℕ, ◌-◌}
 use native.Mathlib.Omega.{arith}
 use mathlib.Core.Path.{◌≡◌, refl}
-use mathlib.Core.Option.{none}
 use mathlib.Core.List.{List, [], ◌∷◌}
 use lib.ListN.{length, get_or, drop, take, length-drop}
 use lib.Seq.{take_all}
 use borrow.Author.Tests.{eq-eqb, ne_eqb}
 use Rattle.ledger_spec.specs.Decimals.{after_digits, natural, number_within, integer, plus_of, minus_of}
 
-pub natural_empty : (f : List ℕ) → length f ≡ 0 → natural f ≡ none
+pub natural_empty : (f : List ℕ) → length f ≡ 0 → natural f ≡ None
 unfolding natural
 natural_empty [] h = refl
 natural_empty (c ∷ f) h = absurd (omega arith)
@@ -20,7 +20,7 @@ natural_one [] h = absurd (omega arith)
 natural_one (c ∷ []) h = refl
 natural_one (c ∷ d ∷ f) h = absurd (omega arith)
 
-pub natural_zero : (f : List ℕ) → (length f ≡ 0 → ⊥) → (length f ≡ 1 → ⊥) → get_or f 0 0 ≡ 48 → natural f ≡ none
+pub natural_zero : (f : List ℕ) → (length f ≡ 0 → ⊥) → (length f ≡ 1 → ⊥) → get_or f 0 0 ≡ 48 → natural f ≡ None
 unfolding natural
 natural_zero [] h k e = absurd (h refl)
 natural_zero (c ∷ []) h k e = absurd (k refl)
@@ -32,7 +32,7 @@ natural_more [] h k e = absurd (h refl)
 natural_more (c ∷ []) h k e = absurd (k refl)
 natural_more (c ∷ d ∷ f) h k e = rw (ne_eqb c 48 e, natural)
 
-pub integer_empty : (f : List ℕ) → length f ≡ 0 → integer f ≡ none
+pub integer_empty : (f : List ℕ) → length f ≡ 0 → integer f ≡ None
 unfolding integer
 integer_empty [] h = refl
 integer_empty (c ∷ f) h = absurd (omega arith)

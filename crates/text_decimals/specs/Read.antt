@@ -1,15 +1,10 @@
 -- What the reading functions' answers stand for. Assumes nothing.
-use Rattle.std.specs.Prelude.{ℕ, ℤ}
-use Rattle.std.proofs.Math.Option.{Option, none, some}
-use Rattle.text_decimals.specs.declared.MaybeNumber.{MaybeNumber}
-use Rattle.text_decimals.specs.declared.MaybeNumber.TheVariants.{NoNumber, Number}
-use Rattle.text_decimals.specs.declared.MaybeInteger.{MaybeInteger}
-use Rattle.text_decimals.specs.declared.MaybeInteger.TheVariants.{NoInteger, Integer}
+use Rattle.std.specs.Prelude.{None, Option, Some, ℕ, ℤ}
 
-abbrev pub number_of : MaybeNumber → Option ℕ
-number_of NoNumber = none
-number_of (Number n) = some n
+abbrev pub number_of : Option ℕ → Option ℕ
+number_of None = None
+number_of (Some n) = Some n
 
-abbrev pub integer_of : MaybeInteger → Option ℤ
-integer_of NoInteger = none
-integer_of (Integer z) = some z
+abbrev pub integer_of : Option ℤ → Option ℤ
+integer_of None = None
+integer_of (Some z) = Some z

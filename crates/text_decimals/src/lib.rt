@@ -6,67 +6,42 @@ ghost use Rattle.ledger_spec.specs.Decimals.{after_digits, between, number_withi
 ghost use Rattle.text_decimals.specs.Read.{number_of, integer_of};
 ghost use Rattle.text_decimals.specs.Wrote.{Wrote};
 
-// The number that a field says, if it says one.
-#[derive(Clone, Copy)]
-pub enum MaybeNumber {
-    NoNumber,
-    Number(u64),
-}
-
-#[derive(Clone, Copy)]
-pub enum MaybeInteger {
-    NoInteger,
-    Integer(i64),
-}
-
-fn wide(b: u8) -> u64
-    ensures { result ≡ b }
-{
-    b as u64
-}
-
 // What digits say, leading zeros allowed, if it lies in a range. It never passes the range's end on the way, so no sum can overflow.
-fn value_in(f: &[u8], least: u64, most: u64) -> MaybeNumber
+fn value_in(f: &[u8], least: u64, most: u64) -> Option<u64>
     ensures { number_of result ≡ between least most (after_digits 0 f.now) }
 {
     let mut n: u64 = 0;
-    let mut i = 0;
-    while i < f.len() {
-        let c = f[i];
-        if c < b'0' {
-            return MaybeNumber::NoNumber;
-        }
-        if b'9' < c {
-            return MaybeNumber::NoNumber;
+    for &c in f {
+        if c < b'0' || b'9' < c {
+            return None;
         }
         if most / 10 < n {
-            return MaybeNumber::NoNumber;
+            return None;
         }
-        let d = wide(c - b'0');
+        let d = (c - b'0') as u64;
         if most - n * 10 < d {
-            return MaybeNumber::NoNumber;
+            return None;
         }
         n = n * 10 + d;
-        i += 1;
     }
     if n < least {
-        return MaybeNumber::NoNumber;
+        return None;
     }
-    MaybeNumber::Number(n)
+    Some(n)
 }
 
 // The number that a field says, if it lies in a range, both ends included.
-pub fn number_in(f: &[u8], least: u64, most: u64) -> MaybeNumber
+pub fn number_in(f: &[u8], least: u64, most: u64) -> Option<u64>
     ensures { number_of result ≡ number_within least most f.now }
 {
     if f.len() == 0 {
-        return MaybeNumber::NoNumber;
+        return None;
     }
     if f.len() == 1 {
         return value_in(f, least, most);
     }
     if f[0] == b'0' {
-        return MaybeNumber::NoNumber;
+        return None;
     }
     value_in(f, least, most)
 }
@@ -87,22 +62,18 @@ fn minus(n: u64) -> i64
 }
 
 // The signed 64-bit number that a field says.
-pub fn integer_in(f: &[u8]) -> MaybeInteger
+pub fn integer_in(f: &[u8]) -> Option<i64>
     ensures { integer_of result ≡ integer f.now }
 {
     if f.len() == 0 {
-        return MaybeInteger::NoInteger;
+        return None;
     }
     if f[0] == b'-' {
-        return match number_in(&f[1..], 1, 9223372036854775808) {
-            MaybeNumber::Number(n) => MaybeInteger::Integer(minus(n)),
-            MaybeNumber::NoNumber => MaybeInteger::NoInteger,
-        };
+        let n = number_in(&f[1..], 1, 9223372036854775808)?;
+        return Some(minus(n));
     }
-    match number_in(f, 0, 9223372036854775807) {
-        MaybeNumber::Number(n) => MaybeInteger::Integer(plus(n)),
-        MaybeNumber::NoNumber => MaybeInteger::NoInteger,
-    }
+    let n = number_in(f, 0, 9223372036854775807)?;
+    Some(plus(n))
 }
 
 // Writes the decimal of n at a place; answers the place after it. It calls itself once for each digit, so at most 20 deep.

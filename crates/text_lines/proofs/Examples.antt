@@ -1,6 +1,6 @@
 -- Lines of the manual and of how it is read, with what they say, by computing. Assumes nothing.
+use Rattle.std.specs.Prelude.{Some}
 use mathlib.Core.Path.{◌≡◌, refl}
-use mathlib.Core.Option.{some}
 use mathlib.Core.List.{List, [], ◌∷◌, map}
 use lib.IntN.{pos, negsuc}
 use Prim.Native.String.{String}
@@ -13,8 +13,8 @@ use Rattle.ledger_spec.specs.Grammar.{Line as Said, wrong, step, all_serials, re
 
 abbrev table : List (String × Said)
 table =
-    ("D 0 3", some (D 0 3))
-    ∷ ("D 255 4294967295", some (D 255 4294967295))
+    ("D 0 3", Some (D 0 3))
+    ∷ ("D 255 4294967295", Some (D 255 4294967295))
     ∷ ("D 256 1", wrong)
     ∷ ("D 0 4294967296", wrong)
     ∷ ("D 00 3", wrong)
@@ -23,26 +23,26 @@ table =
     ∷ (" D 0 3", wrong)
     ∷ ("D 0", wrong)
     ∷ ("", wrong)
-    ∷ ("B 0 1 2 3", some (B 0 (1 ∷ 2 ∷ 3 ∷ [])))
+    ∷ ("B 0 1 2 3", Some (B 0 (1 ∷ 2 ∷ 3 ∷ [])))
     ∷ ("B 0", wrong)
     ∷ ("B 0 ", wrong)
     ∷ ("B 0 1 0", wrong)
     ∷ ("E 0 0", wrong)
-    ∷ ("E 0 4", some (E 0 4))
-    ∷ ("S 0 4 -1", some (S 0 4 shrinks))
-    ∷ ("S 0 4 0", some (S 0 4 stays))
-    ∷ ("S 0 4 1", some (S 0 4 grows))
+    ∷ ("E 0 4", Some (E 0 4))
+    ∷ ("S 0 4 -1", Some (S 0 4 shrinks))
+    ∷ ("S 0 4 0", Some (S 0 4 stays))
+    ∷ ("S 0 4 1", Some (S 0 4 grows))
     ∷ ("S 0 4 2", wrong)
     ∷ ("S 0 4 -0", wrong)
     ∷ ("G 0 -0", wrong)
-    ∷ ("G 0 9223372036854775807", some (G 0 (pos 9223372036854775807)))
-    ∷ ("G 0 -9223372036854775808", some (G 0 (negsuc 9223372036854775807)))
+    ∷ ("G 0 9223372036854775807", Some (G 0 (pos 9223372036854775807)))
+    ∷ ("G 0 -9223372036854775808", Some (G 0 (negsuc 9223372036854775807)))
     ∷ ("G 0 9223372036854775808", wrong)
     ∷ ("G 0 +1", wrong)
-    ∷ ("F 2 0 1", some (F 2 0 1))
+    ∷ ("F 2 0 1", Some (F 2 0 1))
     ∷ ("F 2 0 256", wrong)
-    ∷ ("C 7", some (C 7))
-    ∷ ("K 0", some (K 0))
+    ∷ ("C 7", Some (C 7))
+    ∷ ("K 0", Some (K 0))
     ∷ ("K 0 0", wrong)
     ∷ ("d 0 3", wrong)
     ∷ ("DD 0 3", wrong)

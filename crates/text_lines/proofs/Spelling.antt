@@ -1,9 +1,10 @@
 -- A line that is no wrong one is the text of what it says, and says numbers that fit: nothing has two spellings. Assumes nothing.
+use Rattle.std.specs.Prelude.{None, Option, Some}
+use Rattle.std.proofs.lemmas.Option.{same_Some, none-some}
 use Prim.Native.Nat.{ℕ, zero, suc, ◌≤◌}
 use native.Mathlib.Omega.{arith}
 use native.Mathlib.Decide.{ℕ_discrete, dec_le}
 use mathlib.Core.Path.{◌≡◌, refl, sym, ◌∙◌, ap, subst}
-use mathlib.Core.Option.{Option, none, some, some-ne-none, some-injective}
 use mathlib.Core.List.{List, [], ◌∷◌, map}
 use lib.ListN.{length, length-map}
 use borrow.Author.Tests.{ne_eqb}
@@ -28,7 +29,7 @@ pub record Taken {A : Type 0} (r : List ℕ → Option A) (k : A → Fields → 
   others : Fields
   value : A
   are : fs ≡ field ∷ others
-  read : r field ≡ some value
+  read : r field ≡ Some value
   goes : k value others ≡ l
 
 taken : {A : Type 0} (r : List ℕ → Option A) (k : A → Fields → Line) (fs : Fields) (l : Line) → (l ≡ wrong → ⊥) → then r k fs ≡ l → Taken r k fs l
@@ -36,43 +37,43 @@ taken r k [] l n e = absurd (n (sym e ∙ ap (λ (o : Option (_ × Fields)). fol
 taken r k (f ∷ fs) l n e = go (r f) refl
   where
     go : (o : Option _) → r f ≡ o → Taken r k (f ∷ fs) l
-    go none p = absurd (n (sym e ∙ ap (λ (o : Option (_ × Fields)). follow o k) (step_none r f fs p)))
-    go (some a) p = record { field = f; others = fs; value = a; are = refl; read = p; goes = sym (ap (λ (o : Option (_ × Fields)). follow o k) (step_some r f fs a p)) ∙ e }
+    go None p = absurd (n (sym e ∙ ap (λ (o : Option (_ × Fields)). follow o k) (step_none r f fs p)))
+    go (Some a) p = record { field = f; others = fs; value = a; are = refl; read = p; goes = sym (ap (λ (o : Option (_ × Fields)). follow o k) (step_some r f fs a p)) ∙ e }
 
 ends : (m : Line) (fs : Fields) (l : Line) → (l ≡ wrong → ⊥) → no_more m fs ≡ l → (fs ≡ []) × (m ≡ l)
 ends m [] l n e = (refl, e)
 ends m (f ∷ fs) l n e = absurd (n (sym e))
 
-number_from : (least most : ℕ) (f : List ℕ) (n : ℕ) → number_within least most f ≡ some n → (f ≡ decimal n) × (least ≤ n) × (n ≤ most)
+number_from : (least most : ℕ) (f : List ℕ) (n : ℕ) → number_within least most f ≡ Some n → (f ≡ decimal n) × (least ≤ n) × (n ≤ most)
 number_from least most f n e = let w = between_said least most n (natural f) e in (only_number least most f n e, w.1, w.2)
 
-state_from : (o : Option ℤ) (g : State) → state_in o ≡ some g → o ≡ some (rate g)
-state_from none g e = absurd (some-ne-none g (sym e))
-state_from (some (pos zero)) g e = ap (λ (x : State). some (rate x)) (some-injective stays g e)
-state_from (some (pos (suc zero))) g e = ap (λ (x : State). some (rate x)) (some-injective grows g e)
-state_from (some (pos (suc (suc n)))) g e = absurd (some-ne-none g (sym e))
-state_from (some (negsuc zero)) g e = ap (λ (x : State). some (rate x)) (some-injective shrinks g e)
-state_from (some (negsuc (suc n))) g e = absurd (some-ne-none g (sym e))
+state_from : (o : Option ℤ) (g : State) → state_in o ≡ Some g → o ≡ Some (rate g)
+state_from None g e = absurd (none-some g e)
+state_from (Some (pos zero)) g e = ap (λ (x : State). Some (rate x)) (same_Some stays g e)
+state_from (Some (pos (suc zero))) g e = ap (λ (x : State). Some (rate x)) (same_Some grows g e)
+state_from (Some (pos (suc (suc n)))) g e = absurd (none-some g e)
+state_from (Some (negsuc zero)) g e = ap (λ (x : State). Some (rate x)) (same_Some shrinks g e)
+state_from (Some (negsuc (suc n))) g e = absurd (none-some g e)
 
-serials_from : (fs : Fields) (ns : List ℕ) → all_serials fs ≡ some ns → (fs ≡ map decimal ns) × Serials ns
-serials_from [] ns e = go ns (some-injective [] ns (sym serials_none ∙ e))
+serials_from : (fs : Fields) (ns : List ℕ) → all_serials fs ≡ Some ns → (fs ≡ map decimal ns) × Serials ns
+serials_from [] ns e = go ns (same_Some [] ns (sym serials_none ∙ e))
   where
     go : (ms : List ℕ) → [] ≡ ms → ([] ≡ map decimal ms) × Serials ms
     go ms p = subst (λ (x : List ℕ). ([] ≡ map decimal x) × Serials x) p (refl, tt)
 serials_from (f ∷ fs) ns e = go (a_serial f) refl (serials_from fs)
   where
-    go : (o : Option ℕ) → a_serial f ≡ o → ((ms : List ℕ) → all_serials fs ≡ some ms → (fs ≡ map decimal ms) × Serials ms) → (f ∷ fs ≡ map decimal ns) × Serials ns
-    go none p i = absurd (some-ne-none ns (sym e ∙ serials_bad f fs p))
-    go (some n) p i =
+    go : (o : Option ℕ) → a_serial f ≡ o → ((ms : List ℕ) → all_serials fs ≡ Some ms → (fs ≡ map decimal ms) × Serials ms) → (f ∷ fs ≡ map decimal ns) × Serials ns
+    go None p i = absurd (none-some ns (sym (sym e ∙ serials_bad f fs p)))
+    go (Some n) p i =
         let k = before_some n (all_serials fs) ns (sym (serials_cons f fs n p) ∙ e) in
         let w = number_from 1 4294967295 f n p in
         let j = i k.0 k.1 in
         subst (λ (x : List ℕ). (f ∷ fs ≡ map decimal x) × Serials x) (sym k.2) ((λ t. w.0 t ∷ j.0 t), ((w.1, w.2), j.1))
 
-letter_from : (f : List ℕ) (c : ℕ) → letter f ≡ some c → f ≡ c ∷ []
-letter_from [] c e = absurd (some-ne-none c (sym e))
-letter_from (d ∷ []) c e = ap (λ (x : ℕ). x ∷ []) (some-injective d c e)
-letter_from (d ∷ b ∷ f) c e = absurd (some-ne-none c (sym e))
+letter_from : (f : List ℕ) (c : ℕ) → letter f ≡ Some c → f ≡ c ∷ []
+letter_from [] c e = absurd (none-some c e)
+letter_from (d ∷ []) c e = ap (λ (x : ℕ). x ∷ []) (same_Some d c e)
+letter_from (d ∷ b ∷ f) c e = absurd (none-some c e)
 
 -- ---- the fields after letter and unit
 
@@ -82,11 +83,11 @@ record Spelt (c u : ℕ) (fs : Fields) (l : Line) : Type 0 where
   fits : u ≤ 255 → Fit l
 
 module _ (c u : ℕ) (fs : Fields) (l : Line) (command : l ≡ wrong → ⊥) where
-  spelt-D : c ≡ 68 → then a_vertex (λ v. no_more (some (D u v))) fs ≡ l → Spelt c u fs l
+  spelt-D : c ≡ 68 → then a_vertex (λ v. no_more (Some (D u v))) fs ≡ l → Spelt c u fs l
   unfolding letter_of fields_of
   spelt-D p e =
-      let t = taken a_vertex (λ v. no_more (some (D u v))) fs l command e in
-      let x = ends (some (D u t.value)) t.others l command t.goes in
+      let t = taken a_vertex (λ v. no_more (Some (D u v))) fs l command e in
+      let x = ends (Some (D u t.value)) t.others l command t.goes in
       let w = number_from 0 4294967295 t.field t.value t.read in
       subst (λ (m : Line). Spelt c u fs m) x.1 (record {
         letters = ap (λ (d : ℕ). d ∷ []) (sym p);
@@ -99,8 +100,8 @@ module _ (c u : ℕ) (fs : Fields) (l : Line) (command : l ≡ wrong → ⊥) wh
   spelt-B p e = some_go fs refl
     where
       from_serials : (gs : Fields) → fs ≡ gs → (1 ≤ length gs) → (o : Option (List ℕ)) → all_serials gs ≡ o → gathered u o ≡ l → Spelt c u fs l
-      from_serials gs q k none r s = absurd (command (sym s))
-      from_serials gs q k (some ns) r s =
+      from_serials gs q k None r s = absurd (command (sym s))
+      from_serials gs q k (Some ns) r s =
           let w = serials_from gs ns r in
           subst (λ (m : Line). Spelt c u fs m) s (record {
             letters = ap (λ (d : ℕ). d ∷ []) (sym p);
@@ -112,11 +113,11 @@ module _ (c u : ℕ) (fs : Fields) (l : Line) (command : l ≡ wrong → ⊥) wh
       some_go [] q = absurd (command (sym e ∙ ap (some_serials u) q))
       some_go (f ∷ gs) q = from_serials (f ∷ gs) q (omega arith) (all_serials (f ∷ gs)) refl (ap (some_serials u) (sym q) ∙ e)
 
-  spelt-E : c ≡ 69 → then a_serial (λ n. no_more (some (E u n))) fs ≡ l → Spelt c u fs l
+  spelt-E : c ≡ 69 → then a_serial (λ n. no_more (Some (E u n))) fs ≡ l → Spelt c u fs l
   unfolding letter_of fields_of
   spelt-E p e =
-      let t = taken a_serial (λ n. no_more (some (E u n))) fs l command e in
-      let x = ends (some (E u t.value)) t.others l command t.goes in
+      let t = taken a_serial (λ n. no_more (Some (E u n))) fs l command e in
+      let x = ends (Some (E u t.value)) t.others l command t.goes in
       let w = number_from 1 4294967295 t.field t.value t.read in
       subst (λ (m : Line). Spelt c u fs m) x.1 (record {
         letters = ap (λ (d : ℕ). d ∷ []) (sym p);
@@ -124,12 +125,12 @@ module _ (c u : ℕ) (fs : Fields) (l : Line) (command : l ≡ wrong → ⊥) wh
         fits = λ h. (h, (w.1, w.2));
       })
 
-  spelt-S : c ≡ 83 → then a_serial (λ n. then a_state (λ g. no_more (some (S u n g)))) fs ≡ l → Spelt c u fs l
+  spelt-S : c ≡ 83 → then a_serial (λ n. then a_state (λ g. no_more (Some (S u n g)))) fs ≡ l → Spelt c u fs l
   unfolding letter_of fields_of
   spelt-S p e =
-      let t = taken a_serial (λ n. then a_state (λ g. no_more (some (S u n g)))) fs l command e in
-      let v = taken a_state (λ g. no_more (some (S u t.value g))) t.others l command t.goes in
-      let x = ends (some (S u t.value v.value)) v.others l command v.goes in
+      let t = taken a_serial (λ n. then a_state (λ g. no_more (Some (S u n g)))) fs l command e in
+      let v = taken a_state (λ g. no_more (Some (S u t.value g))) t.others l command t.goes in
+      let x = ends (Some (S u t.value v.value)) v.others l command v.goes in
       let w = number_from 1 4294967295 t.field t.value t.read in
       let y = only_signed v.field (rate v.value) (state_from (integer v.field) v.value v.read) in
       subst (λ (m : Line). Spelt c u fs m) x.1 (record {
@@ -138,11 +139,11 @@ module _ (c u : ℕ) (fs : Fields) (l : Line) (command : l ≡ wrong → ⊥) wh
         fits = λ h. (h, (w.1, w.2));
       })
 
-  spelt-G : c ≡ 71 → then an_amount (λ n. no_more (some (G u n))) fs ≡ l → Spelt c u fs l
+  spelt-G : c ≡ 71 → then an_amount (λ n. no_more (Some (G u n))) fs ≡ l → Spelt c u fs l
   unfolding letter_of fields_of
   spelt-G p e =
-      let t = taken an_amount (λ n. no_more (some (G u n))) fs l command e in
-      let x = ends (some (G u t.value)) t.others l command t.goes in
+      let t = taken an_amount (λ n. no_more (Some (G u n))) fs l command e in
+      let x = ends (Some (G u t.value)) t.others l command t.goes in
       let w = only_signed t.field t.value t.read in
       subst (λ (m : Line). Spelt c u fs m) x.1 (record {
         letters = ap (λ (d : ℕ). d ∷ []) (sym p);
@@ -150,12 +151,12 @@ module _ (c u : ℕ) (fs : Fields) (l : Line) (command : l ≡ wrong → ⊥) wh
         fits = λ h. (h, integer_fits t.field t.value t.read);
       })
 
-  spelt-F : c ≡ 70 → then a_unit (λ a. then a_unit (λ b. no_more (some (F u a b)))) fs ≡ l → Spelt c u fs l
+  spelt-F : c ≡ 70 → then a_unit (λ a. then a_unit (λ b. no_more (Some (F u a b)))) fs ≡ l → Spelt c u fs l
   unfolding letter_of fields_of
   spelt-F p e =
-      let t = taken a_unit (λ a. then a_unit (λ b. no_more (some (F u a b)))) fs l command e in
-      let v = taken a_unit (λ b. no_more (some (F u t.value b))) t.others l command t.goes in
-      let x = ends (some (F u t.value v.value)) v.others l command v.goes in
+      let t = taken a_unit (λ a. then a_unit (λ b. no_more (Some (F u a b)))) fs l command e in
+      let v = taken a_unit (λ b. no_more (Some (F u t.value b))) t.others l command t.goes in
+      let x = ends (Some (F u t.value v.value)) v.others l command v.goes in
       let w = number_from 0 255 t.field t.value t.read in
       let y = number_from 0 255 v.field v.value v.read in
       subst (λ (m : Line). Spelt c u fs m) x.1 (record {
@@ -164,20 +165,20 @@ module _ (c u : ℕ) (fs : Fields) (l : Line) (command : l ≡ wrong → ⊥) wh
         fits = λ h. (h, w.2, y.2);
       })
 
-  spelt-C : c ≡ 67 → no_more (some (C u)) fs ≡ l → Spelt c u fs l
+  spelt-C : c ≡ 67 → no_more (Some (C u)) fs ≡ l → Spelt c u fs l
   unfolding letter_of fields_of
   spelt-C p e =
-      let x = ends (some (C u)) fs l command e in
+      let x = ends (Some (C u)) fs l command e in
       subst (λ (m : Line). Spelt c u fs m) x.1 (record {
         letters = ap (λ (d : ℕ). d ∷ []) (sym p);
         fields = ap (λ (r : Fields). decimal u ∷ r) (sym x.0);
         fits = λ h. h;
       })
 
-  spelt-K : c ≡ 75 → no_more (some (K u)) fs ≡ l → Spelt c u fs l
+  spelt-K : c ≡ 75 → no_more (Some (K u)) fs ≡ l → Spelt c u fs l
   unfolding letter_of fields_of
   spelt-K p e =
-      let x = ends (some (K u)) fs l command e in
+      let x = ends (Some (K u)) fs l command e in
       subst (λ (m : Line). Spelt c u fs m) x.1 (record {
         letters = ap (λ (d : ℕ). d ∷ []) (sym p);
         fields = ap (λ (r : Fields). decimal u ∷ r) (sym x.0);

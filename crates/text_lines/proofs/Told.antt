@@ -1,9 +1,9 @@
 -- What a caller of `read_line` knows in each arm of its match: the line is what the answer says, with the serials that stand in the slice.
 -- Assumes nothing.
+use Rattle.std.specs.Prelude.{None, Some}
 use Prim.Native.Nat.{ℕ, suc, ◌+◌, ◌≤◌}
 use native.Mathlib.Omega.{arith}
 use mathlib.Core.Path.{◌≡◌, refl, sym, ◌∙◌, ap}
-use mathlib.Core.Option.{none, some}
 use mathlib.Core.List.{List, [], ◌∷◌, ◌++◌}
 use lib.ListN.{length, take, drop, set, take-append-drop}
 use lib.Seq.{sets, sets-eq, take_all, take_at, length-take-le, take-set-le}
@@ -22,15 +22,15 @@ named_shown stays = refl
 named_shown shrinks = refl
 
 shown_back : (l : Said) → said_by (line_shown l) (serials_in l) ≡ l
-shown_back (some (D u v)) = refl
-shown_back (some (B u ns)) = refl
-shown_back (some (E u n)) = refl
-shown_back (some (S u n g)) = ap (λ (x : State). some (S u n x)) (named_shown g)
-shown_back (some (G u l)) = refl
-shown_back (some (F p l r)) = refl
-shown_back (some (C u)) = refl
-shown_back (some (K u)) = refl
-shown_back none = refl
+shown_back (Some (D u v)) = refl
+shown_back (Some (B u ns)) = refl
+shown_back (Some (E u n)) = refl
+shown_back (Some (S u n g)) = ap (λ (x : State). Some (S u n x)) (named_shown g)
+shown_back (Some (G u l)) = refl
+shown_back (Some (F p l r)) = refl
+shown_back (Some (C u)) = refl
+shown_back (Some (K u)) = refl
+shown_back None = refl
 
 -- how many serials an answer says there are
 abbrev pub count_in : Line → ℕ
@@ -45,15 +45,15 @@ count_in (Check u) = 0
 count_in Wrong = 0
 
 count_shown : (l : Said) → count_in (line_shown l) ≡ length (serials_in l)
-count_shown (some (D u v)) = refl
-count_shown (some (B u ns)) = refl
-count_shown (some (E u n)) = refl
-count_shown (some (S u n g)) = refl
-count_shown (some (G u l)) = refl
-count_shown (some (F p l r)) = refl
-count_shown (some (C u)) = refl
-count_shown (some (K u)) = refl
-count_shown none = refl
+count_shown (Some (D u v)) = refl
+count_shown (Some (B u ns)) = refl
+count_shown (Some (E u n)) = refl
+count_shown (Some (S u n g)) = refl
+count_shown (Some (G u l)) = refl
+count_shown (Some (F p l r)) = refl
+count_shown (Some (C u)) = refl
+count_shown (Some (K u)) = refl
+count_shown None = refl
 
 -- ---- the front of a slice that was stored to
 

@@ -1,9 +1,9 @@
 -- Whole lines: the letter and the first number, and what each letter leads to. Assumes nothing.
+use Rattle.std.specs.Prelude.{None, Option, Some}
 use Prim.Native.Nat.{ℕ, ◌≤◌, ◌<◌}
 use native.Mathlib.Omega.{arith}
 use native.Mathlib.Nat.{sub-zero}
 use mathlib.Core.Path.{◌≡◌, refl, sym, ◌∙◌, ap}
-use mathlib.Core.Option.{Option, none, some}
 use mathlib.Core.List.{List, [], ◌∷◌}
 use lib.ListN.{length, get_or, take}
 use lib.Seq.{sets, length-take-le}
@@ -19,11 +19,11 @@ use Rattle.text_lines.specs.Shown.{line_shown, serials_in, ReadAs}
 
 -- ---- the letter
 
-letter_one : (s : List ℕ) → 1 ≤ length s → letter (take 1 s) ≡ some (get_or s 0 0)
+letter_one : (s : List ℕ) → 1 ≤ length s → letter (take 1 s) ≡ Some (get_or s 0 0)
 letter_one [] h = absurd (omega arith)
 letter_one (c ∷ s) h = refl
 
-letter_not : (f : List ℕ) → (length f ≡ 1 → ⊥) → letter f ≡ none
+letter_not : (f : List ℕ) → (length f ≡ 1 → ⊥) → letter f ≡ None
 letter_not [] h = refl
 letter_not (c ∷ []) h = absurd (h refl)
 letter_not (c ∷ d ∷ f) h = refl
@@ -60,8 +60,8 @@ quiet_end l e [] = e
 quiet_end l e (f ∷ fs) = refl
 
 quiet_follow : {A : Type 0} (o : Option (A × Fields)) (k : A → Fields → Said) → ((a : A) (gs : Fields) → serials_in (k a gs) ≡ []) → serials_in (follow o k) ≡ []
-quiet_follow none k e = refl
-quiet_follow (some p) k e = e p.0 p.1
+quiet_follow None k e = refl
+quiet_follow (Some p) k e = e p.0 p.1
 
 quiet_then : {A : Type 0} (r : List ℕ → Option A) (k : A → Fields → Said) → ((a : A) (gs : Fields) → serials_in (k a gs) ≡ []) → (fs : Fields) → serials_in (then r k fs) ≡ []
 quiet_then r k e fs = quiet_follow (step r fs) k e
@@ -72,7 +72,7 @@ quiet l out r e p = record { line = p; stored = sym (ap (sets out 0) e) }
 -- ---- after letter and first number
 
 module _ (l u : ℕ) (fs : Fields) (out : List ℕ) (r : Line) where
-  pub rest-D : l ≡ 68 → r ≡ line_shown (then a_vertex (λ v. no_more (some (D u v))) fs) → ReadAs (rest l u fs) out out r
+  pub rest-D : l ≡ 68 → r ≡ line_shown (then a_vertex (λ v. no_more (Some (D u v))) fs) → ReadAs (rest l u fs) out out r
   unfolding rest
   rest-D e p = rw e (quiet _ out r (quiet_then a_vertex _ (λ a gs. quiet_end _ refl gs) fs) p)
 
@@ -80,29 +80,29 @@ module _ (l u : ℕ) (fs : Fields) (out : List ℕ) (r : Line) where
   unfolding rest
   rest-B e out' p = rw e p
 
-  pub rest-E : l ≡ 69 → r ≡ line_shown (then a_serial (λ n. no_more (some (E u n))) fs) → ReadAs (rest l u fs) out out r
+  pub rest-E : l ≡ 69 → r ≡ line_shown (then a_serial (λ n. no_more (Some (E u n))) fs) → ReadAs (rest l u fs) out out r
   unfolding rest
   rest-E e p = rw e (quiet _ out r (quiet_then a_serial _ (λ a gs. quiet_end _ refl gs) fs) p)
 
-  pub rest-S : l ≡ 83 → r ≡ line_shown (then a_serial (λ n. then a_state (λ g. no_more (some (S u n g)))) fs) → ReadAs (rest l u fs) out out r
+  pub rest-S : l ≡ 83 → r ≡ line_shown (then a_serial (λ n. then a_state (λ g. no_more (Some (S u n g)))) fs) → ReadAs (rest l u fs) out out r
   unfolding rest
   rest-S e p = rw e (quiet _ out r (quiet_then a_serial _ (λ a gs. quiet_then a_state _ (λ b hs. quiet_end _ refl hs) gs) fs) p)
 
-  pub rest-G : l ≡ 71 → r ≡ line_shown (then an_amount (λ n. no_more (some (G u n))) fs) → ReadAs (rest l u fs) out out r
+  pub rest-G : l ≡ 71 → r ≡ line_shown (then an_amount (λ n. no_more (Some (G u n))) fs) → ReadAs (rest l u fs) out out r
   unfolding rest
   rest-G e p = rw e (quiet _ out r (quiet_then an_amount _ (λ a gs. quiet_end _ refl gs) fs) p)
 
-  pub rest-F : l ≡ 70 → r ≡ line_shown (then a_unit (λ n. then a_unit (λ m. no_more (some (F u n m)))) fs) → ReadAs (rest l u fs) out out r
+  pub rest-F : l ≡ 70 → r ≡ line_shown (then a_unit (λ n. then a_unit (λ m. no_more (Some (F u n m)))) fs) → ReadAs (rest l u fs) out out r
   unfolding rest
   rest-F e p = rw e (quiet _ out r (quiet_then a_unit _ (λ a gs. quiet_then a_unit _ (λ b hs. quiet_end _ refl hs) gs) fs) p)
 
-  pub rest-C : l ≡ 67 → r ≡ line_shown (no_more (some (C u)) fs) → ReadAs (rest l u fs) out out r
+  pub rest-C : l ≡ 67 → r ≡ line_shown (no_more (Some (C u)) fs) → ReadAs (rest l u fs) out out r
   unfolding rest
-  rest-C e p = rw e (quiet _ out r (quiet_end (some (C u)) refl fs) p)
+  rest-C e p = rw e (quiet _ out r (quiet_end (Some (C u)) refl fs) p)
 
-  pub rest-K : l ≡ 75 → r ≡ line_shown (no_more (some (K u)) fs) → ReadAs (rest l u fs) out out r
+  pub rest-K : l ≡ 75 → r ≡ line_shown (no_more (Some (K u)) fs) → ReadAs (rest l u fs) out out r
   unfolding rest
-  rest-K e p = rw e (quiet _ out r (quiet_end (some (K u)) refl fs) p)
+  rest-K e p = rw e (quiet _ out r (quiet_end (Some (K u)) refl fs) p)
 
 pub rest_else : (l u : ℕ) (fs : Fields) (out : List ℕ) → (l ≡ 68 → ⊥) → (l ≡ 66 → ⊥) → (l ≡ 69 → ⊥) → (l ≡ 83 → ⊥) → (l ≡ 71 → ⊥) → (l ≡ 70 → ⊥) → (l ≡ 67 → ⊥) → (l ≡ 75 → ⊥)
     → ReadAs (rest l u fs) out out Wrong

@@ -1,6 +1,5 @@
 -- What a line says, as `read_line` answers it: the enum's case, and a blossom's serials in the lent slice. Assumes nothing.
-use Rattle.std.specs.Prelude.{ℕ, ◌≡◌, List, [], length}
-use Rattle.std.proofs.Math.Option.{none, some}
+use Rattle.std.specs.Prelude.{ℕ, ◌≡◌, List, [], length, None, Some}
 use Rattle.std.proofs.lemmas.List.Edits.{sets}
 use Rattle.kinds.specs.declared.GrowState.{GrowState}
 use Rattle.kinds.specs.declared.GrowState.TheVariants.{Grow as Grows, Stay, Shrink}
@@ -17,37 +16,37 @@ state_shown stays = Stay
 state_shown shrinks = Shrink
 
 abbrev pub line_shown : Said → Line
-line_shown (some (D u v)) = Defect u (record { 0 = v })
-line_shown (some (B u ns)) = Blossom u (length ns)
-line_shown (some (E u n)) = Expand u (record { 0 = n })
-line_shown (some (S u n g)) = SetState u (record { 0 = n }) (state_shown g)
-line_shown (some (G u l)) = Grow u l
-line_shown (some (F p l r)) = Fuse p l r
-line_shown (some (C u)) = Clear u
-line_shown (some (K u)) = Check u
-line_shown none = Wrong
+line_shown (Some (D u v)) = Defect u (record { 0 = v })
+line_shown (Some (B u ns)) = Blossom u (length ns)
+line_shown (Some (E u n)) = Expand u (record { 0 = n })
+line_shown (Some (S u n g)) = SetState u (record { 0 = n }) (state_shown g)
+line_shown (Some (G u l)) = Grow u l
+line_shown (Some (F p l r)) = Fuse p l r
+line_shown (Some (C u)) = Clear u
+line_shown (Some (K u)) = Check u
+line_shown None = Wrong
 
 abbrev pub serials_in : Said → List ℕ
-serials_in (some (D u v)) = []
-serials_in (some (B u ns)) = ns
-serials_in (some (E u n)) = []
-serials_in (some (S u n g)) = []
-serials_in (some (G u l)) = []
-serials_in (some (F p l r)) = []
-serials_in (some (C u)) = []
-serials_in (some (K u)) = []
-serials_in none = []
+serials_in (Some (D u v)) = []
+serials_in (Some (B u ns)) = ns
+serials_in (Some (E u n)) = []
+serials_in (Some (S u n g)) = []
+serials_in (Some (G u l)) = []
+serials_in (Some (F p l r)) = []
+serials_in (Some (C u)) = []
+serials_in (Some (K u)) = []
+serials_in None = []
 
 -- and back: what an answer of the code says, with the serials that were stored
 abbrev pub said_by : Line → List ℕ → Said
-said_by (Defect u v) ns = some (D u v.0)
-said_by (Blossom u k) ns = some (B u ns)
-said_by (Expand u n) ns = some (E u n.0)
-said_by (SetState u n g) ns = some (S u n.0 (state_named g))
-said_by (Grow u l) ns = some (G u l)
-said_by (Fuse p l r) ns = some (F p l r)
-said_by (Clear u) ns = some (C u)
-said_by (Check u) ns = some (K u)
+said_by (Defect u v) ns = Some (D u v.0)
+said_by (Blossom u k) ns = Some (B u ns)
+said_by (Expand u n) ns = Some (E u n.0)
+said_by (SetState u n g) ns = Some (S u n.0 (state_named g))
+said_by (Grow u l) ns = Some (G u l)
+said_by (Fuse p l r) ns = Some (F p l r)
+said_by (Clear u) ns = Some (C u)
+said_by (Check u) ns = Some (K u)
 said_by Wrong ns = wrong
 
 -- r and the slice after it are those of the line l; `sets` drops what a short slice has no room for

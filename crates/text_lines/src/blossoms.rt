@@ -1,6 +1,5 @@
 // A blossom's serials: counted first, and stored only where all of them are serials, since a line that is wrong leaves what it was lent. Assumes nothing.
 ghost use Rattle.std.specs.Prelude.{◌≡◌, List, ℕ, set};
-ghost use Rattle.std.proofs.Math.Option.{some};
 ghost use Rattle.std.proofs.lemmas.List.Edits.{sets};
 ghost use Rattle.ledger_spec.specs.Grammar.{all_serials as «all_serials», «some_serials»};
 ghost use Rattle.text_fields.specs.Places.{from};
@@ -8,28 +7,20 @@ ghost use Rattle.text_lines.specs.Counts.{counted};
 ghost use Rattle.text_lines.specs.Shown.{ReadAs};
 
 use crate::Line;
-use text_fields::NextNumber;
-
-#[derive(Clone, Copy)]
-pub enum Count {
-    All(usize),
-    NotAll,
-}
 
 // How many serials the fields after a place are, if each is one.
-fn count_serials(s: &[u8], place: usize) -> Count
+fn count_serials(s: &[u8], place: usize) -> Option<usize>
     ensures { result ≡ counted («all_serials» (from s.now place)) }
 {
     let mut e = place;
     let mut n: usize = 0;
+    // A turn goes on by the field that it read, so the number of turns is not known beforehand.
     while e < s.len() {
-        let NextNumber::Got(_, z) = text_fields::next_number(s, e, 1, 4294967295) else {
-            return Count::NotAll;
-        };
+        let (_, z) = text_fields::next_number(s, e, 1, 4294967295)?;
         n += 1;
         e = z;
     }
-    Count::All(n)
+    Some(n)
 }
 
 // A store that is dropped past the end.
@@ -43,12 +34,13 @@ fn put(out: &mut [u64], i: usize, v: u64)
 
 // The serials after a place, where each field is one.
 fn store_serials(s: &[u8], place: usize, out: &mut [u64])
-    ensures { (ns : List ℕ) → «all_serials» (from s.now place) ≡ some ns → out.new ≡ sets out.old 0 ns }
+    ensures { (ns : List ℕ) → «all_serials» (from s.now place) ≡ Some ns → out.new ≡ sets out.old 0 ns }
 {
     let mut e = place;
     let mut n: usize = 0;
+    // A turn goes on by the field that it read, so the number of turns is not known beforehand.
     while e < s.len() {
-        let NextNumber::Got(v, z) = text_fields::next_number(s, e, 1, 4294967295) else {
+        let Some((v, z)) = text_fields::next_number(s, e, 1, 4294967295) else {
             return;
         };
         put(out, n, v);
@@ -61,7 +53,7 @@ pub fn blossom(s: &[u8], serials: &mut [u64], unit: u8, place: usize) -> Line
     ensures { ReadAs («some_serials» unit (from s.now place)) serials.old serials.new result }
 {
     if place < s.len() {
-        let Count::All(count) = count_serials(s, place) else {
+        let Some(count) = count_serials(s, place) else {
             return Line::Wrong;
         };
         store_serials(s, place, serials);

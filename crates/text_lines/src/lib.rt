@@ -5,7 +5,6 @@ ghost use Rattle.text_fields.specs.Places.{from};
 ghost use Rattle.text_lines.specs.Shown.{ReadAs};
 
 use kinds::{GrowState, Serial, Vertex};
-use text_fields::NextNumber;
 
 mod blossoms; // blossoms.rt: B, with its serials
 mod letters; // letters.rt: the other seven letters
@@ -79,7 +78,7 @@ pub fn read_line(s: &[u8], serials: &mut [u64]) -> Line
     }
     if text_fields::part_end(s, 0, b' ') == 1 {
         let letter = s[0];
-        let NextNumber::Got(n, place) = text_fields::next_number(s, 1, 0, 255) else {
+        let Some((n, place)) = text_fields::next_number(s, 1, 0, 255) else {
             return Line::Wrong;
         };
         let unit = n as u8;

@@ -1,11 +1,11 @@
 -- A blossom of members given by words is the blossom of the members named by serials: either each word gives the very handle, or some member is
 -- stale on both sides, and then no member has a part in the answer. Assumes nothing.
+use Rattle.std.specs.Prelude.{None}
 use Prim.Native.Nat.{ℕ, suc, ◌≤◌, ◌<◌}
 use native.Mathlib.Omega.{arith}
 use mathlib.Core.Bool.{Bool, true, false, ◌||◌}
 use mathlib.Core.Path.{◌≡◌, refl, sym, ◌∙◌, ap, ap₂}
 use mathlib.Core.Logic.{◌⊎◌, inl, inr}
-use mathlib.Core.Option.{none}
 use mathlib.Core.List.{List, [], ◌∷◌, ◌++◌, map, append-nil}
 use lib.Dec.{ltb}
 use lib.ListN.{length, take, get_or, length-map}
@@ -73,7 +73,7 @@ module _ (b : Bench) where
   unfoldable pub Alike : List ℕ → List ℕ → Type 0
   Alike ks ws = (hands_given ws ≡ map (named b) ks) ⊎ ((any (stale b) (hands_given ws) ≡ true) × (any (stale b) (map (named b) ks) ≡ true))
 
-  pub any_here : (h : Handle) (hs : List Handle) → node_named b h ≡ none → any (stale b) (h ∷ hs) ≡ true
+  pub any_here : (h : Handle) (hs : List Handle) → node_named b h ≡ None → any (stale b) (h ∷ hs) ≡ true
   unfolding any
   any_here h hs e = rw e
 

@@ -1,6 +1,5 @@
 -- When a word given to a call names what a serial in a line names. Assumes nothing.
-use Rattle.std.specs.Prelude.{ℕ, ◌<◌, ◌≡◌, ◌⊎◌, List, length, get_or}
-use Rattle.std.proofs.Math.Option.{none}
+use Rattle.std.specs.Prelude.{ℕ, ◌<◌, ◌≡◌, ◌⊎◌, List, length, get_or, None}
 use Rattle.ledger_spec.specs.Bench.{Bench}
 use Rattle.ledger_spec.specs.Look.{node_named}
 use Rattle.ledger_spec.specs.Lines.{named}
@@ -8,7 +7,7 @@ use Rattle.bench_views.specs.Given.{hand_given}
 
 -- the word w gives the handle of the present node with serial k; where there is none, it names no node either
 abbrev pub Names : Bench → ℕ → ℕ → Type 0
-Names b k w = (hand_given w ≡ named b k) ⊎ ((node_named b (hand_given w) ≡ none) × (node_named b (named b k) ≡ none))
+Names b k w = (hand_given w ≡ named b k) ⊎ ((node_named b (hand_given w) ≡ None) × (node_named b (named b k) ≡ None))
 
 -- the first n words name what the first n serials name
 pub record AllNamed (b : Bench) (n : ℕ) (ks ws : List ℕ) : Type 0 where

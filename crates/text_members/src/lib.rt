@@ -5,7 +5,6 @@ ghost use Rattle.bench_views.specs.Fit.{SoundWords};
 ghost use Rattle.bench_views.specs.View.{view};
 ghost use Rattle.text_members.specs.Names.{Names, AllNamed};
 
-use bench_links::Found;
 use bench_serials::HINTS;
 use bench_words::WORDS;
 use kinds::{Handle, Serial};
@@ -22,14 +21,13 @@ fn member(b: &[u64; WORDS], serial: u64, hints: &mut [u16; HINTS]) -> u64
         return NOBODY;
     }
     let s = Serial(serial as u32);
-    let found = bench_serials::seek(b, s, hints);
-    match found {
-        Found::At(k) => bench_words::handle_word(Handle {
+    match bench_serials::seek(b, s, hints) {
+        Some(k) => bench_words::handle_word(Handle {
             unit: (k / 64) as u8,
             slot: (k % 64) as u8,
             serial: s,
         }),
-        Found::Stale => NOBODY,
+        None => NOBODY,
     }
 }
 
@@ -38,10 +36,7 @@ pub fn name(b: &[u64; WORDS], serials: &mut [u64], n: usize, hints: &mut [u16; H
     requires { SoundWords b.now × (n ≤ length serials.old) }
     ensures { AllNamed (view b.now) n serials.old serials.new }
 {
-    let mut i: usize = 0;
-    while i < n {
-        let word = member(b, serials[i], hints);
-        serials[i] = word;
-        i += 1;
+    for word in &mut serials[..n] {
+        *word = member(b, *word, hints);
     }
 }

@@ -1,7 +1,7 @@
 -- A whole input is one chunk and its end. Assumes nothing.
+use Rattle.std.specs.Prelude.{None, Option, Some}
 use Prim.Native.Nat.{ℕ}
 use mathlib.Core.Path.{◌≡◌, refl, ◌∙◌, ap}
-use mathlib.Core.Option.{Option, none, some}
 use mathlib.Core.List.{List, [], ◌∷◌, ◌++◌, append-nil}
 use native.Mathlib.Omega.{arith}
 use lib.ListN.{length, take}
@@ -17,8 +17,8 @@ use Rattle.text_sessions.specs.Session.{OpeningDone, Finished, AllDone}
 -- a chunk in which the first line ends, or does not, and the input's end
 ends_there : (x : Option (List ℕ × List ℕ)) (p : List ℕ) → texts (open_said x) ++ texts (answers (open_bench x) (last p)) ≡ open_on x p [] (open_replies p [])
 unfolding texts replies open_replies
-ends_there none p = refl
-ends_there (some x) p = refl
+ends_there None p = refl
+ends_there (Some x) p = refl
 
 one_chunk : (s : List ℕ) → texts (open_said (first_line [] s)) ++ texts (answers (open_bench (first_line [] s)) (last (left [] s))) ≡ program s
 unfolding open_replies joined

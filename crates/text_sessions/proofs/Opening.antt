@@ -1,4 +1,5 @@
 -- An input's first line, chosen by or answered as any; the chunk in which it ends, or does not. Assumes nothing.
+use Rattle.std.specs.Prelude.{None, Option, Some}
 use Prim.Native.Nat.{ℕ, ◌*◌, ◌≤◌}
 use mathlib.Core.Bool.{Bool, true, false, not, true≢false}
 use mathlib.Core.Path.{◌≡◌, refl, sym, ◌∙◌, ap, subst}
@@ -23,8 +24,6 @@ use Rattle.ledger_spec.specs.Program.{text_of}
 use Rattle.ledger_spec.proofs.Openings.{opening_none, opening_some}
 use Rattle.text_chunks.specs.Chunks.{Feeds}
 use Rattle.text_chunks.specs.Choices.{choice_of}
-use Rattle.text_chunks.specs.declared.Choice.{Choice}
-use Rattle.text_chunks.specs.declared.Choice.TheVariants.{NoEngine, Engine}
 use Rattle.text_chunks.proofs.Opened.{opened_part, opened_line}
 use Rattle.bench_views.specs.View.{view}
 use Rattle.bench_views.specs.Fit.{Done}
@@ -41,9 +40,9 @@ set_up_sound false = refl
 no_amount : SFits w64 (pos 0)
 no_amount = record { sfits = lit< tt }
 
-module _ (line : List ℕ) (r : Choice) (h : choice_of r ≡ chosen line) where
+module _ (line : List ℕ) (r : Option Bool) (h : choice_of r ≡ chosen line) where
   -- it chooses
-  pub first_chosen : (m : Bool) → r ≡ Engine m → (b : List ℕ) → Done b (set_up_in m 1) → (out out' : List ℕ) (e : ℕ) → Wrote out 0 (text_of (0, 0, pos 0, pos 0)) out' e → FirstDone line b out out' e
+  pub first_chosen : (m : Bool) → r ≡ Some m → (b : List ℕ) → Done b (set_up_in m 1) → (out out' : List ℕ) (e : ℕ) → Wrote out 0 (text_of (0, 0, pos 0, pos 0)) out' e → FirstDone line b out out' e
   first_chosen m q b d out out' e w =
       let o : opening line ≡ record { numbers = (0, 0, pos 0, pos 0); bench = set_up_in m 1 } = opening_some line m (sym h ∙ ap choice_of q) in
       record {
@@ -56,7 +55,7 @@ module _ (line : List ℕ) (r : Choice) (h : choice_of r ≡ chosen line) where
       }
 
   -- it is a line as any other
-  pub first_any : r ≡ NoEngine → (b : List ℕ) → Started b → (b' out out' : List ℕ) (e : ℕ) → LineDone b line b' out 0 out' e → FirstDone line b' out out' e
+  pub first_any : r ≡ None → (b : List ℕ) → Started b → (b' out out' : List ℕ) (e : ℕ) → LineDone b line b' out 0 out' e → FirstDone line b' out out' e
   first_any q b s b' out out' e l =
       let a = l.answered in
       let o : says (view b) (line_of line) ≡ opening line = ap (λ (x : Bench). says x (line_of line)) s.seen ∙ sym (opening_none line (sym h ∙ ap choice_of q)) in

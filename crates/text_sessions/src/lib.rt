@@ -8,7 +8,6 @@ ghost use Rattle.text_sessions.specs.Session.{Started, FirstDone, LineDone, Rest
 use bench_serials::HINTS;
 use bench_words::WORDS;
 use kinds::numbers;
-use text_chunks::Choice;
 
 // How many bytes of the line that is not ended yet are held, and how many bytes were written.
 #[derive(Clone, Copy)]
@@ -60,6 +59,7 @@ fn answer_rest(
     let mut held = before;
     let mut wrote = written;
     let mut at = from;
+    // A turn goes on by the bytes of the line that it fed, so the number of turns is not known beforehand.
     while at < chunk.len() {
         let f = text_chunks::feed(chunk, at, buf, held);
         let n = f.held;
@@ -103,11 +103,11 @@ fn answer_first(
     ensures { FirstDone line.now b.new out.old out.new result }
 {
     match text_chunks::engine_chosen(line) {
-        Choice::Engine(plain) => {
+        Some(plain) => {
             deed_trees::set_up_in(b, plain, 1);
             text_answers::write_answer(out, 0, 0, 0, 0, 0)
         }
-        Choice::NoEngine => answer_line(b, line, serials, hints, out, 0),
+        None => answer_line(b, line, serials, hints, out, 0),
     }
 }
 

@@ -1,5 +1,4 @@
 -- The lowest stands at 2^60 or higher, and is the least value so much higher. Assumes nothing.
-use borrow.Author.Rules.{rules}
 use Rattle.bench_floors.proofs.Values.{high, least}
 use Rattle.bench_floors.proofs.least_shrinking.Goals as goal
 

@@ -1,6 +1,4 @@
 -- Each way out is one of the laws of the lower number. Assumes nothing.
-use borrow.Author.Rules.{rules}
-use borrow.Author.Tests.{not-true, not-false}
 use Rattle.bench_floors.proofs.Lowers.{lower_none, bias_room, lower_still, lower_it, lower_not}
 use Rattle.bench_floors.proofs.lower.Goals as goal
 

@@ -1,9 +1,8 @@
 -- At each turn the lowest so far and that of the slots that are left make up the whole. Assumes nothing.
-use Prim.Native.Nat.{◌+◌, ◌-◌, ◌*◌}
+use Prim.Native.Nat.{◌+◌, ◌*◌}
 use mathlib.Core.Path.{refl}
 use native.Mathlib.Omega.{arith}
-use borrow.Author.Rules.{rules}
-use Rattle.bench_floors.proofs.Along.{Lowering, lowering_starts, lowering_ends, lowering_on, slot_low, slot_there}
+use Rattle.bench_floors.proofs.Along.{lowering_starts, lowering_ends, lowering_on, slot_low, slot_there}
 use Rattle.bench_floors.proofs.lower_in.Goals as goal
 
 pub climb-c-requires : goal.climb-c-requires
@@ -20,13 +19,6 @@ pub lower-low-requires : goal.lower-low-requires
 lower-low-requires c =
     let there = slot_there c.args.b.now c.requires.fit c.args.u c.requires.u_bound c.load_interface-f.result c.load_interface-f.ensures c.loop-s.s c.loop-s-test.true c.climb-c.result.total c.climb-c.ensures.total in
     record { fit = c.requires.fit; k_bound = there.0; k_bound_2 = there.1.0; t_value = there.1.1 }
-
-pub overflow_add-s : goal.overflow_add-s
-overflow_add-s c = let l = slot_low c.args.b.now c.requires.fit c.args.u c.requires.u_bound c.load_interface-f.result c.load_interface-f.ensures c.loop-s.s c.loop-s-test.true in
-    record { fits = omega (arith, l) }
-
-pub loop-s-smaller : goal.loop-s-smaller
-loop-s-smaller c = omega (arith, c.loop-s-test.true)
 
 pub loop-s-preserved : goal.loop-s-preserved
 loop-s-preserved c = let f = c.load_interface-f in

@@ -1,12 +1,10 @@
 -- At each turn the lowest so far and that of the slots that are left make up the whole. Assumes nothing.
-use Prim.Native.Nat.{◌-◌}
 use mathlib.Core.Path.{refl}
 use native.Mathlib.Omega.{arith}
 use lib.ListN.{get_or}
-use borrow.Author.Rules.{rules}
 use borrow.Author.Tests.{not-true, not-false}
 use Rattle.bench_orders.proofs.Counting.{unit_low}
-use Rattle.bench_floors.proofs.Along.{Leasting, unfloored, leasting_starts, leasting_ends, leasting_on}
+use Rattle.bench_floors.proofs.Along.{unfloored, leasting_starts, leasting_ends, leasting_on}
 use Rattle.bench_floors.proofs.lowest.Goals as goal
 
 pub returns-then-not-marks : goal.returns-then-not-marks
@@ -22,12 +20,6 @@ pub lower_in-low-requires : goal.lower_in-low-requires
 lower_in-low-requires c =
     let o = c.order_of-o in
     let i = c.loop-i.i in record { fit = c.requires.fit; u_bound = unit_low c.args.b.now c.requires.fit c.args.unit c.requires.unit_bound o.result o.ensures i (get_or o.result.units i 0) c.loop-i-test.true refl }
-
-pub overflow_add-i : goal.overflow_add-i
-overflow_add-i c = omega (arith, c.loop-i-test.true, c.order_of-o.ensures.few)
-
-pub loop-i-smaller : goal.loop-i-smaller
-loop-i-smaller c = omega (arith, c.loop-i-test.true)
 
 pub loop-i-preserved : goal.loop-i-preserved
 loop-i-preserved c =

@@ -1,7 +1,6 @@
 -- Each way out is one of the laws of finding, at what was tested and loaded on the way. Assumes nothing.
 use Prim.Native.Nat.{◌+◌, ◌*◌}
 use mathlib.Core.Path.{refl}
-use borrow.Author.Rules.{rules}
 use Rattle.ledger_spec.specs.Named.{handle_named}
 use Rattle.bench_links.proofs.Finding.{out_unit, out_slot, gone, renamed, found}
 use Rattle.bench_links.proofs.find.Goals as goal

@@ -1,6 +1,5 @@
 -- A word of 2^41 and more names none; any other is the handle that it packs. Assumes nothing.
 use mathlib.Core.Path.{ap, subst, ◌∙◌}
-use borrow.Author.Rules.{rules}
 use Rattle.ledger_spec.specs.Bench.{Handle}
 use Rattle.ledger_spec.specs.Named.{handle_named}
 use Rattle.bench_links.specs.Find.{Finds}

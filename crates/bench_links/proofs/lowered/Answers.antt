@@ -1,6 +1,5 @@
 -- The difference of two numbers below 2^63 fits. Assumes nothing.
 use native.Mathlib.Omega.{arith}
-use borrow.Author.Rules.{rules}
 use mir.Syntax.{w64}
 use mir.Facts.{to_z-of_z, to_z_pos}
 use Rattle.bench_views.specs.View.{off}

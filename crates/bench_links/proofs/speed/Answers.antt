@@ -2,7 +2,6 @@
 use mathlib.Core.Path.{◌∙◌}
 use mir.Facts.{to_z-of_z}
 use native.Mathlib.Omega.{arith}
-use borrow.Author.Rules.{rules}
 use Rattle.bench_links.proofs.Weighing.{speed_seen, speed_small}
 use mir.Syntax.{w64}
 use Rattle.bench_links.proofs.speed.Goals as goal

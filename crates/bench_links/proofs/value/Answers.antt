@@ -2,7 +2,6 @@
 use mathlib.Core.Path.{ap, ◌∙◌}
 use mir.Facts.{to_z-of_z}
 use native.Mathlib.Omega.{arith}
-use borrow.Author.Rules.{rules}
 use Rattle.ledger_spec.specs.Named.{handle_named}
 use Rattle.bench_views.specs.View.{off}
 use Rattle.bench_links.proofs.Weighing.{bias_room, value_small, value_seen}

@@ -1,7 +1,7 @@
 -- The list of a tree is that of its left half, of its right half, and the interface itself. Assumes nothing.
 use Rattle.std.proofs.Common.{ℕ, List, length, arith, ap, sym, subst}
 use Rattle.bench_orders.specs.Order.{Longer}
-use Rattle.bench_orders.proofs.Listing.{alone, right_there, left_lower, right_lower, parts, joined}
+use Rattle.bench_orders.proofs.Listing.{alone, left_lower, right_lower, parts, joined}
 use Rattle.bench_orders.proofs.+list.Goals as goal
 
 pub push-requires : goal.push-requires

@@ -1,44 +1,43 @@
 -- At each turn the count so far and the slots that are left make up the whole. Assumes nothing.
-use Prim.Native.Nat.{◌-◌}
-use mathlib.Core.Path.{refl}
 use native.Mathlib.Omega.{arith}
 use lib.ListN.{get_or}
-use borrow.Author.Rules.{rules}
-use Rattle.bench_orders.proofs.Counting.{Counted, unit_low, used_small, count_on, count_ends}
+use Rattle.bench_orders.proofs.Counting.{unit_low, used_small, count_on, count_ends, listed_many, listed_at}
 use Rattle.bench_orders.proofs.count.Goals as goal
 
-pub loop-i-init : goal.loop-i-init
-loop-i-init c = record { sum = omega arith; small = omega arith }
-
-pub bounds-o-i : goal.bounds-o-i
-bounds-o-i c = let k = c.order_of-o.ensures.long in omega (arith, c.loop-i-test.true, c.order_of-o.ensures.few)
+pub loop-u-init : goal.loop-u-init
+loop-u-init c = record { sum = omega arith; small = omega arith }
 
 pub load_interface-f-requires : goal.load_interface-f-requires
 load_interface-f-requires c =
     let o = c.order_of-o in
-    let i = c.loop-i.i in
-    unit_low c.args.b.now c.requires.fit c.args.unit c.requires.unit_bound o.result o.ensures i (get_or o.result.units i 0) c.loop-i-test.true refl
+    let us = c.listed-u-items in
+    let i = c.loop-u.u-index in
+    let at = listed_at c.args.b.now c.args.unit o.result o.ensures us.result.now us.ensures i c.loop-u-test.true in
+    unit_low c.args.b.now c.requires.fit c.args.unit c.requires.unit_bound o.result o.ensures i (get_or us.result.now i 0) at.0 at.1
 
 pub overflow_add-total : goal.overflow_add-total
 overflow_add-total c =
     let o = c.order_of-o in
-    let i = c.loop-i.i in
-    let u = used_small c.args.b.now c.requires.fit c.args.unit c.requires.unit_bound o.result o.ensures i (get_or o.result.units i 0) c.loop-i-test.true refl c.load_interface-f.result c.load_interface-f.ensures in
-    omega (arith, u, c.loop-i.invariant.small, c.loop-i-test.true, o.ensures.few)
+    let us = c.listed-u-items in
+    let f = c.load_interface-f in
+    let i = c.loop-u.u-index in
+    let at = listed_at c.args.b.now c.args.unit o.result o.ensures us.result.now us.ensures i c.loop-u-test.true in
+    let s = used_small c.args.b.now c.requires.fit c.args.unit c.requires.unit_bound o.result o.ensures i (get_or us.result.now i 0) at.0 at.1 f.result f.ensures in
+    omega (arith, s, c.loop-u.invariant.small, at.0, o.ensures.few)
 
-pub overflow_add-i : goal.overflow_add-i
-overflow_add-i c = omega (arith, c.loop-i-test.true, c.order_of-o.ensures.few)
-
-pub loop-i-smaller : goal.loop-i-smaller
-loop-i-smaller c = omega (arith, c.loop-i-test.true)
-
-pub loop-i-preserved : goal.loop-i-preserved
-loop-i-preserved c =
+pub loop-u-preserved : goal.loop-u-preserved
+loop-u-preserved c =
     let o = c.order_of-o in
-    let i = c.loop-i.i in
-    count_on c.args.b.now c.requires.fit c.args.unit c.requires.unit_bound o.result o.ensures i (get_or o.result.units i 0) c.loop-i-test.true refl c.load_interface-f.result c.load_interface-f.ensures c.loop-i.total c.loop-i.invariant
+    let us = c.listed-u-items in
+    let f = c.load_interface-f in
+    let i = c.loop-u.u-index in
+    let at = listed_at c.args.b.now c.args.unit o.result o.ensures us.result.now us.ensures i c.loop-u-test.true in
+    count_on c.args.b.now c.requires.fit c.args.unit c.requires.unit_bound o.result o.ensures i (get_or us.result.now i 0)
+    at.0 at.1 f.result f.ensures c.loop-u.total c.loop-u.invariant
 
 pub returns : goal.returns
 returns c =
     let o = c.order_of-o in
-    count_ends c.args.b.now c.requires.fit c.args.unit c.requires.unit_bound o.result o.ensures c.loop-i.i c.loop-i.total c.loop-i-test.false c.loop-i.invariant
+    let us = c.listed-u-items in
+    count_ends c.args.b.now c.requires.fit c.args.unit c.requires.unit_bound o.result o.ensures c.loop-u.u-index c.loop-u.total
+    (omega (arith, c.loop-u-test.false, listed_many c.args.b.now c.args.unit o.result o.ensures us.result.now us.ensures)) c.loop-u.invariant

@@ -1,10 +1,9 @@
 -- A serial not given out yet is in no slot; else the interfaces passed do not have it, and past the eighth there is none. Assumes nothing.
-use Prim.Native.Nat.{ℕ, ◌-◌, ◌≤◌}
+use Rattle.std.specs.Prelude.{None, Some}
+use Prim.Native.Nat.{ℕ, ◌≤◌}
 use mathlib.Core.Path.{◌≡◌, subst}
 use native.Mathlib.Omega.{arith}
-use borrow.Author.Rules.{rules}
-use Rattle.bench_links.specs.declared.Found.TheVariants.{At, Stale}
-use Rattle.bench_serials.proofs.Scanning.{Clear, unit_more, all_units, not_yet, scan_at, scan_none}
+use Rattle.bench_serials.proofs.Scanning.{unit_more, all_units, not_yet, scan_at, scan_none}
 use Rattle.bench_serials.proofs.scan.Goals as goal
 
 pub returns-then-next-serial : goal.returns-then-next-serial
@@ -13,25 +12,19 @@ returns-then-next-serial c = not_yet c.args.b.now c.args.serial.0 c.requires (su
 pub loop-u-init : goal.loop-u-init
 loop-u-init c = λ w s l. absurd (omega arith)
 
-pub scan_unit-found-requires : goal.scan_unit-found-requires
-scan_unit-found-requires c = record { canon = c.requires.canon; unit_bound = c.loop-u-test.true }
+pub scan_unit-requires : goal.scan_unit-requires
+scan_unit-requires c = record { canon = c.requires.canon; unit_bound = c.loop-u-test.true }
 
-pub returns-in-At : goal.returns-in-At
-returns-in-At c =
-    let k = c.in-At.k in
-    let q : c.scan_unit-found.result ≡ At k = cc in
-    scan_at c.args.b.now c.loop-u.u c.args.serial.0 k c.scan_unit-found.ensures q
-
-pub overflow_add-u : goal.overflow_add-u
-overflow_add-u c = omega (arith, c.loop-u-test.true)
-
-pub loop-u-smaller : goal.loop-u-smaller
-loop-u-smaller c = omega (arith, c.loop-u-test.true)
+pub returns-in-Some : goal.returns-in-Some
+returns-in-Some c =
+    let k = c.in-Some.k in
+    let q : c.scan_unit.result ≡ Some k = cc in
+    scan_at c.args.b.now c.loop-u.u c.args.serial.0 k c.scan_unit.ensures q
 
 pub loop-u-preserved : goal.loop-u-preserved
 loop-u-preserved c =
-    let q : c.scan_unit-found.result ≡ Stale = cc in
-    unit_more c.args.b.now c.args.serial.0 c.loop-u.u c.loop-u.invariant (scan_none c.args.b.now c.loop-u.u c.args.serial.0 c.scan_unit-found.ensures q)
+    let q : c.scan_unit.result ≡ None = cc in
+    unit_more c.args.b.now c.args.serial.0 c.loop-u.u c.loop-u.invariant (scan_none c.args.b.now c.loop-u.u c.args.serial.0 c.scan_unit.ensures q)
 
 pub returns : goal.returns
 returns c = all_units c.args.b.now c.args.serial.0 c.loop-u.u c.loop-u-test.false c.loop-u.invariant

@@ -14,16 +14,16 @@ returns-then-not-marks c =
     let f = c.load_interface-f in
     next_slot c.args.b.now c.requires.canon c.args.unit c.requires.unit_bound f.result f.ensures c.if-not-marks.true
 
-pub returns-in-At : goal.returns-in-At
-returns-in-At c =
+pub returns-in-Some : goal.returns-in-Some
+returns-in-Some c =
     let f = c.load_interface-f in
     let m = c.load_map-map in
     let r = c.lowest_clear-found in
-    lowest_slot c.args.b.now c.requires.canon c.args.unit c.requires.unit_bound f.result f.ensures c.if-not-marks.false m.result m.ensures r.result r.ensures c.in-At.s c.in-At.is
+    lowest_slot c.args.b.now c.requires.canon c.args.unit c.requires.unit_bound f.result f.ensures c.if-not-marks.false m.result m.ensures r.result r.ensures c.in-Some.s c.in-Some.is
 
-pub returns-in-Nothing : goal.returns-in-Nothing
-returns-in-Nothing c =
+pub returns-in-None : goal.returns-in-None
+returns-in-None c =
     let f = c.load_interface-f in
     let m = c.load_map-map in
     let r = c.lowest_clear-found in
-    no_slot c.args.b.now c.requires.canon c.args.unit c.requires.unit_bound f.result f.ensures c.if-not-marks.false m.result m.ensures r.result r.ensures c.in-Nothing.is
+    no_slot c.args.b.now c.requires.canon c.args.unit c.requires.unit_bound f.result f.ensures c.if-not-marks.false m.result m.ensures r.result r.ensures c.in-None.is

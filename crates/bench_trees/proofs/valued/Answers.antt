@@ -1,5 +1,4 @@
 -- By cases of the state; the ranges keep the sums in 64 bits. Assumes nothing.
-use borrow.Author.Rules.{rules}
 use Rattle.bench_trees.proofs.valued.Goals as goal
 
 pub returns-in-Grow : goal.returns-in-Grow

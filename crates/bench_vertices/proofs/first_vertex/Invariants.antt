@@ -1,9 +1,6 @@
 -- A defect has its own vertex; a blossom's first vertex is that of its first member, whose serial is lower: the number that falls. Assumes nothing.
-use mathlib.Core.Path.{◌≡◌, refl, ◌∙◌}
-use borrow.Author.Rules.{rules}
-use Rattle.kinds.specs.declared.Class.TheVariants.{Absent, Blossom, Defect}
 use Rattle.bench_words.specs.Store.{node_at}
-use Rattle.bench_vertices.proofs.Circling.{Down, never, first_own, first_placed, first_older, first_under}
+use Rattle.bench_vertices.proofs.Circling.{Down}
 use Rattle.bench_vertices.proofs.first_vertex.Given as goal
 
 abbrev pub invariant-loop-v : goal.invariant-loop-v

@@ -2,5 +2,5 @@
 use borrow.Author.Rules.{rules}
 use Rattle.bench_words.proofs.parent_word.Goals as goal
 
-pub returns-in-Inside : goal.returns-in-Inside
-returns-in-Inside c = cc
+pub returns-in-Some : goal.returns-in-Some
+returns-in-Some c = cc

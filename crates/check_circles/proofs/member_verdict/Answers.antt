@@ -1,6 +1,5 @@
 -- A member is present: a defect by its own handle, a blossom by both touching ones. Assumes nothing.
 use mathlib.Core.Path.{◌≡◌, ap₂, ◌∙◌}
-use borrow.Author.Rules.{rules}
 use Rattle.kinds.specs.declared.Class.TheVariants.{Absent, Blossom, Defect}
 use Rattle.ledger_spec.specs.Named.{handle_named}
 use Rattle.bench_vertices.proofs.Circling.{never}

@@ -1,6 +1,5 @@
 -- The walk up ends at a node without a parent. Assumes nothing.
 use mathlib.Core.Path.{ap, ◌∙◌}
-use borrow.Author.Rules.{rules}
 use Rattle.ledger_spec.specs.Named.{handle_named}
 use Rattle.ledger_spec.specs.Walk.{outermost}
 use Rattle.bench_views.specs.View.{view, handle_at}

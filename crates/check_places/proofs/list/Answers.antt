@@ -1,57 +1,56 @@
 -- After i interfaces their slots stand listed, and what is left of the tree's slots comes after. Assumes nothing.
-use Prim.Native.Nat.{◌-◌, ◌≤◌}
-use mathlib.Core.Path.{refl}
+use mathlib.Core.Path.{◌≡◌}
 use native.Mathlib.Omega.{arith}
-use borrow.Author.Rules.{rules}
-use lib.ListN.{get_or}
-use Rattle.check_places.proofs.Filling.{Listing, listing_starts, room, reach, listing_on, listing_ends}
+use Rattle.check_places.proofs.Filling.{listing_starts, room, reach, listing_on, listing_ends}
+use Rattle.bench_orders.proofs.Listed.{listed_long, listed_at}
 use Rattle.bench_orders.proofs.Counting.{unit_low}
 use Rattle.check_places.proofs.list.Goals as goal
 
-pub loop-i-init : goal.loop-i-init
-loop-i-init c = (omega arith, listing_starts c.args.b.now c.args.unit c.args.out.now c.requires.out_len)
-
-pub bounds-o-i : goal.bounds-o-i
-bounds-o-i c = let k = c.order_of-o.ensures.long in omega (arith, c.loop-i-test.true, c.order_of-o.ensures.few)
+pub loop-u-init : goal.loop-u-init
+loop-u-init c = listing_starts c.args.b.now c.args.unit c.args.out.now c.requires.out_len
 
 pub load_interface-f-requires : goal.load_interface-f-requires
 load_interface-f-requires c =
     let o = c.order_of-o in
-    unit_low c.args.b.now c.requires.fit c.args.unit c.requires.unit_bound o.result o.ensures c.loop-i.i (get_or o.result.units c.loop-i.i 0) c.loop-i-test.true refl
+    let u = listed_at o.ensures c.loop-u-test.true in
+    unit_low c.args.b.now c.requires.fit c.args.unit c.requires.unit_bound o.result o.ensures c.loop-u.u-index _ u.0 u.1
 
 pub overflow_mul-u : goal.overflow_mul-u
 overflow_mul-u c =
+    let r = c.requires in
     let o = c.order_of-o in
-    let l = c.loop-i in
-    omega (arith, reach c.args.b.now c.requires.fit c.args.unit c.requires.unit_bound o.result o.ensures l.i l.n l.out l.invariant.1 (get_or o.result.units l.i 0) c.loop-i-test.true refl c.load_interface-f.result c.load_interface-f.ensures)
+    let l = c.loop-u in
+    let f = c.load_interface-f in
+    let u = listed_at o.ensures c.loop-u-test.true in
+    omega (arith, reach c.args.b.now r.fit c.args.unit r.unit_bound o.result o.ensures l.u-index l.n l.out l.invariant _ u.0 u.1 f.result f.ensures)
 
 pub fill-n-requires : goal.fill-n-requires
 fill-n-requires c =
+    let r = c.requires in
     let o = c.order_of-o in
-    let l = c.loop-i in record {
-      out_len = l.invariant.1.long;
-      many_bound = room c.args.b.now c.requires.fit c.args.unit c.requires.unit_bound o.result o.ensures l.i l.n l.out l.invariant.1 (get_or o.result.units l.i 0) c.loop-i-test.true refl c.load_interface-f.result c.load_interface-f.ensures;
-      many_bound_2 = reach c.args.b.now c.requires.fit c.args.unit c.requires.unit_bound o.result o.ensures l.i l.n l.out l.invariant.1 (get_or o.result.units l.i 0) c.loop-i-test.true refl c.load_interface-f.result c.load_interface-f.ensures;
+    let l = c.loop-u in
+    let f = c.load_interface-f in
+    let u = listed_at o.ensures c.loop-u-test.true in
+    record {
+      out_len = l.invariant.long;
+      many_bound = room c.args.b.now r.fit c.args.unit r.unit_bound o.result o.ensures l.u-index l.n l.out l.invariant _ u.0 u.1 f.result f.ensures;
+      many_bound_2 = reach c.args.b.now r.fit c.args.unit r.unit_bound o.result o.ensures l.u-index l.n l.out l.invariant _ u.0 u.1 f.result f.ensures;
     }
 
-pub overflow_add-i : goal.overflow_add-i
-overflow_add-i c =
-    omega (arith, c.loop-i-test.true, c.order_of-o.ensures.few)
-
-pub loop-i-smaller : goal.loop-i-smaller
-loop-i-smaller c = omega (arith, c.loop-i-test.true)
-
-pub loop-i-preserved : goal.loop-i-preserved
-loop-i-preserved c =
+pub loop-u-preserved : goal.loop-u-preserved
+loop-u-preserved c =
+    let r = c.requires in
     let o = c.order_of-o in
-    let l = c.loop-i in (
-      omega (arith, c.loop-i-test.true),
-      listing_on c.args.b.now c.requires.fit c.args.unit c.requires.unit_bound o.result o.ensures l.i l.n l.out l.invariant.1 (get_or o.result.units l.i 0) c.loop-i-test.true refl c.load_interface-f.result c.load_interface-f.ensures
-          c.fill-n.new.out c.fill-n.result c.fill-n.ensures,
-    )
+    let l = c.loop-u in
+    let f = c.load_interface-f in
+    let u = listed_at o.ensures c.loop-u-test.true in
+    let n = c.fill-n in
+    listing_on c.args.b.now r.fit c.args.unit r.unit_bound o.result o.ensures l.u-index l.n l.out l.invariant _ u.0 u.1 f.result f.ensures
+    n.new.out n.result n.ensures
 
 pub returns : goal.returns
 returns c =
     let o = c.order_of-o in
-    let l = c.loop-i in
-    listing_ends c.args.b.now c.requires.fit c.args.unit c.requires.unit_bound o.result o.ensures l.i l.n l.out c.loop-i-test.false (omega (arith, l.invariant.0, o.ensures.few)) l.invariant.1
+    let l = c.loop-u in
+    let last : l.u-index ≡ o.result.count = omega (arith, listed_long o.ensures) in
+    listing_ends c.args.b.now c.requires.fit c.args.unit c.requires.unit_bound o.result o.ensures l.u-index l.n l.out last l.invariant

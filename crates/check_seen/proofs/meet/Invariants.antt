@@ -1,11 +1,6 @@
 -- A vertex that is not found where its bits lead was not met, and becomes the entry that they lead to. Assumes nothing.
 use Prim.Native.Nat.{◌-◌}
-use mathlib.Core.Path.{◌≡◌}
-use mathlib.Core.Bool.{true≢false}
-use native.Mathlib.Omega.{arith}
-use borrow.Author.Rules.{rules}
-use Rattle.check_seen.proofs.Noting.{noted_is, kept_now}
-use Rattle.check_seen.proofs.Looking.{Looked, look_starts, look_ends, look_found, look_few, look_falls, look_on}
+use Rattle.check_seen.proofs.Looking.{Looked}
 use Rattle.check_seen.proofs.meet.Given as goal
 
 abbrev pub invariant-loop-p : goal.invariant-loop-p

@@ -2,7 +2,6 @@
 use mathlib.Core.Path.{sym, subst}
 use Prim.Native.Nat.{ℕ, ◌+◌, ◌-◌}
 use native.Mathlib.Omega.{arith}
-use borrow.Author.Rules.{rules}
 use Rattle.check_totals.specs.Total.{Added}
 use Rattle.check_totals.proofs.Adding.{added_none, bias_room, value_near, added_value}
 use Rattle.check_totals.proofs.add.Goals as goal

@@ -1,7 +1,6 @@
 -- T depends on the interface alone. Assumes nothing.
 use Prim.Native.Nat.{ℕ}
 use mathlib.Core.Path.{ap, sym, ◌∙◌}
-use borrow.Author.Rules.{rules}
 use Rattle.bench_words.specs.Store.{interface_at}
 use Rattle.bench_views.specs.View.{sum_up}
 use Rattle.check_totals.proofs.progress.Goals as goal

@@ -1,48 +1,62 @@
 -- At each turn what is added and what the slots left add up to is the whole total. Assumes nothing.
-use Prim.Native.Nat.{◌-◌, ◌≤◌}
+use Prim.Native.Nat.{◌<◌}
+use mathlib.Core.Path.{◌≡◌}
+use lib.ListN.{get_or, take}
 use native.Mathlib.Omega.{arith}
-use borrow.Author.Rules.{rules}
-use Rattle.check_totals.proofs.Adding.{Adding, adding_starts, adding_ends, place_at, adding_on}
+use Rattle.bench_orders.specs.Order.{AtIndex}
+use Rattle.bench_orders.proofs.Listed.{front_long, front_at}
+use Rattle.check_totals.proofs.Adding.{adding_starts, adding_ends, adding_on}
 use Rattle.check_totals.proofs.total.Goals as goal
+use Rattle.check_totals.proofs.total.Goals.{In-loop-k}
 
 pub climb-top-requires : goal.climb-top-requires
 climb-top-requires c = record { unit_bound = c.requires.unit_bound; steady = c.requires.fit.canon.steady }
 
-pub loop-i-init : goal.loop-i-init
-loop-i-init c = (omega arith, adding_starts c.args.b.now c.args.unit c.args.unit c.climb-top.result.total c.climb-top.ensures.total)
+pub loop-k-init : goal.loop-k-init
+loop-k-init c = adding_starts c.args.b.now c.args.unit c.args.unit c.climb-top.result.total c.climb-top.ensures.total
 
-pub bounds-places-i : goal.bounds-places-i
-bounds-places-i c = omega (arith, c.loop-i-test.true, c.requires.places.few)
+-- a place is one of those that are listed
+listed : (c : In-loop-k)
+    → (c.loop-k.k-index < c.args.count) × (get_or (take c.args.count c.args.places.now) c.loop-k.k-index 0 ≡ get_or c.args.places.now c.loop-k.k-index 0)
+listed c = front_at c.args.places.now c.args.count (omega (arith, c.requires.places.few, c.requires.places.long)) c.loop-k-test.true
+
+spot : (c : In-loop-k) → AtIndex c.args.b.now c.args.unit c.loop-k.k-index (get_or (take c.args.count c.args.places.now) c.loop-k.k-index 0)
+spot c = let k = listed c in rw k.1 (c.requires.places.at c.loop-k.k-index k.0)
 
 pub progress-t-requires : goal.progress-t-requires
 progress-t-requires c =
-    let l = c.loop-i in
-    let P = place_at c.args.b.now c.args.unit c.args.places.now c.args.count c.requires.places l.i l.last l.t l.sum l.invariant.1 c.loop-i-test.true in record { steady = c.requires.fit.canon.steady; u_bound = P.low; t_value = l.invariant.1.progress }
+    record { steady = c.requires.fit.canon.steady; u_bound = (spot (goal.at.progress-t-requires c).In-loop-k).low; t_value = c.loop-k.invariant.progress }
 
 pub add-sum-requires : goal.add-sum-requires
 add-sum-requires c =
-    let l = c.loop-i in
-    let P = place_at c.args.b.now c.args.unit c.args.places.now c.args.count c.requires.places l.i l.last l.t l.sum l.invariant.1 c.loop-i-test.true in
-    let f = c.requires.places.few in
-    let A = l.invariant.1 in
-    let i = c.loop-i-test.true in record { fit = c.requires.fit; k_bound = P.low; k_bound_2 = P.used; t_value = c.progress-t.ensures; le_sum = omega (arith, A.least, i, f); sum_bound = omega (arith, A.most, i, f) }
+    let k = spot (goal.at.add-sum-requires c).In-loop-k in
+    let i = (listed (goal.at.add-sum-requires c).In-loop-k).0 in
+    let few = c.requires.places.few in
+    let A = c.loop-k.invariant in
+    record {
+      fit = c.requires.fit;
+      k_bound = k.low;
+      k_bound_2 = k.used;
+      t_value = c.progress-t.ensures;
+      le_sum = omega (arith, A.least, i, few);
+      sum_bound = omega (arith, A.most, i, few);
+    }
 
-pub overflow_add-i : goal.overflow_add-i
-overflow_add-i c =
-    omega (arith, c.loop-i-test.true, c.requires.places.few)
-
-pub loop-i-smaller : goal.loop-i-smaller
-loop-i-smaller c = omega (arith, c.loop-i-test.true)
-
-pub loop-i-preserved : goal.loop-i-preserved
-loop-i-preserved c =
-    let l = c.loop-i in (
-      omega (arith, c.loop-i-test.true),
-      adding_on c.args.b.now c.args.unit c.args.places.now c.args.count c.requires.places l.i l.last l.t l.sum l.invariant.1 c.loop-i-test.true
-          c.progress-t.result c.add-sum.result c.progress-t.ensures c.add-sum.ensures,
-    )
+pub loop-k-preserved : goal.loop-k-preserved
+loop-k-preserved c =
+    let a = c.args in
+    let l = c.loop-k in
+    let t = c.progress-t in
+    let s = c.add-sum in
+    let k = listed (goal.at.loop-k-preserved c).In-loop-k in
+    rw k.1
+    (adding_on a.b.now a.unit a.places.now a.count c.requires.places l.k-index l.last l.t l.sum l.invariant k.0
+    t.result s.result (rw (← k.1) t.ensures) (rw (← k.1) s.ensures))
 
 pub returns : goal.returns
 returns c =
-    let l = c.loop-i in
-    adding_ends c.args.b.now c.args.unit c.args.places.now c.args.count c.requires.places l.i l.last l.t l.sum l.invariant.1 (omega (arith, l.invariant.0, c.loop-i-test.false))
+    let a = c.args in
+    let l = c.loop-k in
+    let P = c.requires.places in
+    let all = front_long a.places.now a.count (omega (arith, P.few, P.long)) in
+    adding_ends a.b.now a.unit a.places.now a.count P l.k-index l.last l.t l.sum l.invariant (omega (arith, all))

@@ -1,13 +1,10 @@
 -- The loop takes the members in one by one, with the size and the speed so far; then the blossom is pushed. Assumes nothing.
-use Prim.Native.Nat.{◌-◌}
 use mathlib.Core.Path.{ap}
 use native.Mathlib.Omega.{arith}
-use borrow.Author.Rules.{rules}
-use lib.ListN.{length}
 use Rattle.bench_words.specs.declared.Interface.{Interface}
 use Rattle.bench_views.proofs.Sums.{lag_le}
 use Rattle.deed_circles.proofs.Givens.{ringable}
-use Rattle.deed_circles.proofs.Bodies.{Looping, loop_begins, loop_range, loop_steady, loop_total, loop_ranged, loop_size, loop_turns, loop_ready, loop_ends}
+use Rattle.deed_circles.proofs.Bodies.{loop_begins, loop_range, loop_steady, loop_total, loop_ranged, loop_size, loop_turns, loop_ready, loop_ends}
 use Rattle.deed_circles.proofs.add_blossom.Goals as goal
 
 pub load_interface-f-requires : goal.load_interface-f-requires
@@ -15,7 +12,9 @@ load_interface-f-requires c = let a = c.args in (ringable a.b.now a.unit a.membe
 
 pub free_slot-slot-requires : goal.free_slot-slot-requires
 free_slot-slot-requires c =
-    let a = c.args in let r = ringable a.b.now a.unit a.members.now a.touching.now c.requires.0 c.requires.1 in record { canon = c.requires.0.canon; unit_bound = r.root.low }
+    let a = c.args in
+    let r = ringable a.b.now a.unit a.members.now a.touching.now c.requires.0 c.requires.1 in
+    record { canon = c.requires.0.canon; unit_bound = r.root.low }
 
 pub overflow_cast-serial : goal.overflow_cast-serial
 overflow_cast-serial c =
@@ -30,7 +29,8 @@ overflow_cast-q c =
 pub loop-i-init : goal.loop-i-init
 loop-i-init c =
     let a = c.args in
-    loop_begins a.b.now a.unit a.members.now a.touching.now c.load_interface-f.result c.requires.0 c.requires.1 c.load_interface-f.ensures c.free_slot-slot.ensures c.load_next-next.ensures
+    let f = c.load_interface-f in
+    loop_begins a.b.now a.unit a.members.now a.touching.now f.result c.requires.0 c.requires.1 f.ensures c.free_slot-slot.ensures c.load_next-next.ensures
 
 pub seat-requires : goal.seat-requires
 seat-requires c = let r = c.loop-i.invariant.ring in (c.loop-i-test.true, r.many, r.paired)
@@ -54,7 +54,9 @@ overflow_sub-speed c =
 
 pub loop-i-preserved : goal.loop-i-preserved
 loop-i-preserved c =
-    loop_turns c.loop-i.invariant c.take_in-s.new.b c.take_in-s.result.size c.take_in-s.result.rate c.loop-i-test.true c.seat.ensures c.take_in-s.ensures.0 c.take_in-s.ensures.1 c.take_in-s.ensures.2
+    let s = c.take_in-s in
+    let e = s.ensures in
+    loop_turns c.loop-i.invariant s.new.b s.result.size s.result.rate c.loop-i-test.true c.seat.ensures e.0 e.1 e.2
 
 pub bounds-members-0 : goal.bounds-members-0
 bounds-members-0 c = omega (arith, c.loop-i.invariant.ring.some)
@@ -77,4 +79,6 @@ push-requires c =
 pub returns : goal.returns
 returns c =
     let f = c.load_interface-f in
-    loop_ends c.loop-i.invariant f.result (omega (arith, c.loop-i-test.false)) f.ensures c.free_slot-slot.ensures c.load_next-next.ensures c.spot-first.ensures.0 c.lag-t.ensures c.new_node-n.ensures c.push.ensures
+    let slot = c.free_slot-slot.ensures in
+    let next = c.load_next-next.ensures in
+    loop_ends c.loop-i.invariant f.result (omega arith) f.ensures slot next c.spot-first.ensures.0 c.lag-t.ensures c.new_node-n.ensures c.push.ensures

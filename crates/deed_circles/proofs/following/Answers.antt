@@ -1,6 +1,5 @@
 -- The two cases of the test are those of the definition. Assumes nothing.
 use native.Mathlib.Omega.{arith}
-use borrow.Author.Rules.{rules}
 use Rattle.deed_circles.proofs.Bodies.{next_some, next_none}
 use Rattle.deed_circles.proofs.following.Goals as goal
 

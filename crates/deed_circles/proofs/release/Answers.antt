@@ -1,7 +1,6 @@
 -- The node at the position, re-marked at its T and stored back; its next was read before. Assumes nothing.
 use mathlib.Core.Path.{refl}
 use native.Mathlib.Omega.{arith}
-use borrow.Author.Rules.{rules}
 use Rattle.deed_circles.proofs.Bodies.{ranged_at, release_by}
 use Rattle.deed_circles.proofs.release.Goals as goal
 

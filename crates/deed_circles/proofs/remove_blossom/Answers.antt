@@ -1,12 +1,10 @@
 -- The loop walks the circle as it was at the call, and lets its members out one by one; then the slot is emptied, the speed set and the bit taken out.
 -- Assumes nothing.
-use Prim.Native.Nat.{◌-◌, ◌≤◌}
 use mathlib.Core.Path.{ap}
 use native.Mathlib.Omega.{arith}
-use borrow.Author.Rules.{rules}
 use Rattle.bench_words.specs.declared.Interface.{Interface}
 use Rattle.bench_words.specs.declared.Node.{Node}
-use Rattle.deed_circles.proofs.Freeing.{Freeing, freeing_begins}
+use Rattle.deed_circles.proofs.Freeing.{freeing_begins}
 use Rattle.deed_circles.proofs.Bodies.{expand_reach, expand_can, expand_turns, expand_ends}
 use Rattle.deed_circles.proofs.remove_blossom.Goals as goal
 
@@ -16,23 +14,21 @@ load_node-n-requires c = let a = c.args in let r = expand_reach a.b.now a.unit a
 pub load_interface-f-requires : goal.load_interface-f-requires
 load_interface-f-requires c = let a = c.args in (expand_reach a.b.now a.unit a.h c.requires.0 c.requires.1).top
 
-pub loop-i-init : goal.loop-i-init
-loop-i-init c =
-    (freeing_begins c.args.b.now c.load_node-n.result.first c.requires.0, omega arith)
+pub loop-init : goal.loop-init
+loop-init c = freeing_begins c.args.b.now c.load_node-n.result.first c.requires.0
 
 pub release-at-requires : goal.release-at-requires
 release-at-requires c =
-    expand_can c.args.b.now c.args.unit c.args.h c.requires.0 c.requires.1 c.load_node-n.result c.load_node-n.ensures c.loop-i.invariant.0 c.loop-i-test.true c.load_interface-f.ensures c.lag-t.ensures
-
-pub overflow_add-i : goal.overflow_add-i
-overflow_add-i c =
-    let r = expand_reach c.args.b.now c.args.unit c.args.h c.requires.0 c.requires.1 in
-    omega (arith, r.few, ap (λ (x : Node). x.count) c.load_node-n.ensures, c.loop-i-test.true)
-
-pub loop-i-preserved : goal.loop-i-preserved
-loop-i-preserved c =
     let a = c.args in
-    (expand_turns a.b.now a.unit a.h c.requires.0 c.requires.1 c.load_node-n.result c.load_node-n.ensures c.release-at.new.b c.release-at.result c.loop-i.invariant.0 c.loop-i-test.true c.release-at.ensures.0 c.release-at.ensures.1, omega arith)
+    let n = c.load_node-n in
+    expand_can a.b.now a.unit a.h c.requires.0 c.requires.1 n.result n.ensures c.loop.invariant c.loop-test.true c.load_interface-f.ensures c.lag-t.ensures
+
+pub loop-preserved : goal.loop-preserved
+loop-preserved c =
+    let a = c.args in
+    let n = c.load_node-n in
+    let r = c.release-at in
+    expand_turns a.b.now a.unit a.h c.requires.0 c.requires.1 n.result n.ensures r.new.b r.result c.loop.invariant c.loop-test.true r.ensures.0 r.ensures.1
 
 pub store_node-requires : goal.store_node-requires
 store_node-requires c =
@@ -69,4 +65,4 @@ returns c =
     let n = c.load_node-n in
     let f = c.load_interface-f in
     expand_ends c.args.b.now c.args.unit c.args.h c.requires.0 c.requires.1 n.result n.ensures f.result
-    c.loop-i.invariant.0 (omega (arith, c.loop-i.invariant.1, c.loop-i-test.false)) f.ensures c.rate_of-loss.ensures.0 c.no_node.ensures c.store_node.ensures c.pace.ensures c.unmark.ensures
+    c.loop.invariant (omega arith) f.ensures c.rate_of-loss.ensures.0 c.no_node.ensures c.store_node.ensures c.pace.ensures c.unmark.ensures

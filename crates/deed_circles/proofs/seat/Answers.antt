@@ -1,5 +1,4 @@
 -- The seat is made of what the callees give. Assumes nothing.
-use borrow.Author.Rules.{rules}
 use Rattle.deed_circles.proofs.seat.Goals as goal
 
 pub returns : goal.returns

@@ -1,6 +1,5 @@
 -- The node at the handle's place, re-marked at its T and stored back. Assumes nothing.
 use native.Mathlib.Omega.{arith}
-use borrow.Author.Rules.{rules}
 use Rattle.deed_circles.proofs.Bodies.{ranged_at, take_by}
 use Rattle.deed_circles.proofs.take_in.Goals as goal
 

@@ -1,6 +1,5 @@
 -- By whether the interface is the one whose T is known. Assumes nothing.
 use native.Mathlib.Omega.{arith}
-use borrow.Author.Rules.{rules}
 use Rattle.deed_circles.proofs.Bodies.{total_here}
 use Rattle.deed_circles.proofs.total_of.Goals as goal
 

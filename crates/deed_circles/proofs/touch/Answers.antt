@@ -1,6 +1,5 @@
 -- The two cases of the test are those of the definition. Assumes nothing.
 use native.Mathlib.Omega.{arith}
-use borrow.Author.Rules.{rules}
 use Rattle.deed_circles.proofs.Bodies.{touch_none, touch_some}
 use Rattle.deed_circles.proofs.touch.Goals as goal
 

@@ -1,5 +1,4 @@
 -- The bit is taken out of the word that is loaded. Assumes nothing.
-use borrow.Author.Rules.{rules}
 use Rattle.deed_circles.proofs.unmark.Goals as goal
 
 pub returns : goal.returns

@@ -1,6 +1,5 @@
 -- By cases of the state. Assumes nothing.
 use native.Mathlib.Omega.{arith}
-use borrow.Author.Rules.{rules}
 use Rattle.deed_raises.proofs.moved.Goals as goal
 
 pub overflow_add-result : goal.overflow_add-result

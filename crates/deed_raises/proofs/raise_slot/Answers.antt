@@ -1,7 +1,6 @@
 -- State and bias are read, and the bias is written. Assumes nothing.
 use Prim.Native.Nat.{ℕ}
 use mathlib.Core.Path.{◌≡◌, ap, ap₂, ◌∙◌}
-use borrow.Author.Rules.{rules}
 use Rattle.kinds.specs.declared.GrowState.{GrowState}
 use Rattle.bench_words.specs.Store.{store_bias}
 use Rattle.bench_views.specs.View.{value_by}

@@ -1,5 +1,4 @@
 -- The interface that is stored is the one loaded, with the parent. Assumes nothing.
-use borrow.Author.Rules.{rules}
 use Rattle.deed_trees.proofs.put_under.Goals as goal
 
 pub returns : goal.returns

@@ -1,7 +1,6 @@
 -- The used slots are emptied, then the map and the interface. Assumes nothing.
 use mathlib.Core.Path.{ap}
 use native.Mathlib.Omega.{arith}
-use borrow.Author.Rules.{rules}
 use Rattle.bench_words.specs.declared.Interface.{Interface}
 use Rattle.deed_trees.proofs.Emptying.{reset_by}
 use Rattle.deed_trees.proofs.reset.Goals as goal

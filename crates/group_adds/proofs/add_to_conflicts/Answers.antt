@@ -1,6 +1,6 @@
 -- `add_to_conflicts` goes by the obstacle: a growth has no effect, a stop goes to the stops, any other to the list. Assumes nothing.
+use Rattle.std.specs.Prelude.{Option}
 use mathlib.Core.Path.{◌≡◌, ap, ◌∙◌}
-use mathlib.Core.Option.{Option}
 use native.Mathlib.Omega.{arith}
 use borrow.Author.Rules.{rules}
 use lib.ListN.{length, length-map}

@@ -1,6 +1,5 @@
 -- The tests that led to a return say which answer holds: BROKEN, STALE, and what the add of a sound group answers. Assumes nothing.
 use mathlib.Core.Path.{sym, ◌∙◌}
-use borrow.Author.Rules.{rules}
 use Rattle.group_calls.proofs.Answering.{fit, add_unready, on_bench, own_sound, add_stale, add_goes}
 use mathlib.Core.Path.{ap}
 use mathlib.Core.Bool.{not}

@@ -1,8 +1,6 @@
 -- The tests that led to a return say which answer holds: BROKEN of the words or the own group, of the other, STALE, and what the extend of a sound group
 -- by a sound one answers. Assumes nothing.
 use mathlib.Core.Path.{sym, ◌∙◌}
-use borrow.Author.Rules.{rules}
-use borrow.Author.Tests.{not-true, not-false}
 use Rattle.group_calls.proofs.Answering.{fit, extend_unready, on_bench, own_sound, other_broken, extend_stale, extend_goes}
 use mathlib.Core.Path.{ap}
 use mathlib.Core.Bool.{not}

@@ -1,7 +1,8 @@
 -- `nodes_of` goes by the obstacle, and by a stop's pair. Assumes nothing.
+use Rattle.std.specs.Prelude.{Option}
+use Rattle.kinds.specs.declared.Pair.{Pair}
 use mathlib.Core.Path.{sym, ap, ◌∙◌}
 use mathlib.Core.List.{◌∷◌}
-use Rattle.kinds.specs.declared.MaybePair.{MaybePair}
 use Rattle.ledger_spec.specs.GroupCalls.{handles_of, pair_handles}
 use borrow.Author.Rules.{rules}
 use Rattle.group_handles.proofs.nodes_of.Goals as goal
@@ -22,11 +23,11 @@ pub returns-in-BlossomNeedExpand : goal.returns-in-BlossomNeedExpand
 unfolding handles_of
 returns-in-BlossomNeedExpand c = sym (ap handles_of c.in-BlossomNeedExpand.is)
 
-pub returns-in-NoPair : goal.returns-in-NoPair
+pub returns-in-None : goal.returns-in-None
 unfolding handles_of
-returns-in-NoPair c = sym (ap handles_of c.in-VertexShrinkStop.is ∙ ap (λ (m : MaybePair). c.in-VertexShrinkStop.n ∷ pair_handles m) c.in-NoPair.is)
+returns-in-None c = sym (ap handles_of c.in-VertexShrinkStop.is ∙ ap (λ (m : Option Pair). c.in-VertexShrinkStop.n ∷ pair_handles m) c.in-None.is)
 
-pub returns-in-WithPair : goal.returns-in-WithPair
+pub returns-in-Some : goal.returns-in-Some
 unfolding handles_of
-returns-in-WithPair c =
-    sym (ap handles_of c.in-VertexShrinkStop.is ∙ ap (λ (m : MaybePair). c.in-VertexShrinkStop.n ∷ pair_handles m) c.in-WithPair.is)
+returns-in-Some c =
+    sym (ap handles_of c.in-VertexShrinkStop.is ∙ ap (λ (m : Option Pair). c.in-VertexShrinkStop.n ∷ pair_handles m) c.in-Some.is)

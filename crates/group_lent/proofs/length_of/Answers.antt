@@ -1,7 +1,6 @@
 -- A word of 2^63 or more is turned round before it is cast. Assumes nothing.
 use Rattle.group_lent.proofs.Lengths.{read_plain, read_fits, read_turned}
 use native.Mathlib.Omega.{arith}
-use borrow.Author.Rules.{rules}
 use Rattle.group_lent.proofs.length_of.Goals as goal
 
 pub returns-then-w-lt9223372036854775808 : goal.returns-then-w-lt9223372036854775808

@@ -2,7 +2,6 @@
 use Rattle.group_lent.proofs.Stores.{sets_all}
 use mathlib.Core.Path.{sym}
 use Rattle.group_lent.specs.Forms.{five_words}
-use borrow.Author.Rules.{rules}
 use Rattle.group_lent.proofs.put_in.Goals as goal
 
 pub returns : goal.returns

@@ -1,5 +1,4 @@
 -- The entries are copied and counted. Assumes nothing.
-use borrow.Author.Rules.{rules}
 use Rattle.group_lent_extends.proofs.append.Goals as goal
 
 pub returns : goal.returns

@@ -1,6 +1,4 @@
 -- `extend` goes by the kinds of the two groups. Assumes nothing.
-use borrow.Author.Rules.{rules}
-use borrow.Author.Tests.{not-true, not-false}
 use Rattle.group_lent.proofs.Seen.{is_listing}
 use Rattle.group_lent_extends.proofs.Extending.{by_pair_lem, by_none, by_taking, by_room, fits, by_roomy, by_adding}
 use Rattle.group_lent_extends.proofs.extend.Goals as goal

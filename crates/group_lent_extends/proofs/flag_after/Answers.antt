@@ -2,7 +2,6 @@
 use mathlib.Core.Path.{◌∙◌}
 use mathlib.Core.Bool.{true, false}
 use mir.Facts.{to_z-of_z}
-use borrow.Author.Rules.{rules}
 use borrow.Author.Tests.{eq-eqb, ne_eqb}
 use Rattle.group_lent_extends.specs.Extends.{flag_after}
 use Rattle.group_lent_extends.proofs.Pairs.{less_is, more_is}

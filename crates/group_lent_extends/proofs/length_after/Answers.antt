@@ -1,5 +1,4 @@
 -- By the tests of the definition. Assumes nothing.
-use borrow.Author.Rules.{rules}
 use borrow.Author.Tests.{eq-eqb, ne_eqb}
 use Rattle.group_lent_extends.specs.Extends.{length_after}
 use Rattle.group_lent_extends.proofs.length_after.Goals as goal

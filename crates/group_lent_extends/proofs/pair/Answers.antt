@@ -1,5 +1,4 @@
 -- Two words are written. Assumes nothing.
-use borrow.Author.Rules.{rules}
 use Rattle.group_lent_extends.proofs.pair.Goals as goal
 
 pub returns : goal.returns

@@ -16,4 +16,4 @@ returns-then-f-lt5 c = (vertex_none (view c.args.b.now) c.args.f.kind c.args.f.a
 pub returns : goal.returns
 returns c =
     let b = view c.args.b.now in
-    (ap (λ (p : ℕ × ℕ). p.1) c.get_representative_vertex-r.ensures ∙ ap (λ (h : Handle). (first_vertex b (handle_named h)).1) c.hand_of-h.ensures ∙ vertex_stop c.args.f b c.requires.f_value c.if-f-lt5.false, search rules)
+    (ap (λ (p : ℕ × ℕ). p.1) c.get_representative_vertex-r.ensures ∙ ap (λ (h : Handle). (first_vertex b (handle_named h)).1) c.hand_of.ensures ∙ vertex_stop c.args.f b c.requires.f_value c.if-f-lt5.false, search rules)

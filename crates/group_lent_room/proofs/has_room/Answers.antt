@@ -8,49 +8,12 @@ use Rattle.group_lent.specs.Place.{group_in}
 use Rattle.group_lent_room.proofs.Counting.{Counting, count_full, count_begin, count_end, list_full, stops_full, count_turn}
 use Rattle.group_lent_room.proofs.has_room.Goals as goal
 
-pub overflow_add-l : goal.overflow_add-l
-overflow_add-l c = omega (arith, c.requires.listing.few, c.requires.listing_2.few)
-
 pub returns-then-l-gt128 : goal.returns-then-l-gt128
 returns-then-l-gt128 c = count_full c.args.w.now c.args.other.now c.requires.listing c.requires.listing_2 c.if-l-gt128.true
 
 pub loop-j-init : goal.loop-j-init
 loop-j-init c =
     (omega arith, (c.if-l-gt128.false, (c.requires.listing.fewer, count_begin c.args.w.now c.args.other.now c.requires.listing c.requires.listing_2 c.if-l-gt128.false)))
-
-pub overflow_mul-v : goal.overflow_mul-v
-overflow_mul-v c = omega (arith, c.requires.listing_2.fewer)
-
-pub overflow_add-v : goal.overflow_add-v
-overflow_add-v c = omega (arith, c.requires.listing_2.fewer)
-
-pub offset_bounds-other-j : goal.offset_bounds-other-j
-offset_bounds-other-j c = omega (arith, c.requires.listing_2.fewer)
-
-pub bounds-other-j : goal.bounds-other-j
-bounds-other-j c = omega (arith, c.requires.listing_2.fewer)
-
-pub overflow_mul-j : goal.overflow_mul-j
-overflow_mul-j c = omega (arith, c.requires.listing_2.fewer)
-
-pub overflow_add-j : goal.overflow_add-j
-overflow_add-j c = omega (arith, c.requires.listing_2.fewer)
-
-pub overflow_add-j-in-loop-j : goal.overflow_add-j-in-loop-j
-overflow_add-j-in-loop-j c = omega (arith, c.requires.listing_2.fewer)
-
-pub five_at-f-requires : goal.five_at-f-requires
-five_at-f-requires c = omega (arith, c.requires.listing_2.fewer)
-
-pub coming-d-requires : goal.coming-d-requires
-coming-d-requires c =
-    c.requires.listing
-
-pub listed_by-l-requires : goal.listed_by-l-requires
-listed_by-l-requires c = c.loop-j.invariant.1.0
-
-pub stopped_by-s-requires : goal.stopped_by-s-requires
-stopped_by-s-requires c = c.loop-j.invariant.1.1.0
 
 pub returns-then-l-gt128-2 : goal.returns-then-l-gt128-2
 returns-then-l-gt128-2 c =
@@ -59,12 +22,6 @@ returns-then-l-gt128-2 c =
 pub returns-then-s-gt128 : goal.returns-then-s-gt128
 returns-then-s-gt128 c =
     stops_full c.args.w.now c.args.other.now c.requires.listing c.requires.listing_2 _ c.loop-j.l c.loop-j.s c.loop-j.j c.loop-j.invariant.1.1.1 c.loop-j-test.true _ (rw c.five_at-f.ensures at c.coming-d.ensures) _ _ c.listed_by-l.ensures c.stopped_by-s.ensures c.if-s-gt128.true
-
-pub overflow_add-j-in-loop-j-2 : goal.overflow_add-j-in-loop-j-2
-overflow_add-j-in-loop-j-2 c = omega arith
-
-pub loop-j-smaller : goal.loop-j-smaller
-loop-j-smaller c = omega arith
 
 pub loop-j-preserved : goal.loop-j-preserved
 loop-j-preserved c = (

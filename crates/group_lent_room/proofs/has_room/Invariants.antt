@@ -10,6 +10,3 @@ use Rattle.group_lent_room.proofs.has_room.Given as goal
 
 abbrev pub invariant-loop-j : goal.invariant-loop-j
 invariant-loop-j l = (l.j ≤ l.m) × ((l.l ≤ 128) × ((l.s ≤ 128) × Counting l.w l.other (is_some (extended (group_in l.w) (group_in l.other))) l.l l.s l.j))
-
-abbrev pub decreases-loop-j : goal.decreases-loop-j
-decreases-loop-j l = l.m - l.j

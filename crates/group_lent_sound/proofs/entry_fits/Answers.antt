@@ -1,6 +1,5 @@
 -- An entry by its five words. Assumes nothing.
 use Rattle.group_lent_sound.proofs.Fits.{entry_fits_lem}
-use borrow.Author.Rules.{rules}
 use Rattle.group_lent_sound.proofs.entry_fits.Goals as goal
 
 pub returns : goal.returns

@@ -1,6 +1,5 @@
 -- A stop by its six words. Assumes nothing.
 use Rattle.group_lent_sound.proofs.Fits.{stop_fits_lem}
-use borrow.Author.Rules.{rules}
 use Rattle.group_lent_sound.proofs.stop_fits.Goals as goal
 
 pub returns : goal.returns

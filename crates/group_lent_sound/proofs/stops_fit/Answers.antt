@@ -1,8 +1,7 @@
 -- What is left of the stops decides. Assumes nothing.
-use Prim.Native.Nat.{◌-◌, ◌≤◌}
+use Prim.Native.Nat.{◌-◌}
 use mathlib.Core.Path.{◌≡◌, ap}
 use native.Mathlib.Omega.{arith}
-use borrow.Author.Tests.{not-true, not-false}
 use Rattle.group_lent_sound.specs.Test.{stops_fit}
 use Rattle.group_lent_sound.proofs.Fits.{stops_no, stops_on, stops_end}
 use Rattle.group_lent_sound.proofs.stops_fit.Goals as goal
@@ -10,32 +9,8 @@ use Rattle.group_lent_sound.proofs.stops_fit.Goals as goal
 pub loop-i-init : goal.loop-i-init
 loop-i-init c = let z : c.args.m ≡ c.args.m - 0 = omega arith in (omega arith, ap (stops_fit c.args.w.now 0 0) z)
 
-pub stop_fits-requires : goal.stop_fits-requires
-stop_fits-requires c = omega arith
-
 pub returns-then-not-stop_fits : goal.returns-then-not-stop_fits
 returns-then-not-stop_fits c = stops_no c.args.w.now c.args.m c.loop-i.i _ _ c.loop-i-test.true c.loop-i.least c.loop-i.invariant.1 c.stop_fits.ensures (c.if-not-stop_fits.true)
-
-pub overflow_mul-least : goal.overflow_mul-least
-overflow_mul-least c = omega arith
-
-pub overflow_add-least : goal.overflow_add-least
-overflow_add-least c = omega arith
-
-pub offset_bounds-w-i : goal.offset_bounds-w-i
-offset_bounds-w-i c = omega arith
-
-pub bounds-w-i : goal.bounds-w-i
-bounds-w-i c = omega arith
-
-pub overflow_add-least-in-loop-i : goal.overflow_add-least-in-loop-i
-overflow_add-least-in-loop-i c = omega arith
-
-pub overflow_add-i : goal.overflow_add-i
-overflow_add-i c = omega arith
-
-pub loop-i-smaller : goal.loop-i-smaller
-loop-i-smaller c = omega arith
 
 pub loop-i-preserved : goal.loop-i-preserved
 loop-i-preserved c = (omega arith, stops_on c.args.w.now c.args.m c.loop-i.i _ _ c.loop-i-test.true c.loop-i.least c.loop-i.invariant.1 c.stop_fits.ensures (c.if-not-stop_fits.false))

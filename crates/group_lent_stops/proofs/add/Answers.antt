@@ -1,7 +1,6 @@
 -- The kind says which of the three it is. Assumes nothing.
 use Rattle.group_lent_stops.proofs.Meets.{listable_of, stop_of}
 use Rattle.group_lent_stops.proofs.Branches.{add_growth, add_listed, add_stop_lem}
-use borrow.Author.Rules.{rules}
 use Rattle.group_lent_stops.proofs.add.Goals as goal
 
 pub returns-then-f-eq1 : goal.returns-then-f-eq1

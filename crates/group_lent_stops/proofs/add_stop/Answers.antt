@@ -2,7 +2,6 @@
 use Rattle.group_lent.proofs.Seen.{is_listing}
 use Rattle.group_lent_stops.proofs.Branches.{place_within, held_within, out_growth, out_meet, out_full, out_insert}
 use Rattle.group_lent_stops.proofs.Stopping.{stop_made}
-use borrow.Author.Rules.{rules}
 use Rattle.group_lent_stops.proofs.add_stop.Goals as goal
 
 pub returns-then-w-eq1 : goal.returns-then-w-eq1

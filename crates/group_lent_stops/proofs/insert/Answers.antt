@@ -1,5 +1,4 @@
 -- The stops move up, the stop comes in, and the count. Assumes nothing.
-use borrow.Author.Rules.{rules}
 use Rattle.group_lent_stops.proofs.insert.Goals as goal
 
 pub returns : goal.returns

@@ -1,6 +1,5 @@
 -- `is_held` goes by the tests of the definition. Assumes nothing.
 use borrow.Author.Tests.{lt-ltb, le-ltb}
-use borrow.Author.Rules.{rules}
 use Rattle.group_lent_stops.proofs.is_held.Goals as goal
 
 pub returns-then-m-p : goal.returns-then-m-p

@@ -1,6 +1,5 @@
 -- `meet` goes by the tests of the definition. Assumes nothing.
 use Rattle.group_lent_stops.proofs.Branches.{met_keep, met_replace, met_drop, met_full, met_join}
-use borrow.Author.Rules.{rules}
 use Rattle.group_lent_stops.proofs.meet.Goals as goal
 
 pub returns-then-f-eq5 : goal.returns-then-f-eq5

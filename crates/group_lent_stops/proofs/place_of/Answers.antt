@@ -1,44 +1,22 @@
 -- A turn of the loop passes one stop below the vertex. Assumes nothing.
-use Prim.Native.Nat.{◌+◌, ◌-◌, ◌*◌, ◌≤◌}
+use Prim.Native.Nat.{◌+◌, ◌*◌}
 use mathlib.Core.Path.{◌≡◌}
 use native.Mathlib.Omega.{arith}
-use lib.ListN.{length, get_or}
-use Rattle.ledger_spec.specs.Groups.{front_of}
+use lib.ListN.{get_or}
 use Rattle.group_lent.specs.Groups.{stop_at}
-use Rattle.group_lent.specs.Place.{run, stopped}
+use Rattle.group_lent.specs.Place.{stopped}
 use Rattle.group_lent_stops.specs.Stops.{place_in}
 use Rattle.group_lent_stops.proofs.Places.{vertex_is, place_begin, place_stop, place_turn, place_end}
 use Rattle.group_lent_stops.proofs.place_of.Goals as goal
-
-pub bounds-w-4 : goal.bounds-w-4
-bounds-w-4 c = omega arith
 
 pub loop-p-init : goal.loop-p-init
 unfolding place_in
 loop-p-init c = (omega arith, place_begin c.args.w.now c.args.v)
 
-pub overflow_mul-p : goal.overflow_mul-p
-overflow_mul-p c = omega (arith, c.requires.fewer)
-
-pub overflow_add-p : goal.overflow_add-p
-overflow_add-p c = omega (arith, c.requires.fewer)
-
-pub offset_bounds-w-p : goal.offset_bounds-w-p
-offset_bounds-w-p c = omega (arith, c.requires.fewer)
-
-pub bounds-w-p : goal.bounds-w-p
-bounds-w-p c = omega (arith, c.requires.fewer)
-
 pub returns-then-v-w : goal.returns-then-v-w
 returns-then-v-w c =
     let v : (stop_at c.args.w.now c.loop-p.p).vertex.0 ≡ get_or c.args.w.now (645 + c.loop-p.p * 6) 0 = vertex_is c.args.w.now c.loop-p.p (c.requires.stops c.loop-p.p (omega arith)) in
     place_stop (stop_at c.args.w.now) c.args.v (stopped c.args.w.now) c.loop-p.p (place_in c.args.w.now c.args.v) c.loop-p.invariant.1 c.loop-p-test.true (rw v c.if-v-w.true)
-
-pub overflow_add-p-in-loop-p : goal.overflow_add-p-in-loop-p
-overflow_add-p-in-loop-p c = omega arith
-
-pub loop-p-smaller : goal.loop-p-smaller
-loop-p-smaller c = omega arith
 
 pub loop-p-preserved : goal.loop-p-preserved
 loop-p-preserved c =
@@ -47,4 +25,4 @@ loop-p-preserved c =
 
 pub returns : goal.returns
 returns c =
-    place_end (stop_at c.args.w.now) c.args.v (stopped c.args.w.now) c.loop-p.p (place_in c.args.w.now c.args.v) c.loop-p.invariant.1 c.loop-p-test.false
+    omega (arith, place_end (stop_at c.args.w.now) c.args.v (stopped c.args.w.now) c.loop-p.p (place_in c.args.w.now c.args.v) c.loop-p.invariant.1 c.loop-p-test.false)

@@ -1,7 +1,6 @@
 -- The vertex, then the five words. Assumes nothing.
 use mathlib.Core.Path.{◌∙◌}
 use native.Mathlib.Numerals.{add-one}
-use borrow.Author.Rules.{rules}
 use Rattle.group_lent_stops.proofs.put_stop.Goals as goal
 
 pub returns : goal.returns

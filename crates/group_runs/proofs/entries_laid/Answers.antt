@@ -1,25 +1,6 @@
--- `entries_laid` lays one element a turn. Assumes nothing.
-use Rattle.std.proofs.Common.{◌+◌, ◌-◌, ◌≤◌, length, arith, rules}
-use Rattle.groups.specs.View.{no_entry}
-use Rattle.group_runs.proofs.Turns.{run_start, run_step, run_end}
+-- The run is copied into the part of the array that it takes. Assumes nothing.
+use Rattle.group_runs.proofs.Runs.{run_laid}
 use Rattle.group_runs.proofs.entries_laid.Goals as goal
 
-pub loop-a-init : goal.loop-a-init
-loop-a-init c =
-    let k : c.args.n ≤ length c.args.more = omega arith in
-    let m : c.args.at + (c.args.n - c.args.from) ≤ length c.args.list = omega arith in
-    (search rules, c.requires.0, omega arith, run_start c.args.list c.args.more c.args.at c.args.from c.args.n c.requires.0 k m no_entry)
-
-pub loop-a-preserved : goal.loop-a-preserved
-loop-a-preserved c =
-    let k : c.args.n ≤ length c.args.more = omega arith in
-    let m : c.args.at + (c.args.n - c.args.from) ≤ length c.args.list = omega arith in
-    let i = c.loop-a.invariant in
-    (omega (arith, i.0), omega arith, omega (arith, i.0, i.2), run_step c.args.list c.args.more c.args.at c.args.from c.args.n c.requires.0 k m no_entry c.loop-a.r c.loop-a.a c.loop-a.q i.3 i.0 c.loop-a-test.true i.2)
-
 pub returns : goal.returns
-returns c =
-    let k : c.args.n ≤ length c.args.more = omega arith in
-    let m : c.args.at + (c.args.n - c.args.from) ≤ length c.args.list = omega arith in
-    let i = c.loop-a.invariant in
-    run_end c.args.list c.args.more c.args.at c.args.from c.args.n c.requires.0 k m no_entry c.loop-a.r c.loop-a.q i.3 (omega (arith, i.1, i.2, c.loop-a-test.false))
+returns c = run_laid c.args.list c.args.more _ c.args.at c.args.from c.args.n c.copy_from_slice.ensures.after

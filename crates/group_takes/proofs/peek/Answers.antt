@@ -1,10 +1,8 @@
 -- `peek` tests the group, asks its kind, and reads the last entry and the first stop. Assumes nothing.
 use Prim.Native.Nat.{ℕ}
-use mathlib.Core.Path.{◌≡◌, sym, ap, ◌∙◌}
+use mathlib.Core.Path.{sym, ap, ◌∙◌}
 use native.Mathlib.Omega.{arith}
-use borrow.Author.Rules.{rules}
-use borrow.Author.Tests.{not-true, not-false}
-use lib.ListN.{length, get_or, length-map}
+use lib.ListN.{get_or}
 use Rattle.groups.specs.View.{no_entry, no_stop}
 use Rattle.groups.proofs.View.{sound_counts}
 use Rattle.group_takes.specs.Takes.{top_by}

@@ -1,10 +1,9 @@
 -- `empty_group` makes the empty group out of a handle that is nobody's. Assumes nothing.
+use Rattle.std.specs.Prelude.{None}
 use mathlib.Core.Path.{ap}
 use mathlib.Core.Bool.{false}
-use borrow.Author.Rules.{rules}
 use lib.ListN.{replicate}
 use Rattle.kinds.specs.declared.Handle.{Handle}
-use Rattle.kinds.specs.declared.MaybePair.TheVariants.{NoPair}
 use Rattle.kinds.specs.declared.Obstacle.TheVariants.{BlossomNeedExpand, VertexShrinkStop}
 use Rattle.ledger_spec.specs.Groups.{largest}
 use Rattle.groups.specs.declared.Kind.TheVariants.{Growth}
@@ -15,7 +14,7 @@ abbrev empty_by : Handle → Code
 empty_by h = record {
   kind = Growth largest false;
   list = replicate 128 (record { obstacle = BlossomNeedExpand h });
-  stops = replicate 128 (record { vertex = record { 0 = 0 }; obstacle = VertexShrinkStop h NoPair });
+  stops = replicate 128 (record { vertex = record { 0 = 0 }; obstacle = VertexShrinkStop h None });
   listed = 0;
   stopped = 0;
 }

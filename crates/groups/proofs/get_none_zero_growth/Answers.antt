@@ -1,8 +1,8 @@
 -- `get_none_zero_growth` tests the group, then asks its kind and whether its length is the largest. Assumes nothing.
+use Rattle.std.specs.Prelude.{Some}
 use mathlib.Core.Path.{refl, sym, ap, ◌∙◌}
-use mathlib.Core.Option.{some}
 use borrow.Author.Rules.{rules}
-use borrow.Author.Tests.{not-true, not-false, eq-eqb, ne_eqb}
+use borrow.Author.Tests.{eq-eqb, ne_eqb}
 use mir.Syntax.{w64}
 use mir.Facts.{to_z-of_z}
 use mir.Val.{SFits}
@@ -29,7 +29,7 @@ returns-else-length-eq-LARGEST c =
     let l = c.in-Growth.length in
     let f = c.in-Growth.field-1 in
     let fits : SFits w64 l = search rules in
-    growth_is (group_of g) (growth l f) (sym c.group_is_sound.ensures ∙ c.if-not-group_is_sound.false) (view_growth g l f c.in-Growth.is) (same_bits l fits ∙ ne_eqb _ _ c.if-length-eq-LARGEST.false) _ (ap some (to_z-of_z {w = w64} fits))
+    growth_is (group_of g) (growth l f) (sym c.group_is_sound.ensures ∙ c.if-not-group_is_sound.false) (view_growth g l f c.in-Growth.is) (same_bits l fits ∙ ne_eqb _ _ c.if-length-eq-LARGEST.false) _ (ap Some (to_z-of_z {w = w64} fits))
 
 pub returns-in-Conflicts : goal.returns-in-Conflicts
 returns-in-Conflicts c =

@@ -1,9 +1,6 @@
 -- `group_is_sound` makes each test of the definition, in its order, once the counts are known to lie within the arrays. Assumes nothing.
-use mathlib.Core.Path.{◌≡◌, sym, ◌∙◌}
+use mathlib.Core.Path.{sym, ◌∙◌}
 use native.Mathlib.Omega.{arith}
-use borrow.Author.Rules.{rules}
-use borrow.Author.Tests.{not-true, not-false}
-use lib.ListN.{length, length-map}
 use Rattle.groups.proofs.View.{sound_growth, long_list, long_stops, bad_list, good_list}
 use Rattle.groups.proofs.group_is_sound.Goals as goal
 

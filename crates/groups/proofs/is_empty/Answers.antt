@@ -1,7 +1,6 @@
 -- `is_empty` tests the group, then asks its kind. Assumes nothing.
 use mathlib.Core.Path.{refl, sym, ap, ◌∙◌}
 use borrow.Author.Rules.{rules}
-use borrow.Author.Tests.{not-true, not-false}
 use mir.Syntax.{w64}
 use mir.Val.{SFits}
 use Rattle.ledger_spec.specs.Groups.{growth, conflicts}

@@ -1,8 +1,7 @@
 -- Refused it is 0. Assumes nothing.
+use Rattle.std.specs.Prelude.{Option}
 use Prim.Native.Nat.{ℕ, zero, suc}
 use mathlib.Core.Path.{◌≡◌, refl, sym, ap, ◌∙◌}
-use mathlib.Core.Option.{Option}
-use borrow.Author.Rules.{rules}
 use Rattle.ledger_spec.specs.Bench.{Handle}
 use Rattle.link_answers.specs.Forms.{maybe_word, indexed_word}
 use Rattle.link_answers.proofs.indexed_word.Goals as goal

@@ -1,7 +1,6 @@
 -- Heads, members, ends and circle, one after the other. Assumes nothing.
 use Rattle.ledger_spec.specs.Named.{handle_named}
 use Rattle.link_told.proofs.Writing.{made_steps}
-use borrow.Author.Rules.{rules}
 use Rattle.link_told.proofs.blossom.Goals as goal
 
 pub returns : goal.returns

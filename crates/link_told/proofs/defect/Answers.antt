@@ -5,7 +5,6 @@ use mathlib.Core.List.{[], ◌∷◌}
 use lib.Seq.{sets}
 use Rattle.outcome_notices.specs.Laid.{circle_in}
 use Rattle.link_told.specs.Answers.{said_over}
-use borrow.Author.Rules.{rules}
 use Rattle.link_told.proofs.defect.Goals as goal
 
 pub returns : goal.returns

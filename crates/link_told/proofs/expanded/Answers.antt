@@ -10,7 +10,6 @@ use Rattle.ledger_spec.specs.Named.{handle_named}
 use Rattle.bench_views.specs.View.{view, follow}
 use Rattle.outcome_notices.proofs.Reaching.{low, few, members_seen}
 use Rattle.link_told.proofs.Writing.{walked, gone_steps}
-use borrow.Author.Rules.{rules}
 use Rattle.link_told.proofs.expanded.Goals as goal
 
 pub load_node-n-requires : goal.load_node-n-requires

@@ -7,7 +7,6 @@ use mir.Facts.{to_z-of_z}
 use Rattle.outcome_notices.specs.Laid.{circle_in}
 use Rattle.link_answers.specs.Forms.{signed_word}
 use Rattle.link_told.specs.Answers.{said_over}
-use borrow.Author.Rules.{rules}
 use mir.Syntax.{w64}
 use Rattle.link_told.proofs.grown.Goals as goal
 

@@ -1,6 +1,5 @@
 -- Four stores one after the other. Assumes nothing.
 use Rattle.link_told.proofs.Writing.{four_set}
-use borrow.Author.Rules.{rules}
 use Rattle.link_told.proofs.put_added.Goals as goal
 
 pub returns : goal.returns

@@ -1,5 +1,4 @@
 -- `defect` tells one notice. Assumes nothing.
-use borrow.Author.Rules.{rules}
 use Rattle.outcome_notices.specs.Laid.{circle_in, laid}
 use Rattle.outcome_notices.proofs.defect.Goals as goal
 

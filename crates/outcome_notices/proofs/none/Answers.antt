@@ -1,6 +1,5 @@
 -- `none` fills the arrays with the blank and with nobody. Assumes nothing.
 use mathlib.Core.Path.{ap}
-use borrow.Author.Rules.{rules}
 use lib.ListN.{replicate}
 use Rattle.kinds.specs.declared.Handle.{Handle as Packed}
 use Rattle.outcome_notices.specs.Laid.{blank, circle_in, laid}

@@ -1,6 +1,5 @@
 -- `one` puts one entry before the blanks. Assumes nothing.
 use mathlib.Core.Path.{ap}
-use borrow.Author.Rules.{rules}
 use lib.ListN.{set}
 use Rattle.outcome_notices.specs.Laid.{circle_in, laid}
 use Rattle.outcome_notices.specs.declared.Notices.{Notices}

@@ -1,6 +1,5 @@
 -- `state` tells one notice. Assumes nothing.
 use mathlib.Core.Path.{sym, ap, ◌∙◌}
-use borrow.Author.Rules.{rules}
 use Rattle.kinds.specs.declared.GrowState.{GrowState}
 use Rattle.kinds.specs.declared.Notice.TheVariants.{StateSet}
 use Rattle.outcome_notices.specs.Laid.{circle_in, only, laid}

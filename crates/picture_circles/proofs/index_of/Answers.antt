@@ -1,6 +1,5 @@
 -- It stands at the handle's position. Assumes nothing.
 use Rattle.ledger_spec.specs.Named.{handle_named}
-use borrow.Author.Rules.{rules}
 use Rattle.picture_circles.proofs.index_of.Goals as goal
 
 pub returns : goal.returns

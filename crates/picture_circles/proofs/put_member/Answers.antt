@@ -1,8 +1,6 @@
 -- Its own index, or a bracket, two indices with a comma between, and a bracket. Assumes nothing.
-use borrow.Author.Tests.{not-true, not-false}
 use Rattle.picture_pieces.proofs.Drawing.{chain, same_text}
 use Rattle.picture_circles.proofs.Members.{left_low, right_low, own_item, touch_item}
-use borrow.Author.Rules.{rules}
 use Rattle.picture_circles.proofs.put_member.Goals as goal
 
 pub returns-then-not-touching : goal.returns-then-not-touching

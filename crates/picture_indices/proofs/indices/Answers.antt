@@ -9,12 +9,6 @@ use Rattle.picture_indices.proofs.indices.Goals as goal
 pub loop-k-init : goal.loop-k-init
 loop-k-init c = (omega arith, listing_starts c.args.b.now c.args.unit c.args.places.now c.args.count c.requires)
 
-pub overflow_sub-k : goal.overflow_sub-k
-overflow_sub-k c = omega (arith, c.loop-k-test.true)
-
-pub bounds-places-k : goal.bounds-places-k
-bounds-places-k c = omega (arith, c.loop-k-test.true, c.loop-k.invariant.0, c.requires.few)
-
 pub offset_bounds-index-p : goal.offset_bounds-index-p
 offset_bounds-index-p c =
     let p = back_low c.args.b.now c.args.unit c.args.places.now c.args.count c.requires c.loop-k.k c.loop-k-test.true c.loop-k.invariant.0 in
@@ -22,9 +16,6 @@ offset_bounds-index-p c =
 
 pub bounds-index-p : goal.bounds-index-p
 bounds-index-p c = back_low c.args.b.now c.args.unit c.args.places.now c.args.count c.requires c.loop-k.k c.loop-k-test.true c.loop-k.invariant.0
-
-pub loop-k-smaller : goal.loop-k-smaller
-loop-k-smaller c = omega (arith, c.loop-k-test.true)
 
 pub loop-k-preserved : goal.loop-k-preserved
 loop-k-preserved c =

@@ -8,6 +8,3 @@ use Rattle.picture_indices.proofs.indices.Given as goal
 
 abbrev pub invariant-loop-k : goal.invariant-loop-k
 invariant-loop-k l = (l.k ≤ l.count) × Listing l.b l.unit l.k l.index
-
-abbrev pub decreases-loop-k : goal.decreases-loop-k
-decreases-loop-k l = l.k

@@ -4,7 +4,6 @@ use Rattle.bench_views.specs.View.{view}
 use Rattle.picture_spec.specs.Sketch.{indexed, index_of}
 use Rattle.picture_pieces.proofs.Drawing.{chain, same_text}
 use Rattle.picture_nodes.proofs.Texts.{rest_text_lem}
-use borrow.Author.Rules.{rules}
 use Rattle.picture_nodes.proofs.put_rest.Goals as goal
 
 pub shape_of-out : goal.shape_of-out

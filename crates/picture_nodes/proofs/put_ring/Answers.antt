@@ -5,7 +5,6 @@ use Rattle.bench_views.specs.View.{view, circle_of}
 use Rattle.picture_spec.specs.Sketch.{linked, index_of}
 use Rattle.picture_pieces.proofs.Drawing.{chain, same_text}
 use Rattle.picture_nodes.proofs.Texts.{ring_text}
-use borrow.Author.Rules.{rules}
 use Rattle.picture_nodes.proofs.put_ring.Goals as goal
 
 pub returns : goal.returns

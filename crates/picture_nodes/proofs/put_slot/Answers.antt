@@ -10,7 +10,6 @@ use Rattle.picture_spec.specs.Text.{names_by, slot_text}
 use Rattle.picture_pieces.proofs.Drawing.{chain, same_text}
 use Rattle.picture_nodes.proofs.Texts.{null_text, defect_text, blossom_text}
 use Rattle.picture_nodes.proofs.Seeing.{parent_low, low_place, seen_absent, seen_defect, seen_ring, ring_is, ring_placed}
-use borrow.Author.Rules.{rules}
 use Rattle.picture_nodes.proofs.put_slot.Goals as goal
 
 pub load_node-x-requires : goal.load_node-x-requires

@@ -1,9 +1,7 @@
 -- At each turn what is left of the list comes after what is put. Assumes nothing.
-use Prim.Native.Nat.{◌-◌, ◌≤◌}
 use mathlib.Core.Path.{◌∙◌}
 use native.Mathlib.Omega.{arith}
-use Rattle.picture_nodes.proofs.Along.{Along, along_starts, along_on, along_ends}
-use borrow.Author.Rules.{rules}
+use Rattle.picture_nodes.proofs.Along.{along_starts, along_on, along_ends}
 use Rattle.picture_nodes.proofs.put_slots.Goals as goal
 
 pub loop-k-init : goal.loop-k-init
@@ -15,14 +13,6 @@ bounds-places-k c =
 
 pub put_slot-r-requires : goal.put_slot-r-requires
 put_slot-r-requires c = record { fit = c.requires.fit; indices = c.requires.indices; at_index = c.requires.places.at c.loop-k.k c.loop-k-test.true }
-
-pub overflow_add-k : goal.overflow_add-k
-overflow_add-k c =
-    record { fits = omega (arith, c.loop-k-test.true, c.requires.places.few) }
-
-pub loop-k-smaller : goal.loop-k-smaller
-loop-k-smaller c =
-    omega (arith, c.loop-k-test.true)
 
 pub loop-k-preserved : goal.loop-k-preserved
 loop-k-preserved c =

@@ -1,13 +1,7 @@
 -- At each turn what is left of the list comes after what is put. Assumes nothing.
-use Prim.Native.Nat.{◌-◌, ◌≤◌}
-use mathlib.Core.Path.{◌∙◌}
-use native.Mathlib.Omega.{arith}
-use Rattle.picture_nodes.proofs.Along.{Along, along_starts, along_on, along_ends}
-use borrow.Author.Rules.{rules}
+use Prim.Native.Nat.{◌≤◌}
+use Rattle.picture_nodes.proofs.Along.{Along}
 use Rattle.picture_nodes.proofs.put_slots.Given as goal
 
 abbrev pub invariant-loop-k : goal.invariant-loop-k
 invariant-loop-k l = (l.k ≤ l.count) × Along l.b l.unit l.short l.initial.out l.initial.r l.out l.r l.k l.i
-
-abbrev pub decreases-loop-k : goal.decreases-loop-k
-decreases-loop-k l = l.count - l.k

@@ -1,6 +1,5 @@
 -- Nothing before the first item, a comma before any other. Assumes nothing.
 use Rattle.picture_pieces.proofs.Drawing.{drawn_none, same_text, comma_first, comma_other}
-use borrow.Author.Rules.{rules}
 use Rattle.picture_pieces.proofs.put_comma.Goals as goal
 
 pub returns-then-i-eq0 : goal.returns-then-i-eq0

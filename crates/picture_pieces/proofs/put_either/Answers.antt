@@ -1,6 +1,5 @@
 -- By the flag. Assumes nothing.
 use Rattle.picture_pieces.proofs.Drawing.{same_text, either_one, either_other}
-use borrow.Author.Rules.{rules}
 use Rattle.picture_pieces.proofs.put_either.Goals as goal
 
 pub returns-then-which : goal.returns-then-which

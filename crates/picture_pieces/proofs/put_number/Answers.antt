@@ -2,7 +2,6 @@
 use native.Mathlib.Omega.{arith}
 use mathlib.Core.Path.{refl}
 use Rattle.picture_pieces.proofs.Drawing.{drawn_past, drawn_counted, drawn_wrote}
-use borrow.Author.Rules.{rules}
 use Rattle.picture_pieces.proofs.put_number.Goals as goal
 
 pub returns-then-at-d : goal.returns-then-at-d

@@ -2,7 +2,6 @@
 use mathlib.Core.Path.{sym}
 use Rattle.text_decimals.proofs.Signs.{turned, plain}
 use Rattle.picture_pieces.proofs.Drawing.{chain, same_text}
-use borrow.Author.Rules.{rules}
 use Rattle.picture_pieces.proofs.put_signed.Goals as goal
 
 pub overflow_sub-z : goal.overflow_sub-z

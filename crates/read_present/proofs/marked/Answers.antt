@@ -4,7 +4,6 @@ use Prim.Native.Nat.{ℕ, ◌≤◌}
 use Rattle.bench_words.specs.Store.{node_at}
 use Rattle.bench_views.specs.Canon.{held_in}
 use Rattle.read_present.proofs.Presence.{count_is, count_small}
-use borrow.Author.Rules.{rules}
 use Rattle.read_present.proofs.marked.Goals as goal
 
 pub returns : goal.returns

@@ -6,7 +6,6 @@ use Rattle.slot_map.proofs.Firsts.{first_none}
 use Rattle.bench_words.specs.Store.{node_at}
 use Rattle.bench_views.specs.Canon.{held_in}
 use Rattle.read_present.proofs.Presence.{first_is}
-use borrow.Author.Rules.{rules}
 use Rattle.read_present.proofs.next_in.Goals as goal
 
 pub returns-then-from-ge64 : goal.returns-then-from-ge64

@@ -1,6 +1,5 @@
 -- A refusal has its number and no count; else that of the tree. Assumes nothing.
 use mathlib.Core.Path.{sym, ◌∙◌}
-use borrow.Author.Rules.{rules}
 use Rattle.bench_views.specs.View.{view}
 use Rattle.ledger_spec.proofs.Accepted.{clear_passed}
 use Rattle.read_present.proofs.Saying.{present_no, present_yes}

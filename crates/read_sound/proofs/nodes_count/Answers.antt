@@ -9,9 +9,9 @@ use Rattle.read_sound.proofs.nodes_count.Goals as goal
 pub returns-then-number-ne0 : goal.returns-then-number-ne0
 returns-then-number-ne0 c = count_no (view c.args.b.now) c.args.unit c.unit_number-number.result c.unit_number-number.ensures c.if-number-ne0.true
 
-pub count-count-requires : goal.count-count-requires
-count-count-requires c =
+pub count-requires : goal.count-requires
+count-requires c =
     let o = clear_passed (view c.args.b.now) c.args.unit (sym c.unit_number-number.ensures ∙ c.if-number-ne0.false) in record { fit = c.requires; unit_bound = o.low; unit_value = o.free }
 
 pub returns : goal.returns
-returns c = count_yes (view c.args.b.now) c.args.unit c.unit_number-number.result c.unit_number-number.ensures c.if-number-ne0.false c.count-count.result c.count-count.ensures
+returns c = count_yes (view c.args.b.now) c.args.unit c.unit_number-number.result c.unit_number-number.ensures c.if-number-ne0.false c.count.result c.count.ensures

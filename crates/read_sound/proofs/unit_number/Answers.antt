@@ -6,8 +6,8 @@ use Rattle.read_sound.proofs.unit_number.Goals as goal
 pub returns-then-unit-ge8 : goal.returns-then-unit-ge8
 returns-then-unit-ge8 c = number_out c.args.b.now c.args.unit c.if-unit-ge8.true
 
-pub returns-in-Under : goal.returns-in-Under
-returns-in-Under c = number_child c.args.b.now c.args.unit c.if-unit-ge8.false c.load_interface-f.result c.load_interface-f.ensures c.in-Under.field-0 (cc)
+pub returns-in-Some : goal.returns-in-Some
+returns-in-Some c = number_child c.args.b.now c.args.unit c.if-unit-ge8.false c.load_interface.result c.load_interface.ensures c.in-Some.field-0 (cc)
 
-pub returns-in-Top : goal.returns-in-Top
-returns-in-Top c = number_free c.args.b.now c.args.unit c.if-unit-ge8.false c.load_interface-f.result c.load_interface-f.ensures (cc)
+pub returns-in-None : goal.returns-in-None
+returns-in-None c = number_free c.args.b.now c.args.unit c.if-unit-ge8.false c.load_interface.result c.load_interface.ensures (cc)

@@ -6,7 +6,4 @@ use Rattle.record_calls.proofs.Laying.{Laying, laying, laid_one, laid_all}
 use Rattle.record_calls.proofs.lay.Given as goal
 
 abbrev pub invariant-loop-i : goal.invariant-loop-i
-invariant-loop-i l = Laying l.s l.q l.n l.initial.members l.initial.touching l.members l.touching l.i l.at
-
-abbrev pub decreases-loop-i : goal.decreases-loop-i
-decreases-loop-i l = l.n - l.i
+invariant-loop-i l = Laying l.s l.q l.n l.initial.members l.initial.touching l.members l.touching l.i

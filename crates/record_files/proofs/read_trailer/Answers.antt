@@ -4,7 +4,6 @@ use Prim.Native.Nat.{◌+◌, ◌-◌}
 use mathlib.Core.Path.{◌≡◌, ◌∙◌, sym}
 use lib.ListN.{length}
 use Rattle.record_files.proofs.Trailers.{too_short, unfit, fit}
-use borrow.Author.Rules.{rules}
 use Rattle.record_files.proofs.read_trailer.Goals as goal
 
 pub returns-then-size-lt16 : goal.returns-then-size-lt16

@@ -5,7 +5,6 @@ use mathlib.Core.Path.{◌∙◌, sym}
 use lib.ListN.{length}
 use lib.Seq.{length-take-le}
 use Rattle.record_files.proofs.Trailers.{trailed, no_file, file_there}
-use borrow.Author.Rules.{rules}
 use Rattle.record_files.proofs.scan.Goals as goal
 
 pub slice_bounds-walk-end : goal.slice_bounds-walk-end

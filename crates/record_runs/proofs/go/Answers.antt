@@ -39,16 +39,6 @@ put-requires c =
     let y = c.requires.1 in
     omega (arith, y.fits, c.loop-i-test.true, still_long a.file.now a.list a.count (length a.answers.now) y a.b.now a.answers.now refl c.loop-i.b c.loop-i.answers c.loop-i.i c.loop-i.invariant.0)
 
-pub overflow_add-i : goal.overflow_add-i
-overflow_add-i c =
-    let a = c.args in
-    let y = c.requires.1 in
-    omega (arith, c.loop-i-test.true)
-
-pub loop-i-smaller : goal.loop-i-smaller
-loop-i-smaller c =
-    omega (arith, c.loop-i-test.true)
-
 pub loop-i-preserved : goal.loop-i-preserved
 loop-i-preserved c =
     let a = c.args in

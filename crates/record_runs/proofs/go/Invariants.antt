@@ -12,6 +12,3 @@ use Rattle.record_runs.proofs.go.Given as goal
 
 abbrev pub invariant-loop-i : goal.invariant-loop-i
 invariant-loop-i l = AllRunning l.initial.b l.file l.initial.answers l.b l.answers l.i × ((length l.members ≡ 65) × (length l.touching ≡ 130))
-
-abbrev pub decreases-loop-i : goal.decreases-loop-i
-decreases-loop-i l = l.count - l.i

@@ -1,6 +1,6 @@
 -- Fewer words, a growth, sound conflicts, anything else. Assumes nothing.
+use Rattle.std.specs.Prelude.{Option}
 use mathlib.Core.Path.{sym, ◌∙◌, ap}
-use mathlib.Core.Option.{Option}
 use native.Mathlib.Omega.{arith}
 use Rattle.ledger_spec.specs.Tests.{first}
 use Rattle.ledger_spec.specs.Groups.{Group}

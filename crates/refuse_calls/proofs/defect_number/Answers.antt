@@ -1,5 +1,4 @@
 -- The number is that of the first test that holds. Assumes nothing.
-use borrow.Author.Rules.{rules}
 use Rattle.refuse_calls.proofs.Units.{unit_low, defect_no, defect_rest}
 use Rattle.refuse_calls.proofs.defect_number.Goals as goal
 

@@ -1,5 +1,4 @@
 -- The number is that of the first test that holds. Assumes nothing.
-use borrow.Author.Rules.{rules}
 use Rattle.bench_views.specs.View.{view}
 use Rattle.refuse_calls.proofs.Fuses.{fuse_low, fuse_out, fuse_child, fuse_order, fuse_used, fuse_mixed, fuse_fine}
 use Rattle.refuse_calls.proofs.fuse_number.Goals as goal

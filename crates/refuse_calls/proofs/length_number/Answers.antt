@@ -1,5 +1,4 @@
 -- The number is that of the first test that holds; the progress limit leaves room for any length. Assumes nothing.
-use borrow.Author.Rules.{rules}
 use native.Mathlib.Omega.{arith}
 use mathlib.Core.Path.{ap}
 use Rattle.bench_words.specs.declared.Interface.{Interface}

@@ -1,5 +1,4 @@
 -- The number is that of the first test that holds. Assumes nothing.
-use borrow.Author.Rules.{rules}
 use Rattle.refuse_calls.proofs.Units.{unit_low, mark_no, mark_late, mark_fine}
 use Rattle.refuse_calls.proofs.mark_number.Goals as goal
 

@@ -1,5 +1,4 @@
 -- Each way out is one of the laws of room. Assumes nothing.
-use borrow.Author.Rules.{rules}
 use Rattle.refuse_calls.proofs.Rooms.{room_full, room_worn, room_some}
 use Rattle.refuse_calls.proofs.room_number.Goals as goal
 

@@ -1,10 +1,7 @@
 -- A word passed is another one, so what is left of the list decides. Assumes nothing.
-use Prim.Native.Nat.{◌-◌}
-use mathlib.Core.Path.{◌≡◌, refl, sym, ◌∙◌}
+use mathlib.Core.Path.{refl, sym, ◌∙◌}
 use native.Mathlib.Omega.{arith}
-use borrow.Author.Rules.{rules}
-use lib.ListN.{length}
-use Rattle.refuse_circles.proofs.Twice.{after, after_here, after_on, after_end}
+use Rattle.refuse_circles.proofs.Twice.{after_here, after_on, after_end}
 use Rattle.refuse_circles.proofs.again.Goals as goal
 
 pub loop-i-init : goal.loop-i-init

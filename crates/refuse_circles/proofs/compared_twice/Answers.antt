@@ -1,10 +1,7 @@
 -- A word passed does not come again, so what is left of the list decides. Assumes nothing.
-use Prim.Native.Nat.{◌-◌}
-use mathlib.Core.Path.{◌≡◌, refl, sym, ◌∙◌}
+use mathlib.Core.Path.{refl, sym, ◌∙◌}
 use native.Mathlib.Omega.{arith}
-use borrow.Author.Rules.{rules}
-use lib.ListN.{length}
-use Rattle.refuse_circles.proofs.Twice.{in_at, still, still_here, still_on, still_end}
+use Rattle.refuse_circles.proofs.Twice.{in_at, still_here, still_on, still_end}
 use Rattle.refuse_circles.proofs.compared_twice.Goals as goal
 
 pub loop-i-init : goal.loop-i-init

@@ -1,6 +1,5 @@
 -- Either way of looking gives it; the marks start blank. Assumes nothing.
 use mathlib.Core.Path.{refl}
-use borrow.Author.Rules.{rules}
 use Rattle.refuse_circles.proofs.Seen.{blank}
 use Rattle.refuse_circles.proofs.given_twice.Goals as goal
 

@@ -2,7 +2,6 @@
 use Prim.Native.Nat.{ℕ}
 use mathlib.Core.Path.{ap}
 use mathlib.Core.Bool.{not}
-use borrow.Author.Rules.{rules}
 use lib.Dec.{eqb}
 use Rattle.bench_views.specs.View.{view}
 use Rattle.refuse_circles.proofs.Marking.{near_own}

@@ -1,24 +1,21 @@
 -- The number so far with that of the words left is the whole list's. Assumes nothing.
-use Prim.Native.Nat.{◌-◌}
-use mathlib.Core.Path.{◌≡◌, sym}
+use mathlib.Core.Path.{sym}
 use native.Mathlib.Omega.{arith}
-use borrow.Author.Rules.{rules}
-use lib.ListN.{length}
-use Rattle.deed_circles.specs.Given.{hands_given}
 use Rattle.bench_views.specs.View.{view}
-use Rattle.refuse_circles.specs.Marks.{list_mark, lower}
-use Rattle.refuse_circles.proofs.Lowest.{none_lower, rest, turn, ends}
+use Rattle.refuse_circles.proofs.Lowest.{none_lower, turn, ends}
 use Rattle.refuse_circles.proofs.list_number.Goals as goal
 
-pub loop-i-init : goal.loop-i-init
-loop-i-init c = sym (none_lower _)
+pub loop-w-init : goal.loop-w-init
+loop-w-init c = sym (none_lower _)
 
-pub loop-i-preserved : goal.loop-i-preserved
-loop-i-preserved c =
+pub loop-w-preserved : goal.loop-w-preserved
+loop-w-preserved c =
     let a = c.args in
-    turn (view a.b.now) a.unit a.ws.now c.loop-i.number c.word_number.result c.loop-i.i c.loop-i-test.true c.lower-number.ensures c.word_number.ensures c.loop-i.invariant
+    let l = c.loop-w in
+    let w = c.word_number in
+    turn (view a.b.now) a.unit a.ws.now l.number w.result l.w-index c.loop-w-test.true c.lower-number.ensures w.ensures l.invariant
 
 pub returns : goal.returns
 returns c =
     let a = c.args in
-    ends (view a.b.now) a.unit a.ws.now c.loop-i.number c.loop-i.i (omega arith) c.loop-i.invariant
+    ends (view a.b.now) a.unit a.ws.now c.loop-w.number c.loop-w.w-index (omega arith) c.loop-w.invariant

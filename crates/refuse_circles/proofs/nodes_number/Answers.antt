@@ -1,6 +1,5 @@
 -- The lower of the two lists' numbers. Assumes nothing.
 use mathlib.Core.Path.{sym, ◌∙◌, ap₂}
-use borrow.Author.Rules.{rules}
 use Rattle.deed_circles.specs.Given.{hands_given, pairs_given}
 use Rattle.bench_views.specs.View.{view}
 use Rattle.refuse_circles.specs.Marks.{lower}

@@ -1,6 +1,5 @@
 -- Each way out is one of the laws of the shape, by the lists' lengths. Assumes nothing.
 use native.Mathlib.Omega.{arith}
-use borrow.Author.Rules.{rules}
 use lib.ListN.{length-map}
 use Rattle.bench_views.specs.Given.{hand_given}
 use Rattle.deed_circles.specs.Given.{hands_given, pairs_given}

@@ -1,5 +1,4 @@
 -- Each way out is one of the laws of a touching list's number. Assumes nothing.
-use borrow.Author.Rules.{rules}
 use Rattle.refuse_circles.proofs.Touching.{touch_odd, touch_inside, touch_else}
 use Rattle.refuse_circles.proofs.touching_number.Goals as goal
 

@@ -1,6 +1,5 @@
 -- By cases of the class. Assumes nothing.
 use Rattle.sound_floors.proofs.Rows.{none_afloat, ring_afloat, single_afloat}
-use borrow.Author.Rules.{rules}
 use Rattle.sound_floors.proofs.is_afloat.Goals as goal
 
 pub returns-in-Absent : goal.returns-in-Absent

@@ -1,5 +1,4 @@
 -- Each way out is a part of the test. Assumes nothing.
-use borrow.Author.Rules.{rules}
 use Rattle.sound_floors.proofs.Rows.{good_loaded, used_small, not_level, unfloored, all_afloat}
 use mathlib.Core.Path.{ap}
 use mathlib.Core.Bool.{not}

@@ -3,7 +3,6 @@ use mathlib.Core.Path.{sym, ◌∙◌, ap}
 use Rattle.kinds.specs.declared.GrowState.{GrowState}
 use Rattle.sound_floors.specs.Floors.{high_test}
 use Rattle.sound_floors.proofs.Rows.{high_grow, high_shrink}
-use borrow.Author.Rules.{rules}
 use Rattle.sound_floors.proofs.is_high.Goals as goal
 
 pub returns-in-Grow : goal.returns-in-Grow

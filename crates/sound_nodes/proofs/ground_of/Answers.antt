@@ -1,6 +1,5 @@
 -- What climbing and adding up found. Assumes nothing.
 use Rattle.sound_nodes.proofs.Slots.{grounded}
-use borrow.Author.Rules.{rules}
 use Rattle.sound_nodes.proofs.ground_of.Goals as goal
 
 pub returns : goal.returns

@@ -1,6 +1,5 @@
 -- Each way out is one case of the definition. Assumes nothing.
 use Rattle.sound_nodes.proofs.Slots.{near_low, near_high, near_row}
-use borrow.Author.Rules.{rules}
 use Rattle.sound_nodes.proofs.is_near.Goals as goal
 
 pub returns-then-bias-lt576460752303423488 : goal.returns-then-bias-lt576460752303423488

@@ -1,8 +1,6 @@
 -- The parts of the test, of the node that is loaded. Assumes nothing.
 use Prim.Native.Nat.{◌+◌, ◌*◌}
-use borrow.Author.Tests.{not-true, not-false}
 use Rattle.sound_nodes.proofs.Slots.{good_parent, node_uncoded, node_row}
-use borrow.Author.Rules.{rules}
 use Rattle.sound_nodes.proofs.is_node.Goals as goal
 
 pub returns-then-not-is_coded : goal.returns-then-not-is_coded

@@ -1,7 +1,5 @@
 -- Not in the map, past the used ones, or with a node. Assumes nothing.
-use borrow.Author.Tests.{not-true, not-false}
 use Rattle.sound_nodes.proofs.Slots.{slot_blank, slot_past, slot_node}
-use borrow.Author.Rules.{rules}
 use Rattle.sound_nodes.proofs.is_slot.Goals as goal
 
 pub returns-then-not-has : goal.returns-then-not-has

@@ -3,7 +3,6 @@ use mathlib.Core.Path.{◌≡◌}
 use Rattle.kinds.specs.declared.Class.TheVariants.{Absent, Blossom, Defect}
 use Rattle.bench_words.specs.Store.{node_at}
 use Rattle.sound_rings.proofs.Walking.{class_absent, class_ring, class_defect}
-use borrow.Author.Rules.{rules}
 use Rattle.sound_rings.proofs.is_class.Goals as goal
 
 pub returns-in-Absent : goal.returns-in-Absent

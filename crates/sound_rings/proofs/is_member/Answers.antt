@@ -1,6 +1,5 @@
 -- The parts of the test in the definition's order. Assumes nothing.
 use Rattle.sound_rings.proofs.Walking.{member_row}
-use borrow.Author.Rules.{rules}
 use Rattle.sound_rings.proofs.is_member.Goals as goal
 
 pub returns : goal.returns

@@ -1,10 +1,7 @@
 -- Each turn follows one link of the circle; each way out is a test that fails, or all of them. Assumes nothing.
 use native.Mathlib.Omega.{arith}
-use borrow.Author.Rules.{rules}
-use Prim.Native.Nat.{◌-◌}
-use borrow.Author.Tests.{not-true, not-false}
 use Rattle.bench_words.specs.Store.{node_at}
-use Rattle.sound_rings.proofs.Walking.{Going, ring_none, ring_many, going_starts, going_out, going_fails, little, going_on, going_ends}
+use Rattle.sound_rings.proofs.Walking.{ring_none, ring_many, going_starts, going_out, going_fails, little, going_on, going_ends}
 use Rattle.sound_rings.proofs.is_ring.Goals as goal
 
 pub returns-then-n-eq0 : goal.returns-then-n-eq0
@@ -27,13 +24,6 @@ returns-then-not-is_member c =
 pub overflow_add-total : goal.overflow_add-total
 overflow_add-total c =
     let m = little (node_at c.args.b.now) c.args.next c.args.h c.args.n c.loop-i.p c.loop-i.total c.loop-i.i c.loop-i.invariant c.loop-i-test.true c.if-p-ge512.false c.load_node-m.result c.load_node-m.ensures c.is_member.result c.is_member.ensures (c.if-not-is_member.false) in record { fits = omega (arith, c.loop-i.invariant.small, c.loop-i.invariant.low, c.loop-i.invariant.few) }
-
-pub overflow_add-i : goal.overflow_add-i
-overflow_add-i c =
-    record { fits = omega (arith, c.loop-i-test.true, c.loop-i.invariant.few) }
-
-pub loop-i-smaller : goal.loop-i-smaller
-loop-i-smaller c = omega (arith, c.loop-i-test.true)
 
 pub loop-i-preserved : goal.loop-i-preserved
 loop-i-preserved c =

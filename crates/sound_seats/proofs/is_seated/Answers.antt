@@ -1,6 +1,5 @@
 -- Each way out is one case of the definition. Assumes nothing.
 use Rattle.sound_seats.proofs.Seating.{seat_many, seat_past, seat_row}
-use borrow.Author.Rules.{rules}
 use Rattle.sound_seats.proofs.is_seated.Goals as goal
 
 pub returns-then-m-gt64 : goal.returns-then-m-gt64

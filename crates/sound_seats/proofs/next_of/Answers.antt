@@ -2,7 +2,6 @@
 use mathlib.Core.Path.{ap}
 use Rattle.bench_words.specs.declared.Node.{Node}
 use Rattle.sound_seats.proofs.Seating.{past_last}
-use borrow.Author.Rules.{rules}
 use Rattle.sound_seats.proofs.next_of.Goals as goal
 
 pub returns-then-p-ge512 : goal.returns-then-p-ge512

@@ -1,8 +1,5 @@
 -- The remainders of the slots before k are marked; where two meet, all are compared. Assumes nothing.
-use borrow.Author.Rules.{rules}
-use Prim.Native.Nat.{◌-◌}
-use borrow.Author.Tests.{not-false}
-use Rattle.sound_serials.proofs.Marking.{Going, going_none, going_more, going_ends}
+use Rattle.sound_serials.proofs.Marking.{going_none, going_more, going_ends}
 use Rattle.sound_serials.proofs.are_different.Goals as goal
 
 pub loop-k-init : goal.loop-k-init

@@ -1,6 +1,5 @@
 -- A serial of 0, or one that is new. Assumes nothing.
 use Rattle.sound_serials.proofs.Differing.{once_none, once_new}
-use borrow.Author.Rules.{rules}
 use Rattle.sound_serials.proofs.is_once.Goals as goal
 
 pub returns-then-serial-eq0 : goal.returns-then-serial-eq0

@@ -1,6 +1,5 @@
 -- No mark, one that was met, or a new one. Assumes nothing.
 use Rattle.sound_serials.proofs.Marking.{mark_none, mark_met, mark_new}
-use borrow.Author.Rules.{rules}
 use Rattle.sound_serials.proofs.mark.Goals as goal
 
 pub returns-then-serial-eq0 : goal.returns-then-serial-eq0

@@ -1,6 +1,5 @@
 -- The serial of the node that is loaded. Assumes nothing.
 use Rattle.sound_serials.proofs.Differing.{serial_of}
-use borrow.Author.Rules.{rules}
 use Rattle.sound_serials.proofs.serial_at.Goals as goal
 
 pub returns : goal.returns

@@ -1,9 +1,7 @@
 -- The shares of those before u are added up. Assumes nothing.
 use native.Mathlib.Omega.{arith}
-use borrow.Author.Rules.{rules}
-use Prim.Native.Nat.{◌-◌}
 use Rattle.sound_tops.specs.Tops.{pace_under}
-use Rattle.sound_tops.proofs.Pacing.{Adding, adding_none, adding_more, adding_done, paced}
+use Rattle.sound_tops.proofs.Pacing.{adding_none, adding_more, adding_done, paced}
 use Rattle.sound_tops.proofs.pace.Goals as goal
 
 pub loop-u-init : goal.loop-u-init

@@ -1,6 +1,5 @@
 -- An interface climbs to the top asked for or to another. Assumes nothing.
 use Rattle.sound_tops.proofs.Pacing.{pace_else, pace_here, used_few}
-use borrow.Author.Rules.{rules}
 use Rattle.sound_tops.proofs.pace_under.Goals as goal
 
 pub returns-then-top_of-top : goal.returns-then-top_of-top

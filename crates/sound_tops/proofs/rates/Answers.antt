@@ -1,9 +1,7 @@
 -- The shares of the slots before s are added up. Assumes nothing.
 use native.Mathlib.Omega.{arith}
-use borrow.Author.Rules.{rules}
-use Prim.Native.Nat.{◌-◌}
 use Rattle.sound_tops.specs.Tops.{rate_in}
-use Rattle.sound_tops.proofs.Pacing.{Adding, adding_none, adding_more, adding_done, rate_known}
+use Rattle.sound_tops.proofs.Pacing.{adding_none, adding_more, adding_done, rate_known}
 use Rattle.sound_tops.proofs.rates.Goals as goal
 
 pub loop-s-init : goal.loop-s-init

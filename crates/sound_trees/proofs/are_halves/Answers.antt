@@ -1,7 +1,6 @@
 -- Each way out is one case of the definition. Assumes nothing.
 use Rattle.bench_words.specs.Store.{interface_at}
 use Rattle.sound_trees.proofs.Rows.{down_none, down_high, down_high_right, down_alone, down_both}
-use borrow.Author.Rules.{rules}
 use Rattle.sound_trees.proofs.are_halves.Goals as goal
 
 pub returns-then-l-eq0 : goal.returns-then-l-eq0

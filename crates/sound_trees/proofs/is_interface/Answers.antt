@@ -1,6 +1,5 @@
 -- The parts of the test, of the interface that is loaded. Assumes nothing.
 use Rattle.sound_trees.proofs.Rows.{good_loaded, interface_row}
-use borrow.Author.Rules.{rules}
 use Rattle.sound_trees.proofs.is_interface.Goals as goal
 
 pub is_half-requires : goal.is_half-requires

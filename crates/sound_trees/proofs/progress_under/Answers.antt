@@ -1,6 +1,5 @@
 -- An interface climbs to the top asked for or to another. Assumes nothing.
 use Rattle.sound_trees.proofs.Rows.{not_under, is_under_lem}
-use borrow.Author.Rules.{rules}
 use Rattle.sound_trees.proofs.progress_under.Goals as goal
 
 pub returns-then-top_of-top : goal.returns-then-top_of-top

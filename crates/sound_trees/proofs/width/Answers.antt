@@ -1,8 +1,6 @@
 -- The progress of those before u is added up. Assumes nothing.
 use native.Mathlib.Omega.{arith}
-use borrow.Author.Rules.{rules}
-use Prim.Native.Nat.{◌-◌}
-use Rattle.sound_trees.proofs.Rows.{Adding, adding_none, adding_more, adding_done}
+use Rattle.sound_trees.proofs.Rows.{adding_none, adding_more, adding_done}
 use Rattle.sound_trees.proofs.width.Goals as goal
 
 pub loop-u-init : goal.loop-u-init

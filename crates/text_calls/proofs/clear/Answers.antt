@@ -1,6 +1,6 @@
 -- The call's answer is the line's. Assumes nothing.
+use Rattle.std.specs.Prelude.{Some}
 use mathlib.Core.Path.{refl}
-use mathlib.Core.Option.{some}
 use borrow.Author.Rules.{rules}
 use Rattle.ledger_spec.specs.Calls.{Clear}
 use Rattle.ledger_spec.specs.Operations.{C}
@@ -16,4 +16,4 @@ pub returns : goal.returns
 unfolding says
 returns c =
     let u = c.args.unit in
-    turned c.args.b.now c.requires (some (C u)) u (Clear u) refl (Clear u) refl _ _ _ c.clear-made.ensures c.tell.result c.tell.ensures
+    turned c.args.b.now c.requires (Some (C u)) u (Clear u) refl (Clear u) refl _ _ _ c.clear-made.ensures c.tell.result c.tell.ensures

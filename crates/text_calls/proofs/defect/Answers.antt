@@ -1,6 +1,6 @@
 -- The call's answer is the line's. Assumes nothing.
+use Rattle.std.specs.Prelude.{Some}
 use mathlib.Core.Path.{refl}
-use mathlib.Core.Option.{some}
 use borrow.Author.Rules.{rules}
 use Rattle.ledger_spec.specs.Calls.{Defect}
 use Rattle.ledger_spec.specs.Operations.{D}
@@ -17,4 +17,4 @@ unfolding says
 returns c =
     let u = c.args.unit in
     let v = c.args.vertex.0 in
-    turned c.args.b.now c.requires (some (D u v)) u (Defect u v) refl (Defect u v) refl _ _ _ c.create_defect_node-made.ensures c.tell.result c.tell.ensures
+    turned c.args.b.now c.requires (Some (D u v)) u (Defect u v) refl (Defect u v) refl _ _ _ c.create_defect_node-made.ensures c.tell.result c.tell.ensures

@@ -1,6 +1,6 @@
 -- The serial's node is the ledger's, so the call's answer is the line's. Assumes nothing.
+use Rattle.std.specs.Prelude.{Some}
 use mathlib.Core.Path.{refl, ap}
-use mathlib.Core.Option.{some}
 use borrow.Author.Rules.{rules}
 use Rattle.ledger_spec.specs.Bench.{Handle}
 use Rattle.ledger_spec.specs.Calls.{Expand, perform}
@@ -26,5 +26,5 @@ returns c =
     let k = c.args.serial.0 in
     let b = c.args.b.now in
     let h = c.named-node.result in
-    turned b c.requires (some (E u k)) u (Expand u (named (view b) k)) refl (Expand u (handle_named h)) (ap (λ (x : Handle). perform (view b) (Expand u x)) c.named-node.ensures) _ _ _
+    turned b c.requires (Some (E u k)) u (Expand u (named (view b) k)) refl (Expand u (handle_named h)) (ap (λ (x : Handle). perform (view b) (Expand u x)) c.named-node.ensures) _ _ _
     c.expand_blossom-made.ensures c.tell.result c.tell.ensures

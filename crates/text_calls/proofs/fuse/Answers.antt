@@ -1,6 +1,6 @@
 -- The call's answer is the line's. Assumes nothing.
+use Rattle.std.specs.Prelude.{Some}
 use mathlib.Core.Path.{refl}
-use mathlib.Core.Option.{some}
 use borrow.Author.Rules.{rules}
 use Rattle.ledger_spec.specs.Calls.{Fuse}
 use Rattle.ledger_spec.specs.Operations.{F}
@@ -16,4 +16,4 @@ pub returns : goal.returns
 unfolding says
 returns c =
     let d = Fuse c.args.parent c.args.left c.args.right in
-    turned c.args.b.now c.requires (some (F c.args.parent c.args.left c.args.right)) c.args.parent d refl d refl _ _ _ c.fuse-made.ensures c.tell.result c.tell.ensures
+    turned c.args.b.now c.requires (Some (F c.args.parent c.args.left c.args.right)) c.args.parent d refl d refl _ _ _ c.fuse-made.ensures c.tell.result c.tell.ensures

@@ -1,6 +1,6 @@
 -- The call's answer is the line's. Assumes nothing.
+use Rattle.std.specs.Prelude.{Some}
 use mathlib.Core.Path.{refl, ap}
-use mathlib.Core.Option.{some}
 use borrow.Author.Rules.{rules}
 use lib.IntN.{ℤ}
 use mir.Syntax.{w64}
@@ -22,4 +22,4 @@ unfolding says
 returns c =
     let u = c.args.unit in
     let l = c.args.length in
-    turned c.args.b.now c.requires (some (G u l)) u (Grow u l) refl (Grow u (to_z w64 (of_z w64 l))) (ap (λ (z : ℤ). perform (view c.args.b.now) (Grow u z)) (to_z-of_z {w = w64} c.ranges.length)) _ _ _ c.grow-made.ensures c.tell.result c.tell.ensures
+    turned c.args.b.now c.requires (Some (G u l)) u (Grow u l) refl (Grow u (to_z w64 (of_z w64 l))) (ap (λ (z : ℤ). perform (view c.args.b.now) (Grow u z)) (to_z-of_z {w = w64} c.ranges.length)) _ _ _ c.grow-made.ensures c.tell.result c.tell.ensures

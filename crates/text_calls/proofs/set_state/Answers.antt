@@ -1,6 +1,6 @@
 -- The serial's node is the ledger's, so the call's answer is the line's. Assumes nothing.
+use Rattle.std.specs.Prelude.{Some}
 use mathlib.Core.Path.{refl, ap}
-use mathlib.Core.Option.{some}
 use borrow.Author.Rules.{rules}
 use Rattle.ledger_spec.specs.Bench.{Handle}
 use Rattle.ledger_spec.specs.Calls.{SetState, perform}
@@ -27,5 +27,5 @@ returns c =
     let g = state_named c.args.state in
     let b = c.args.b.now in
     let h = c.named-node.result in
-    turned b c.requires (some (S u k g)) u (SetState u (named (view b) k) g) refl (SetState u (handle_named h) g) (ap (λ (x : Handle). perform (view b) (SetState u x g)) c.named-node.ensures) _ _ _
+    turned b c.requires (Some (S u k g)) u (SetState u (named (view b) k) g) refl (SetState u (handle_named h) g) (ap (λ (x : Handle). perform (view b) (SetState u x g)) c.named-node.ensures) _ _ _
     c.set_grow_state-made.ensures c.tell.result c.tell.ensures

@@ -1,6 +1,6 @@
 -- Each arm does what its line says. Assumes nothing.
+use Rattle.std.specs.Prelude.{Some}
 use mathlib.Core.Path.{◌≡◌, subst}
-use mathlib.Core.Option.{some}
 use borrow.Author.Rules.{rules}
 use lib.IntN.{ℤ}
 use mir.Syntax.{w64}
@@ -45,7 +45,7 @@ returns-in-Grow c l before same is =
     let q : s.line ≡ Grow u z = cc in
     let ok : SFits w64 z = search rules in
     turned_as s.b.now c.grow.result c.grow.new.b l before s.serials.now s.line is (Grow u z) q
-    (subst (λ (y : ℤ). Turned s.b.now (some (G u y)) c.grow.result c.grow.new.b) (to_z-of_z {w = w64} ok) c.grow.ensures)
+    (subst (λ (y : ℤ). Turned s.b.now (Some (G u y)) c.grow.result c.grow.new.b) (to_z-of_z {w = w64} ok) c.grow.ensures)
 
 pub returns-in-Fuse : goal.returns-in-Fuse
 returns-in-Fuse c l before same is =

@@ -1,25 +1,26 @@
--- Each test on the way, and the line's bytes. Assumes nothing.
+-- A line of three bytes, and which they are. Assumes nothing.
+use native.Mathlib.Omega.{arith}
 use borrow.Author.Rules.{rules}
 use Rattle.text_chunks.proofs.Choices.{not_three, chosen_letter, chosen_space, chosen_plain, chosen_lazy, chosen_digit}
 use Rattle.text_chunks.proofs.engine_chosen.Goals as goal
 
-pub returns-then-line-ne3 : goal.returns-then-line-ne3
-returns-then-line-ne3 c = not_three c.args.line.now c.if-line-ne3.true
+pub returns-in-77 : goal.returns-in-77
+returns-in-77 c = chosen_plain c.args.line.now (omega arith) (search rules) (search rules) (search rules)
 
-pub returns-then-line-ne77 : goal.returns-then-line-ne77
-returns-then-line-ne77 c = chosen_letter c.args.line.now c.if-line-ne3.false c.if-line-ne77.true
+pub returns-in-77-2 : goal.returns-in-77-2
+returns-in-77-2 c = chosen_lazy c.args.line.now (omega arith) (search rules) (search rules) (λ h. omega arith) (search rules)
 
-pub returns-then-line-ne32 : goal.returns-then-line-ne32
-returns-then-line-ne32 c = chosen_space c.args.line.now c.if-line-ne3.false c.if-line-ne77.false c.if-line-ne32.true
+pub returns-in_default : goal.returns-in_default
+returns-in_default c = not_three c.args.line.now (λ h. omega arith)
 
-pub returns-then-digit-eq49 : goal.returns-then-digit-eq49
-returns-then-digit-eq49 c =
-    chosen_plain c.args.line.now c.if-line-ne3.false c.if-line-ne77.false c.if-line-ne32.false c.if-digit-eq49.true
+pub returns-in_default-2 : goal.returns-in_default-2
+returns-in_default-2 c = chosen_digit c.args.line.now (omega arith) (search rules) (search rules) (search rules) (search rules)
 
-pub returns-then-digit-eq48 : goal.returns-then-digit-eq48
-returns-then-digit-eq48 c =
-    chosen_lazy c.args.line.now c.if-line-ne3.false c.if-line-ne77.false c.if-line-ne32.false c.if-digit-eq49.false c.if-digit-eq48.true
+pub returns-in_default-3 : goal.returns-in_default-3
+returns-in_default-3 c = chosen_space c.args.line.now (omega arith) (search rules) (search rules)
 
-pub returns : goal.returns
-returns c =
-    chosen_digit c.args.line.now c.if-line-ne3.false c.if-line-ne77.false c.if-line-ne32.false c.if-digit-eq49.false c.if-digit-eq48.false
+pub returns-in_default-4 : goal.returns-in_default-4
+returns-in_default-4 c = chosen_letter c.args.line.now (omega arith) (search rules)
+
+pub returns-in_default-5 : goal.returns-in_default-5
+returns-in_default-5 c = not_three c.args.line.now (λ h. omega arith)

@@ -9,12 +9,6 @@ use Rattle.text_chunks.proofs.feed.Goals as goal
 pub loop-i-init : goal.loop-i-init
 loop-i-init c = let a = c.args in feed_start a.chunk.now a.buf.now a.held a.at c.requires.0 c.requires.1.0 c.requires.1.1
 
-pub bounds-chunk-i : goal.bounds-chunk-i
-bounds-chunk-i c = omega arith
-
-pub overflow_add-result : goal.overflow_add-result
-overflow_add-result c = omega arith
-
 pub shape_of-buf-then-b-eq10 : goal.shape_of-buf-then-b-eq10
 shape_of-buf-then-b-eq10 c =
     c.loop-i.invariant.long ∙ sym c.requires.1.0
@@ -27,12 +21,6 @@ returns-then-b-eq10 c =
 
 pub push-n-requires : goal.push-n-requires
 push-n-requires c = (c.loop-i.invariant.long, c.loop-i.invariant.short)
-
-pub overflow_add-i : goal.overflow_add-i
-overflow_add-i c = omega arith
-
-pub loop-i-smaller : goal.loop-i-smaller
-loop-i-smaller c = omega arith
 
 pub loop-i-preserved : goal.loop-i-preserved
 loop-i-preserved c =

@@ -8,6 +8,3 @@ use Rattle.text_chunks.proofs.feed.Given as goal
 
 abbrev pub invariant-loop-i : goal.invariant-loop-i
 invariant-loop-i l = Feeding l.at (drop l.at l.chunk) (take l.held l.initial.buf) l.chunk l.buf l.n l.i
-
-abbrev pub decreases-loop-i : goal.decreases-loop-i
-decreases-loop-i l = length l.chunk - l.i

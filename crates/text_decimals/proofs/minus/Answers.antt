@@ -5,7 +5,6 @@ use mathlib.Core.Path.{◌∙◌, sym}
 use mir.Syntax.{w64}
 use mir.Facts.{to_z_pos, to_z-of_z}
 use Rattle.text_decimals.proofs.Signs.{below, fits_below, negated}
-use borrow.Author.Rules.{rules}
 use Rattle.text_decimals.proofs.minus.Goals as goal
 
 pub overflow_sub-result-2 : goal.overflow_sub-result-2

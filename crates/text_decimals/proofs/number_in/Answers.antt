@@ -3,7 +3,6 @@ use mathlib.Core.Path.{sym, ◌∙◌, ap}
 use Rattle.ledger_spec.specs.Decimals.{between}
 use Rattle.text_decimals.proofs.Values.{between_none}
 use Rattle.text_decimals.proofs.Fields.{natural_empty, natural_one, natural_zero, natural_more}
-use borrow.Author.Rules.{rules}
 use Rattle.text_decimals.proofs.number_in.Goals as goal
 
 pub returns-then-f-eq0 : goal.returns-then-f-eq0

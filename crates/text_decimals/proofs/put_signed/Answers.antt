@@ -4,7 +4,6 @@ use mathlib.Core.Path.{sym, ◌∙◌, ap}
 use lib.ListN.{length, length-set}
 use Rattle.text_decimals.proofs.Signs.{turned, plain}
 use Rattle.text_decimals.proofs.Writes.{after_byte, same_text}
-use borrow.Author.Rules.{rules}
 use Rattle.text_decimals.proofs.put_signed.Goals as goal
 
 pub bounds-out-at : goal.bounds-out-at

@@ -1,13 +1,8 @@
 -- The words passed name what their serials did; the others are as they were. Assumes nothing.
-use Prim.Native.Nat.{◌-◌}
-use native.Mathlib.Omega.{arith}
-use borrow.Author.Rules.{rules}
+use lib.ListN.{take}
 use Rattle.bench_views.specs.View.{view}
-use Rattle.text_members.proofs.Naming.{Passed, passed_none, passed_one, passed_all}
+use Rattle.text_members.proofs.Naming.{Passed}
 use Rattle.text_members.proofs.name.Given as goal
 
-abbrev pub invariant-loop-i : goal.invariant-loop-i
-invariant-loop-i l = Passed (view l.b) l.initial.serials l.serials l.n l.i
-
-abbrev pub decreases-loop-i : goal.decreases-loop-i
-decreases-loop-i l = l.n - l.i
+abbrev pub invariant-loop-word : goal.invariant-loop-word
+invariant-loop-word l = Passed (view l.b) (take l.n l.fn.serials) l.word-items l.word-index

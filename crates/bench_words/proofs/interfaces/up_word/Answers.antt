@@ -2,5 +2,5 @@
 use borrow.Author.Rules.{rules}
 use Rattle.bench_words.proofs.interfaces.up_word.Goals as goal
 
-pub returns-in-Under : goal.returns-in-Under
-returns-in-Under c = cc
+pub returns-in-Some : goal.returns-in-Some
+returns-in-Some c = cc

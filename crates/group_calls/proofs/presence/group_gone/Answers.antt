@@ -3,7 +3,6 @@ use mathlib.Core.Path.{◌≡◌, sym, ◌∙◌}
 use mathlib.Core.Bool.{true, ◌||◌}
 use mathlib.Core.List.{List}
 use native.Mathlib.Omega.{arith}
-use borrow.Author.Rules.{rules}
 use Prim.Native.Nat.{ℕ}
 use lib.ListN.{length, take}
 use Rattle.ledger_spec.specs.Tests.{any}
@@ -29,20 +28,18 @@ names b g k s l w =
 pub list_gone-requires : goal.list_gone-requires
 list_gone-requires c = record { canon = c.requires.canon; n_bound = (sound_counts c.args.g c.in-Conflicts.is c.requires.g_value).0 }
 
-pub returns-then-list_gone : goal.returns-then-list_gone
-returns-then-list_gone c =
-    let l : length c.args.g.list ≡ 128 = omega arith in
-    let w : length c.args.g.stops ≡ 128 = omega arith in
-    or_yes _ (sym c.list_gone.ensures ∙ c.if-list_gone.true) ∙ sym (names c.args.b.now c.args.g c.in-Conflicts.is c.requires.g_value l w)
-
 pub stops_gone-requires : goal.stops_gone-requires
 stops_gone-requires c = record { canon = c.requires.canon; n_bound = (sound_counts c.args.g c.in-Conflicts.is c.requires.g_value).1 }
 
 pub returns-in-Growth : goal.returns-in-Growth
 returns-in-Growth c = sym (growth_names (stale_code (view c.args.b.now)) c.args.g _ _ c.in-Growth.is)
 
+pub returns-then-list_gone : goal.returns-then-list_gone
+returns-then-list_gone c =
+    c.if-list_gone.true ∙ or_yes _ (sym c.list_gone.ensures ∙ c.if-list_gone.true)
+    ∙ sym (names c.args.b.now c.args.g c.in-Conflicts.is c.requires.g_value (omega arith) (omega arith))
+
 pub returns-else-list_gone : goal.returns-else-list_gone
 returns-else-list_gone c =
-    let l : length c.args.g.list ≡ 128 = omega arith in
-    let w : length c.args.g.stops ≡ 128 = omega arith in
-    c.stops_gone.ensures ∙ or_no _ (sym c.list_gone.ensures ∙ c.if-list_gone.false) ∙ sym (names c.args.b.now c.args.g c.in-Conflicts.is c.requires.g_value l w)
+    c.stops_gone.ensures ∙ or_no _ (sym c.list_gone.ensures ∙ c.if-list_gone.false)
+    ∙ sym (names c.args.b.now c.args.g c.in-Conflicts.is c.requires.g_value (omega arith) (omega arith))

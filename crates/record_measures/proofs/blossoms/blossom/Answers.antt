@@ -1,8 +1,8 @@
 -- A count, and as many members. Assumes nothing.
+use Rattle.std.specs.Prelude.{Option}
 use native.Mathlib.Omega.{arith}
 use Prim.Native.Nat.{ℕ, ◌+◌, ◌*◌}
 use mathlib.Core.Path.{◌∙◌, sym, ap}
-use mathlib.Core.Option.{Option}
 use mathlib.Core.List.{List}
 use lib.ListN.{drop}
 use Rattle.ledger_spec.specs.Operations.{B}

@@ -1,8 +1,6 @@
-use Rattle.std.proofs.Common.{◌≡◌, ◌-◌, ◌≤◌, length}
+-- No more are kept than the list holds. Assumes nothing.
+use Rattle.std.proofs.Common.{◌≤◌}
 use Rattle.replay.proofs.circles.gather.Given as goal
 
-abbrev pub invariant-loop-n : goal.invariant-loop-n
-invariant-loop-n l = (l.n ≤ 1280) × (length l.list ≡ length l.initial.list)
-
-abbrev pub decreases-loop-n : goal.decreases-loop-n
-decreases-loop-n l = 1280 - l.n
+abbrev pub invariant-loop-i : goal.invariant-loop-i
+invariant-loop-i l = l.n ≤ 1280

@@ -4,7 +4,6 @@ use native.Mathlib.Omega.{arith}
 use mathlib.Core.Path.{◌≡◌}
 use lib.ListN.{length}
 use borrow.Author.Rules.{rules}
-use Rattle.text_fields.specs.declared.NextNumber.TheVariants.{Got, Missed}
 use Rattle.text_lines.proofs.Follow.{got_further}
 use Rattle.text_lines.proofs.Serials.{Storing, store_start, store_turn, store_bad, store_end}
 use Rattle.text_lines.proofs.blossoms.store_serials.Given as goal
