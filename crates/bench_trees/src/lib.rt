@@ -1,5 +1,5 @@
 #![tactic(auto)]
-// Option<u8> the tree of fused interfaces: its top, and T, the progress of an interface and of all above it (0 in the plain engine); and a node's value by its bias and T.
+// Up the tree of fused interfaces: its top, and T, the progress of an interface and of all above it (0 in the plain engine); and a node's value by its bias and T.
 // Everything here only reads. Assumes nothing.
 ghost use Rattle.std.specs.Prelude.{◌≡◌, ◌+◌, ◌<◌, ◌≤◌};
 ghost use Rattle.bench_words.specs.Codec.{pick};

@@ -109,7 +109,7 @@ pub fn are_nodes(b: &[u64; WORDS]) -> bool
     requires { Steady b.now }
     ensures { result ≡ all_to (slots_test b.now) 8 }
 {
-    // By for: with the chain `(0..8).all(..)` here the whole test takes 7.3 microseconds at 448 nodes, and with this 6.75.
+    // By for: with the chain `(0..8).all(..)` here the test of a full bench was slower (docs/DESIGN-PASS.md).
     for u in 0..8 {
         if !are_slots(b, u) {
             return false;
