@@ -46,6 +46,11 @@ module _ (ws : List ℕ) (at : ℕ) (vs : List ℕ) (from k : ℕ) (h : at + k �
       let l = rest_long in
       rw (e, p, q, drop-drop k at ws) (sym (sets-eq (take k (drop from vs)) ws at (omega arith) ∙ rw (l, append_assoc)))
 
+-- no words are copied
+pub copied_none : (ws : List ℕ) (at : ℕ) (vs : List ℕ) (from : ℕ) → ws ≡ copied ws at vs from 0
+unfolding copied
+copied_none ws at vs from = refl
+
 -- ---- entries at other places
 
 module _ (ws ws' : List ℕ) (i k : ℕ) where

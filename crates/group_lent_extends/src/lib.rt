@@ -53,12 +53,15 @@ fn pair(w: &mut [u64; GROUP], other: &[u64; GROUP])
 
 // ---- by conflicts
 
-// The k words from `from` on come to `at`.
+// The k words from `from` on come to `at`. Most groups have no entries or no stops: then nothing is called.
 fn copy(w: &mut [u64; GROUP], at: usize, other: &[u64; GROUP], from: usize, k: usize)
     requires w_len { (length w.old ≡ 1413) × (length other.now ≡ 1413) }
     requires k_bound { (at + k ≤ 1413) × (from + k ≤ 1413) }
     ensures { w.new ≡ copied w.old at other.now from k }
 {
+    if k == 0 {
+        return;
+    }
     w[at..at + k].copy_from_slice(&other[from..from + k]);
 }
 
