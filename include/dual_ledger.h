@@ -13,7 +13,7 @@
  * Threads: there is no state but what is lent. Functions may run at once on any threads as long as nothing that one of them writes is lent to another; reads of
  * one bench may run at once.
  *
- * The archive needs memmove and memset of the C library and nothing else. It has some 97 KB (x86-64).
+ * The archive needs memmove and memset of the C library and nothing else. It has some 103 KB (x86-64).
  *
  * Three forms. dual_ledger_NAME takes any words at all and tests them first (BROKEN if they hold no sound bench). dual_ledger_trusted_NAME tests
  * nothing about the words: lend it only words that a set-up or dual_ledger_text_opening and accepted or refused calls of this library alone have written, or that
